@@ -1,0 +1,19 @@
+//! Times and colours: plain numbers with a name.
+
+/// A number of colour clocks since reset, from 0. One colour clock is two low-resolution pixels.
+#[derive(Clone, Copy, PartialEq, Eq, PartialOrd, Ord, Debug)]
+pub struct Clock(pub u64);
+
+/// A colour of twelve bits, 000 to FFF: four bits each of red, green and blue, red the highest.
+#[derive(Clone, Copy, PartialEq, Eq, Debug)]
+pub struct Colour(pub u16);
+
+/// A place of the beam. `v` is the line of the field from 0, `h` the colour clock of the line, 0 to
+/// 226, and `lof` says that the field is a long one (VPOSR bit 15).
+#[derive(Clone, Copy, PartialEq, Eq, Debug)]
+pub struct Beam {
+    pub frame: u32,
+    pub v: u16,
+    pub h: u16,
+    pub lof: bool,
+}

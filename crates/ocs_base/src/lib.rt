@@ -1,0 +1,17 @@
+//! The numbers and the script that every part of the emulator speaks of.
+#![tactic(auto)]
+
+pub mod addr;
+pub mod beam;
+pub mod memory;
+pub mod reg;
+pub mod script;
+
+pub use addr::Addr;
+pub use beam::{Beam, Clock, Colour};
+pub use memory::OutOfMemory;
+pub use reg::Reg;
+pub use script::{Act, At, Script, System};
+
+#[cfg(test)]
+mod tests;

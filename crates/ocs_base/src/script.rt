@@ -1,0 +1,110 @@
+//! A script: whether the processor runs, how many frames, and the timed inputs.
+
+ghost use Rattle.std.specs.Prelude.{◌≡◌, ◌++◌, ◌∷◌, [], OnOk, OnErr};
+
+use crate::memory::OutOfMemory;
+use crate::reg::Reg;
+use std::alloc::Global;
+use std::marker::Model;
+
+/// What happens at a time of the script. `port` is 0 or 1; `word` of `Joy` is what JOY0DAT or
+/// JOY1DAT reads afterwards; `code` is what the keyboard sends to CIA A.
+#[derive(Clone, Copy, PartialEq, Eq, Debug)]
+pub enum Act {
+    Poke { reg: Reg, word: u16 },
+    Peek { reg: Reg },
+    Joy { port: u8, word: u16 },
+    Fire { port: u8, down: bool },
+    Key { code: u8 },
+}
+
+/// An act and the place of the beam at which it happens: a frame from 0, a line, 0 to 311, and a
+/// colour clock of the line, 0 to 226.
+#[derive(Clone, Copy, PartialEq, Eq, Debug)]
+pub struct At {
+    pub frame: u32,
+    pub v: u16,
+    pub h: u16,
+    pub act: Act,
+}
+
+/// Whose beam the machine has.
+#[derive(Clone, Copy, PartialEq, Eq, Debug)]
+pub enum System {
+    Pal,
+}
+
+/// The timed inputs of a run.
+#[derive(Drop)]
+pub struct Script {
+    cpu: bool,
+    frames: u32,
+    events: Vec<At>,
+}
+
+impl Model for Script {
+    ghost use Rattle.ocs_base.specs.Script.{ScriptValue};
+
+    ghost Value = { ScriptValue };
+
+    ghost view = { λ s. record { cpu = s.cpu; frames = s.frames; events = s.events.items } };
+}
+
+impl Script {
+    ghost use Rattle.ocs_base.specs.Addr.{chip_span};
+
+    /// A script of so many frames without events.
+    pub fn new(alloc: Global, cpu: bool, frames: u32) -> Script
+        ensures { result ≡ record { cpu = cpu; frames = frames; events = [] } }
+    {
+        Script {
+            cpu,
+            frames,
+            events: Vec::new(alloc),
+        }
+    }
+
+    /// Appends an event. After a refusal the script is as before.
+    pub fn push(&mut self, at: At) -> Result<(), OutOfMemory>
+        ensures ok { OnOk result (self.new ≡ record self.old { events = self.old.events ++ at ∷ [] }) }
+        ensures refused { OnErr result (self.new ≡ self.old) }
+    {
+        self.events.push(at)?;
+        Ok(())
+    }
+
+    /// Whether the processor is started.
+    pub fn cpu(&self) -> bool
+        ensures { result ≡ self.now.cpu }
+    {
+        self.cpu
+    }
+
+    /// How many frames the run shows.
+    pub fn frames(&self) -> u32
+        ensures { result ≡ self.now.frames }
+    {
+        self.frames
+    }
+
+    /// The events in the order in which they were pushed.
+    pub fn events(&self) -> &[At]
+        ensures { result.now ≡ self.now.events }
+    {
+        self.events.as_slice()
+    }
+
+    /// The size of the machine's chip memory in bytes.
+    pub fn chip(&self) -> u32
+        ensures { result ≡ chip_span }
+    {
+        0x8_0000
+    }
+
+    /// Whose beam the machine has.
+    pub fn system(&self) -> System
+        ensures { result ≡ System.Pal }
+    {
+        System::Pal
+    }
+}
