@@ -1,2 +1,4 @@
 pub mod NumberLaws
 pub mod TextLaws
+pub mod MapLaws
+pub mod KeptLaws

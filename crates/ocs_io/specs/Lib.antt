@@ -1,3 +1,5 @@
 pub mod Place
 pub mod Answers
 pub mod Numbers
+pub mod Files
+pub mod KeptFiles

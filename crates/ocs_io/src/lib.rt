@@ -1,6 +1,7 @@
 //! The outside of the emulator: named files, what is said, and numbers as text.
 #![tactic(auto)]
 
+mod files;
 pub mod numbers;
 pub mod place;
 
