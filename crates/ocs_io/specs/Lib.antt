@@ -3,3 +3,4 @@ pub mod Answers
 pub mod Numbers
 pub mod Files
 pub mod KeptFiles
+pub mod Shelf

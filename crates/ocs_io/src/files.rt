@@ -4,6 +4,7 @@ ghost use Rattle.std.specs.Prelude.{◌≡◌, ◌++◌, [], OnOk, OnErr, IsSome
 ghost use Rattle.std.specs.List.{position};
 ghost use Rattle.std.specs.FinMap.{empty, get, insert};
 
+use crate::place::ReadRefusal;
 use ocs_base::OutOfMemory;
 use std::alloc::Global;
 use std::marker::Model;
@@ -36,6 +37,8 @@ impl Model for FilesInMemory {
 }
 
 impl FilesInMemory {
+    ghost use Rattle.ocs_io.specs.Shelf.{FileReads};
+
     /// No files.
     pub fn new(alloc: Global) -> FilesInMemory
         ensures { result ≡ empty }
@@ -53,6 +56,23 @@ impl FilesInMemory {
         match place_of(&self.kept, name) {
             Some(at) => Some(self.kept[at].bytes.as_slice()),
             None => None,
+        }
+    }
+
+    /// Reads a whole file of at most `cap` bytes into the empty `into`. `Failed`: it is not there.
+    pub fn read(&self, name: &[u8], cap: usize, into: &mut Vec<u8>) -> Result<(), ReadRefusal>
+        requires { into.old.items ≡ [] }
+        ensures { FileReads self.now name.now cap into.new.items result }
+    {
+        let Some(bytes) = self.bytes(name) else {
+            return Err(ReadRefusal::Failed);
+        };
+        if bytes.len() > cap {
+            return Err(ReadRefusal::TooLong);
+        }
+        match into.extend_from_slice(bytes) {
+            Ok(()) => Ok(()),
+            Err(_) => Err(ReadRefusal::OutOfMemory),
         }
     }
 

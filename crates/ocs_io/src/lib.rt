@@ -4,6 +4,8 @@
 mod files;
 pub mod numbers;
 pub mod place;
+pub mod shelf;
 
 pub use numbers::{dec, hex, put_dec, put_hex};
 pub use place::{Place, ReadRefusal, WriteRefusal};
+pub use shelf::Shelf;

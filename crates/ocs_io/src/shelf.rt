@@ -1,0 +1,95 @@
+//! A place in memory whose calls can be made to fail.
+
+ghost use Rattle.std.specs.Prelude.{◌≡◌, ◌++◌, ◌∷◌, [], OnOk, OnErr, IsSome, option_map};
+ghost use Rattle.std.specs.FinMap.{empty, get};
+
+use crate::files::FilesInMemory;
+use crate::place::{Place, ReadRefusal, WriteRefusal};
+use ocs_base::OutOfMemory;
+use std::alloc::Global;
+use std::marker::Model;
+
+/// A place that keeps its files and what was said in memory. Calls can be chosen that fail.
+#[derive(Drop)]
+pub struct Shelf {
+    files: FilesInMemory,
+    said: Vec<u8>,
+    read_faults: u64,
+    write_faults: u64,
+    say_faults: u64,
+    call: u64,
+    failing: Vec<u64>,
+}
+
+impl Model for Shelf {
+    ghost use Rattle.ocs_io.specs.Shelf.{ShelfValue, shelf_code};
+
+    ghost Value = { ShelfValue };
+
+    ghost coded = { shelf_code };
+
+    ghost view = { λ s. record { files = s.files; said = s.said.items; read_faults = s.read_faults; write_faults = s.write_faults; say_faults = s.say_faults; call = s.call; failing = s.failing.items } };
+}
+
+impl Shelf {
+    ghost use Rattle.ocs_io.specs.Shelf.{with_bytes, called, is_to_fail};
+
+    /// A place without files in which nothing was said.
+    pub fn new(alloc: Global) -> Shelf
+        ensures { result ≡ record { files = empty; said = []; read_faults = 0; write_faults = 0; say_faults = 0; call = 0; failing = [] } }
+    {
+        Shelf {
+            files: FilesInMemory::new(alloc),
+            said: Vec::new(alloc),
+            read_faults: 0,
+            write_faults: 0,
+            say_faults: 0,
+            call: 0,
+            failing: Vec::new(alloc),
+        }
+    }
+
+    /// Puts a file there, in place of one of the name. This is no call of the place. After a refusal
+    /// all is as before.
+    pub fn put(&mut self, name: &str, bytes: &[u8]) -> Result<(), OutOfMemory>
+        ensures ok { OnOk result (self.new ≡ with_bytes self.old name.now bytes.now) }
+        ensures refused { OnErr result (self.new ≡ self.old) }
+    {
+        self.files.set(name.as_bytes(), bytes)?;
+        Ok(())
+    }
+
+    /// Makes the call of that number fail, counted from 0 over all calls of the place; calls past the
+    /// greatest number all have that number. After a refusal all is as before.
+    pub fn fail_at(&mut self, call: u64) -> Result<(), OutOfMemory>
+        ensures ok { OnOk result (self.new ≡ record self.old { failing = self.old.failing ++ call ∷ [] }) }
+        ensures refused { OnErr result (self.new ≡ self.old) }
+    {
+        self.failing.push(call)?;
+        Ok(())
+    }
+
+    /// All that was said.
+    pub fn said(&self) -> &[u8]
+        ensures { result.now ≡ self.now.said }
+    {
+        self.said.as_slice()
+    }
+
+    /// The bytes of a file; None exactly where no such file is there.
+    pub fn file(&self, name: &str) -> Option<&[u8]>
+        ensures { option_map (λ bytes. bytes.now) result ≡ get self.now.files name.now }
+    {
+        self.files.bytes(name.as_bytes())
+    }
+
+    /// Counts a call, and says whether it is to fail.
+    fn begin_call(&mut self) -> bool
+        ensures fails { result ≡ is_to_fail self.old }
+        ensures counted { self.new ≡ called self.old }
+    {
+        let fails = self.failing.contains(&self.call);
+        self.call = self.call.saturating_add(1);
+        fails
+    }
+}
