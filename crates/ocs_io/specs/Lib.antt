@@ -4,3 +4,4 @@ pub mod Numbers
 pub mod Files
 pub mod KeptFiles
 pub mod Shelf
+pub mod Halves

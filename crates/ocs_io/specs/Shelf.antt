@@ -1,10 +1,11 @@
 -- A place in memory: its files, what was said, and the calls that are to fail.
-use Rattle.std.specs.Prelude.{◌≡◌, ℕ, ◌+◌, ◌-◌, ◌/◌, ◌^◌, ◌≤◌, ◌⊎◌, Bool, true, false, ◌==◌, List, [], ◌++◌, length, take, min, Option, Some, None, unwrap_or, Result, Ok, Err, refl}
+use Rattle.std.specs.Prelude.{◌≡◌, ℕ, ◌+◌, ◌-◌, ◌/◌, ◌^◌, ◌≤◌, ◌⊎◌, Bool, true, false, ◌==◌, List, [], ◌++◌, length, take, min, Option, Some, None, IsSome, unwrap_or, Result, Ok, Err, refl}
 use Rattle.std.specs.List.{list_any}
 use Rattle.std.specs.FinMap.{get, insert}
 use Rattle.std.specs.Coded.{Coded, code_by, coded×, coded_ℕ, coded_list}
 use Rattle.ocs_io.specs.Place.{Files, Outside}
 use Rattle.ocs_io.specs.Files.{files_code}
+use Rattle.ocs_io.specs.Halves.{half}
 use Rattle.ocs_io.specs.Answers.{HoldsMore}
 use Rattle.ocs_io.specs.declared.place.ReadRefusal.{ReadRefusal}
 use Rattle.ocs_io.specs.declared.place.ReadRefusal.TheVariants.{Failed as ReadFailed, TooLong, OutOfMemory as NoRoomToRead}
@@ -65,10 +66,6 @@ appended s name piece = with_bytes s name (unwrap_or (get s.files name) [] ++ pi
 abbrev pub after_saying : ShelfValue → List ℕ → ShelfValue
 after_saying s piece = record s { said = s.said ++ piece }
 
--- the first half of a piece, rounded down
-abbrev pub half : List ℕ → List ℕ
-half piece = take (length piece / 2) piece
-
 -- what a read of files answers and leaves in the empty `read`
 abbrev pub FileReads : Files → List ℕ → ℕ → List ℕ → Result (Unit {0}) ReadRefusal → Type 0
 FileReads files name cap read (Ok done) = (get files name ≡ Some read) × (length read ≤ cap)
@@ -97,3 +94,11 @@ abbrev pub ShelfSays : ShelfValue → ShelfValue → List ℕ → Result (Unit {
 ShelfSays old new piece (Ok done) = (is_to_fail old ≡ false) × (new ≡ after_saying (called old) piece)
 ShelfSays old new piece (Err Failed) = (is_to_fail old ≡ true) × (new ≡ say_failed (after_saying (called old) (half piece)))
 ShelfSays old new piece (Err OutOfMemory) = new ≡ called old
+
+-- a file of that name is there
+abbrev pub IsHeld : Files → List ℕ → Type 0
+IsHeld files name = IsSome (get files name)
+
+-- every name
+abbrev pub IsAnyName : List ℕ → Type 0
+IsAnyName name = Unit {0}

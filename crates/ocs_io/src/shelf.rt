@@ -1,7 +1,8 @@
 //! A place in memory whose calls can be made to fail.
 
-ghost use Rattle.std.specs.Prelude.{◌≡◌, ◌++◌, ◌∷◌, [], OnOk, OnErr, IsSome, option_map};
+ghost use Rattle.std.specs.Prelude.{◌≡◌, ◌++◌, ◌∷◌, [], OnOk, OnErr, IsSome, option_map, if◌then◌else◌};
 ghost use Rattle.std.specs.FinMap.{empty, get};
+ghost use Rattle.ocs_io.specs.Halves.{half};
 
 use crate::files::FilesInMemory;
 use crate::place::{Place, ReadRefusal, WriteRefusal};
@@ -32,7 +33,7 @@ impl Model for Shelf {
 }
 
 impl Shelf {
-    ghost use Rattle.ocs_io.specs.Shelf.{with_bytes, called, is_to_fail};
+    ghost use Rattle.ocs_io.specs.Shelf.{with_bytes, called, is_to_fail, IsHeld, ShelfReads, ShelfCreates, ShelfAppends, ShelfSays};
 
     /// A place without files in which nothing was said.
     pub fn new(alloc: Global) -> Shelf
@@ -92,4 +93,72 @@ impl Shelf {
         self.call = self.call.saturating_add(1);
         fails
     }
+
+    /// Reads a file. Fails also where the file is not there.
+    fn read_file(&mut self, name: &[u8], cap: usize, into: &mut Vec<u8>) -> Result<(), ReadRefusal>
+        requires { into.old.items ≡ [] }
+        ensures { ShelfReads self.old self.new name.now cap into.new.items result }
+    {
+        if self.begin_call() {
+            self.read_faults = self.read_faults.saturating_add(1);
+            return Err(ReadRefusal::Failed);
+        }
+        let answer = self.files.read(name, cap, into);
+        if answer == Err(ReadRefusal::Failed) {
+            self.read_faults = self.read_faults.saturating_add(1);
+        }
+        answer
+    }
+
+    /// Makes an empty file. A failed call leaves the files as before.
+    fn create_file(&mut self, name: &[u8]) -> Result<(), WriteRefusal>
+        ensures { ShelfCreates self.old self.new name.now result }
+    {
+        if self.begin_call() {
+            self.write_faults = self.write_faults.saturating_add(1);
+            return Err(WriteRefusal::Failed);
+        }
+        match self.files.set(name, &[]) {
+            Ok(()) => Ok(()),
+            Err(_) => Err(WriteRefusal::OutOfMemory),
+        }
+    }
+
+    /// Appends a piece to a file, or the first half of it where the call is to fail.
+    fn append_piece(&mut self, name: &[u8], piece: &[u8]) -> Result<(), WriteRefusal>
+        requires { IsHeld self.old.files name.now }
+        ensures { ShelfAppends self.old self.new name.now piece.now result }
+    {
+        let fails = self.begin_call();
+        if self.files.grow(name, kept_part(fails, piece)).is_err() {
+            return Err(WriteRefusal::OutOfMemory);
+        }
+        if fails {
+            self.write_faults = self.write_faults.saturating_add(1);
+            return Err(WriteRefusal::Failed);
+        }
+        Ok(())
+    }
+
+    /// Says a piece, or the first half of it where the call is to fail.
+    fn say_piece(&mut self, piece: &[u8]) -> Result<(), WriteRefusal>
+        ensures { ShelfSays self.old self.new piece.now result }
+    {
+        let fails = self.begin_call();
+        if self.said.extend_from_slice(kept_part(fails, piece)).is_err() {
+            return Err(WriteRefusal::OutOfMemory);
+        }
+        if fails {
+            self.say_faults = self.say_faults.saturating_add(1);
+            return Err(WriteRefusal::Failed);
+        }
+        Ok(())
+    }
+}
+
+/// The part of a piece that a call keeps: the first half, rounded down, where it fails.
+fn kept_part(fails: bool, piece: &[u8]) -> &[u8]
+    ensures { result.now ≡ (if fails then half piece.now else piece.now) }
+{
+    if fails { &piece[..piece.len() / 2] } else { piece }
 }
