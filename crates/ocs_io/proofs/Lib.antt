@@ -2,3 +2,4 @@ pub mod NumberLaws
 pub mod TextLaws
 pub mod MapLaws
 pub mod KeptLaws
+pub mod ShelfLaws

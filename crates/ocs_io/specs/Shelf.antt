@@ -1,5 +1,5 @@
 -- A place in memory: its files, what was said, and the calls that are to fail.
-use Rattle.std.specs.Prelude.{◌≡◌, ℕ, ◌+◌, ◌-◌, ◌/◌, ◌^◌, ◌≤◌, ◌⊎◌, Bool, true, false, ◌==◌, List, [], ◌++◌, length, take, min, Option, Some, None, IsSome, unwrap_or, Result, Ok, Err, refl}
+use Rattle.std.specs.Prelude.{◌≡◌, ℕ, ◌+◌, ◌-◌, ◌/◌, ◌^◌, ◌<◌, ◌≤◌, ◌⊎◌, Bool, true, false, ◌==◌, List, [], ◌++◌, length, take, min, Option, Some, None, IsSome, unwrap_or, Result, Ok, Err, refl}
 use Rattle.std.specs.List.{list_any}
 use Rattle.std.specs.FinMap.{get, insert}
 use Rattle.std.specs.Coded.{Coded, code_by, coded×, coded_ℕ, coded_list}
@@ -102,3 +102,9 @@ IsHeld files name = IsSome (get files name)
 -- every name
 abbrev pub IsAnyName : List ℕ → Type 0
 IsAnyName name = Unit {0}
+
+-- counts of 64 bits
+pub record AreCounts (read_faults write_faults say_faults : ℕ) : Type 0 where
+  pub reads : read_faults < 2 ^ 64
+  pub writes : write_faults < 2 ^ 64
+  pub says : say_faults < 2 ^ 64
