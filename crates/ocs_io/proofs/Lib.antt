@@ -3,3 +3,4 @@ pub mod TextLaws
 pub mod MapLaws
 pub mod KeptLaws
 pub mod ShelfLaws
+pub mod SureShelfLaws

@@ -5,3 +5,4 @@ pub mod Files
 pub mod KeptFiles
 pub mod Shelf
 pub mod Halves
+pub mod SureShelf
