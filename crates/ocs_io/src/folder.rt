@@ -4,12 +4,11 @@ ghost use Rattle.std.specs.Prelude.{◌≡◌, ◌≤◌, [], length, OnOk};
 ghost use Rattle.ocs_io.specs.Folder.{counts_alone};
 
 use crate::place::{Place, ReadRefusal, WriteRefusal};
-use std::fs;
 use std::fs::OpenOptions;
-use std::io;
 use std::io::{Read, Write};
 use std::marker::Model;
 use std::rt::Files;
+use std::{fs, io};
 
 /// A place on the files of the system, whose names are paths, and on standard output for what is
 /// said. Each call that the system refuses raises the count of its kind, which stands still at the
@@ -100,7 +99,12 @@ impl<'a, R: Files + Print> Place for Folder<'a, R> {
 struct Refused;
 
 /// Reads a file of at most `cap` bytes into the empty `into`.
-fn read_file<R: Files>(rt: &R, name: &str, cap: usize, into: &mut Vec<u8>) -> Result<(), ReadRefusal>
+fn read_file<R: Files>(
+    rt: &R,
+    name: &str,
+    cap: usize,
+    into: &mut Vec<u8>,
+) -> Result<(), ReadRefusal>
     requires { into.old.items ≡ [] }
     ensures { OnOk result (length into.new.items ≤ cap) }
 {

@@ -13,3 +13,6 @@ pub use numbers::{dec, hex, put_dec, put_hex};
 pub use place::{Place, ReadRefusal, WriteRefusal};
 pub use shelf::Shelf;
 pub use sure_shelf::SureShelf;
+
+#[cfg(test)]
+mod tests;
