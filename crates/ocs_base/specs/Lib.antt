@@ -1,3 +1,4 @@
 pub mod Addr
 pub mod Span
 pub mod Script
+pub mod Memory
