@@ -1,0 +1,42 @@
+-- The script's events of one clock.
+use Rattle.std.specs.Prelude.{Bool, ◌==◌, ◌&&◌, if◌then◌else◌, List, [], ◌∷◌, filter}
+use Rattle.ocs_base.specs.declared.beam.Beam.{Beam}
+use Rattle.ocs_base.specs.declared.script.At.{At}
+use Rattle.ocs_base.specs.declared.script.Act.{Act}
+use Rattle.ocs_base.specs.declared.script.Act.TheVariants.{Poke, Peek, Joy, Fire, Key}
+use Rattle.serial_model.specs.declared.picture.Touch.{Touch}
+use Rattle.serial_model.specs.declared.picture.Touch.TheVariants.{Set}
+use Rattle.serial_model.specs.Picture.{is_picture_register}
+use Rattle.serial_model.specs.State.{Chips, poked}
+
+-- an event of this frame, line and clock
+abbrev pub is_due : Beam → At → Bool
+is_due b e = (e.frame == b.frame) && (e.v == b.v) && (e.h == b.h)
+
+-- the events of a clock, in their order
+unfoldable pub due : Beam → List At → List At
+due b events = filter (is_due b) events
+
+-- what an event does to the chips: a poke is a write to the register
+abbrev pub acted : Act → Chips → Chips
+acted (Poke reg word) c = poked reg.offset word c
+acted (Peek reg) c = c
+acted (Joy port word) c = c
+acted (Fire port down) c = c
+acted (Key code) c = c
+
+unfoldable pub all_acted : List At → Chips → Chips
+all_acted [] c = c
+all_acted (e ∷ events) c = all_acted events (acted e.act c)
+
+-- how an event touches the picture: a poke of one of Denise's registers sets it
+abbrev pub touch_added : Act → List Touch → List Touch
+touch_added (Poke reg word) touches = if is_picture_register reg.offset then Set reg.offset word ∷ touches else touches
+touch_added (Peek reg) touches = touches
+touch_added (Joy port word) touches = touches
+touch_added (Fire port down) touches = touches
+touch_added (Key code) touches = touches
+
+unfoldable pub touches_of : List At → List Touch
+touches_of [] = []
+touches_of (e ∷ events) = touch_added e.act (touches_of events)
