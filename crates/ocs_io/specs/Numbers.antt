@@ -1,5 +1,5 @@
 -- Numbers as text.
-use Rattle.std.specs.Prelude.{ℕ, ◌^◌, Bool, true, false, ◌&&◌, ◌||◌, not, ◌==◌, nat_le, nat_lt, if◌then◌else◌, List, [], ◌∷◌, length, Option, Some, None}
+use Rattle.std.specs.Prelude.{ℕ, zero, suc, ◌+◌, ◌/◌, ◌%◌, ◌^◌, Bool, true, false, ◌&&◌, ◌||◌, not, ◌==◌, nat_le, nat_lt, if◌then◌else◌, List, [], ◌∷◌, length, Option, Some, None}
 use Rattle.std.specs.Str.Parse.{digits_value}
 
 abbrev pub is_digit : ℕ → Bool
@@ -27,3 +27,13 @@ dec_of bytes =
 unfoldable pub hex_of : List ℕ → Option ℕ
 hex_of bytes =
     if all_bytes is_lower_hex bytes && nat_le 1 (length bytes) && nat_le (length bytes) 4 then Some (digits_value 16 bytes) else None
+
+-- the lower-case character of a hexadecimal digit
+abbrev pub hex_digit : ℕ → ℕ
+hex_digit d = if nat_lt d 10 then 48 + d else 87 + d
+
+-- so many lower-case hexadecimal digits of a number, high first: the digit at the place k, counted
+-- from 0 at the right, is that of n / 16 ^ k % 16
+unfoldable pub hex_text : ℕ → ℕ → List ℕ
+hex_text zero n = []
+hex_text (suc k) n = hex_digit (n / 16 ^ k % 16) ∷ hex_text k n
