@@ -2,3 +2,4 @@ pub mod Addr
 pub mod Span
 pub mod Script
 pub mod Memory
+pub mod Limits

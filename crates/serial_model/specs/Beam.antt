@@ -1,6 +1,7 @@
 -- The beam: lines and fields, the order of places, and what of them is visible.
-use Rattle.std.specs.Prelude.{ℕ, ◌+◌, ◌*◌, ◌<◌, Bool, true, not, ◌&&◌, nat_le, nat_lt, if◌then◌else◌}
+use Rattle.std.specs.Prelude.{ℕ, ◌+◌, ◌<◌, Bool, true, not, ◌&&◌, nat_le, nat_lt, if◌then◌else◌}
 use Rattle.ocs_base.specs.declared.beam.Beam.{Beam}
+use Rattle.ocs_base.specs.Limits.{order_of}
 use Rattle.ocs_base.specs.declared.script.System.{System}
 use Rattle.ocs_base.specs.declared.script.System.TheVariants.{Pal}
 
@@ -30,10 +31,7 @@ pub record IsOnScreen (b : Beam) : Type 0 where
   pub line : b.v < lines b.lof
   pub clock : b.h < 227
 
--- places in the order of the beam, as one number: 313 lines a frame and 227 clocks a line leave room for each
-abbrev pub order_of : ℕ → ℕ → ℕ → ℕ
-order_of frame v h = (frame * 313 + v) * 227 + h
-
+-- its place in the order of time, as one number
 abbrev pub place_of : Beam → ℕ
 place_of b = order_of b.frame b.v b.h
 

@@ -1,0 +1,4 @@
+//! The top call: a run from the words of the command line to the output files.
+#![tactic(auto)]
+
+mod chips;
