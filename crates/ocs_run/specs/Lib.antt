@@ -1,1 +1,3 @@
 pub mod Chips
+pub mod Pending
+pub mod Steps

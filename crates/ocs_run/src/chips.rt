@@ -25,6 +25,7 @@ const COPPER_DMA: u16 = 0x280;
 const LACE: u16 = 0x4;
 
 /// The custom registers and the Copper.
+#[derive(Drop)]
 pub struct Chips {
     registers: [u16; 256],
     copper: CopperState,

@@ -2,3 +2,6 @@
 #![tactic(auto)]
 
 mod chips;
+mod foreground;
+mod pending;
+mod picture;

@@ -1,0 +1,4 @@
+pub mod PendingLaws
+pub mod PictureLaws
+pub mod StepLaws
+pub mod TickLaws
