@@ -1,2 +1,6 @@
 pub mod NumberLaws
 pub mod TextLaws
+pub mod MapLaws
+pub mod KeptLaws
+pub mod ShelfLaws
+pub mod SureShelfLaws

@@ -1,8 +1,13 @@
 //! The outside of the emulator: named files, what is said, and numbers as text.
 #![tactic(auto)]
 
+mod files;
 pub mod numbers;
 pub mod place;
+pub mod shelf;
+pub mod sure_shelf;
 
 pub use numbers::{dec, hex, put_dec, put_hex};
 pub use place::{Place, ReadRefusal, WriteRefusal};
+pub use shelf::Shelf;
+pub use sure_shelf::SureShelf;
