@@ -9,3 +9,5 @@ pub mod Tick
 pub mod Serial
 pub mod Outputs
 pub mod Built
+pub mod TraceText
+pub mod MemoryText

@@ -5,7 +5,9 @@
 pub mod bus;
 pub mod copper;
 pub mod picture;
+pub mod trace;
 
 pub use bus::Ask;
 pub use copper::{CopperPhase, CopperState};
 pub use picture::{Denise, Touch};
+pub use trace::{Source, TraceLine};
