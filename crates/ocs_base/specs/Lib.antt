@@ -3,3 +3,4 @@ pub mod Span
 pub mod Script
 pub mod Memory
 pub mod Limits
+pub mod Register

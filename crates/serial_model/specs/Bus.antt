@@ -1,5 +1,7 @@
 -- The access of a clock: who asks for what, and what the answer does.
-use Rattle.std.specs.Prelude.{ℕ, ◌/◌, ◌%◌, Bool, ◌==◌, ◌&&◌, if◌then◌else◌, List, slice_index, Option, Some, None}
+use Rattle.std.specs.Prelude.{ℕ, ◌/◌, ◌%◌, Bool, ◌==◌, ◌&&◌, if◌then◌else◌, List, [], ◌∷◌, slice_index, Option, Some, None}
+use Rattle.ocs_base.specs.Addr.{chip_span}
+use Rattle.ocs_base.specs.Register.{register_of}
 use Rattle.ocs_base.specs.declared.beam.Beam.{Beam}
 use Rattle.serial_model.specs.declared.bus.Ask.{Ask}
 use Rattle.serial_model.specs.declared.bus.Ask.TheVariants.{Free, CopperFirst, CopperSecond}
@@ -8,6 +10,9 @@ use Rattle.serial_model.specs.declared.copper.CopperPhase.{CopperPhase}
 use Rattle.serial_model.specs.declared.copper.CopperPhase.TheVariants.{First, Second, Waiting}
 use Rattle.serial_model.specs.declared.picture.Touch.{Touch}
 use Rattle.serial_model.specs.declared.picture.Touch.TheVariants.{Set}
+use Rattle.serial_model.specs.declared.trace.Source.TheVariants.{Copper}
+use Rattle.serial_model.specs.declared.trace.TraceLine.{TraceLine}
+use Rattle.serial_model.specs.declared.trace.TraceLine.TheVariants.{Wrote}
 use Rattle.serial_model.specs.Registers.{copper_dma}
 use Rattle.serial_model.specs.Copper.{copper_stepped, moved_register}
 use Rattle.serial_model.specs.Picture.{is_picture_register}
@@ -27,9 +32,9 @@ copper_ask Waiting c = Free
 abbrev pub asked : Beam → Chips → Ask
 asked b c = if copper_runs b c then copper_ask c.copper.phase c.copper else Free
 
--- the word of memory at an address
+-- the word of memory at an address, modulo the span
 abbrev pub word_of : List ℕ → ℕ → ℕ
-word_of memory at = slice_index memory (at / 2)
+word_of memory at = slice_index memory (at % chip_span / 2)
 
 -- the word with which an access is answered, 0 where nothing is read
 abbrev pub word_for : Ask → List ℕ → ℕ
@@ -54,3 +59,9 @@ touch_of Free word = None
 touch_of (CopperFirst at) word = None
 touch_of (CopperSecond at first) word =
     if (first % 2 == 0) && is_picture_register (moved_register first) then Some (Set (moved_register first) word) else None
+
+-- the trace line of an access: a MOVE is a write by the Copper
+unfoldable pub bus_lines : Beam → Ask → ℕ → List TraceLine
+bus_lines b Free word = []
+bus_lines b (CopperFirst at) word = []
+bus_lines b (CopperSecond at first) word = if first % 2 == 0 then Wrote b (register_of first) word Copper ∷ [] else []

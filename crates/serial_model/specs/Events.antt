@@ -6,6 +6,9 @@ use Rattle.ocs_base.specs.declared.script.Act.{Act}
 use Rattle.ocs_base.specs.declared.script.Act.TheVariants.{Poke, Peek, Joy, Fire, Key}
 use Rattle.serial_model.specs.declared.picture.Touch.{Touch}
 use Rattle.serial_model.specs.declared.picture.Touch.TheVariants.{Set}
+use Rattle.serial_model.specs.declared.trace.Source.TheVariants.{Script}
+use Rattle.serial_model.specs.declared.trace.TraceLine.{TraceLine}
+use Rattle.serial_model.specs.declared.trace.TraceLine.TheVariants.{Wrote}
 use Rattle.serial_model.specs.Picture.{is_picture_register}
 use Rattle.serial_model.specs.State.{Chips, poked}
 
@@ -40,3 +43,16 @@ touch_added (Key code) touches = touches
 unfoldable pub touches_of : List At → List Touch
 touches_of [] = []
 touches_of (e ∷ events) = touch_added e.act (touches_of events)
+
+-- the trace line of an event: a poke is a write by the script
+abbrev pub line_added : Beam → Act → List TraceLine → List TraceLine
+line_added b (Poke reg word) lines = Wrote b reg word Script ∷ lines
+line_added b (Peek reg) lines = lines
+line_added b (Joy port word) lines = lines
+line_added b (Fire port down) lines = lines
+line_added b (Key code) lines = lines
+
+-- the trace lines of events that happen one after another, from these chips on
+unfoldable pub event_lines : Beam → List At → Chips → List TraceLine
+event_lines b [] c = []
+event_lines b (e ∷ events) c = line_added b e.act (event_lines b events (acted e.act c))

@@ -7,8 +7,8 @@ use Rattle.serial_model.specs.Beam.{next_place}
 use Rattle.serial_model.specs.Registers.{is_interlaced, pointer}
 use Rattle.serial_model.specs.Copper.{started_at}
 use Rattle.serial_model.specs.Picture.{pixels, all_touched, maybe_touched}
-use Rattle.serial_model.specs.Events.{due, all_acted, touches_of}
-use Rattle.serial_model.specs.Bus.{asked, word_of, word_for, answered, touch_of}
+use Rattle.serial_model.specs.Events.{due, all_acted, touches_of, event_lines}
+use Rattle.serial_model.specs.Bus.{asked, word_of, word_for, answered, touch_of, bus_lines}
 use Rattle.serial_model.specs.State.{Chips, State}
 
 -- first: at a field's first clock the Copper starts at COP1LC
@@ -25,7 +25,10 @@ started s = record s { chips = chips_started s.beam s.chips }
 abbrev pub scripted : List At → State → State
 scripted events s =
     let acts = due s.beam events in
-    record s { chips = all_acted acts s.chips; picture = all_touched s.beam.h (word_of s.memory) (touches_of acts) s.picture }
+    record s {
+      chips = all_acted acts s.chips;
+      picture = all_touched s.beam.h (word_of s.memory) (touches_of acts) s.picture;
+      trace = s.trace ++ event_lines s.beam acts s.chips }
 
 -- third: the timers of the CIAs, of which this machine has none yet
 abbrev pub timed : State → State
