@@ -1,4 +1,3 @@
-pub mod PendingLaws
 pub mod PictureLaws
 pub mod StepLaws
 pub mod TickLaws

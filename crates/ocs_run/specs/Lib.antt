@@ -1,3 +1,3 @@
 pub mod Chips
-pub mod Pending
+pub mod Out
 pub mod Steps

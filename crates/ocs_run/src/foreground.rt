@@ -1,20 +1,22 @@
 //! The machine of the clock loop: one function for each of the seven steps of a colour clock.
 
-ghost use Rattle.std.specs.Prelude.{◌≡◌, ◌+◌, ◌<◌, ◌^◌, ◌↔◌, false, true, OnOk, IfOk};
+ghost use Rattle.std.specs.Prelude.{◌≡◌, ℕ, ◌+◌, ◌<◌, ◌^◌, ◌↔◌, false, true, OnOk, IfOk};
 ghost use Rattle.ocs_base.specs.declared.beam.Beam.{Beam};
 ghost use Rattle.serial_model.specs.Beam.{IsOnScreen, place_of, next_place, lines};
 ghost use Rattle.serial_model.specs.Registers.{is_interlaced};
-ghost use Rattle.serial_model.specs.Bus.{asked, word_for, word_of, touch_of as touch};
+ghost use Rattle.serial_model.specs.Bus.{asked, word_for, touch_of as touch_at, bus_lines};
+ghost use Rattle.serial_model.specs.Picture.{maybe_touched};
 ghost use Rattle.serial_model.specs.Built.{is_unbuilt as unbuilt, is_built as built};
 ghost use Rattle.serial_model.specs.Events.{is_due as due_at};
 ghost use Rattle.serial_model.specs.Tick.{started, scripted, timed, displayed, accessed, processed, advanced, tick as ticked};
-ghost use Rattle.ocs_run.specs.Steps.{Makes, Any, KeepsPlace, Acts, IsLeft, HasLater, Meets, HasNext};
+ghost use Rattle.ocs_run.specs.Steps.{Makes, Any, KeepsPlace, Acts, IsLeft, HasLater, Meets, HasNext, KeepsAll, Tells};
 
 use crate::chips::Chips;
-use crate::pending::Pending;
 use crate::picture;
-use ocs_base::{Act, At, Beam, OutOfMemory, Reg, System};
-use serial_model::{Ask, Denise, Touch};
+use mem_versions::Chip;
+use ocs_base::{Act, Addr, At, Beam, OutOfMemory, Reg, System};
+use out_files::OutFiles;
+use serial_model::{Ask, Denise, Source, Touch, TraceLine};
 
 /// Why a colour clock was not done: want of memory, or an access that is not built.
 #[derive(Clone, Copy, PartialEq, Eq, Debug)]
@@ -38,10 +40,10 @@ impl From<OutOfMemory> for TickFault {
 pub struct Foreground {
     pub t: u64,
     pub beam: Beam,
-    pub memory: Vec<u16>,
+    pub chip: Chip,
     pub chips: Chips,
     pub picture: Denise,
-    pub out: Pending,
+    pub out: OutFiles,
 }
 
 impl Foreground {
@@ -55,33 +57,41 @@ impl Foreground {
 
     /// Second step: the events of this clock happen in their order. `events` are those that are left,
     /// and the answer is what is left after this clock.
-    pub fn run_script<'a>(&mut self, events: &'a [At]) -> &'a [At]
+    pub fn run_script<'a>(&mut self, events: &'a [At]) -> Result<&'a [At], OutOfMemory>
         requires screen { IsOnScreen self.old.beam }
         requires queue { IsLeft (place_of self.old.beam) events.now }
-        ensures step { Makes Any (scripted events.now) self.old self.new }
+        ensures step { OnOk result (Makes Any (scripted events.now) self.old self.new) }
         ensures place { KeepsPlace self.old self.new }
-        ensures left { IsLeft (place_of self.old.beam + 1) result.now }
-        ensures later { HasLater self.old.beam events.now result.now }
+        ensures left { IfOk result (λ left. IsLeft (place_of self.old.beam + 1) left.now) }
+        ensures later { IfOk result (λ left. HasLater self.old.beam events.now left.now) }
     {
         let mut left = events;
         while let Some((event, others)) = left.split_first() {
             if !is_due(&self.beam, event) {
                 break;
             }
-            self.act(&event.act);
+            self.act(&event.act)?;
             left = others;
         }
-        left
+        Ok(left)
     }
 
-    /// What an event does: a poke is a write to a register.
-    fn act(&mut self, act: &Act)
-        ensures { Acts act.now self.old self.new }
+    /// What an event does: a poke is a write to a register, which the trace tells.
+    fn act(&mut self, act: &Act) -> Result<(), OutOfMemory>
+        ensures acts { OnOk result (Acts act.now self.old self.new) }
+        ensures place { KeepsPlace self.old self.new }
     {
         if let Act::Poke { reg, word } = act {
+            self.out.line(TraceLine::Wrote {
+                beam: self.beam,
+                reg: *reg,
+                word: *word,
+                by: Source::Script,
+            })?;
             self.chips.poke(*reg, *word);
             picture::set(&mut self.picture, reg.offset, *word);
         }
+        Ok(())
     }
 
     /// Third step: the timers of the CIAs, which are not built yet.
@@ -100,29 +110,30 @@ impl Foreground {
     }
 
     /// What is asked of the bus at this clock, and the word that answers it, 0 where nothing is read.
-    fn ask(&self) -> (Ask, u16)
-        ensures ask { result.0 ≡ asked self.now.beam self.now.chips }
-        ensures word { result.1 ≡ word_for result.0 self.now.memory.items }
+    fn ask(&mut self) -> (Ask, u16)
+        ensures ask { result.0 ≡ asked self.old.beam self.old.chips }
+        ensures word { result.1 ≡ word_for result.0 self.old.chip.words }
+        ensures same { KeepsAll self.old self.new }
     {
         let ask = self.chips.ask(&self.beam);
         let word = match ask {
             Ask::Free => 0,
-            Ask::CopperFirst { at } | Ask::CopperSecond { at, .. } => word_at(&self.memory, at),
+            Ask::CopperFirst { at } | Ask::CopperSecond { at, .. } => self.chip.read(Addr::at(at)),
         };
         (ask, word)
     }
 
     /// Fifth step: the owner of the slot makes its access, which `ask` told.
-    fn access(&mut self, ask: &Ask, word: u16)
+    fn access(&mut self, ask: &Ask, word: u16) -> Result<(), OutOfMemory>
         requires ask { ask.now ≡ asked self.old.beam self.old.chips }
-        requires word { word ≡ word_for ask.now self.old.memory.items }
-        ensures step { Makes Any accessed self.old self.new }
+        requires word { word ≡ word_for ask.now self.old.chip.words }
+        ensures step { OnOk result (Makes Any accessed self.old self.new) }
         ensures place { KeepsPlace self.old self.new }
     {
+        trace_access(&mut self.out, &self.beam, ask, word)?;
         self.chips.answer(&self.beam, ask, word);
-        if let Some(Touch::Set { reg, word }) = touch_of(ask, word) {
-            picture::set(&mut self.picture, reg, word);
-        }
+        touch(&mut self.picture, ask, word);
+        Ok(())
     }
 
     /// Sixth step: the processor's part that needs no slot; the processor is not built yet.
@@ -157,14 +168,14 @@ impl Foreground {
         ensures next { IfOk result (λ left. HasNext events.now left.now self.old self.new) }
     {
         self.start();
-        let left = self.run_script(events);
+        let left = self.run_script(events)?;
         self.count_timers();
         self.show()?;
         let (ask, word) = self.ask();
         if is_unbuilt(&ask, word) {
             return Err(TickFault::NotBuilt);
         }
-        self.access(&ask, word);
+        self.access(&ask, word)?;
         self.process();
         self.advance();
         Ok(left)
@@ -203,17 +214,38 @@ fn advance(beam: &mut Beam, lace: bool)
     }
 }
 
-/// The word of memory at an address.
-fn word_at(memory: &[u16], at: u32) -> u16
-    ensures { result ≡ word_of memory.now at }
+/// Tells the trace of an access: a MOVE is a write by the Copper.
+#[tactic(auto, unfolding(serial_model::specs::Bus::bus_lines))]
+fn trace_access(out: &mut OutFiles, beam: &Beam, ask: &Ask, word: u16) -> Result<(), OutOfMemory>
+    ensures ok { OnOk result (Tells (bus_lines beam.now ask.now word) out.old out.new) }
+    ensures names { out.new.names ≡ out.old.names }
 {
-    memory.get(at as usize / 2).copied().unwrap_or(0)
+    if let Ask::CopperSecond { first, .. } = ask {
+        if first % 2 == 0 {
+            out.line(TraceLine::Wrote {
+                beam: *beam,
+                reg: Reg::masked(*first),
+                word,
+                by: Source::Copper,
+            })?;
+        }
+    }
+    Ok(())
+}
+
+/// What an access makes of the picture.
+fn touch(picture: &mut Denise, ask: &Ask, word: u16)
+    ensures { (h : ℕ) (word_at : ℕ → ℕ) → picture.new ≡ maybe_touched h word_at (touch_at ask.now word) picture.old }
+{
+    if let Some(Touch::Set { reg, word }) = touch_of(ask, word) {
+        picture::set(picture, reg, word);
+    }
 }
 
 /// How an access touches the picture: a MOVE to one of Denise's registers sets it.
 #[tactic(auto, unfolding(serial_model::specs::Bus::touch_of))]
 fn touch_of(ask: &Ask, word: u16) -> Option<Touch>
-    ensures { result ≡ touch ask.now word }
+    ensures { result ≡ touch_at ask.now word }
 {
     let Ask::CopperSecond { first, .. } = ask else {
         return None;

@@ -3,5 +3,4 @@
 
 mod chips;
 mod foreground;
-mod pending;
 mod picture;

@@ -3,10 +3,10 @@
 ghost use Rattle.std.specs.Prelude.{◌≡◌, OnOk};
 ghost use Rattle.serial_model.specs.Picture.{reset_picture, set as set_of, pixels, colour_bytes as bytes_of};
 ghost use Rattle.serial_model.specs.Beam.{is_visible as visible};
-ghost use Rattle.ocs_run.specs.Pending.{Grows};
+ghost use Rattle.ocs_run.specs.Out.{Shows};
 
-use crate::pending::Pending;
 use ocs_base::{Beam, OutOfMemory, System};
+use out_files::OutFiles;
 use serial_model::Denise;
 
 /// The picture state at reset.
@@ -38,8 +38,9 @@ pub fn colour_bytes(colour: u16) -> [u8; 3]
 }
 
 /// Gives the four pixels of a visible clock to the frames file: each is COLOR00.
-pub fn show(picture: &Denise, beam: &Beam, out: &mut Pending) -> Result<(), OutOfMemory>
-    ensures { OnOk result (Grows (pixels System.Pal beam.now.v beam.now.h picture.now) out.old out.new) }
+pub fn show(picture: &Denise, beam: &Beam, out: &mut OutFiles) -> Result<(), OutOfMemory>
+    ensures ok { OnOk result (Shows (pixels System.Pal beam.now.v beam.now.h picture.now) out.old out.new) }
+    ensures names { out.new.names ≡ out.old.names }
 {
     if is_visible(beam.v, beam.h) {
         let [red, green, blue] = colour_bytes(picture.palette[0]);
