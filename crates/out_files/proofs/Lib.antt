@@ -1,0 +1,4 @@
+pub mod PixelsLaws
+pub mod LinesLaws
+pub mod WordsLaws
+pub mod CreateLaws

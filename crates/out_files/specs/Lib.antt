@@ -1,0 +1,3 @@
+pub mod OutFiles
+pub mod Answers
+pub mod Pieces
