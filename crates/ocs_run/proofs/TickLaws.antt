@@ -24,7 +24,7 @@ Makes-tick events f0 f1 f2 f3 f4 f5 f6 f7 m1 m2 m3 m4 m5 m6 m7 written s any is 
 
 pub Meets-tick : (events : List At) (f0 f1 f2 f3 f4 : Foreground) (ask : Ask) (word : ℕ) (answer : Bool) → Makes Any started f0 f1
     → Makes Any (scripted events) f1 f2 → Makes Any timed f2 f3 → Makes Any (displayed Pal) f3 f4 → ask ≡ asked f4.beam f4.chips
-    → word ≡ word_for ask f4.memory.items → is_unbuilt ask word ≡ answer → Meets answer events f0
+    → word ≡ word_for ask f4.chip.words → is_unbuilt ask word ≡ answer → Meets answer events f0
 unfolding meets_unbuilt
 Meets-tick events f0 f1 f2 f3 f4 ask word answer m1 m2 m3 m4 e w is written s stands =
     let there : Stands f4 written (before_access Pal events s) =

@@ -63,6 +63,7 @@ pub record Acts (act : Act) (old new : Foreground) : Type 0 where
   pub chips : new.chips ≡ acted act old.chips
   pub picture : (h : ℕ) (word_at : ℕ → ℕ) (touches : List Touch)
       → all_touched h word_at touches new.picture ≡ all_touched h word_at (touch_added act touches) old.picture
+  pub names : new.out.names ≡ old.out.names
   pub frames : new.out.frames ≡ old.out.frames
   pub given : new.out.given ≡ old.out.given
   pub trace : (lines : List TraceLine)
@@ -86,6 +87,7 @@ pub record HasActed (events left : List At) (old new : Foreground) : Type 0 wher
   pub chips : all_acted (due old.beam left) new.chips ≡ all_acted (due old.beam events) old.chips
   pub picture : (h : ℕ) (word_at : ℕ → ℕ)
       → all_touched h word_at (touches_of (due old.beam left)) new.picture ≡ all_touched h word_at (touches_of (due old.beam events)) old.picture
+  pub names : new.out.names ≡ old.out.names
   pub frames : new.out.frames ≡ old.out.frames
   pub given : new.out.given ≡ old.out.given
   pub trace : new.out.trace ++ trace_text (event_lines old.beam (due old.beam left) new.chips)

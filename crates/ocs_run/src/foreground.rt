@@ -9,7 +9,8 @@ ghost use Rattle.serial_model.specs.Picture.{maybe_touched};
 ghost use Rattle.serial_model.specs.Built.{is_unbuilt as unbuilt, is_built as built};
 ghost use Rattle.serial_model.specs.Events.{is_due as due_at};
 ghost use Rattle.serial_model.specs.Tick.{started, scripted, timed, displayed, accessed, processed, advanced, tick as ticked};
-ghost use Rattle.ocs_run.specs.Steps.{Makes, Any, KeepsPlace, Acts, IsLeft, HasLater, Meets, HasNext, KeepsAll, Tells};
+ghost use Rattle.ocs_run.specs.Steps.{Makes, Any, KeepsPlace, Acts, IsLeft, HasLater, Meets, HasNext, KeepsAll};
+ghost use Rattle.ocs_run.specs.Out.{Tells};
 
 use crate::chips::Chips;
 use crate::picture;
@@ -61,14 +62,14 @@ impl Foreground {
         requires screen { IsOnScreen self.old.beam }
         requires queue { IsLeft (place_of self.old.beam) events.now }
         ensures step { OnOk result (Makes Any (scripted events.now) self.old self.new) }
-        ensures place { KeepsPlace self.old self.new }
+        ensures place { OnOk result (KeepsPlace self.old self.new) }
         ensures left { IfOk result (λ left. IsLeft (place_of self.old.beam + 1) left.now) }
         ensures later { IfOk result (λ left. HasLater self.old.beam events.now left.now) }
     {
         let mut left = events;
         while let Some((event, others)) = left.split_first() {
             if !is_due(&self.beam, event) {
-                break;
+                return Ok(left);
             }
             self.act(&event.act)?;
             left = others;
@@ -79,7 +80,7 @@ impl Foreground {
     /// What an event does: a poke is a write to a register, which the trace tells.
     fn act(&mut self, act: &Act) -> Result<(), OutOfMemory>
         ensures acts { OnOk result (Acts act.now self.old self.new) }
-        ensures place { KeepsPlace self.old self.new }
+        ensures place { OnOk result (KeepsPlace self.old self.new) }
     {
         if let Act::Poke { reg, word } = act {
             self.out.line(TraceLine::Wrote {
@@ -103,7 +104,7 @@ impl Foreground {
     /// Fourth step: Denise shows the pixels of this clock.
     pub fn show(&mut self) -> Result<(), OutOfMemory>
         ensures step { OnOk result (Makes Any (displayed System.Pal) self.old self.new) }
-        ensures place { KeepsPlace self.old self.new }
+        ensures place { OnOk result (KeepsPlace self.old self.new) }
     {
         picture::show(&self.picture, &self.beam, &mut self.out)?;
         Ok(())
@@ -128,7 +129,7 @@ impl Foreground {
         requires ask { ask.now ≡ asked self.old.beam self.old.chips }
         requires word { word ≡ word_for ask.now self.old.chip.words }
         ensures step { OnOk result (Makes Any accessed self.old self.new) }
-        ensures place { KeepsPlace self.old self.new }
+        ensures place { OnOk result (KeepsPlace self.old self.new) }
     {
         trace_access(&mut self.out, &self.beam, ask, word)?;
         self.chips.answer(&self.beam, ask, word);
@@ -217,8 +218,7 @@ fn advance(beam: &mut Beam, lace: bool)
 /// Tells the trace of an access: a MOVE is a write by the Copper.
 #[tactic(auto, unfolding(serial_model::specs::Bus::bus_lines))]
 fn trace_access(out: &mut OutFiles, beam: &Beam, ask: &Ask, word: u16) -> Result<(), OutOfMemory>
-    ensures ok { OnOk result (Tells (bus_lines beam.now ask.now word) out.old out.new) }
-    ensures names { out.new.names ≡ out.old.names }
+    ensures { OnOk result (Tells (bus_lines beam.now ask.now word) out.old out.new) }
 {
     if let Ask::CopperSecond { first, .. } = ask {
         if first % 2 == 0 {

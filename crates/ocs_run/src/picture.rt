@@ -39,8 +39,7 @@ pub fn colour_bytes(colour: u16) -> [u8; 3]
 
 /// Gives the four pixels of a visible clock to the frames file: each is COLOR00.
 pub fn show(picture: &Denise, beam: &Beam, out: &mut OutFiles) -> Result<(), OutOfMemory>
-    ensures ok { OnOk result (Shows (pixels System.Pal beam.now.v beam.now.h picture.now) out.old out.new) }
-    ensures names { out.new.names ≡ out.old.names }
+    ensures { OnOk result (Shows (pixels System.Pal beam.now.v beam.now.h picture.now) out.old out.new) }
 {
     if is_visible(beam.v, beam.h) {
         let [red, green, blue] = colour_bytes(picture.palette[0]);

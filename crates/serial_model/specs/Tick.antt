@@ -46,7 +46,7 @@ accessed s =
     record s {
       chips = answered s.beam ask word s.chips;
       picture = maybe_touched s.beam.h (word_of s.memory) (touch_of ask word) s.picture;
-    }
+      trace = s.trace ++ bus_lines s.beam ask word }
 
 -- sixth: the processor's part that needs no slot; this machine has no processor yet
 abbrev pub processed : State → State
