@@ -2,3 +2,6 @@ pub mod PixelsLaws
 pub mod LinesLaws
 pub mod WordsLaws
 pub mod CreateLaws
+pub mod FilesLaws
+pub mod TogetherLaws
+pub mod FlushLaws

@@ -36,6 +36,7 @@ pub struct OutFiles {
 impl Model for OutFiles {
     ghost use Rattle.std.specs.Prelude.{◌<◌, string_bytes};
     ghost use Rattle.out_files.specs.OutFiles.{OutFilesValue};
+    ghost use Rattle.out_files.specs.Together.{AreDifferent};
 
     ghost Value = { OutFilesValue };
 
@@ -46,12 +47,16 @@ impl Model for OutFiles {
       given = f.given;
     } };
 
-    ghost invariant = { λ f. f.given < 617760 };
+    ghost invariant = { λ f. record {
+      within : f.given < 617760;
+      different : AreDifferent (record { frames = string_bytes f.frames_name; trace = string_bytes f.trace_name; memory = string_bytes f.memory_name });
+    } };
 }
 
 impl OutFiles {
     ghost use Rattle.out_files.specs.OutFiles.{with_pixels, with_line};
     ghost use Rattle.out_files.specs.Answers.{NamesFile, CreateAnswers, AreGrowable, FlushAnswers, MemoryAnswers};
+    ghost use Rattle.out_files.specs.Together.{Begins, AddsPixels, AddsLine, StayTogether, LeavesParts, Completes};
 
     /// Files of these three different names, with nothing pending and no frame begun.
     pub fn new(alloc: Global, frames: String, trace: String, memory: String) -> OutFiles
@@ -80,6 +85,7 @@ impl OutFiles {
     /// before the refused one are empty, and those after it are as before.
     pub fn create<P: Place>(&mut self, place: &mut P) -> Result<(), WriteFault>
         ensures answer { CreateAnswers self.old.names (P.outside place.old) (P.outside place.new) result }
+        ensures together { OnOk result (Begins self.new (P.outside place.old).files (P.outside place.new).files) }
         ensures growable { OnOk result (AreGrowable (P.growable place.new) self.old.names) }
         ensures same { self.new ≡ self.old }
         ensures kept { OnlyWrites (P.outside place.old) (P.outside place.new) }
@@ -93,8 +99,10 @@ impl OutFiles {
 
     /// Adds pixel bytes, red, green and blue, row by row, with the heading before the first byte of each
     /// frame. After a refusal all is as before.
+    #[tactic(auto, using(crate::proofs::TogetherLaws::adds_pixels))]
     pub fn pixels(&mut self, piece: &[u8]) -> Result<(), OutOfMemory>
         ensures ok { OnOk result (self.new ≡ with_pixels self.old piece.now) }
+        ensures together { OnOk result (AddsPixels self.old self.new piece.now) }
         ensures refused { OnErr result (self.new ≡ self.old) }
     {
         let before = self.frames.len();
@@ -111,8 +119,10 @@ impl OutFiles {
     }
 
     /// Adds a line of the trace. After a refusal all is as before.
+    #[tactic(auto, using(crate::proofs::TogetherLaws::adds_line))]
     pub fn line(&mut self, line: TraceLine) -> Result<(), OutOfMemory>
         ensures ok { OnOk result (self.new ≡ with_line self.old line) }
+        ensures together { OnOk result (AddsLine self.old self.new line) }
         ensures refused { OnErr result (self.new ≡ self.old) }
     {
         self.line.clear();
@@ -127,6 +137,8 @@ impl OutFiles {
         requires frames { P.growable place.old self.old.names.frames }
         requires trace { P.growable place.old self.old.names.trace }
         ensures answer { FlushAnswers self.old self.new (P.outside place.old) (P.outside place.new) result }
+        ensures together { OnOk result (StayTogether self.old self.new (P.outside place.old).files (P.outside place.new).files) }
+        ensures parts { OnErr result (LeavesParts self.old (P.outside place.old).files (P.outside place.new).files []) }
         ensures kept { OnlyWrites (P.outside place.old) (P.outside place.new) }
         ensures cause { IfErr result (λ fault. NamesFile fault → Rose (P.outside place.old).write_faults (P.outside place.new).write_faults) }
         ensures names { KeepsNames (P.readable place.old) (P.growable place.old) (P.readable place.new) (P.growable place.new) }
@@ -150,6 +162,8 @@ impl OutFiles {
     pub fn memory<P: Place>(&mut self, chip: &mut Chip, place: &mut P) -> Result<(), WriteFault>
         requires { P.growable place.old self.old.names.memory }
         ensures answer { MemoryAnswers self.old.names.memory (memory_text chip.old.words) (P.outside place.old) (P.outside place.new) result }
+        ensures whole { OnOk result (Completes self.old (P.outside place.old).files (P.outside place.new).files (memory_text chip.old.words)) }
+        ensures parts { OnErr result (LeavesParts self.old (P.outside place.old).files (P.outside place.new).files (memory_text chip.old.words)) }
         ensures chip { OnOk result (chip.new ≡ after_reads chip.old 262144) }
         ensures words { chip.new ≡ record chip.old { reads = chip.new.reads } }
         ensures same { self.new ≡ self.old }

@@ -8,6 +8,7 @@ use Rattle.out_files.specs.OutFiles.{OutFilesValue}
 use Rattle.out_files.specs.Answers.{CreateAnswers}
 use Rattle.out_files.specs.Pieces.{MakeAnswers}
 use Rattle.out_files.proofs.CreateLaws.{second_refused, third_answered}
+use Rattle.out_files.proofs.TogetherLaws.{created_begins}
 use Rattle.out_files.proofs.files.OutFiles.create.Goals as goal
 
 pub returns-in_err-make-2-clause-answer : goal.returns-in_err-make-2-clause-answer
@@ -34,3 +35,8 @@ returns-clause-answer g c =
     (c.in_ok-make.ensures.answer ∙ ap (λ (name : List ℕ). with_file (outside c.args.place.now).files name []) first)
     (c.in_ok-make-2.ensures.answer ∙ ap (λ (name : List ℕ). with_file (outside c.make.new.place).files name []) second)
     (subst (λ (name : List ℕ). MakeAnswers name Memory (outside c.make-2.new.place) (outside c.make-3.new.place) c.make-3.result) third c.make-3.ensures.answer)
+
+pub returns-clause-together : goal.returns-clause-together
+returns-clause-together g c =
+    let outside = g.P.Place.outside in
+    created_begins c.args.self.now (outside c.args.place.now) (outside c.make-3.new.place) c.make-3.result (returns-clause-answer g c)
