@@ -110,7 +110,8 @@ IsPlace-position name files at e =
       within = within;
       named = λ d. named name files d within;
       found = λ d. found name files d within;
-      changed = λ file called. changed name files file called within })
+      changed = λ file called. changed name files file called within;
+    })
 
 pub IsNew-position : (name : List ℕ) (files : List File) → position (is_named name) files ≡ None → IsNew name files
 IsNew-position name files e =
@@ -131,7 +132,8 @@ IsThere-found name looked kept value at old same view is read =
     record {
       bytes = bytes;
       changed = λ file named. place.changed file (named ∙ called) ∙ ap (λ f. insert f name file.bytes.items) view;
-      unchanged = λ file named kept_bytes. place.changed file (named ∙ called) ∙ (λ i. insert (view i) name (kept_bytes i)) ∙ insert_same value name old.bytes.items bytes }
+      unchanged = λ file named kept_bytes. place.changed file (named ∙ called) ∙ (λ i. insert (view i) name (kept_bytes i)) ∙ insert_same value name old.bytes.items bytes;
+    }
 
 pub IsAbsent-looked : (name : List ℕ) (looked kept : List File) (value : Files) → looked ≡ kept → files_of kept ≡ value → None ≡ position (is_named name) looked → get value name ≡ None
 IsAbsent-looked name looked kept value same view is = ap (λ f. get f name) (sym view) ∙ (IsNew-position name kept (ap (position (is_named name)) (sym same) ∙ sym is)).absent

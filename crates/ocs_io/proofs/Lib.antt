@@ -4,3 +4,4 @@ pub mod MapLaws
 pub mod KeptLaws
 pub mod ShelfLaws
 pub mod SureShelfLaws
+pub mod FolderLaws

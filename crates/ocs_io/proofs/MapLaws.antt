@@ -41,6 +41,7 @@ insert_other files first second v w differ = same_files _ _ (λ other. get_inser
   where
     differ_more : (other : List ℕ) → same_name other second ≡ true → same_name other first ≡ true → ⊥
     differ_more other a b = cc (same_name-trans other first second b a)
+
     turned : (a b : Bool) (x : Option (List ℕ)) → (a ≡ true → b ≡ true → ⊥) → cond a (Some w) (cond b (Some v) x) ≡ cond b (Some v) (cond a (Some w) x)
     turned true true x apart = absurd (apart refl refl)
     turned true false x apart = refl

@@ -20,6 +20,8 @@ IsHeld-insert files name bytes other held = ap is_some (get_inserted files name 
     step true x e = refl
     step false x e = e
 
+pub ruleset held = (IsHeld-inserted, IsHeld-insert)
+
 keeps : (old new : Files) → ((name : List ℕ) → IsHeld old name → IsHeld new name) → KeepsNames IsAnyName (IsHeld old) IsAnyName (IsHeld new)
 keeps old new held = record { read = λ name any. any; grow = held }
 

@@ -14,6 +14,7 @@ tells_digits = record { empty = refl; parts = parts; more = more }
   where
     parts : (c : ℕ) (cs : List ℕ) → all_bytes is_digit (c ∷ cs) ≡ true → IsInRange 48 57 c × (all_bytes is_digit cs ≡ true)
     parts c cs all = grind (arith, nat_tests)
+
     more : (c : ℕ) (cs : List ℕ) → IsInRange 48 57 c → all_bytes is_digit cs ≡ true → all_bytes is_digit (c ∷ cs) ≡ true
     more c cs range all = grind (arith, nat_tests)
 
@@ -30,6 +31,7 @@ is_decimal-digits (b ∷ bytes) some all leads = parted (is_digit b) (all_bytes 
     parted true true false only all leads = refl
     parted true false leading only all leads = all
     parted false digits leading only all leads = all
+
     le_eq : (k : ℕ) → suc k ≡ 1 → (k == 0) ≡ true
     le_eq zero e = refl
     le_eq (suc k) e = absurd (omega arith)

@@ -6,3 +6,4 @@ pub mod KeptFiles
 pub mod Shelf
 pub mod Halves
 pub mod SureShelf
+pub mod Folder

@@ -26,10 +26,10 @@ pub record ShelfValue : Type 0 where
 abbrev pub shelf_code : Coded ShelfValue
 shelf_code =
     code_by (Files × (List ℕ × (ℕ × (ℕ × (ℕ × (ℕ × List ℕ))))))
-        (coded× files_code (coded× (coded_list coded_ℕ) (coded× coded_ℕ (coded× coded_ℕ (coded× coded_ℕ (coded× coded_ℕ (coded_list coded_ℕ)))))))
-        (λ s. (s.files, (s.said, (s.read_faults, (s.write_faults, (s.say_faults, (s.call, s.failing)))))))
-        (λ t. record { files = t.0; said = t.1.0; read_faults = t.1.1.0; write_faults = t.1.1.1.0; say_faults = t.1.1.1.1.0; call = t.1.1.1.1.1.0; failing = t.1.1.1.1.1.1 })
-        (λ _. refl)
+    (coded× files_code (coded× (coded_list coded_ℕ) (coded× coded_ℕ (coded× coded_ℕ (coded× coded_ℕ (coded× coded_ℕ (coded_list coded_ℕ)))))))
+    (λ s. (s.files, (s.said, (s.read_faults, (s.write_faults, (s.say_faults, (s.call, s.failing)))))))
+    (λ t. record { files = t.0; said = t.1.0; read_faults = t.1.1.0; write_faults = t.1.1.1.0; say_faults = t.1.1.1.1.0; call = t.1.1.1.1.1.0; failing = t.1.1.1.1.1.1 })
+    (λ _. refl)
 
 -- what is seen of it from outside: everything
 abbrev pub outside_of : ShelfValue → Outside

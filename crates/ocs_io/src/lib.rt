@@ -2,12 +2,17 @@
 #![tactic(auto)]
 
 mod files;
+pub mod folder;
 pub mod numbers;
 pub mod place;
 pub mod shelf;
 pub mod sure_shelf;
 
+pub use folder::Folder;
 pub use numbers::{dec, hex, put_dec, put_hex};
 pub use place::{Place, ReadRefusal, WriteRefusal};
 pub use shelf::Shelf;
 pub use sure_shelf::SureShelf;
+
+#[cfg(test)]
+mod tests;

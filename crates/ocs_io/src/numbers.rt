@@ -13,7 +13,11 @@ use ocs_base::OutOfMemory;
 pub fn dec(bytes: &[u8]) -> Option<u64>
     ensures { result ≡ dec_of bytes.now }
 {
-    if starts_plain(bytes) { digits(bytes) } else { None }
+    if starts_plain(bytes) {
+        digits(bytes)
+    } else {
+        None
+    }
 }
 
 /// Reads one to four lower-case hexadecimal digits.
@@ -21,7 +25,11 @@ pub fn dec(bytes: &[u8]) -> Option<u64>
 pub fn hex(bytes: &[u8]) -> Option<u16>
     ensures { result ≡ hex_of bytes.now }
 {
-    if bytes.is_empty() || bytes.len() > 4 { None } else { hex_digits(bytes) }
+    if bytes.is_empty() || bytes.len() > 4 {
+        None
+    } else {
+        hex_digits(bytes)
+    }
 }
 
 /// Whether a byte is there, and a 0 begins no longer text.
@@ -106,7 +114,12 @@ pub fn put_hex(n: u16, digits: usize, into: &mut Vec<u8>) -> Result<(), OutOfMem
     ensures ok { OnOk result (into.new.items ≡ into.old.items ++ hex_text digits n) }
     ensures refused { OnErr result (into.new.items ≡ into.old.items) }
 {
-    let text = [digit(n / 0x1000), digit(n / 0x100 % 16), digit(n / 0x10 % 16), digit(n % 16)];
+    let text = [
+        digit(n / 0x1000),
+        digit(n / 0x100 % 16),
+        digit(n / 0x10 % 16),
+        digit(n % 16),
+    ];
     into.extend_from_slice(&text[4 - digits..])?;
     Ok(())
 }
@@ -116,5 +129,9 @@ fn digit(value: u16) -> u8
     requires { value < 16 }
     ensures { result ≡ hex_digit value }
 {
-    if value < 10 { b'0' + value as u8 } else { b'a' + (value as u8 - 10) }
+    if value < 10 {
+        b'0' + value as u8
+    } else {
+        b'a' + (value as u8 - 10)
+    }
 }

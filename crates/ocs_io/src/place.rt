@@ -4,20 +4,27 @@ ghost use Rattle.std.specs.Prelude.{◌≡◌, ℕ, List, []};
 ghost use Rattle.ocs_io.specs.Place.{Outside, Rose, OnlyReads, OnlyWrites, OnlySays, KeepsNames};
 ghost use Rattle.ocs_io.specs.Answers.{ReadAnswers, CreateAnswers, AppendAnswers, SayAnswers, GrowsIfOk};
 
+use thiserror::Error;
+
 /// Why a read gave no file. `TooLong`: the file has more bytes than the cap of the call. `Failed`:
 /// the outside refused, and the count of read faults rose.
-#[derive(Clone, Copy, PartialEq, Eq, Debug)]
+#[derive(Clone, Copy, PartialEq, Eq, Debug, Error)]
 pub enum ReadRefusal {
+    #[error("the outside refused to read")]
     Failed,
+    #[error("the file has more bytes than the cap")]
     TooLong,
+    #[error("out of memory")]
     OutOfMemory,
 }
 
 /// Why a create, an append or a say was refused. `Failed`: the outside refused, and the count of its
 /// kind rose.
-#[derive(Clone, Copy, PartialEq, Eq, Debug)]
+#[derive(Clone, Copy, PartialEq, Eq, Debug, Error)]
 pub enum WriteRefusal {
+    #[error("the outside refused to write")]
     Failed,
+    #[error("out of memory")]
     OutOfMemory,
 }
 

@@ -152,7 +152,11 @@ impl Shelf {
         ensures fits { self.old.say_faults < 2 ^ 64 }
     {
         let fails = self.begin_call();
-        if self.said.extend_from_slice(kept_part(fails, piece)).is_err() {
+        if self
+            .said
+            .extend_from_slice(kept_part(fails, piece))
+            .is_err()
+        {
             return Err(WriteRefusal::OutOfMemory);
         }
         if fails {
@@ -167,7 +171,11 @@ impl Shelf {
 fn kept_part(fails: bool, piece: &[u8]) -> &[u8]
     ensures { result.now ≡ (if fails then half piece.now else piece.now) }
 {
-    if fails { &piece[..piece.len() / 2] } else { piece }
+    if fails {
+        &piece[..piece.len() / 2]
+    } else {
+        piece
+    }
 }
 
 impl Place for Shelf {

@@ -7,4 +7,5 @@ abbrev pub invariant-loop-byte : goal.invariant-loop-byte
 invariant-loop-byte l = record {
   fits : l.value < 2 ^ 64;
   value : digits_value_after 10 l.value (drop l.byte-index l.bytes) ≡ digits_value 10 l.bytes;
-  digits : all_bytes is_digit (drop l.byte-index l.bytes) ≡ all_bytes is_digit l.bytes }
+  digits : all_bytes is_digit (drop l.byte-index l.bytes) ≡ all_bytes is_digit l.bytes;
+}

@@ -7,4 +7,5 @@ abbrev pub invariant-loop-byte : goal.invariant-loop-byte
 invariant-loop-byte l = record {
   fits : l.value < 16 ^ l.byte-index;
   value : digits_value_after 16 l.value (drop l.byte-index l.bytes) ≡ digits_value 16 l.bytes;
-  digits : all_bytes is_lower_hex (drop l.byte-index l.bytes) ≡ all_bytes is_lower_hex l.bytes }
+  digits : all_bytes is_lower_hex (drop l.byte-index l.bytes) ≡ all_bytes is_lower_hex l.bytes;
+}

@@ -15,7 +15,7 @@ returns-in_ok-extend_from_slice-clause-ok c =
     let there = IsThere-found c.args.name.now c.deref.result.now c.self.inside.kept.items c.args.self.now c.in-Some.at c.index_mut-file.result.now c.deref.ensures.value c.self.view_is c.in-Some.ensures c.index_mut-file.ensures.value in
     there.changed (record { name = c.index_mut-file.result.now.name; bytes = c.extend_from_slice.new.self }) refl
     ∙ ap (insert c.args.self.now c.args.name.now)
-        (c.in_ok-extend_from_slice.ensures.items ∙ ap (λ file. unwrap_or file [] ++ c.args.piece.now) (sym there.bytes))
+    (c.in_ok-extend_from_slice.ensures.items ∙ ap (λ file. unwrap_or file [] ++ c.args.piece.now) (sym there.bytes))
 
 pub returns-in_default-clause-ok : goal.returns-in_default-clause-ok
 returns-in_default-clause-ok c =

@@ -1,0 +1,158 @@
+//! The place on real files and standard output: the edge that is trusted.
+
+ghost use Rattle.std.specs.Prelude.{◌≡◌, ◌≤◌, [], length, OnOk};
+ghost use Rattle.ocs_io.specs.Folder.{counts_alone};
+
+use crate::place::{Place, ReadRefusal, WriteRefusal};
+use std::fs::OpenOptions;
+use std::io::{Read, Write};
+use std::marker::Model;
+use std::rt::Files;
+use std::{fs, io};
+
+/// A place on the files of the system, whose names are paths, and on standard output for what is
+/// said. Each call that the system refuses raises the count of its kind, which stands still at the
+/// greatest number. Nothing is told of the contents.
+#[derive(Drop)]
+pub struct Folder<'a, R: Files + Print> {
+    rt: &'a R,
+    read_faults: u64,
+    write_faults: u64,
+    say_faults: u64,
+}
+
+impl<'a, R: Files + Print> Model for Folder<'a, R> {
+    ghost use Rattle.ocs_io.specs.Place.{Outside};
+    ghost use Rattle.ocs_io.specs.Folder.{outside_code, counts_alone};
+    ghost use Rattle.ocs_io.specs.Shelf.{AreCounts};
+
+    ghost Value = { Outside };
+
+    ghost coded = { outside_code };
+
+    ghost view = { λ f. counts_alone f.read_faults f.write_faults f.say_faults };
+
+    ghost invariant = { λ f. AreCounts f.read_faults f.write_faults f.say_faults };
+}
+
+impl<'a, R: Files + Print> Folder<'a, R> {
+    /// The place of this process.
+    pub fn new(rt: &R) -> Folder<'_, R>
+        ensures { result ≡ counts_alone 0 0 0 }
+    {
+        Folder {
+            rt,
+            read_faults: 0,
+            write_faults: 0,
+            say_faults: 0,
+        }
+    }
+}
+
+impl<'a, R: Files + Print> Place for Folder<'a, R> {
+    ghost use Rattle.ocs_io.specs.Shelf.{IsAnyName};
+
+    ghost outside = { λ f. f };
+
+    ghost readable = { λ f name. IsAnyName name };
+
+    ghost growable = { λ f name. IsAnyName name };
+
+    fn read(&mut self, name: &str, cap: usize, into: &mut Vec<u8>) -> Result<(), ReadRefusal> {
+        let answer = read_file(self.rt, name, cap, into);
+        if answer.is_err() {
+            into.clear();
+        }
+        if answer == Err(ReadRefusal::Failed) {
+            self.read_faults = self.read_faults.saturating_add(1);
+        }
+        answer
+    }
+
+    fn create(&mut self, name: &str) -> Result<(), WriteRefusal> {
+        if fs::create(self.rt, name).is_err() {
+            self.write_faults = self.write_faults.saturating_add(1);
+            return Err(WriteRefusal::Failed);
+        }
+        Ok(())
+    }
+
+    fn append(&mut self, name: &str, piece: &[u8]) -> Result<(), WriteRefusal> {
+        if append_to_file(self.rt, name, piece).is_err() {
+            self.write_faults = self.write_faults.saturating_add(1);
+            return Err(WriteRefusal::Failed);
+        }
+        Ok(())
+    }
+
+    fn say(&mut self, piece: &[u8]) -> Result<(), WriteRefusal> {
+        if write_whole(&mut io::writer(self.rt), piece).is_err() {
+            self.say_faults = self.say_faults.saturating_add(1);
+            return Err(WriteRefusal::Failed);
+        }
+        Ok(())
+    }
+}
+
+/// The system refused.
+#[derive(Clone, Copy)]
+struct Refused;
+
+/// Reads a file of at most `cap` bytes into the empty `into`.
+fn read_file<R: Files>(
+    rt: &R,
+    name: &str,
+    cap: usize,
+    into: &mut Vec<u8>,
+) -> Result<(), ReadRefusal>
+    requires { into.old.items ≡ [] }
+    ensures { OnOk result (length into.new.items ≤ cap) }
+{
+    let Ok(mut file) = fs::open(rt, name) else {
+        return Err(ReadRefusal::Failed);
+    };
+    fill(&mut file, cap, into)
+}
+
+/// Reads until the end, but no more than one byte past `cap`.
+fn fill<F: Read>(file: &mut F, cap: usize, into: &mut Vec<u8>) -> Result<(), ReadRefusal>
+    requires { into.old.items ≡ [] }
+    ensures { OnOk result (length into.new.items ≤ cap) }
+{
+    let mut buffer = [0u8; 4096];
+    while into.len() <= cap {
+        let room = (cap - into.len()).saturating_add(1).min(buffer.len());
+        let Ok(count) = file.read(&mut buffer[..room]) else {
+            return Err(ReadRefusal::Failed);
+        };
+        if count == 0 {
+            return Ok(());
+        }
+        if into.extend_from_slice(&buffer[..count]).is_err() {
+            return Err(ReadRefusal::OutOfMemory);
+        }
+    }
+    Err(ReadRefusal::TooLong)
+}
+
+/// Opens a file that is there, and writes a piece at its end.
+fn append_to_file<R: Files>(rt: &R, name: &str, piece: &[u8]) -> Result<(), Refused> {
+    let mut options = OpenOptions::new();
+    options.append(true);
+    let Ok(mut file) = options.open(rt, name) else {
+        return Err(Refused);
+    };
+    write_whole(&mut file, piece)
+}
+
+/// Writes all of a piece.
+fn write_whole<W: Write>(writer: &mut W, piece: &[u8]) -> Result<(), Refused> {
+    let mut rest = piece;
+    while !rest.is_empty() {
+        match writer.write(rest) {
+            Ok(0) | Err(_) => return Err(Refused),
+            Ok(count) => rest = &rest[count..],
+        }
+    }
+    Ok(())
+}
