@@ -1,0 +1,35 @@
+-- A chip memory as contracts see it, and what its calls make of it.
+use Rattle.std.specs.Prelude.{ℕ, ◌+◌, ◌-◌, ◌*◌, ◌/◌, ◌%◌, ◌^◌, min, Bool, true, false, List, take, drop, slice_index, slice_set}
+use Rattle.ocs_base.specs.declared.addr.Addr.{Addr}
+
+pub record ChipValue : Type 0 where
+  -- the present words, from address 0 on
+  pub words : List ℕ
+  -- the clock of the newest write, 0 before the first
+  pub newest : ℕ
+  -- how many words were read, where the count has not come to stand still
+  pub reads : ℕ
+
+-- the place in the list of the word at an address
+abbrev pub word_index : Addr → ℕ
+word_index at = at.value / 2
+
+abbrev pub word_at : ChipValue → Addr → ℕ
+word_at c at = slice_index c.words (word_index at)
+
+-- the 256 words of a page
+abbrev pub page_of : ChipValue → ℕ → List ℕ
+page_of c number = take 256 (drop (256 * number) c.words)
+
+-- the memory after so many more reads: the count stands still at the greatest number of 64 bits
+abbrev pub after_reads : ChipValue → ℕ → ChipValue
+after_reads c count = record c { reads = min (c.reads + count) (2 ^ 64 - 1) }
+
+-- the memory after a write of a word at a clock
+abbrev pub after_write : ChipValue → ℕ → Addr → ℕ → ChipValue
+after_write c now at word = record c { words = slice_set c.words (word_index at) word; newest = now }
+
+-- a word with its high or its low byte replaced
+abbrev pub with_half : ℕ → Bool → ℕ → ℕ
+with_half word true byte = 256 * byte + word % 256
+with_half word false byte = 256 * (word / 256) + byte

@@ -1,0 +1,4 @@
+pub mod PictureLaws
+pub mod StepLaws
+pub mod TickLaws
+pub mod TraceLaws

@@ -1,0 +1,45 @@
+-- The pixels of a clock, and a poke of a colour.
+use Rattle.std.proofs.Common.{◌≡◌, ℕ, ◌+◌, ◌-◌, ◌/◌, ◌%◌, ◌*◌, Bool, true, false, if◌then◌else◌, List, [], ◌∷◌, ◌++◌, slice_index, slice_set, length, arith, refl, ap, ◌∙◌, sym, append-nil}
+use Rattle.ocs_base.specs.declared.script.System.{System}
+use Rattle.out_files.specs.OutFiles.{OutFilesValue, with_pixels}
+use Rattle.serial_model.specs.declared.picture.Denise.{Denise}
+use Rattle.serial_model.specs.declared.picture.Touch.{Touch}
+use Rattle.serial_model.specs.declared.picture.Touch.TheVariants.{Set}
+use Rattle.serial_model.specs.Beam.{is_visible}
+use Rattle.serial_model.specs.Registers.{is_colour}
+use Rattle.serial_model.specs.Picture.{pixels, colour_bytes, set, touched, all_touched, is_picture_register}
+use Rattle.serial_model.specs.Outputs.{framed, frame_bytes}
+use Rattle.ocs_run.specs.Out.{Shows}
+
+pub pixels-visible : (system : System) (v h : ℕ) (p : Denise) → is_visible system v h ≡ true
+    → pixels system v h p ≡ (let c = colour_bytes (slice_index p.palette 0) in c ++ (c ++ (c ++ c)))
+unfolding pixels
+pixels-visible system v h p is = let c = colour_bytes (slice_index p.palette 0) in ap (λ b. if b then c ++ (c ++ (c ++ c)) else []) is
+
+pub pixels-hidden : (system : System) (v h : ℕ) (p : Denise) → is_visible system v h ≡ false → pixels system v h p ≡ []
+unfolding pixels
+pixels-hidden system v h p is = let c = colour_bytes (slice_index p.palette 0) in ap (λ b. if b then c ++ (c ++ (c ++ c)) else []) is
+
+pub Shows-none : (out : OutFilesValue) → Shows [] out out
+unfolding framed
+Shows-none out = record { names = refl; frames = sym (append-nil out.frames); given = ap (λ n. n % frame_bytes) (let e : out.given ≡ out.given + 0 = omega arith in e); trace = refl }
+
+pub Shows-piece : (piece : List ℕ) (old new : OutFilesValue) → new ≡ with_pixels old piece → Shows piece old new
+Shows-piece piece old new is = record {
+  names = ap (λ o. o.names) is;
+  frames = ap (λ o. o.frames) is;
+  given = ap (λ o. o.given % frame_bytes) is ∙ (let e : (old.given + length piece) % frame_bytes % frame_bytes ≡ (old.given + length piece) % frame_bytes = omega arith in e);
+  trace = ap (λ o. o.trace) is;
+}
+
+-- a poke touches the picture exactly where it is one of Denise's registers
+pub all_touched-poke : (h : ℕ) (word_at : ℕ → ℕ) (touches : List Touch) (offset word : ℕ) (p : Denise)
+    → all_touched h word_at touches (set offset word p)
+    ≡ all_touched h word_at (if is_picture_register offset then Set offset word ∷ touches else touches) p
+unfolding all_touched
+all_touched-poke h word_at touches offset word p =
+    let P : Bool → Type 0 = λ b. is_colour offset ≡ b
+    → all_touched h word_at touches (set offset word p) ≡ all_touched h word_at (if b then Set offset word ∷ touches else touches) p in
+    let split : (b : Bool) → P b =
+    λ b. elim b as P [ true ↦ λ is. refl | false ↦ λ is. ap (λ b. all_touched h word_at touches (if b then record { palette = slice_set p.palette ((offset - 0x180) / 2) (word % 4096) } else p)) is ] in
+    split (is_colour offset) refl

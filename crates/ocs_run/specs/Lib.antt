@@ -1,0 +1,3 @@
+pub mod Chips
+pub mod Out
+pub mod Steps

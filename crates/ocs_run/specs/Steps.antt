@@ -1,0 +1,109 @@
+-- What the working state of the clock loop stands for, and what its steps make.
+use Rattle.std.specs.Prelude.{◌≡◌, ℕ, ◌+◌, ◌%◌, ◌<◌, ◌≤◌, Bool, List, ◌++◌, length}
+use Rattle.ocs_base.specs.declared.beam.Beam.{Beam}
+use Rattle.ocs_base.specs.declared.script.At.{At}
+use Rattle.ocs_base.specs.declared.script.Act.{Act}
+use Rattle.ocs_base.specs.declared.script.System.TheVariants.{Pal}
+use Rattle.serial_model.specs.declared.picture.Touch.{Touch}
+use Rattle.serial_model.specs.declared.trace.TraceLine.{TraceLine}
+use Rattle.serial_model.specs.Beam.{IsOnScreen, place_of}
+use Rattle.serial_model.specs.Built.{meets_unbuilt}
+use Rattle.serial_model.specs.Events.{due, acted, all_acted, touch_added, touches_of, line_added, event_lines}
+use Rattle.serial_model.specs.Outputs.{frames_text, frame_bytes}
+use Rattle.serial_model.specs.Picture.{all_touched}
+use Rattle.serial_model.specs.State.{State}
+use Rattle.serial_model.specs.TraceText.{trace_text}
+use Rattle.serial_model.proofs.EventLaws.{IsQueue}
+use Rattle.ocs_run.specs.declared.foreground.Foreground.{Foreground}
+
+-- what the frames file and the trace hold so far
+pub record Written : Type 0 where
+  pub frames : List ℕ
+  pub trace : List ℕ
+
+-- a foreground stands for a state of the serial machine, where so much text is in the files: its parts are the
+-- state's, and a file and the text that is pending for it are together the text of what was shown or traced
+pub record Stands (fore : Foreground) (written : Written) (s : State) : Type 0 where
+  pub t : s.t ≡ fore.t
+  pub beam : s.beam ≡ fore.beam
+  pub memory : s.memory ≡ fore.chip.words
+  pub chips : s.chips ≡ fore.chips
+  pub picture : s.picture ≡ fore.picture
+  pub frames : written.frames ++ fore.out.frames ≡ frames_text s.shown
+  pub given : fore.out.given % frame_bytes ≡ length s.shown % frame_bytes
+  pub trace : written.trace ++ fore.out.trace ≡ trace_text s.trace
+
+abbrev pub Any : State → Type 0
+Any s = Unit {0}
+
+-- a step of the foreground makes a step of the machine: what stood for a state stands for the state after the step
+abbrev pub Makes : (State → Type 0) → (State → State) → Foreground → Foreground → Type 0
+Makes P step old new = (written : Written) (s : State) → P s → Stands old written s → Stands new written (step s)
+
+-- the place of the beam, the count of clocks and the names of the files stay
+pub record KeepsPlace (old new : Foreground) : Type 0 where
+  pub beam : new.beam ≡ old.beam
+  pub t : new.t ≡ old.t
+  pub names : new.out.names ≡ old.out.names
+
+-- all stays, but for the count of reads
+pub record KeepsAll (old new : Foreground) : Type 0 where
+  pub t : new.t ≡ old.t
+  pub beam : new.beam ≡ old.beam
+  pub memory : new.chip.words ≡ old.chip.words
+  pub chips : new.chips ≡ old.chips
+  pub picture : new.picture ≡ old.picture
+  pub out : new.out ≡ old.out
+
+-- what an event makes of the chips, the picture and the trace
+pub record Acts (act : Act) (old new : Foreground) : Type 0 where
+  pub t : new.t ≡ old.t
+  pub beam : new.beam ≡ old.beam
+  pub memory : new.chip.words ≡ old.chip.words
+  pub chips : new.chips ≡ acted act old.chips
+  pub picture : (h : ℕ) (word_at : ℕ → ℕ) (touches : List Touch)
+      → all_touched h word_at touches new.picture ≡ all_touched h word_at (touch_added act touches) old.picture
+  pub names : new.out.names ≡ old.out.names
+  pub frames : new.out.frames ≡ old.out.frames
+  pub given : new.out.given ≡ old.out.given
+  pub trace : (lines : List TraceLine)
+      → new.out.trace ++ trace_text lines ≡ old.out.trace ++ trace_text (line_added old.beam act lines)
+
+-- events that are none of them before the place, in order and in the limits of a run of some length
+pub record IsLeft (place : ℕ) (events : List At) : Type 0 where
+  pub frames : ℕ
+  pub queue : IsQueue frames place events
+
+-- every later place has the same events due
+abbrev pub HasLater : Beam → List At → List At → Type 0
+HasLater b events left = (later : Beam) → IsOnScreen later → place_of b < place_of later → due later events ≡ due later left
+
+-- so far the events before those that are left have happened: what is left does to the present state what all
+-- of them do to the first
+pub record HasActed (events left : List At) (old new : Foreground) : Type 0 where
+  pub t : new.t ≡ old.t
+  pub beam : new.beam ≡ old.beam
+  pub memory : new.chip.words ≡ old.chip.words
+  pub chips : all_acted (due old.beam left) new.chips ≡ all_acted (due old.beam events) old.chips
+  pub picture : (h : ℕ) (word_at : ℕ → ℕ)
+      → all_touched h word_at (touches_of (due old.beam left)) new.picture ≡ all_touched h word_at (touches_of (due old.beam events)) old.picture
+  pub names : new.out.names ≡ old.out.names
+  pub frames : new.out.frames ≡ old.out.frames
+  pub given : new.out.given ≡ old.out.given
+  pub trace : new.out.trace ++ trace_text (event_lines old.beam (due old.beam left) new.chips)
+      ≡ old.out.trace ++ trace_text (event_lines old.beam (due old.beam events) old.chips)
+  pub later : HasLater old.beam events left
+
+-- whether the clock that begins here does something that is not built
+abbrev pub Meets : Bool → List At → Foreground → Type 0
+Meets answer events old = (written : Written) (s : State) → Stands old written s → meets_unbuilt Pal events s ≡ answer
+
+-- what is left for the clocks after this one
+pub record HasNext (events left : List At) (old new : Foreground) : Type 0 where
+  pub later : place_of old.beam < place_of new.beam
+  pub frame : old.beam.frame ≤ new.beam.frame
+  pub one : new.beam.frame ≤ old.beam.frame + 1
+  pub screen : IsOnScreen new.beam
+  pub count : new.t ≡ old.t + 1
+  pub queue : IsLeft (place_of new.beam) left
+  pub same : HasLater old.beam events left

@@ -1,0 +1,6 @@
+//! The top call: a run from the words of the command line to the output files.
+#![tactic(auto)]
+
+mod chips;
+mod foreground;
+mod picture;

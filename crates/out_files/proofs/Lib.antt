@@ -1,0 +1,7 @@
+pub mod PixelsLaws
+pub mod LinesLaws
+pub mod WordsLaws
+pub mod CreateLaws
+pub mod FilesLaws
+pub mod TogetherLaws
+pub mod FlushLaws

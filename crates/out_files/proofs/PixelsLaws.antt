@@ -1,0 +1,52 @@
+-- The frames text of a piece that is given in parts.
+use Rattle.std.proofs.Common.{◌≡◌, ℕ, ◌+◌, ◌-◌, ◌%◌, ◌<◌, ◌≤◌, List, [], ◌∷◌, ◌++◌, length, take, drop, arith, refl, ap, ◌∙◌, sym, append_assoc, length-append, length-take-le, ◌==◌, zero, suc, Bool, true, false}
+use Rattle.std.proofs.lemmas.List.{take-append-drop, append-nil, take-append-le}
+use borrow.Author.Tests.{eqb-true}
+use Rattle.serial_model.specs.Outputs.{heading_at, framed, frame_bytes}
+use Rattle.serial_model.proofs.FramedLaws.{framed-append, framed-place, framed-within}
+
+-- the part that the present frame takes, and the rest of the piece
+pub framed-part : (n count : ℕ) (piece : List ℕ) → 0 < count → count ≤ length piece → n + count ≤ frame_bytes →
+    heading_at n ++ take count piece ++ framed ((n + count) % frame_bytes) (drop count piece) ≡ framed n piece
+framed-part n count piece some within inside =
+    let size : length (take count piece) ≡ count = length-take-le count piece within in
+    let part : framed n (take count piece) ≡ heading_at n ++ take count piece =
+    framed-within n (take count piece) (omega arith) (omega arith)
+    in
+    let place : framed ((n + count) % frame_bytes) (drop count piece) ≡ framed (n + length (take count piece)) (drop count piece) =
+    framed-place ((n + count) % frame_bytes) (n + length (take count piece)) (drop count piece) (omega arith)
+    in
+    ap (λ (text : List ℕ). text ++ framed ((n + count) % frame_bytes) (drop count piece)) (sym part)
+    ∙ ap (λ (text : List ℕ). framed n (take count piece) ++ text) place
+    ∙ sym (framed-append n (take count piece) (drop count piece))
+    ∙ ap (framed n) (take-append-drop count piece)
+
+-- one part more of a piece: what was appended, and what the rest will append, are together what they were
+pub pixels-turn : (start text rest now left : List ℕ) (n count : ℕ) → 0 < count → count ≤ length rest → n + count ≤ frame_bytes →
+    now ≡ text ++ heading_at n ++ take count rest → left ≡ drop count rest → text ++ framed n rest ≡ start →
+    now ++ framed ((n + count) % frame_bytes) left ≡ start
+pixels-turn start text rest now left n count some within inside grown shorter whole =
+    let after = framed ((n + count) % frame_bytes) (drop count rest) in
+    ap (λ (bytes : List ℕ). now ++ framed ((n + count) % frame_bytes) bytes) shorter
+    ∙ ap (λ (bytes : List ℕ). bytes ++ after) (grown ∙ append_assoc text (heading_at n) (take count rest))
+    ∙ append_assoc text (heading_at n ++ take count rest) after
+    ∙ ap (λ (bytes : List ℕ). text ++ bytes) (framed-part n count rest some within inside)
+    ∙ whole
+
+-- nothing is left of the piece
+pub pixels-end : (start text rest : List ℕ) (n : ℕ) → length rest ≡ 0 → text ++ framed n rest ≡ start → text ≡ start
+unfolding framed
+pixels-end start text [] n none whole = sym (append-nil text) ∙ whole
+pixels-end start text (byte ∷ bytes) n none whole = absurd (omega arith)
+
+-- what stood first still does
+pub kept-grown : (first text more now : List ℕ) → now ≡ text ++ more → length first ≤ length text → take (length first) text ≡ first → take (length first) now ≡ first
+kept-grown first text more now grown longer kept =
+    ap (λ (bytes : List ℕ). take (length first) bytes) grown ∙ take-append-le (length first) text more longer ∙ kept
+
+pub some_left : (k : ℕ) → false ≡ (k == 0) → 0 < k
+some_left zero e = absurd (cc e)
+some_left (suc k) e = omega arith
+
+pub none_left : (k : ℕ) → true ≡ (k == 0) → k ≡ 0
+none_left k e = eqb-true k 0 (sym e)

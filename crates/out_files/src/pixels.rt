@@ -1,0 +1,45 @@
+//! Pixel bytes as text of the frames file.
+
+ghost use Rattle.std.specs.Prelude.{◌≡◌, ◌+◌, ◌%◌, ◌<◌, ◌++◌, length, take, OnOk, OnErr, IfOk};
+ghost use Rattle.serial_model.specs.Outputs.{framed, heading_at, frame_bytes};
+
+use ocs_base::OutOfMemory;
+
+/// The bytes of a frame's pixels: 720 by 286 of three bytes each.
+const FRAME_BYTES: usize = 617_760;
+
+/// The heading of a frame, a binary portable pixmap.
+const HEADING: &[u8] = b"P6\n720 286\n255\n";
+
+/// Appends pixel bytes, with the heading before the first of each frame. `given` counts those of the
+/// present frame; the answer counts them afterwards. After a refusal a part may have been appended.
+pub fn put_pixels(text: &mut Vec<u8>, given: usize, piece: &[u8]) -> Result<usize, OutOfMemory>
+    requires { given < 617760 }
+    ensures text { OnOk result (text.new.items ≡ text.old.items ++ framed given piece.now) }
+    ensures given { IfOk result (λ after. after ≡ (given + length piece.now) % frame_bytes) }
+    ensures refused { OnErr result (take (length text.old.items) text.new.items ≡ text.old.items) }
+{
+    let mut given = given;
+    let mut rest = piece;
+    while !rest.is_empty() {
+        let count = rest.len().min(FRAME_BYTES - given);
+        put_part(text, given, &rest[..count])?;
+        given = (given + count) % FRAME_BYTES;
+        rest = &rest[count..];
+    }
+    Ok(given)
+}
+
+/// Appends pixel bytes of one frame, with the heading where they are its first.
+#[tactic(auto, unfolding(serial_model::specs::Outputs::heading))]
+fn put_part(text: &mut Vec<u8>, given: usize, part: &[u8]) -> Result<(), OutOfMemory>
+    requires { given < 617760 }
+    ensures text { OnOk result (text.new.items ≡ text.old.items ++ heading_at given ++ part.now) }
+    ensures refused { OnErr result (take (length text.old.items) text.new.items ≡ text.old.items) }
+{
+    if given == 0 {
+        text.extend_from_slice(HEADING)?;
+    }
+    text.extend_from_slice(part)?;
+    Ok(())
+}

@@ -1,0 +1,40 @@
+-- The beam: lines and fields, the order of places, and what of them is visible.
+use Rattle.std.specs.Prelude.{ℕ, ◌+◌, ◌<◌, Bool, true, not, ◌&&◌, nat_le, nat_lt, if◌then◌else◌}
+use Rattle.ocs_base.specs.declared.beam.Beam.{Beam}
+use Rattle.ocs_base.specs.Limits.{order_of}
+use Rattle.ocs_base.specs.declared.script.System.{System}
+use Rattle.ocs_base.specs.declared.script.System.TheVariants.{Pal}
+
+-- how many lines a field has: a long one 313, a short one 312
+abbrev pub lines : Bool → ℕ
+lines lof = if lof then 313 else 312
+
+-- the first place: frame 0, line 0, clock 0 of a long field
+abbrev pub first_place : Beam
+first_place = record { frame = 0; v = 0; h = 0; lof = true }
+
+-- the place after a line's last clock, 226: the next line of the field, or the first of the next frame,
+-- whose field is of the other kind where LACE is set
+abbrev pub next_line : Bool → Beam → Beam
+next_line lace b =
+    if nat_lt (b.v + 1) (lines b.lof)
+    then record { frame = b.frame; v = b.v + 1; h = 0; lof = b.lof }
+    else record { frame = b.frame + 1; v = 0; h = 0; lof = if lace then not b.lof else b.lof }
+
+-- the next place
+abbrev pub next_place : Bool → Beam → Beam
+next_place lace b =
+    if nat_lt b.h 226 then record { frame = b.frame; v = b.v; h = b.h + 1; lof = b.lof } else next_line lace b
+
+-- a place that the beam can have
+pub record IsOnScreen (b : Beam) : Type 0 where
+  pub line : b.v < lines b.lof
+  pub clock : b.h < 227
+
+-- its place in the order of time, as one number
+abbrev pub place_of : Beam → ℕ
+place_of b = order_of b.frame b.v b.h
+
+-- whether the clock h of line v is in the picture of a frame file
+abbrev pub is_visible : System → ℕ → ℕ → Bool
+is_visible Pal v h = nat_le 26 v && nat_le v 311 && nat_le 47 h && nat_le h 226

@@ -1,0 +1,13 @@
+pub mod Beam
+pub mod Registers
+pub mod Copper
+pub mod Picture
+pub mod Bus
+pub mod Events
+pub mod State
+pub mod Tick
+pub mod Serial
+pub mod Outputs
+pub mod Built
+pub mod TraceText
+pub mod MemoryText

@@ -1,0 +1,20 @@
+//! What the Copper keeps between two colour clocks.
+
+/// What the Copper does at its next even clock: read the first or the second word of an instruction,
+/// or compare the beam with the WAIT that it has read.
+#[derive(Clone, Copy, Debug)]
+pub enum CopperPhase {
+    First,
+    Second,
+    Waiting,
+}
+
+/// The phase, the address of the next word that the Copper reads, and the two words of the
+/// instruction that it reads or waits in.
+#[derive(Clone, Copy, Debug)]
+pub struct CopperState {
+    pub phase: CopperPhase,
+    pub at: u32,
+    pub first: u16,
+    pub second: u16,
+}

@@ -1,0 +1,13 @@
+//! The serial colour-clock machine: what every part of the emulator is proved against.
+//! Its definitions stand in `specs/`; here are the plain types that they speak of.
+#![tactic(auto)]
+
+pub mod bus;
+pub mod copper;
+pub mod picture;
+pub mod trace;
+
+pub use bus::Ask;
+pub use copper::{CopperPhase, CopperState};
+pub use picture::{Denise, Touch};
+pub use trace::{Source, TraceLine};
