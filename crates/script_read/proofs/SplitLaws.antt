@@ -70,7 +70,8 @@ pub next-line : (text : List ℕ) (at : ℕ) → at < length text → Some at �
     → (lines_of text ≡ take at text ∷ lines_of (take (length text - (at + 1)) (drop (at + 1) text))) × (length (take (length text - (at + 1)) (drop (at + 1) text)) < length text)
 next-line text at within e = (
   lines-some text at e ∙ ap (λ rest. take at text ∷ lines_of rest) (sym (after_cut text at)),
-  omega (arith, ap length (after_cut text at), length-drop (at + 1) text))
+  omega (arith, ap length (after_cut text at), length-drop (at + 1) text),
+)
 
 pub next-word : (line : List ℕ) (at : ℕ) → Some at ≡ position (λ b. b == 32) line → words_of line ≡ take at line ∷ words_of (take (length line - (at + 1)) (drop (at + 1) line))
 next-word line at e = words-some line at e ∙ ap (λ rest. take at line ∷ words_of rest) (sym (after_cut line at))

@@ -5,5 +5,7 @@ mod cut;
 mod event;
 pub mod fault;
 mod parts;
+mod reader;
 
 pub use fault::{BadKind, ScriptFault};
+pub use reader::read_script;
