@@ -3,3 +3,4 @@ pub mod EventLaws
 pub mod BodyLaws
 pub mod FrameLaws
 pub mod RunnableLaws
+pub mod PrintLaws

@@ -27,6 +27,7 @@ below-lt limit text = kept (dec_of text)
     tested : (n : ℕ) (b : Bool) → nat_lt n limit ≡ b → IfSome (if b then Some n else None) (λ m. m < limit)
     tested n true e = ltb-true n limit e
     tested n false e = tt
+
     kept : (n : Option ℕ) → IfSome (kept_below limit n) (λ m. m < limit)
     kept None = tt
     kept (Some n) = tested n (nat_lt n limit) refl
@@ -112,7 +113,7 @@ IsInLimits-words frames (a ∷ b ∷ c ∷ []) = tt
 IsInLimits-words frames (a ∷ b ∷ c ∷ d ∷ []) = tt
 IsInLimits-words frames (a ∷ b ∷ c ∷ d ∷ e ∷ words) =
     either (IsInLimits frames) (bytes_eq a (codes "at")) (timed (below frames b) (below 312 c) (below 227 d) (act_of e words)) None
-        (IsInLimits-timed frames (below frames b) (below 312 c) (below 227 d) (act_of e words) (below-lt frames b) (below-lt 312 c) (below-lt 227 d) (HasPort-act e words)) tt
+    (IsInLimits-timed frames (below frames b) (below 312 c) (below 227 d) (act_of e words) (below-lt frames b) (below-lt 312 c) (below-lt 227 d) (HasPort-act e words)) tt
 
 -- a line that gives an event gives one in the limits that is no earlier
 record IsNext (frames before : ℕ) (at : At) : Type 0 where
@@ -131,9 +132,11 @@ IsNext-line frames number before line = first (nat_lt 100000 number) (bytes_eq l
     tested : (at : At) (b : Bool) → nat_lt (time_of at) before ≡ b → IsInLimits frames at → some_next frames before (if b then Err Order else Ok (Some at))
     tested at true e limits = tt
     tested at false e limits = record { limits = limits; later = ltb-false (time_of at) before e }
+
     ordered : (event : Option At) → IfSome event (IsInLimits frames) → some_next frames before (in_order before event)
     ordered None limits = tt
     ordered (Some at) limits = tested at (nat_lt (time_of at) before) refl limits
+
     first : (past ended : Bool) → some_next frames before (if past then Err Lines else (if ended then Ok None else in_order before (event_in frames (words_of line))))
     first true ended = tt
     first false true = tt
@@ -163,16 +166,20 @@ Follows-body head number before (line ∷ lines) none =
     empty : (events : List At) → events ≡ [] → Follows head before (record head { events = events })
     empty [] e = record { frames = refl; limits = tt; from = tt; order = tt }
     empty (at ∷ events) e = absurd (cc e)
+
     ended : (rest : List (List ℕ)) → good_follows head before (after_end head (number + 1) rest)
     ended [] = empty head.events none
     ended (extra ∷ rest) = tt
+
     more : (at : At) (verdict : Verdict) → IsNext head.frames before at → good_follows head (time_of at) verdict → good_follows head before (with_event at verdict)
     more at (Bad n kind) next follows = tt
     more at (Good script) next follows = record {
       frames = follows.frames;
       limits = (next.limits, follows.limits);
       from = (next.later, AreFrom-lower before (time_of at) script.events next.later follows.from);
-      order = (follows.from, follows.order) }
+      order = (follows.from, follows.order);
+    }
+
     by_line : (answer : Result (Option At) BadKind) → some_next head.frames before answer → ((at : At) → good_follows head (time_of at) (body_of head (number + 1) (time_of at) lines))
         → good_follows head before (from_line answer number (after_end head (number + 1) lines) (λ at. body_of head (number + 1) (time_of at) lines))
     by_line (Err kind) next rest = tt
@@ -190,7 +197,8 @@ IsRunnable-body cpu frames (Good script) least most follows = record {
   least = omega (arith, follows.frames);
   most = omega (arith, follows.frames);
   limits = subst (λ n. AreInLimits n script.events) (sym follows.frames) follows.limits;
-  order = follows.order }
+  order = follows.order;
+}
 
 IsRunnable-count : (count : Option ℕ) (cpu : Bool) (lines : List (List ℕ)) → good_runnable (with_frames cpu lines (kept_frames count))
 unfolding good_runnable

@@ -4,3 +4,5 @@ pub mod Words
 pub mod Grammar
 pub mod Verdict
 pub mod Cut
+pub mod Canonical
+pub mod Extends

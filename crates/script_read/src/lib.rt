@@ -5,7 +5,9 @@ mod cut;
 mod event;
 pub mod fault;
 mod parts;
+mod printer;
 mod reader;
 
 pub use fault::{BadKind, ScriptFault};
+pub use printer::print_script;
 pub use reader::read_script;

@@ -1,0 +1,99 @@
+-- What is appended step by step.
+use Rattle.std.proofs.Common.{◌≡◌, ℕ, ◌+◌, ◌<◌, ◌≤◌, Bool, true, false, List, [], ◌∷◌, ◌++◌, length, take, get_or, flat_map, codes, decimal, refl, sym, ap, subst, ◌∙◌, append_assoc, append-nil, arith, Result, Ok, Err}
+use Rattle.script_read.specs.Extends.{Extends}
+use Rattle.std.proofs.lemmas.List.{take_more}
+use Rattle.ocs_io.specs.Numbers.{hex_text}
+use Rattle.ocs_base.specs.declared.reg.Reg.{Reg}
+use Rattle.ocs_base.specs.declared.script.Act.{Act}
+use Rattle.ocs_base.specs.declared.script.Act.TheVariants.{Poke, Peek, Joy, Fire, Key}
+use Rattle.ocs_base.specs.declared.script.At.{At}
+use Rattle.ocs_base.specs.Script.{ScriptValue}
+use Rattle.script_read.specs.Canonical.{spaced, line_of, line_text, digit_of, act_words, time_words, event_text, cpu_word, head_text, script_text, HasWords, AllHaveWords, head_start}
+
+pub Extends-same : (old new : List ℕ) → new ≡ old → Extends old new
+Extends-same old new e = record { part = []; is = e ∙ sym (append-nil old) }
+
+pub Extends-more : (old new part : List ℕ) → new ≡ old ++ part → Extends old new
+Extends-more old new part e = record { part = part; is = e }
+
+pub Extends-trans : (old mid new : List ℕ) → Extends old mid → Extends mid new → Extends old new
+Extends-trans old mid new first second = record { part = first.part ++ second.part; is = second.is ∙ ap (λ m. m ++ second.part) first.is ∙ append_assoc old first.part second.part }
+
+take-front : (old part : List ℕ) → take (length old) (old ++ part) ≡ old
+take-front [] part = refl
+take-front (b ∷ old) part = ap (λ rest. b ∷ rest) (take-front old part)
+
+pub Extends-cut : (old new : List ℕ) → Extends old new → take (length old) new ≡ old
+Extends-cut old new extends = ap (take (length old)) extends.is ∙ take-front old extends.part
+
+two_steps : (a b c p q : List ℕ) → b ≡ a ++ p → c ≡ b ++ q → c ≡ a ++ (p ++ q)
+two_steps a b c p q first second = second ∙ ap (λ m. m ++ q) first ∙ append_assoc a p q
+
+pub steps-2 : (a b c p q : List ℕ) → b ≡ a ++ p → c ≡ b ++ q → c ≡ a ++ (p ++ q)
+steps-2 = two_steps
+
+pub steps-3 : (a b c d p q r : List ℕ) → b ≡ a ++ p → c ≡ b ++ q → d ≡ c ++ r → d ≡ a ++ (p ++ (q ++ r))
+steps-3 a b c d p q r first second third = steps-2 a b d p (q ++ r) first (two_steps b c d q r second third)
+
+pub steps-6 : (a b c d e f g p q r s t u : List ℕ) → b ≡ a ++ p → c ≡ b ++ q → d ≡ c ++ r → e ≡ d ++ s → f ≡ e ++ t → g ≡ f ++ u → g ≡ a ++ (p ++ (q ++ (r ++ (s ++ (t ++ u)))))
+steps-6 a b c d e f g p q r s t u one two three four five six =
+    steps-3 a b c g p q (r ++ (s ++ (t ++ u))) one two (steps-3 c d e g r s (t ++ u) three four (two_steps e f g t u five six))
+
+pub poke-text : (act : Act) (reg : Reg) (word n : ℕ) → act ≡ Poke reg word → n ≡ reg.offset → codes " poke" ++ ((32 ∷ hex_text 3 n) ++ (32 ∷ hex_text 4 word)) ≡ spaced (act_words act)
+unfolding spaced act_words
+poke-text act reg word n is same =
+    ap (λ m. codes " poke" ++ ((32 ∷ hex_text 3 m) ++ (32 ∷ hex_text 4 word))) same
+    ∙ ap (λ t. codes " poke" ++ (32 ∷ (hex_text 3 reg.offset ++ (32 ∷ t)))) (sym (append-nil (hex_text 4 word)))
+    ∙ ap (λ a. spaced (act_words a)) (sym is)
+
+pub peek-text : (act : Act) (reg : Reg) (n : ℕ) → act ≡ Peek reg → n ≡ reg.offset → codes " peek" ++ (32 ∷ hex_text 3 n) ≡ spaced (act_words act)
+unfolding spaced act_words
+peek-text act reg n is same =
+    ap (λ m. codes " peek" ++ (32 ∷ hex_text 3 m)) same
+    ∙ ap (λ t. codes " peek" ++ (32 ∷ t)) (sym (append-nil (hex_text 3 reg.offset)))
+    ∙ ap (λ a. spaced (act_words a)) (sym is)
+
+pub joy-text : (act : Act) (port word : ℕ) → act ≡ Joy port word → codes " joy" ++ ((32 ∷ decimal port) ++ (32 ∷ hex_text 4 word)) ≡ spaced (act_words act)
+unfolding spaced act_words
+joy-text act port word is =
+    ap (λ t. codes " joy" ++ (32 ∷ (decimal port ++ (32 ∷ t)))) (sym (append-nil (hex_text 4 word)))
+    ∙ ap (λ a. spaced (act_words a)) (sym is)
+
+pub fire-text : (act : Act) (port : ℕ) (down : Bool) (n : ℕ) → act ≡ Fire port down → n ≡ digit_of down → codes " fire" ++ ((32 ∷ decimal port) ++ (32 ∷ decimal n)) ≡ spaced (act_words act)
+unfolding spaced act_words
+fire-text act port down n is same =
+    ap (λ m. codes " fire" ++ ((32 ∷ decimal port) ++ (32 ∷ decimal m))) same
+    ∙ ap (λ t. codes " fire" ++ (32 ∷ (decimal port ++ (32 ∷ t)))) (sym (append-nil (decimal (digit_of down))))
+    ∙ ap (λ a. spaced (act_words a)) (sym is)
+
+pub key-text : (act : Act) (code : ℕ) → act ≡ Key code → codes " key" ++ (32 ∷ hex_text 2 code) ≡ spaced (act_words act)
+unfolding spaced act_words
+key-text act code is =
+    ap (λ t. codes " key" ++ (32 ∷ t)) (sym (append-nil (hex_text 2 code)))
+    ∙ ap (λ a. spaced (act_words a)) (sym is)
+
+pub event-text : (at : At) → codes "at" ++ ((32 ∷ decimal at.frame) ++ ((32 ∷ decimal at.v) ++ ((32 ∷ decimal at.h) ++ (spaced (act_words at.act) ++ 10 ∷ [])))) ≡ event_text at
+unfolding event_text line_text line_of spaced
+event-text at = simp append_assoc
+
+pub head-text : (cpu : Bool) (frames : ℕ) → head_start cpu ++ ((32 ∷ decimal frames) ++ 10 ∷ []) ≡ head_text cpu frames
+unfolding head_text line_text line_of spaced
+head-text true frames = ap (λ t. codes "ocs 1\ncpu on\nframes " ++ (t ++ 10 ∷ [])) (sym (append-nil (decimal frames)))
+head-text false frames = ap (λ t. codes "ocs 1\ncpu off\nframes " ++ (t ++ 10 ∷ [])) (sym (append-nil (decimal frames)))
+
+pub script-text : (script : ScriptValue) → head_text script.cpu script.frames ++ (flat_map event_text script.events ++ codes "end\n") ≡ script_text script
+unfolding script_text line_text line_of spaced
+script-text script = refl
+
+pub AllHaveWords-push : (events : List At) (at : At) → AllHaveWords events → HasWords at.act → AllHaveWords (events ++ at ∷ [])
+AllHaveWords-push [] at all fits = (fits, tt)
+AllHaveWords-push (first ∷ events) at all fits = (all.0, AllHaveWords-push events at all.1 fits)
+
+pub AllHaveWords-more : (events : List At) (i : ℕ) (d : At) → i < length events → AllHaveWords (take i events) → HasWords (get_or events i d).act → AllHaveWords (take (i + 1) events)
+AllHaveWords-more events i d lt all fits = subst AllHaveWords (sym (take_more events i d lt)) (AllHaveWords-push (take i events) (get_or events i d) all fits)
+
+pub ruleset words_laws = (AllHaveWords-more)
+
+pub ruleset extends_laws = (Extends-same, Extends-more, Extends-trans, AllHaveWords-more)
+
+pub ruleset print_laws = (Extends-cut)
