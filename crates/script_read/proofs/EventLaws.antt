@@ -99,7 +99,7 @@ same_register a b same =
 pub register_of-offset : (reg : Reg) → register_of reg.offset ≡ reg
 register_of-offset reg = same_register (register_of reg.offset) reg (omega (arith, reg.even, reg.below))
 
-tests_of : (n : ℕ) → n % 2 ≡ 0 → n < 512 → ((n % 2 == 0) && nat_lt n 512) ≡ true
+pub tests_of : (n : ℕ) → n % 2 ≡ 0 → n < 512 → ((n % 2 == 0) && nat_lt n 512) ≡ true
 tests_of n even below = grind (arith, nat_tests)
 
 no_tests : (n : ℕ) → ((n % 2 ≡ 0) × (n < 512) → ⊥) → ((n % 2 == 0) && nat_lt n 512) ≡ false

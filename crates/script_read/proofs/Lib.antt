@@ -4,3 +4,4 @@ pub mod BodyLaws
 pub mod FrameLaws
 pub mod RunnableLaws
 pub mod PrintLaws
+pub mod RoundTrip

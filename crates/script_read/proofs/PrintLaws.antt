@@ -2,6 +2,7 @@
 use Rattle.std.proofs.Common.{◌≡◌, ℕ, ◌+◌, ◌<◌, ◌≤◌, Bool, true, false, List, [], ◌∷◌, ◌++◌, length, take, get_or, flat_map, codes, decimal, refl, sym, ap, subst, ◌∙◌, append_assoc, append-nil, arith, Result, Ok, Err}
 use Rattle.script_read.specs.Extends.{Extends}
 use Rattle.std.proofs.lemmas.List.{take_more}
+use Rattle.std.proofs.lemmas.Grind.{flat_map-append}
 use Rattle.ocs_io.specs.Numbers.{hex_text}
 use Rattle.ocs_base.specs.declared.reg.Reg.{Reg}
 use Rattle.ocs_base.specs.declared.script.Act.{Act}
@@ -91,6 +92,15 @@ AllHaveWords-push (first ∷ events) at all fits = (all.0, AllHaveWords-push eve
 
 pub AllHaveWords-more : (events : List At) (i : ℕ) (d : At) → i < length events → AllHaveWords (take i events) → HasWords (get_or events i d).act → AllHaveWords (take (i + 1) events)
 AllHaveWords-more events i d lt all fits = subst AllHaveWords (sym (take_more events i d lt)) (AllHaveWords-push (take i events) (get_or events i d) all fits)
+
+pub event-more : (old now new : List ℕ) (events : List At) (i : ℕ) (at : At) → i < length events → at ≡ get_or events i at → now ≡ old ++ flat_map event_text (take i events) → new ≡ now ++ event_text at
+    → new ≡ old ++ flat_map event_text (take (i + 1) events)
+event-more old now new events i at lt is first second =
+    second ∙ ap (λ t. t ++ event_text at) first ∙ append_assoc old (flat_map event_text (take i events)) (event_text at)
+    ∙ ap (λ t. old ++ t)
+        (sym (ap (flat_map event_text) (take_more events i at lt) ∙ flat_map-append event_text (take i events) (get_or events i at ∷ [])
+        ∙ ap (λ e. flat_map event_text (take i events) ++ (event_text e ++ [])) (sym is)
+        ∙ ap (λ t. flat_map event_text (take i events) ++ t) (append-nil (event_text at))))
 
 pub ruleset words_laws = (AllHaveWords-more)
 

@@ -39,7 +39,7 @@ pub words-none : (line : List ℕ) → None ≡ position (λ b. b == 32) line �
 unfolding words_of
 words-none line e = split-none (λ b. b == 32) line e
 
-kept-more : (line : List ℕ) (lines kept : List (List ℕ)) → 0 < length lines → kept_before line lines kept ≡ line ∷ kept
+pub kept-more : (line : List ℕ) (lines kept : List (List ℕ)) → 0 < length lines → kept_before line lines kept ≡ line ∷ kept
 kept-more line [] kept some = absurd (omega arith)
 kept-more line (next ∷ lines) kept some = refl
 
