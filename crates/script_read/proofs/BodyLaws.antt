@@ -1,9 +1,8 @@
 -- The lines after the third, read one after another.
-use Rattle.std.proofs.Common.{◌≡◌, ℕ, ◌+◌, ◌<◌, ◌≤◌, Bool, true, false, List, [], ◌∷◌, ◌++◌, length, refl, sym, ap, subst, ◌∙◌, Option, Some, None, Result, Ok, Err, arith, nat_lt, nat_le, if◌then◌else◌, append_assoc, append-nil}
+use Rattle.std.proofs.Common.{◌≡◌, ℕ, ◌+◌, List, [], ◌∷◌, ◌++◌, refl, sym, ap, ◌∙◌, Option, Some, None, Result, Ok, Err, append_assoc, append-nil}
 use Rattle.ocs_base.specs.Limits.{time_of}
 use Rattle.ocs_base.specs.Script.{ScriptValue}
 use Rattle.ocs_base.specs.declared.script.At.{At}
-use Rattle.script_read.specs.Split.{lines_of}
 use Rattle.script_read.specs.Grammar.{Verdict, Good, Bad, body_of, body_line, after_end, with_event, from_line}
 use Rattle.script_read.specs.declared.fault.BadKind.{BadKind}
 use Rattle.script_read.specs.declared.fault.BadKind.TheVariants.{Missing}

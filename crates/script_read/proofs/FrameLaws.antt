@@ -1,5 +1,5 @@
 -- The third line.
-use Rattle.std.proofs.Common.{◌≡◌, ◌≢◌, ℕ, Bool, true, false, List, [], ◌∷◌, length, refl, sym, ap, ◌∙◌, Option, Some, None, if◌then◌else◌, bytes_eq, codes}
+use Rattle.std.proofs.Common.{◌≡◌, ◌≢◌, ℕ, true, false, List, [], ◌∷◌, length, refl, ap, ◌∙◌, None, if◌then◌else◌, bytes_eq, codes}
 use Rattle.ocs_io.specs.Numbers.{dec_of}
 use Rattle.script_read.specs.Grammar.{frames_in, kept_frames}
 

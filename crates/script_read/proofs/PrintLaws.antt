@@ -1,5 +1,5 @@
 -- What is appended step by step.
-use Rattle.std.proofs.Common.{◌≡◌, ℕ, ◌+◌, ◌<◌, ◌≤◌, Bool, true, false, List, [], ◌∷◌, ◌++◌, length, take, get_or, flat_map, codes, decimal, refl, sym, ap, subst, ◌∙◌, append_assoc, append-nil, arith, Result, Ok, Err}
+use Rattle.std.proofs.Common.{◌≡◌, ℕ, ◌+◌, ◌<◌, Bool, true, false, List, [], ◌∷◌, ◌++◌, length, take, get_or, flat_map, codes, decimal, refl, sym, ap, subst, ◌∙◌, append_assoc, append-nil}
 use Rattle.script_read.specs.Extends.{Extends}
 use Rattle.std.proofs.lemmas.List.{take_more}
 use Rattle.std.proofs.lemmas.Grind.{flat_map-append}
@@ -9,7 +9,7 @@ use Rattle.ocs_base.specs.declared.script.Act.{Act}
 use Rattle.ocs_base.specs.declared.script.Act.TheVariants.{Poke, Peek, Joy, Fire, Key}
 use Rattle.ocs_base.specs.declared.script.At.{At}
 use Rattle.ocs_base.specs.Script.{ScriptValue}
-use Rattle.script_read.specs.Canonical.{spaced, line_of, line_text, digit_of, act_words, time_words, event_text, cpu_word, head_text, script_text, HasWords, AllHaveWords, head_start}
+use Rattle.script_read.specs.Canonical.{spaced, line_of, line_text, digit_of, act_words, event_text, head_text, script_text, HasWords, AllHaveWords, head_start}
 
 pub Extends-same : (old new : List ℕ) → new ≡ old → Extends old new
 Extends-same old new e = record { part = []; is = e ∙ sym (append-nil old) }
@@ -98,9 +98,9 @@ pub event-more : (old now new : List ℕ) (events : List At) (i : ℕ) (at : At)
 event-more old now new events i at lt is first second =
     second ∙ ap (λ t. t ++ event_text at) first ∙ append_assoc old (flat_map event_text (take i events)) (event_text at)
     ∙ ap (λ t. old ++ t)
-        (sym (ap (flat_map event_text) (take_more events i at lt) ∙ flat_map-append event_text (take i events) (get_or events i at ∷ [])
-        ∙ ap (λ e. flat_map event_text (take i events) ++ (event_text e ++ [])) (sym is)
-        ∙ ap (λ t. flat_map event_text (take i events) ++ t) (append-nil (event_text at))))
+    (sym (ap (flat_map event_text) (take_more events i at lt) ∙ flat_map-append event_text (take i events) (get_or events i at ∷ [])
+    ∙ ap (λ e. flat_map event_text (take i events) ++ (event_text e ++ [])) (sym is)
+    ∙ ap (λ t. flat_map event_text (take i events) ++ t) (append-nil (event_text at))))
 
 pub ruleset words_laws = (AllHaveWords-more)
 

@@ -1,6 +1,5 @@
 -- The canonical text of a script is read as the script.
-use Rattle.std.proofs.Common.{◌≡◌, ℕ, zero, suc, ◌+◌, ◌*◌, ◌^◌, ◌/◌, ◌%◌, ◌<◌, ◌≤◌, Bool, true, false, ◌&&◌, ◌==◌, cond, List, [], ◌∷◌, ◌++◌, map, length, flat_map, codes, decimal, refl, sym, ap, subst, ◌∙◌, Option, Some, None, Ok, Err, arith, nat_lt, nat_le, if◌then◌else◌, append_assoc, append-nil, length-append, bytes_eq}
-use Rattle.std.proofs.lemmas.Bool.Decides.{nat_tests}
+use Rattle.std.proofs.Common.{◌≡◌, ℕ, zero, suc, ◌+◌, ◌*◌, ◌^◌, ◌/◌, ◌%◌, ◌<◌, ◌≤◌, Bool, true, false, ◌&&◌, ◌==◌, cond, List, [], ◌∷◌, ◌++◌, map, length, flat_map, codes, decimal, refl, sym, ap, ◌∙◌, Some, None, Ok, Err, arith, nat_lt, if◌then◌else◌, append_assoc, append-nil, length-append, bytes_eq}
 use Rattle.std.proofs.lemmas.Fmt.{decimal_is_IsNumeral, length-decimal-le}
 use Rattle.std.proofs.lemmas.Str.Parse.{digit_from_value}
 use Rattle.std.proofs.lemmas.List.Splits.{length-slice_split}
@@ -14,12 +13,11 @@ use Rattle.ocs_base.specs.declared.reg.Reg.{Reg}
 use Rattle.ocs_base.specs.declared.script.Act.{Act}
 use Rattle.ocs_base.specs.declared.script.Act.TheVariants.{Poke, Peek, Joy, Fire, Key}
 use Rattle.ocs_base.specs.declared.script.At.{At}
-use Rattle.ocs_io.specs.Numbers.{all_bytes, dec_of, hex_of, hex_digit, hex_text}
+use Rattle.ocs_io.specs.Numbers.{all_bytes, hex_of, hex_digit, hex_text}
 use Rattle.ocs_io.proofs.TextLaws.{dec_of-decimal, hex_of-hex_text}
 use Rattle.script_read.specs.Split.{without_empty_last, lines_of, words_of}
 use Rattle.script_read.specs.Words.{below, kept_below, hex_number, kept_register, register_named, poke_with, peek_with, joy_with, fire_with, key_with, poke_of, peek_of, joy_of, fire_of, key_of, act_of, timed, event_in, event_of}
-use Rattle.script_read.specs.Grammar.{Verdict, Good, Bad, in_order, body_line, body_of, after_end, with_event, from_line, with_frames, from_frames, kept_frames, frames_in, with_cpu, cpu_in, from_cpu, from_header, script_of}
-use Rattle.script_read.specs.declared.fault.BadKind.{BadKind}
+use Rattle.script_read.specs.Grammar.{Good, Bad, in_order, body_line, body_of, after_end, with_event, from_line, with_frames, from_frames, kept_frames, frames_in, with_cpu, cpu_in, from_cpu, from_header, script_of}
 use Rattle.script_read.specs.declared.fault.BadKind.TheVariants.{Long, Lines, Order}
 use Rattle.script_read.specs.Canonical.{spaced, line_of, line_text, digit_of, act_words, time_words, event_text, cpu_word, head_text, script_text, HasWords, AllHaveWords}
 use Rattle.script_read.proofs.SplitLaws.{kept-more, lines-empty}
@@ -239,8 +237,17 @@ size-event : (frames : ℕ) (at : At) → frames ≤ 1000 → IsInLimits frames 
 unfolding event_text line_text line_of spaced
 size-event frames at most limits =
     let f = decimal at.frame in let v = decimal at.v in let h = decimal at.h in let s = spaced (act_words at.act) in
-    omega (arith, length-append (97 ∷ 116 ∷ 32 ∷ (f ++ (32 ∷ (v ++ (32 ∷ (h ++ s)))))) (10 ∷ []), length-append f (32 ∷ (v ++ (32 ∷ (h ++ s)))), length-append v (32 ∷ (h ++ s)), length-append h s,
-        short-decimal at.frame (omega (arith, limits.frame)), short-decimal at.v (omega (arith, limits.line)), short-decimal at.h (omega (arith, limits.clock)), size-act at.act limits.port)
+    omega (
+      arith,
+      length-append (97 ∷ 116 ∷ 32 ∷ (f ++ (32 ∷ (v ++ (32 ∷ (h ++ s)))))) (10 ∷ []),
+      length-append f (32 ∷ (v ++ (32 ∷ (h ++ s)))),
+      length-append v (32 ∷ (h ++ s)),
+      length-append h s,
+      short-decimal at.frame (omega (arith, limits.frame)),
+      short-decimal at.v (omega (arith, limits.line)),
+      short-decimal at.h (omega (arith, limits.clock)),
+      size-act at.act limits.port,
+    )
 
 size-events : (frames : ℕ) (events : List At) → frames ≤ 1000 → AreInLimits frames events → length (flat_map event_text events) ≤ 29 * length events
 size-events frames [] most limits = omega arith
@@ -258,8 +265,14 @@ size-end = refl
 size-script : (script : ScriptValue) → IsRunnable script → length script.events ≤ 99996 → length (script_text script) ≤ 4194304
 unfolding script_text
 size-script script runnable few =
-    omega (arith, length-append (head_text script.cpu script.frames) (flat_map event_text script.events ++ line_text (codes "end") []), length-append (flat_map event_text script.events) (line_text (codes "end") []),
-        size-head script.cpu script.frames runnable.most, size-events script.frames script.events runnable.most runnable.limits, size-end)
+    omega (
+      arith,
+      length-append (head_text script.cpu script.frames) (flat_map event_text script.events ++ line_text (codes "end") []),
+      length-append (flat_map event_text script.events) (line_text (codes "end") []),
+      size-head script.cpu script.frames runnable.most,
+      size-events script.frames script.events runnable.most runnable.limits,
+      size-end,
+    )
 
 -- the whole text
 
@@ -277,14 +290,15 @@ lines-head cpu frames rest most =
     ap lines_of (append_assoc (line_text (codes "ocs") (codes "1" ∷ [])) (line_text (codes "cpu") (cpu_word cpu ∷ []) ++ line_text (codes "frames") (decimal frames ∷ [])) rest)
     ∙ lines_of-text (codes "ocs") (codes "1" ∷ []) ((line_text (codes "cpu") (cpu_word cpu ∷ []) ++ line_text (codes "frames") (decimal frames ∷ [])) ++ rest) refl (refl, tt)
     ∙ ap (λ lines. line_of (codes "ocs") (codes "1" ∷ []) ∷ lines)
-        (ap lines_of (append_assoc (line_text (codes "cpu") (cpu_word cpu ∷ [])) (line_text (codes "frames") (decimal frames ∷ [])) rest)
-        ∙ lines_of-text (codes "cpu") (cpu_word cpu ∷ []) (line_text (codes "frames") (decimal frames ∷ []) ++ rest) refl (plain_cpu cpu, tt)
-        ∙ ap (λ lines. line_of (codes "cpu") (cpu_word cpu ∷ []) ∷ lines) (lines_of-text (codes "frames") (decimal frames ∷ []) rest refl (above-decimal frames (omega arith), tt)))
+    (ap lines_of (append_assoc (line_text (codes "cpu") (cpu_word cpu ∷ [])) (line_text (codes "frames") (decimal frames ∷ [])) rest)
+    ∙ lines_of-text (codes "cpu") (cpu_word cpu ∷ []) (line_text (codes "frames") (decimal frames ∷ []) ++ rest) refl (plain_cpu cpu, tt)
+    ∙ ap (λ lines. line_of (codes "cpu") (cpu_word cpu ∷ []) ∷ lines) (lines_of-text (codes "frames") (decimal frames ∷ []) rest refl (above-decimal frames (omega arith), tt)))
     ∙ ap (λ line. line ∷ line_of (codes "cpu") (cpu_word cpu ∷ []) ∷ line_of (codes "frames") (decimal frames ∷ []) ∷ lines_of rest) first_line
   where
     plain_cpu : (b : Bool) → above 32 (cpu_word b) ≡ true
     plain_cpu true = refl
     plain_cpu false = refl
+
     first_line : line_of (codes "ocs") (codes "1" ∷ []) ≡ codes "ocs 1"
     first_line = ocs_line
 

@@ -1,8 +1,7 @@
 -- A script that is read is one that a run takes.
-use Rattle.std.proofs.Common.{◌≡◌, ℕ, ◌+◌, ◌<◌, ◌≤◌, Bool, true, false, ◌&&◌, List, [], ◌∷◌, length, refl, sym, ap, subst, ◌∙◌, Option, Some, None, IfSome, Result, Ok, Err, IfOk, arith, nat_lt, nat_le, if◌then◌else◌, bytes_eq, codes}
-use Rattle.std.proofs.lemmas.Bool.Decides.{nat_tests}
+use Rattle.std.proofs.Common.{◌≡◌, ℕ, ◌+◌, ◌<◌, ◌≤◌, Bool, true, false, ◌&&◌, List, [], ◌∷◌, length, refl, sym, subst, Option, Some, None, IfSome, Result, Ok, Err, IfOk, arith, nat_lt, nat_le, if◌then◌else◌, bytes_eq, codes}
 use borrow.Author.Tests.{ltb-true, ltb-false, leb-true}
-use Rattle.ocs_base.specs.Limits.{time_of, HasPort, IsInLimits, AreInLimits, AreFrom, AreInOrder, IsRunnable}
+use Rattle.ocs_base.specs.Limits.{time_of, HasPort, IsInLimits, AreInLimits, AreFrom, AreInOrder}
 use Rattle.ocs_base.specs.Script.{ScriptValue}
 use Rattle.ocs_base.specs.declared.reg.Reg.{Reg}
 use Rattle.ocs_base.specs.declared.script.Act.{Act}
@@ -11,6 +10,7 @@ use Rattle.ocs_io.specs.Numbers.{dec_of}
 use Rattle.script_read.specs.Split.{lines_of, words_of}
 use Rattle.script_read.specs.Words.{below, kept_below, hex_number, register_named, poke_with, peek_with, joy_with, fire_with, key_with, poke_of, peek_of, joy_of, fire_of, key_of, act_of, timed, event_in, event_of}
 use Rattle.script_read.specs.Grammar.{Verdict, Good, Bad, in_order, body_line, body_of, after_end, with_event, from_line, with_frames, from_frames, kept_frames, frames_in, with_cpu, cpu_in, from_cpu, from_header, script_of}
+use Rattle.script_read.specs.Printable.{IsPrintable}
 use Rattle.script_read.specs.Verdict.{ReadsAs}
 use Rattle.script_read.specs.declared.fault.BadKind.{BadKind}
 use Rattle.script_read.specs.declared.fault.BadKind.TheVariants.{Lines, Order, Header, Long}
@@ -120,84 +120,89 @@ record IsNext (frames before : ℕ) (at : At) : Type 0 where
   limits : IsInLimits frames at
   later : before ≤ time_of at
 
-some_next : (frames before : ℕ) → Result (Option At) BadKind → Type 0
-some_next frames before (Ok (Some at)) = IsNext frames before at
-some_next frames before (Ok None) = Unit {0}
-some_next frames before (Err kind) = Unit {0}
+some_next : (frames number before : ℕ) → Result (Option At) BadKind → Type 0
+some_next frames number before (Ok (Some at)) = IsNext frames before at
+some_next frames number before (Ok None) = number ≤ 100000
+some_next frames number before (Err kind) = Unit {0}
 
-IsNext-line : (frames number before : ℕ) (line : List ℕ) → some_next frames before (body_line frames number before line)
+IsNext-line : (frames number before : ℕ) (line : List ℕ) → some_next frames number before (body_line frames number before line)
 unfolding body_line event_of some_next
-IsNext-line frames number before line = first (nat_lt 100000 number) (bytes_eq line (codes "end"))
+IsNext-line frames number before line = first (nat_lt 100000 number) (bytes_eq line (codes "end")) refl
   where
-    tested : (at : At) (b : Bool) → nat_lt (time_of at) before ≡ b → IsInLimits frames at → some_next frames before (if b then Err Order else Ok (Some at))
+    tested : (at : At) (b : Bool) → nat_lt (time_of at) before ≡ b → IsInLimits frames at → some_next frames number before (if b then Err Order else Ok (Some at))
     tested at true e limits = tt
     tested at false e limits = record { limits = limits; later = ltb-false (time_of at) before e }
 
-    ordered : (event : Option At) → IfSome event (IsInLimits frames) → some_next frames before (in_order before event)
+    ordered : (event : Option At) → IfSome event (IsInLimits frames) → some_next frames number before (in_order before event)
     ordered None limits = tt
     ordered (Some at) limits = tested at (nat_lt (time_of at) before) refl limits
 
-    first : (past ended : Bool) → some_next frames before (if past then Err Lines else (if ended then Ok None else in_order before (event_in frames (words_of line))))
-    first true ended = tt
-    first false true = tt
-    first false false = ordered (event_in frames (words_of line)) (IsInLimits-words frames (words_of line))
+    first : (past ended : Bool) → nat_lt 100000 number ≡ past → some_next frames number before (if past then Err Lines else (if ended then Ok None else in_order before (event_in frames (words_of line))))
+    first true ended e = tt
+    first false true e = ltb-false 100000 number e
+    first false false e = ordered (event_in frames (words_of line)) (IsInLimits-words frames (words_of line))
 
 AreFrom-lower : (low high : ℕ) (events : List At) → low ≤ high → AreFrom high events → AreFrom low events
 AreFrom-lower low high [] le from = tt
 AreFrom-lower low high (at ∷ events) le from = (omega (arith, from.0), AreFrom-lower low high events le from.1)
 
 -- the events of the lines that are left
-record Follows (head : ScriptValue) (before : ℕ) (script : ScriptValue) : Type 0 where
+record Follows (head : ScriptValue) (number before : ℕ) (script : ScriptValue) : Type 0 where
   frames : script.frames ≡ head.frames
   limits : AreInLimits head.frames script.events
   from : AreFrom before script.events
   order : AreInOrder script.events
+  count : number + length script.events ≤ 100000
 
-good_follows : ScriptValue → ℕ → Verdict → Type 0
-good_follows head before (Good script) = Follows head before script
-good_follows head before (Bad number kind) = Unit {0}
+good_follows : ScriptValue → ℕ → ℕ → Verdict → Type 0
+good_follows head number before (Good script) = Follows head number before script
+good_follows head number before (Bad line kind) = Unit {0}
 
-Follows-body : (head : ScriptValue) (number before : ℕ) (lines : List (List ℕ)) → head.events ≡ [] → good_follows head before (body_of head number before lines)
+Follows-body : (head : ScriptValue) (number before : ℕ) (lines : List (List ℕ)) → head.events ≡ [] → good_follows head number before (body_of head number before lines)
 unfolding body_of good_follows some_next
 Follows-body head number before [] none = tt
 Follows-body head number before (line ∷ lines) none =
     by_line (body_line head.frames number before line) (IsNext-line head.frames number before line) (λ at. Follows-body head (number + 1) (time_of at) lines none)
   where
-    empty : (events : List At) → events ≡ [] → Follows head before (record head { events = events })
-    empty [] e = record { frames = refl; limits = tt; from = tt; order = tt }
-    empty (at ∷ events) e = absurd (cc e)
+    empty : (events : List At) → events ≡ [] → number ≤ 100000 → Follows head number before (record head { events = events })
+    empty [] e few = record { frames = refl; limits = tt; from = tt; order = tt; count = omega arith }
+    empty (at ∷ events) e few = absurd (cc e)
 
-    ended : (rest : List (List ℕ)) → good_follows head before (after_end head (number + 1) rest)
-    ended [] = empty head.events none
-    ended (extra ∷ rest) = tt
+    ended : (rest : List (List ℕ)) → number ≤ 100000 → good_follows head number before (after_end head (number + 1) rest)
+    ended [] few = empty head.events none few
+    ended (extra ∷ rest) few = tt
 
-    more : (at : At) (verdict : Verdict) → IsNext head.frames before at → good_follows head (time_of at) verdict → good_follows head before (with_event at verdict)
+    more : (at : At) (verdict : Verdict) → IsNext head.frames before at → good_follows head (number + 1) (time_of at) verdict → good_follows head number before (with_event at verdict)
     more at (Bad n kind) next follows = tt
     more at (Good script) next follows = record {
       frames = follows.frames;
       limits = (next.limits, follows.limits);
       from = (next.later, AreFrom-lower before (time_of at) script.events next.later follows.from);
       order = (follows.from, follows.order);
+      count = omega (arith, follows.count);
     }
 
-    by_line : (answer : Result (Option At) BadKind) → some_next head.frames before answer → ((at : At) → good_follows head (time_of at) (body_of head (number + 1) (time_of at) lines))
-        → good_follows head before (from_line answer number (after_end head (number + 1) lines) (λ at. body_of head (number + 1) (time_of at) lines))
+    by_line : (answer : Result (Option At) BadKind) → some_next head.frames number before answer → ((at : At) → good_follows head (number + 1) (time_of at) (body_of head (number + 1) (time_of at) lines))
+        → good_follows head number before (from_line answer number (after_end head (number + 1) lines) (λ at. body_of head (number + 1) (time_of at) lines))
     by_line (Err kind) next rest = tt
-    by_line (Ok None) next rest = ended lines
+    by_line (Ok None) next rest = ended lines next
     by_line (Ok (Some at)) next rest = more at (body_of head (number + 1) (time_of at) lines) next (rest at)
 
 good_runnable : Verdict → Type 0
-good_runnable (Good script) = IsRunnable script
+good_runnable (Good script) = IsPrintable script
 good_runnable (Bad number kind) = Unit {0}
 
-IsRunnable-body : (cpu : Bool) (frames : ℕ) (verdict : Verdict) → 1 ≤ frames → frames ≤ 1000 → good_follows (record { cpu = cpu; frames = frames; events = [] }) 0 verdict → good_runnable verdict
+IsRunnable-body : (cpu : Bool) (frames : ℕ) (verdict : Verdict) → 1 ≤ frames → frames ≤ 1000 → good_follows (record { cpu = cpu; frames = frames; events = [] }) 4 0 verdict → good_runnable verdict
 unfolding good_follows good_runnable
 IsRunnable-body cpu frames (Bad number kind) least most follows = tt
 IsRunnable-body cpu frames (Good script) least most follows = record {
-  least = omega (arith, follows.frames);
-  most = omega (arith, follows.frames);
-  limits = subst (λ n. AreInLimits n script.events) (sym follows.frames) follows.limits;
-  order = follows.order;
+  runnable = record {
+    least = omega (arith, follows.frames);
+    most = omega (arith, follows.frames);
+    limits = subst (λ n. AreInLimits n script.events) (sym follows.frames) follows.limits;
+    order = follows.order;
+  };
+  lines = omega (arith, follows.count);
 }
 
 IsRunnable-count : (count : Option ℕ) (cpu : Bool) (lines : List (List ℕ)) → good_runnable (with_frames cpu lines (kept_frames count))
@@ -244,18 +249,18 @@ IsRunnable-header (line ∷ lines) = tested (bytes_eq line (codes "ocs 1"))
     tested true = IsRunnable-cpu lines
     tested false = tt
 
--- the script of a text is one that a run takes
-pub IsRunnable-script_of : (text : List ℕ) (script : ScriptValue) → script_of text ≡ Good script → IsRunnable script
+-- the script of a text is one that a run takes and that can be printed
+pub IsPrintable-script_of : (text : List ℕ) (script : ScriptValue) → script_of text ≡ Good script → IsPrintable script
 unfolding script_of good_runnable
-IsRunnable-script_of text script is = subst good_runnable is (tested (nat_lt 4194304 (length text)))
+IsPrintable-script_of text script is = subst good_runnable is (tested (nat_lt 4194304 (length text)))
   where
     tested : (b : Bool) → good_runnable (if b then Bad 0 Long else from_header (lines_of text))
     tested true = tt
     tested false = IsRunnable-header (lines_of text)
 
-pub IsRunnable-read : (lines : List (List ℕ)) (answer : Result ScriptValue ScriptFault) → ReadsAs (from_header lines) answer → IfOk answer IsRunnable
+pub IsPrintable-read : (lines : List (List ℕ)) (answer : Result ScriptValue ScriptFault) → ReadsAs (from_header lines) answer → IfOk answer IsPrintable
 unfolding good_runnable
-IsRunnable-read lines (Ok script) reads = subst good_runnable reads (IsRunnable-header lines)
-IsRunnable-read lines (Err fault) reads = tt
+IsPrintable-read lines (Ok script) reads = subst good_runnable reads (IsRunnable-header lines)
+IsPrintable-read lines (Err fault) reads = tt
 
-pub ruleset runnable_laws = (IsRunnable-read)
+pub ruleset runnable_laws = (IsPrintable-read)

@@ -3,7 +3,6 @@ use Rattle.std.specs.Prelude.{◌≡◌, ◌≢◌, ℕ, ◌<◌, List, [], ◌�
 use Rattle.std.specs.Borrow.{Bor}
 use Rattle.script_read.specs.Split.{lines_of, words_of}
 use Rattle.script_read.specs.declared.cut.Line.{Line}
-use Rattle.script_read.specs.declared.cut.Word.{Word}
 use Rattle.script_read.specs.declared.cut.TwoWords.{TwoWords}
 use Rattle.script_read.specs.declared.cut.EventWords.{EventWords}
 

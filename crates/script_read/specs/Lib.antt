@@ -6,3 +6,4 @@ pub mod Verdict
 pub mod Cut
 pub mod Canonical
 pub mod Extends
+pub mod Printable

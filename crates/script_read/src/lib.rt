@@ -11,3 +11,6 @@ mod reader;
 pub use fault::{BadKind, ScriptFault};
 pub use printer::print_script;
 pub use reader::read_script;
+
+#[cfg(test)]
+mod tests;

@@ -1,10 +1,10 @@
 //! Printing a script.
 
 ghost use Rattle.std.specs.Prelude.{◌≡◌, ◌<◌, ◌≤◌, ◌^◌, [], ◌∷◌, ◌++◌, length, flat_map, codes, decimal, OnOk, OnErr};
-ghost use Rattle.ocs_base.specs.Limits.{IsRunnable};
 ghost use Rattle.ocs_io.specs.Numbers.{hex_text};
 ghost use Rattle.script_read.specs.Canonical.{spaced, act_words, event_text, head_start, head_text, script_text, digit_of, HasWords, AllHaveWords};
 ghost use Rattle.script_read.specs.Extends.{Extends};
+ghost use Rattle.script_read.specs.Printable.{IsPrintable};
 ghost use Rattle.script_read.specs.Grammar.{script_of, Good};
 
 use ocs_base::{Act, At, OutOfMemory, Script};
@@ -14,8 +14,7 @@ use ocs_io::{put_dec, put_hex};
 /// script. After a refusal `into` is as before.
 #[tactic(auto, using(crate::proofs::PrintLaws::print_laws))]
 pub fn print_script(script: &Script, into: &mut Vec<u8>) -> Result<(), OutOfMemory>
-    requires runnable { IsRunnable script.now }
-    requires lines { length script.now.events ≤ 99996 }
+    requires { IsPrintable script.now }
     ensures ok { OnOk result (into.new.items ≡ into.old.items ++ script_text script.now) }
     ensures refused { OnErr result (into.new.items ≡ into.old.items) }
     ensures reads { OnOk result (script_of (script_text script.now) ≡ Good script.now) }

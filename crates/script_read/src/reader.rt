@@ -1,10 +1,11 @@
 //! Reading a script, line by line.
 
 ghost use Rattle.std.specs.Prelude.{◌≡◌, ◌<◌, ◌≤◌, [], OnOk, IfOk, IfSome};
-ghost use Rattle.ocs_base.specs.Limits.{time_of, IsRunnable};
+ghost use Rattle.ocs_base.specs.Limits.{time_of};
 ghost use Rattle.script_read.specs.Split.{lines_of, words_of};
 ghost use Rattle.script_read.specs.Grammar.{script_of, from_header, from_cpu, from_frames, frames_in, kept_frames, cpu_in, body_of, body_line, after_end};
 ghost use Rattle.ocs_io.specs.Numbers.{dec_of};
+ghost use Rattle.script_read.specs.Printable.{IsPrintable};
 ghost use Rattle.script_read.specs.Verdict.{ReadsAs};
 
 use crate::event::read_event;
@@ -24,7 +25,7 @@ const GREATEST_LINE: u32 = 100_000;
 #[tactic(auto, using(crate::proofs::RunnableLaws::runnable_laws), unfolding(crate::specs::Grammar::script_of))]
 pub fn read_script(alloc: Global, bytes: &[u8]) -> Result<Script, ScriptFault>
     ensures verdict { ReadsAs (script_of bytes.now) result }
-    ensures runnable { IfOk result IsRunnable }
+    ensures printable { IfOk result IsPrintable }
 {
     if bytes.len() > GREATEST_SIZE {
         return Err(bad(0, BadKind::Long));

@@ -1,4 +1,4 @@
-use Rattle.std.proofs.Common.{◌∙◌, sym}
+use Rattle.std.proofs.Common.{◌∙◌}
 use Rattle.script_read.proofs.EventLaws.{register_named-none, register_named-some}
 use Rattle.script_read.proofs.event.register.Goals as goal
 

@@ -1,6 +1,4 @@
-use Rattle.std.proofs.Common.{◌≡◌, Result, Ok, Err, OnOk}
-use Rattle.script_read.specs.Canonical.{script_text}
-use Rattle.script_read.specs.Grammar.{script_of, Good}
+use Rattle.std.proofs.Common.{Result, Ok, Err, OnOk}
 use Rattle.script_read.proofs.RoundTrip.{script_of-script_text}
 use Rattle.script_read.proofs.printer.print_script.Goals as goal
 

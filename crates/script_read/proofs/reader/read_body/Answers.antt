@@ -1,6 +1,5 @@
-use Rattle.std.proofs.Common.{◌≡◌, ◌+◌, ◌++◌, ◌∷◌, [], Bool, false, Option, Some, None, Result, Ok, Err, OnOk, refl, sym, ap, subst, ◌∙◌, arith}
+use Rattle.std.proofs.Common.{◌≡◌, ◌+◌, ◌++◌, ◌∷◌, [], false, Result, Ok, Err, OnOk, refl, sym, ap, subst, ◌∙◌, arith}
 use Rattle.std.specs.Result.{is_err}
-use Rattle.ocs_base.specs.Limits.{time_of}
 use Rattle.script_read.specs.Split.{lines_of}
 use Rattle.script_read.specs.Grammar.{body_of}
 use Rattle.script_read.specs.Verdict.{ReadsAs}
