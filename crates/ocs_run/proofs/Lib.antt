@@ -1,4 +1,5 @@
 pub mod PictureLaws
+pub mod RunLaws
 pub mod StepLaws
 pub mod TickLaws
 pub mod TraceLaws

@@ -107,3 +107,4 @@ pub record HasNext (events left : List At) (old new : Foreground) : Type 0 where
   pub count : new.t ≡ old.t + 1
   pub queue : IsLeft (place_of new.beam) left
   pub same : HasLater old.beam events left
+  pub names : new.out.names ≡ old.out.names

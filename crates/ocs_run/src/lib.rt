@@ -2,5 +2,6 @@
 #![tactic(auto)]
 
 mod chips;
+mod fault;
 mod foreground;
 mod picture;

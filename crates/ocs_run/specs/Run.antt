@@ -1,0 +1,45 @@
+-- A run and its files.
+use Rattle.std.specs.Prelude.{◌≡◌, ℕ, ◌<◌, ◌+◌, Bool, false, true, List, [], ◌++◌, Option}
+use Rattle.ocs_base.specs.Script.{ScriptValue}
+use Rattle.ocs_base.specs.declared.script.System.TheVariants.{Pal}
+use Rattle.ocs_io.specs.Place.{Files, with_file}
+use Rattle.out_files.specs.OutFiles.{OutNames}
+use Rattle.out_files.specs.Together.{three_files, HoldParts}
+use Rattle.serial_model.specs.Built.{meets_unbuilt}
+use Rattle.serial_model.specs.MemoryText.{memory_text}
+use Rattle.serial_model.specs.Outputs.{frames_text}
+use Rattle.serial_model.specs.Serial.{state_at, IsEnd}
+use Rattle.serial_model.specs.State.{State}
+use Rattle.serial_model.specs.TraceText.{trace_text}
+
+-- the states before this clock are those of a run that goes on, and what their clocks do is built
+pub record HasRun (image : List ℕ) (script : ScriptValue) (clocks : ℕ) : Type 0 where
+  pub running : (n : ℕ) → n < clocks → (state_at image script n).beam.frame < script.frames
+  pub built : (n : ℕ) → n < clocks → meets_unbuilt Pal script.events (state_at image script n) ≡ false
+
+-- the run came to its end, and the three files are its texts, whole; every other file is as before
+pub record HasFiles (image : List ℕ) (script : ScriptValue) (names : OutNames) (base new : Option Files) : Type 0 where
+  pub clocks : ℕ
+  pub end : IsEnd image script clocks
+  pub run : HasRun image script clocks
+  pub files : new ≡ (let s = state_at image script clocks in
+      three_files names base (frames_text s.shown) (trace_text s.trace) (memory_text s.memory))
+
+-- the run stopped after so many clocks: each of the three files holds a part of the text up to there, from the
+-- first byte on, and the memory file nothing; every other file is as before
+pub record HasParts (image : List ℕ) (script : ScriptValue) (names : OutNames) (base new : Option Files) (clocks : ℕ) : Type 0 where
+  pub run : HasRun image script clocks
+  pub parts : (let s = state_at image script clocks in HoldParts names base new s.shown s.trace [])
+
+-- the same at the end of the run, where the memory file holds a part of its text too
+pub record HasEndParts (image : List ℕ) (script : ScriptValue) (names : OutNames) (base new : Option Files) (clocks : ℕ) : Type 0 where
+  pub end : IsEnd image script clocks
+  pub run : HasRun image script clocks
+  pub parts : (let s = state_at image script clocks in HoldParts names base new s.shown s.trace (memory_text s.memory))
+
+-- the run stopped at a clock that does something unbuilt
+pub record StopsUnbuilt (image : List ℕ) (script : ScriptValue) (names : OutNames) (base new : Option Files) : Type 0 where
+  pub clocks : ℕ
+  pub so_far : HasParts image script names base new clocks
+  pub frame : (state_at image script clocks).beam.frame < script.frames
+  pub unbuilt : meets_unbuilt Pal script.events (state_at image script clocks) ≡ true
