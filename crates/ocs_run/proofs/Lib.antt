@@ -1,3 +1,4 @@
+pub mod KeptLaws
 pub mod PictureLaws
 pub mod RunLaws
 pub mod StepLaws

@@ -11,6 +11,8 @@ use Rattle.serial_model.specs.Outputs.{frames_text}
 use Rattle.serial_model.specs.Serial.{state_at, IsEnd}
 use Rattle.serial_model.specs.State.{State}
 use Rattle.serial_model.specs.TraceText.{trace_text}
+use Rattle.ocs_run.specs.declared.fault.RunFault.{RunFault}
+use Rattle.ocs_run.specs.declared.fault.RunFault.TheVariants.{Write, OutOfMemory, NotBuilt}
 
 -- the states before this clock are those of a run that goes on, and what their clocks do is built
 pub record HasRun (image : List ℕ) (script : ScriptValue) (clocks : ℕ) : Type 0 where
@@ -43,3 +45,9 @@ pub record StopsUnbuilt (image : List ℕ) (script : ScriptValue) (names : OutNa
   pub so_far : HasParts image script names base new clocks
   pub frame : (state_at image script clocks).beam.frame < script.frames
   pub unbuilt : meets_unbuilt Pal script.events (state_at image script clocks) ≡ true
+
+-- what stands after a run was stopped by a fault
+abbrev pub Stopped : List ℕ → ScriptValue → OutNames → Option Files → Option Files → RunFault → Type 0
+Stopped image script names base new (Write file) = (clocks : ℕ) × HasParts image script names base new clocks
+Stopped image script names base new OutOfMemory = (clocks : ℕ) × HasParts image script names base new clocks
+Stopped image script names base new NotBuilt = StopsUnbuilt image script names base new

@@ -12,7 +12,8 @@ use Rattle.serial_model.specs.Beam.{IsOnScreen, place_of, first_place}
 use Rattle.serial_model.specs.Events.{due}
 use Rattle.serial_model.specs.Serial.{state_at}
 use Rattle.ocs_base.specs.declared.beam.Beam.{Beam}
-use Rattle.ocs_run.specs.Run.{HasRun}
+use Rattle.ocs_run.specs.Run.{HasRun, Stopped}
+use Rattle.ocs_run.specs.declared.fault.RunFault.{RunFault}
 use Rattle.ocs_run.specs.Steps.{Written, Stands, IsLeft}
 use Rattle.ocs_run.specs.declared.foreground.Foreground.{Foreground}
 
@@ -49,3 +50,13 @@ pub record Flushes (old new : Foreground) (before after : Option Files) : Type 0
   pub picture : new.picture ≡ old.picture
   pub names : new.out.names ≡ old.out.names
   pub files : StayTogether old.out new.out before after
+
+-- the loop has run on
+abbrev pub Runs : ScriptValue → Foreground → Foreground → Option Files → Option Files → Type 0
+Runs script old new before after = (image : List ℕ) (base : Option Files)
+    → IsUnderway image script base before old → IsUnderway image script base after new
+
+-- the loop was stopped
+abbrev pub IsStoppedBy : RunFault → ScriptValue → Foreground → Option Files → Option Files → Type 0
+IsStoppedBy fault script old before after = (image : List ℕ) (base : Option Files)
+    → IsUnderway image script base before old → Stopped image script old.out.names base after fault

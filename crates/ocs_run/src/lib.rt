@@ -5,3 +5,4 @@ mod chips;
 mod fault;
 mod foreground;
 mod picture;
+mod run;
