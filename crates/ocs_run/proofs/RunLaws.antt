@@ -1,5 +1,5 @@
 -- The run over plain values: its start, its turns, its end and its stops.
-use Rattle.std.proofs.Common.{◌≡◌, ℕ, zero, suc, ◌+◌, ◌<◌, ◌≤◌, ◌%◌, Bool, true, false, List, [], ◌++◌, length, Option, Result, Ok, Err, IfErr, IsErrAnd, arith, refl, ap, ◌∙◌, sym, subst, append-nil, add-one, inl, inr, ◌∷◌, lit<}
+use Rattle.std.proofs.Common.{◌≡◌, ℕ, zero, suc, ◌+◌, ◌<◌, ◌≤◌, ◌%◌, Bool, true, false, List, [], ◌++◌, length, Option, Result, Ok, Err, OnOk, IfErr, IsErrAnd, arith, refl, ap, ◌∙◌, sym, subst, append-nil, add-one, inl, inr, ◌∷◌, lit<}
 use Rattle.std.proofs.lemmas.Bool.{cases_eq}
 use Rattle.ocs_base.specs.Limits.{IsRunnable, AreFrom, AreInOrder, AreInLimits}
 use Rattle.ocs_base.specs.Script.{ScriptValue}
@@ -7,8 +7,8 @@ use Rattle.ocs_base.specs.declared.beam.Beam.{Beam}
 use Rattle.ocs_base.specs.declared.script.At.{At}
 use Rattle.ocs_base.specs.declared.script.System.{System}
 use Rattle.ocs_base.specs.declared.script.System.TheVariants.{Pal}
-use Rattle.ocs_io.specs.Place.{Files}
-use Rattle.out_files.specs.OutFiles.{OutFilesValue, all_given}
+use Rattle.ocs_io.specs.Place.{Files, Outside}
+use Rattle.out_files.specs.OutFiles.{OutNames, OutFilesValue, all_given}
 use Rattle.out_files.specs.Together.{three_files, AreTogether, HoldParts, StayTogether, LeavesParts, Completes, Begins}
 use Rattle.serial_model.specs.Beam.{IsOnScreen, place_of, first_place}
 use Rattle.serial_model.specs.Built.{is_unbuilt, meets_unbuilt}
@@ -20,15 +20,17 @@ use Rattle.serial_model.specs.State.{State, reset}
 use Rattle.serial_model.specs.TraceText.{trace_text}
 use Rattle.serial_model.specs.Tick.{started, happened, timed, displayed, accessed, processed, advanced, tick}
 use Rattle.serial_model.specs.Bus.{asked, word_for}
-use Rattle.ocs_run.specs.Run.{HasRun, HasFiles, HasParts, HasEndParts, StopsUnbuilt}
+use Rattle.ocs_run.specs.Run.{HasRun, HasFiles, HasParts, HasEndParts, StopsUnbuilt, Stopped, HasCreated, LeavesAfter}
 use Rattle.ocs_run.specs.Fault.{of_tick, of_write}
 use Rattle.ocs_run.specs.declared.fault.RunFault.{RunFault}
+use Rattle.ocs_run.specs.declared.fault.RunFault.TheVariants.{Write, OutOfMemory as NoRoomToRun, NotBuilt}
+use Rattle.out_files.specs.Answers.{CreateAnswers}
 use Rattle.ocs_run.specs.declared.foreground.TickFault.{TickFault}
 use Rattle.ocs_run.specs.declared.foreground.TickFault.TheVariants.{OutOfMemory as NoRoomToTick, NotBuilt as TickNotBuilt}
 use Rattle.out_files.specs.declared.fault.WriteFault.{WriteFault}
 use Rattle.out_files.specs.declared.fault.WriteFault.TheVariants.{Failed, OutOfMemory as NoRoomToWrite}
 use Rattle.ocs_run.specs.Steps.{Written, Stands, Makes, Any, IsLeft, HasNext, Meets}
-use Rattle.ocs_run.specs.Underway.{IsReset, IsUnderway, IsInStep, Flushes, Runs, IsStoppedBy}
+use Rattle.ocs_run.specs.Underway.{IsReset, IsUnderway, IsInStep, Flushes, Runs, IsStoppedBy, StopsFinish, Finishes, IsFresh}
 use Rattle.ocs_run.specs.declared.foreground.Foreground.{Foreground}
 
 -- a tick looks at the events that are due, and at no others
@@ -285,3 +287,90 @@ stop-flush script before now after first fore (Failed file) fault names runs lea
 stop-flush script before now after first fore NoRoomToWrite fault names runs leaves is image base so =
     rw is (subst (λ ns. (clocks : ℕ) × HasParts image script ns base after clocks) names
     (fore.t, HasParts-refused image script base now after fore leaves (runs image base so)))
+
+-- the end of a run and its stops
+pub StopsFinish-flush : (before after : Option Files) (fore : Foreground) (f : WriteFault) (fault : RunFault) → LeavesParts fore.out before after []
+    → fault ≡ of_write f → StopsFinish fault fore before after
+StopsFinish-flush before after fore (Failed file) fault leaves is image script base ended so =
+    rw is (inr (inl (fore.t, HasParts-refused image script base before after fore leaves so)))
+StopsFinish-flush before after fore NoRoomToWrite fault leaves is image script base ended so =
+    rw is (inr (inl (fore.t, HasParts-refused image script base before after fore leaves so)))
+
+end_parts : (before now after : Option Files) (old fore : Foreground) (image : List ℕ) (script : ScriptValue) (base : Option Files) → Flushes old fore before now
+    → old.beam.frame ≡ script.frames → LeavesParts fore.out now after (memory_text fore.chip.words) → IsUnderway image script base before old
+    → HasEndParts image script old.out.names base after fore.t
+end_parts before now after old fore image script base flushes ended leaves so =
+    subst (λ ns. HasEndParts image script ns base after fore.t) flushes.names
+    (HasEndParts-end image script base now after fore (ap (λ b. b.frame) flushes.beam ∙ ended) leaves
+    (IsUnderway-flush image script base before now old fore flushes so))
+
+pub StopsFinish-memory : (before now after : Option Files) (old fore : Foreground) (f : WriteFault) (fault : RunFault) → Flushes old fore before now
+    → LeavesParts fore.out now after (memory_text fore.chip.words) → fault ≡ of_write f → StopsFinish fault old before after
+StopsFinish-memory before now after old fore (Failed file) fault flushes leaves is image script base ended so =
+    rw is (inr (inr (fore.t, end_parts before now after old fore image script base flushes ended leaves so)))
+StopsFinish-memory before now after old fore NoRoomToWrite fault flushes leaves is image script base ended so =
+    rw is (inr (inr (fore.t, end_parts before now after old fore image script base flushes ended leaves so)))
+
+pub Finishes-all : (before now after : Option Files) (old fore : Foreground) → Flushes old fore before now → fore.out ≡ all_given old.out
+    → Completes fore.out now after (memory_text fore.chip.words) → Finishes old before after
+Finishes-all before now after old fore flushes empty completes image script base ended so =
+    subst (λ ns. HasFiles image script ns base after) flushes.names
+    (HasFiles-end image script base now after fore (ap (λ b. b.frame) flushes.beam ∙ ended) (ap (λ o. o.frames) empty) (ap (λ o. o.trace) empty) completes
+    (IsUnderway-flush image script base before now old fore flushes so))
+
+-- the whole run and its stops
+pub LeavesAfter-created : (image : List ℕ) (script : ScriptValue) (names : OutNames) (old new : Outside) (f : WriteFault) (fault : RunFault)
+    → CreateAnswers names old new (Err f) → fault ≡ of_write f → LeavesAfter fault image script names old.files new.files
+LeavesAfter-created image script names old new (Failed file) fault made is = rw is (inl (made.0, made.3))
+LeavesAfter-created image script names old new NoRoomToWrite fault made is = rw is (inl made)
+
+pub HasCreated-all : (names : OutNames) (old new : Outside) → CreateAnswers names old new (Ok tt) → HasCreated names old.files new.files
+HasCreated-all names old new made = (3, made)
+
+pub LeavesAfter-stopped : (image : List ℕ) (script : ScriptValue) (names : OutNames) (base new : Option Files) (fault : RunFault)
+    → Stopped image script names base new fault → LeavesAfter fault image script names base new
+LeavesAfter-stopped image script names base new (Write file) parts = inr (inl parts)
+LeavesAfter-stopped image script names base new NoRoomToRun parts = inr (inl parts)
+LeavesAfter-stopped image script names base new NotBuilt parts = parts
+
+-- from the creates to the end of a whole run
+begun : (image : List ℕ) (script : ScriptValue) (base mid : Option Files) (out made : OutFilesValue) (fore : Foreground) → IsFresh out → made ≡ out
+    → Begins made base mid → IsReset image made fore → IsUnderway image script base mid fore
+begun image script base mid out made fore fresh same begins reset =
+    IsUnderway-start image script base mid made fore (ap (λ o. o.frames) same ∙ fresh.frames) (ap (λ o. o.trace) same ∙ fresh.trace)
+    (ap (λ o. o.given) same ∙ fresh.given) begins reset
+
+named : (image : List ℕ) (out made : OutFilesValue) (fore : Foreground) → made ≡ out → IsReset image made fore → fore.out.names ≡ out.names
+named image out made fore same reset = ap (λ o. o.names) reset.out ∙ ap (λ o. o.names) same
+
+pub run-stopped : (image : List ℕ) (script : ScriptValue) (base mid new : Option Files) (out made : OutFilesValue) (fore : Foreground) (fault : RunFault)
+    → IsFresh out → made ≡ out → Begins made base mid → IsReset image made fore → IsStoppedBy fault script fore mid new
+    → LeavesAfter fault image script out.names base new
+run-stopped image script base mid new out made fore fault fresh same begins reset stopped =
+    LeavesAfter-stopped image script out.names base new fault
+    (subst (λ ns. Stopped image script ns base new fault) (named image out made fore same reset)
+    (stopped image base (begun image script base mid out made fore fresh same begins reset)))
+
+on_ok : {T E : Type 0} (r : Result T E) (P Q : Type 0) → OnOk r P → (P → Q) → OnOk r Q
+on_ok (Ok v) P Q h f = f h
+on_ok (Err e) P Q h f = tt
+
+if_err_more : {T E : Type 0} (r : Result T E) (P Q : E → Type 0) → IfErr r P → ((e : E) → P e → Q e) → IfErr r Q
+if_err_more (Ok v) P Q h f = tt
+if_err_more (Err e) P Q h f = f e h
+
+pub run-done : (image : List ℕ) (script : ScriptValue) (base mid before new : Option Files) (out made : OutFilesValue) (fore last : Foreground)
+    (r : Result (Unit {0}) RunFault) → IsFresh out → made ≡ out → Begins made base mid → IsReset image made fore → Runs script fore last mid before
+    → last.beam.frame ≡ script.frames → last.out.names ≡ fore.out.names → OnOk r (Finishes last before new)
+    → OnOk r (HasFiles image script out.names base new)
+run-done image script base mid before new out made fore last r fresh same begins reset runs ended names finishes =
+    on_ok r _ _ finishes (λ finish. subst (λ ns. HasFiles image script ns base new) (names ∙ named image out made fore same reset)
+    (finish image script base ended (runs image base (begun image script base mid out made fore fresh same begins reset))))
+
+pub run-finish-stopped : (image : List ℕ) (script : ScriptValue) (base mid before new : Option Files) (out made : OutFilesValue) (fore last : Foreground)
+    (r : Result (Unit {0}) RunFault) → IsFresh out → made ≡ out → Begins made base mid → IsReset image made fore → Runs script fore last mid before
+    → last.beam.frame ≡ script.frames → last.out.names ≡ fore.out.names → IfErr r (λ fault. StopsFinish fault last before new)
+    → IfErr r (λ fault. LeavesAfter fault image script out.names base new)
+run-finish-stopped image script base mid before new out made fore last r fresh same begins reset runs ended names stops =
+    if_err_more r _ _ stops (λ fault stop. subst (λ ns. LeavesAfter fault image script ns base new) (names ∙ named image out made fore same reset)
+    (stop image script base ended (runs image base (begun image script base mid out made fore fresh same begins reset))))

@@ -1,9 +1,10 @@
 -- A run and its files.
-use Rattle.std.specs.Prelude.{◌≡◌, ℕ, ◌<◌, ◌+◌, Bool, false, true, List, [], ◌++◌, Option}
+use Rattle.std.specs.Prelude.{◌≡◌, ℕ, ◌<◌, ◌+◌, Bool, false, true, List, [], ◌++◌, ◌⊎◌, take, Option}
 use Rattle.ocs_base.specs.Script.{ScriptValue}
 use Rattle.ocs_base.specs.declared.script.System.TheVariants.{Pal}
 use Rattle.ocs_io.specs.Place.{Files, with_file}
 use Rattle.out_files.specs.OutFiles.{OutNames}
+use Rattle.out_files.specs.Answers.{with_empty, in_order}
 use Rattle.out_files.specs.Together.{three_files, HoldParts}
 use Rattle.serial_model.specs.Built.{meets_unbuilt}
 use Rattle.serial_model.specs.MemoryText.{memory_text}
@@ -51,3 +52,20 @@ abbrev pub Stopped : List ℕ → ScriptValue → OutNames → Option Files → 
 Stopped image script names base new (Write file) = (clocks : ℕ) × HasParts image script names base new clocks
 Stopped image script names base new OutOfMemory = (clocks : ℕ) × HasParts image script names base new clocks
 Stopped image script names base new NotBuilt = StopsUnbuilt image script names base new
+
+-- the first so many of the three files were created, and nothing else was done
+abbrev pub HasCreated : OutNames → Option Files → Option Files → Type 0
+HasCreated names base new = (created : ℕ) × (new ≡ with_empty (take created (in_order names)) base)
+
+-- what stands after a whole run was stopped by a fault of writing or want of memory
+abbrev pub Remains : List ℕ → ScriptValue → OutNames → Option Files → Option Files → Type 0
+Remains image script names base new =
+    HasCreated names base new
+    ⊎ (((clocks : ℕ) × HasParts image script names base new clocks)
+    ⊎ ((clocks : ℕ) × HasEndParts image script names base new clocks))
+
+-- the same by the fault
+abbrev pub LeavesAfter : RunFault → List ℕ → ScriptValue → OutNames → Option Files → Option Files → Type 0
+LeavesAfter (Write file) image script names base new = Remains image script names base new
+LeavesAfter OutOfMemory image script names base new = Remains image script names base new
+LeavesAfter NotBuilt image script names base new = StopsUnbuilt image script names base new

@@ -12,7 +12,7 @@ use Rattle.serial_model.specs.Beam.{IsOnScreen, place_of, first_place}
 use Rattle.serial_model.specs.Events.{due}
 use Rattle.serial_model.specs.Serial.{state_at}
 use Rattle.ocs_base.specs.declared.beam.Beam.{Beam}
-use Rattle.ocs_run.specs.Run.{HasRun, Stopped}
+use Rattle.ocs_run.specs.Run.{HasRun, HasFiles, Stopped, LeavesAfter}
 use Rattle.ocs_run.specs.declared.fault.RunFault.{RunFault}
 use Rattle.ocs_run.specs.Steps.{Written, Stands, IsLeft}
 use Rattle.ocs_run.specs.declared.foreground.Foreground.{Foreground}
@@ -60,3 +60,19 @@ Runs script old new before after = (image : List ℕ) (base : Option Files)
 abbrev pub IsStoppedBy : RunFault → ScriptValue → Foreground → Option Files → Option Files → Type 0
 IsStoppedBy fault script old before after = (image : List ℕ) (base : Option Files)
     → IsUnderway image script base before old → Stopped image script old.out.names base after fault
+
+-- output files that nothing was given to yet, of three different names
+pub record IsFresh (out : OutFilesValue) : Type 0 where
+  pub frames : out.frames ≡ []
+  pub trace : out.trace ≡ []
+  pub given : out.given ≡ 0
+
+-- the files are completed at the end of a run
+abbrev pub Finishes : Foreground → Option Files → Option Files → Type 0
+Finishes fore before after = (image : List ℕ) (script : ScriptValue) (base : Option Files) → fore.beam.frame ≡ script.frames
+    → IsUnderway image script base before fore → HasFiles image script fore.out.names base after
+
+-- or that was stopped
+abbrev pub StopsFinish : RunFault → Foreground → Option Files → Option Files → Type 0
+StopsFinish fault fore before after = (image : List ℕ) (script : ScriptValue) (base : Option Files) → fore.beam.frame ≡ script.frames
+    → IsUnderway image script base before fore → LeavesAfter fault image script fore.out.names base after
