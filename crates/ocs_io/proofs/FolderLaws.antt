@@ -1,5 +1,5 @@
 -- Files that are not told stay so.
-use Rattle.std.proofs.Common.{◌≡◌, ℕ, List, refl, sym, ap, ◌∙◌, Option, None}
+use Rattle.std.proofs.Common.{◌≡◌, ℕ, List, sym, ap, ◌∙◌, Option, None}
 use Rattle.ocs_io.specs.Place.{Files, with_file, grown}
 
 pub untold-with_file : (files : Option Files) (name bytes : List ℕ) → None ≡ files → files ≡ with_file files name bytes

@@ -1,5 +1,5 @@
 -- The map that a list of named files stands for: what is found in it, and how it grows.
-use Rattle.std.proofs.Common.{◌≡◌, ℕ, zero, suc, ◌+◌, ◌<◌, ◌≤◌, Bool, true, false, not, List, [], ◌∷◌, ◌++◌, length, get_or, set, refl, sym, ap, subst, ◌∙◌, Option, Some, None, cond, arith, bytes_eq, nat_lt}
+use Rattle.std.proofs.Common.{◌≡◌, ℕ, suc, ◌+◌, ◌<◌, ◌≤◌, Bool, true, false, not, List, [], ◌∷◌, ◌++◌, length, get_or, set, refl, sym, ap, subst, ◌∙◌, Some, None, cond, arith, bytes_eq, nat_lt}
 use Rattle.std.proofs.lemmas.Slice.Eq.{bytes_eq-Decides}
 use Rattle.std.specs.List.{position, position_or_len}
 use Rattle.std.specs.Ordering.{nat_cmp}
@@ -9,7 +9,7 @@ use Rattle.std.specs.FinMap.{get, insert, empty, get-empty}
 use Rattle.ocs_io.specs.Place.{Files}
 use Rattle.ocs_io.specs.KeptFiles.{files_of}
 use Rattle.ocs_io.specs.declared.files.File.{File}
-use Rattle.ocs_io.proofs.MapLaws.{same_name, same_name-refl, get_inserted, insert_same, insert_twice, insert_other}
+use Rattle.ocs_io.proofs.MapLaws.{same_name, get_inserted, insert_same, insert_twice, insert_other}
 
 -- the test by which a file is looked for
 abbrev pub is_named : List ℕ → File → Bool

@@ -1,10 +1,10 @@
 -- Reading a text of digits from the left, and what is read of a text that was written.
-use Rattle.std.proofs.Common.{◌≡◌, ℕ, zero, suc, ◌+◌, ◌-◌, ◌*◌, ◌/◌, ◌%◌, ◌^◌, ◌<◌, ◌≤◌, Bool, true, false, ◌&&◌, List, [], ◌∷◌, length, get_or, take, drop, refl, sym, ap, ◌∙◌, arith, nat_lt, Option, Some, None, if◌then◌else◌}
+use Rattle.std.proofs.Common.{◌≡◌, ℕ, zero, suc, ◌+◌, ◌-◌, ◌*◌, ◌/◌, ◌%◌, ◌^◌, ◌<◌, ◌≤◌, Bool, true, ◌&&◌, List, [], ◌∷◌, length, get_or, take, drop, ap, ◌∙◌, arith, nat_lt, Some, None, if◌then◌else◌}
 use Rattle.std.proofs.lemmas.List.{drop_all, drop_more}
 use Rattle.std.proofs.lemmas.Bool.Decides.{nat_tests}
 use Rattle.std.specs.Str.Parse.{digits_value, digits_value_after}
 use Rattle.std.specs.Char.{digit_value}
-use Rattle.ocs_io.specs.Numbers.{all_bytes, is_digit, is_lower_hex, hex_digit, hex_text}
+use Rattle.ocs_io.specs.Numbers.{all_bytes, is_digit, hex_digit, hex_text}
 
 pub all_bytes-more : (test : ℕ → Bool) (bytes : List ℕ) (i : ℕ) → i < length bytes → all_bytes test (drop i bytes) ≡ (test (get_or bytes i 0) && all_bytes test (drop (i + 1) bytes))
 all_bytes-more test bytes i h = ap (all_bytes test) (drop_more bytes i 0 h)

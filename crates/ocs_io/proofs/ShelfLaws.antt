@@ -1,7 +1,7 @@
 -- What the exact answers of a place in memory tell of it as a place.
-use Rattle.std.proofs.Common.{◌≡◌, ℕ, ◌+◌, ◌-◌, ◌/◌, ◌^◌, ◌<◌, ◌≤◌, ◌⊎◌, inl, inr, Bool, true, false, cond, List, [], ◌++◌, length, take, min, refl, sym, ap, subst, ◌∙◌, Option, Some, None, IsSome, is_some, Result, Ok, Err, arith, unwrap_or}
+use Rattle.std.proofs.Common.{◌≡◌, ℕ, ◌/◌, ◌^◌, ◌<◌, ◌≤◌, inl, Bool, true, false, cond, List, [], ◌++◌, length, take, refl, sym, ap, subst, ◌∙◌, Option, Some, is_some, Result, Ok, Err, arith, unwrap_or}
 use Rattle.std.specs.FinMap.{get, insert}
-use Rattle.ocs_io.specs.Place.{Files, Outside, with_file, grown, Rose, OnlyReads, OnlyWrites, OnlySays, KeepsNames}
+use Rattle.ocs_io.specs.Place.{Files, with_file, grown, Rose, OnlyReads, OnlyWrites, OnlySays, KeepsNames}
 use Rattle.ocs_io.specs.Answers.{ReadAnswers, CreateAnswers, AppendAnswers, SayAnswers, GrowsIfOk}
 use Rattle.ocs_io.specs.Shelf.{ShelfValue, outside_of, IsHeld, IsAnyName, ShelfReads, ShelfCreates, ShelfAppends, ShelfSays}
 use Rattle.ocs_io.proofs.MapLaws.{same_name, same_name-refl, get_inserted}

@@ -1,7 +1,7 @@
 -- What the exact answers of a place that never fails tell of it as a place.
-use Rattle.std.proofs.Common.{◌≡◌, ℕ, ◌≤◌, List, [], ◌++◌, refl, sym, ap, subst, Option, Some, Result, Ok, Err, arith, unwrap_or}
+use Rattle.std.proofs.Common.{◌≡◌, ℕ, List, [], ◌++◌, refl, sym, ap, subst, Some, Result, Ok, Err, arith, unwrap_or}
 use Rattle.std.specs.FinMap.{get, insert}
-use Rattle.ocs_io.specs.Place.{Files, Outside, with_file, grown, Rose, OnlyReads, OnlyWrites, OnlySays, KeepsNames}
+use Rattle.ocs_io.specs.Place.{Files, with_file, grown, Rose, OnlyReads, OnlyWrites, OnlySays, KeepsNames}
 use Rattle.ocs_io.specs.Answers.{ReadAnswers, CreateAnswers, AppendAnswers, SayAnswers, GrowsIfOk}
 use Rattle.ocs_io.specs.Shelf.{IsHeld}
 use Rattle.ocs_io.specs.SureShelf.{SureShelfValue, sure_outside, set_file, after_saying, SureReads, SureWrites}

@@ -1,5 +1,5 @@
 -- A place on real files, of which only the counts are told.
-use Rattle.std.specs.Prelude.{ℕ, List, Option, Some, None, refl}
+use Rattle.std.specs.Prelude.{ℕ, List, Option, None, refl}
 use Rattle.std.specs.Coded.{Coded, code_by, coded×, coded_ℕ, coded_list, coded_option}
 use Rattle.ocs_io.specs.Place.{Files, Outside}
 use Rattle.ocs_io.specs.Files.{files_code}

@@ -1,4 +1,3 @@
-use Rattle.std.proofs.Common.{arith, ◌∙◌}
 use Rattle.ocs_io.proofs.NumberLaws.{read_digits, unread_digits}
 use Rattle.ocs_io.proofs.numbers.digits.Goals as goal
 

@@ -1,5 +1,5 @@
-use Rattle.std.proofs.Common.{◌≡◌, List, [], ◌++◌, Option, Some, None, IsSome, unwrap_or, refl, sym, ap, subst, ◌∙◌}
-use Rattle.std.specs.FinMap.{get, insert}
+use Rattle.std.proofs.Common.{[], ◌++◌, IsSome, unwrap_or, refl, sym, ap, subst, ◌∙◌}
+use Rattle.std.specs.FinMap.{insert}
 use Rattle.ocs_io.proofs.MapLaws.{on_err}
 use Rattle.ocs_io.proofs.KeptLaws.{IsThere-found, IsAbsent-looked}
 use Rattle.ocs_io.proofs.files.FilesInMemory.grow.Goals as goal

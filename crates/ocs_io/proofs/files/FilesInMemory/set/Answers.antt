@@ -1,4 +1,4 @@
-use Rattle.std.proofs.Common.{◌≡◌, List, refl, sym, ap, ◌∙◌}
+use Rattle.std.proofs.Common.{refl, ap, ◌∙◌}
 use Rattle.std.specs.FinMap.{insert}
 use Rattle.ocs_io.specs.KeptFiles.{files_of}
 use Rattle.ocs_io.proofs.KeptLaws.{IsThere-found, with_new}

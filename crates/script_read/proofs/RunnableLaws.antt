@@ -1,0 +1,253 @@
+-- A script that is read is one that a run takes.
+use Rattle.std.proofs.Common.{◌≡◌, ℕ, ◌+◌, ◌<◌, ◌≤◌, Bool, true, false, ◌&&◌, List, [], ◌∷◌, length, refl, sym, ap, subst, ◌∙◌, Option, Some, None, IfSome, Result, Ok, Err, IfOk, arith, nat_lt, nat_le, if◌then◌else◌, bytes_eq, codes}
+use Rattle.std.proofs.lemmas.Bool.Decides.{nat_tests}
+use borrow.Author.Tests.{ltb-true, ltb-false, leb-true}
+use Rattle.ocs_base.specs.Limits.{time_of, HasPort, IsInLimits, AreInLimits, AreFrom, AreInOrder, IsRunnable}
+use Rattle.ocs_base.specs.Script.{ScriptValue}
+use Rattle.ocs_base.specs.declared.reg.Reg.{Reg}
+use Rattle.ocs_base.specs.declared.script.Act.{Act}
+use Rattle.ocs_base.specs.declared.script.At.{At}
+use Rattle.ocs_io.specs.Numbers.{dec_of}
+use Rattle.script_read.specs.Split.{lines_of, words_of}
+use Rattle.script_read.specs.Words.{below, kept_below, hex_number, register_named, poke_with, peek_with, joy_with, fire_with, key_with, poke_of, peek_of, joy_of, fire_of, key_of, act_of, timed, event_in, event_of}
+use Rattle.script_read.specs.Grammar.{Verdict, Good, Bad, in_order, body_line, body_of, after_end, with_event, from_line, with_frames, from_frames, kept_frames, frames_in, with_cpu, cpu_in, from_cpu, from_header, script_of}
+use Rattle.script_read.specs.Verdict.{ReadsAs}
+use Rattle.script_read.specs.declared.fault.BadKind.{BadKind}
+use Rattle.script_read.specs.declared.fault.BadKind.TheVariants.{Lines, Order, Header, Long}
+use Rattle.script_read.specs.declared.fault.ScriptFault.{ScriptFault}
+
+either : {A : Type 0} (P : A → Type 0) (b : Bool) (x y : Option A) → IfSome x P → IfSome y P → IfSome (if b then x else y) P
+either P true x y first second = first
+either P false x y first second = second
+
+below-lt : (limit : ℕ) (text : List ℕ) → IfSome (below limit text) (λ n. n < limit)
+unfolding below
+below-lt limit text = kept (dec_of text)
+  where
+    tested : (n : ℕ) (b : Bool) → nat_lt n limit ≡ b → IfSome (if b then Some n else None) (λ m. m < limit)
+    tested n true e = ltb-true n limit e
+    tested n false e = tt
+    kept : (n : Option ℕ) → IfSome (kept_below limit n) (λ m. m < limit)
+    kept None = tt
+    kept (Some n) = tested n (nat_lt n limit) refl
+
+HasPort-poke : (words : List (List ℕ)) → IfSome (poke_of words) HasPort
+unfolding poke_of
+HasPort-poke [] = tt
+HasPort-poke (a ∷ []) = tt
+HasPort-poke (a ∷ b ∷ []) = with_both (register_named a) (hex_number 4 b)
+  where
+    with_both : (reg : Option Reg) (word : Option ℕ) → IfSome (poke_with reg word) HasPort
+    with_both None word = tt
+    with_both (Some reg) None = tt
+    with_both (Some reg) (Some word) = tt
+HasPort-poke (a ∷ b ∷ c ∷ words) = tt
+
+HasPort-peek : (words : List (List ℕ)) → IfSome (peek_of words) HasPort
+unfolding peek_of
+HasPort-peek [] = tt
+HasPort-peek (a ∷ []) = with_one (register_named a)
+  where
+    with_one : (reg : Option Reg) → IfSome (peek_with reg) HasPort
+    with_one None = tt
+    with_one (Some reg) = tt
+HasPort-peek (a ∷ b ∷ words) = tt
+
+HasPort-joy : (words : List (List ℕ)) → IfSome (joy_of words) HasPort
+unfolding joy_of
+HasPort-joy [] = tt
+HasPort-joy (a ∷ []) = tt
+HasPort-joy (a ∷ b ∷ []) = with_both (below 2 a) (hex_number 4 b) (below-lt 2 a)
+  where
+    with_both : (port word : Option ℕ) → IfSome port (λ n. n < 2) → IfSome (joy_with port word) HasPort
+    with_both None word low = tt
+    with_both (Some port) None low = tt
+    with_both (Some port) (Some word) low = omega (arith, low)
+HasPort-joy (a ∷ b ∷ c ∷ words) = tt
+
+HasPort-fire : (words : List (List ℕ)) → IfSome (fire_of words) HasPort
+unfolding fire_of
+HasPort-fire [] = tt
+HasPort-fire (a ∷ []) = tt
+HasPort-fire (a ∷ b ∷ []) = with_both (below 2 a) (below 2 b) (below-lt 2 a)
+  where
+    with_both : (port down : Option ℕ) → IfSome port (λ n. n < 2) → IfSome (fire_with port down) HasPort
+    with_both None down low = tt
+    with_both (Some port) None low = tt
+    with_both (Some port) (Some down) low = omega (arith, low)
+HasPort-fire (a ∷ b ∷ c ∷ words) = tt
+
+HasPort-key : (words : List (List ℕ)) → IfSome (key_of words) HasPort
+unfolding key_of
+HasPort-key [] = tt
+HasPort-key (a ∷ []) = with_one (hex_number 2 a)
+  where
+    with_one : (code : Option ℕ) → IfSome (key_with code) HasPort
+    with_one None = tt
+    with_one (Some code) = tt
+HasPort-key (a ∷ b ∷ words) = tt
+
+HasPort-act : (verb : List ℕ) (words : List (List ℕ)) → IfSome (act_of verb words) HasPort
+unfolding act_of
+HasPort-act verb words =
+    either HasPort (bytes_eq verb (codes "poke")) _ _ (HasPort-poke words)
+    (either HasPort (bytes_eq verb (codes "peek")) _ _ (HasPort-peek words)
+    (either HasPort (bytes_eq verb (codes "joy")) _ _ (HasPort-joy words)
+    (either HasPort (bytes_eq verb (codes "fire")) _ _ (HasPort-fire words)
+    (either HasPort (bytes_eq verb (codes "key")) (key_of words) None (HasPort-key words) tt))))
+
+IsInLimits-timed : (frames : ℕ) (f v h : Option ℕ) (act : Option Act) → IfSome f (λ n. n < frames) → IfSome v (λ n. n < 312) → IfSome h (λ n. n < 227) → IfSome act HasPort → IfSome (timed f v h act) (IsInLimits frames)
+IsInLimits-timed frames None v h act ff vv hh aa = tt
+IsInLimits-timed frames (Some f) None h act ff vv hh aa = tt
+IsInLimits-timed frames (Some f) (Some v) None act ff vv hh aa = tt
+IsInLimits-timed frames (Some f) (Some v) (Some h) None ff vv hh aa = tt
+IsInLimits-timed frames (Some f) (Some v) (Some h) (Some act) ff vv hh aa = record { frame = ff; line = omega (arith, vv); clock = omega (arith, hh); port = aa }
+
+IsInLimits-words : (frames : ℕ) (words : List (List ℕ)) → IfSome (event_in frames words) (IsInLimits frames)
+unfolding event_in
+IsInLimits-words frames [] = tt
+IsInLimits-words frames (a ∷ []) = tt
+IsInLimits-words frames (a ∷ b ∷ []) = tt
+IsInLimits-words frames (a ∷ b ∷ c ∷ []) = tt
+IsInLimits-words frames (a ∷ b ∷ c ∷ d ∷ []) = tt
+IsInLimits-words frames (a ∷ b ∷ c ∷ d ∷ e ∷ words) =
+    either (IsInLimits frames) (bytes_eq a (codes "at")) (timed (below frames b) (below 312 c) (below 227 d) (act_of e words)) None
+        (IsInLimits-timed frames (below frames b) (below 312 c) (below 227 d) (act_of e words) (below-lt frames b) (below-lt 312 c) (below-lt 227 d) (HasPort-act e words)) tt
+
+-- a line that gives an event gives one in the limits that is no earlier
+record IsNext (frames before : ℕ) (at : At) : Type 0 where
+  limits : IsInLimits frames at
+  later : before ≤ time_of at
+
+some_next : (frames before : ℕ) → Result (Option At) BadKind → Type 0
+some_next frames before (Ok (Some at)) = IsNext frames before at
+some_next frames before (Ok None) = Unit {0}
+some_next frames before (Err kind) = Unit {0}
+
+IsNext-line : (frames number before : ℕ) (line : List ℕ) → some_next frames before (body_line frames number before line)
+unfolding body_line event_of some_next
+IsNext-line frames number before line = first (nat_lt 100000 number) (bytes_eq line (codes "end"))
+  where
+    tested : (at : At) (b : Bool) → nat_lt (time_of at) before ≡ b → IsInLimits frames at → some_next frames before (if b then Err Order else Ok (Some at))
+    tested at true e limits = tt
+    tested at false e limits = record { limits = limits; later = ltb-false (time_of at) before e }
+    ordered : (event : Option At) → IfSome event (IsInLimits frames) → some_next frames before (in_order before event)
+    ordered None limits = tt
+    ordered (Some at) limits = tested at (nat_lt (time_of at) before) refl limits
+    first : (past ended : Bool) → some_next frames before (if past then Err Lines else (if ended then Ok None else in_order before (event_in frames (words_of line))))
+    first true ended = tt
+    first false true = tt
+    first false false = ordered (event_in frames (words_of line)) (IsInLimits-words frames (words_of line))
+
+AreFrom-lower : (low high : ℕ) (events : List At) → low ≤ high → AreFrom high events → AreFrom low events
+AreFrom-lower low high [] le from = tt
+AreFrom-lower low high (at ∷ events) le from = (omega (arith, from.0), AreFrom-lower low high events le from.1)
+
+-- the events of the lines that are left
+record Follows (head : ScriptValue) (before : ℕ) (script : ScriptValue) : Type 0 where
+  frames : script.frames ≡ head.frames
+  limits : AreInLimits head.frames script.events
+  from : AreFrom before script.events
+  order : AreInOrder script.events
+
+good_follows : ScriptValue → ℕ → Verdict → Type 0
+good_follows head before (Good script) = Follows head before script
+good_follows head before (Bad number kind) = Unit {0}
+
+Follows-body : (head : ScriptValue) (number before : ℕ) (lines : List (List ℕ)) → head.events ≡ [] → good_follows head before (body_of head number before lines)
+unfolding body_of good_follows some_next
+Follows-body head number before [] none = tt
+Follows-body head number before (line ∷ lines) none =
+    by_line (body_line head.frames number before line) (IsNext-line head.frames number before line) (λ at. Follows-body head (number + 1) (time_of at) lines none)
+  where
+    empty : (events : List At) → events ≡ [] → Follows head before (record head { events = events })
+    empty [] e = record { frames = refl; limits = tt; from = tt; order = tt }
+    empty (at ∷ events) e = absurd (cc e)
+    ended : (rest : List (List ℕ)) → good_follows head before (after_end head (number + 1) rest)
+    ended [] = empty head.events none
+    ended (extra ∷ rest) = tt
+    more : (at : At) (verdict : Verdict) → IsNext head.frames before at → good_follows head (time_of at) verdict → good_follows head before (with_event at verdict)
+    more at (Bad n kind) next follows = tt
+    more at (Good script) next follows = record {
+      frames = follows.frames;
+      limits = (next.limits, follows.limits);
+      from = (next.later, AreFrom-lower before (time_of at) script.events next.later follows.from);
+      order = (follows.from, follows.order) }
+    by_line : (answer : Result (Option At) BadKind) → some_next head.frames before answer → ((at : At) → good_follows head (time_of at) (body_of head (number + 1) (time_of at) lines))
+        → good_follows head before (from_line answer number (after_end head (number + 1) lines) (λ at. body_of head (number + 1) (time_of at) lines))
+    by_line (Err kind) next rest = tt
+    by_line (Ok None) next rest = ended lines
+    by_line (Ok (Some at)) next rest = more at (body_of head (number + 1) (time_of at) lines) next (rest at)
+
+good_runnable : Verdict → Type 0
+good_runnable (Good script) = IsRunnable script
+good_runnable (Bad number kind) = Unit {0}
+
+IsRunnable-body : (cpu : Bool) (frames : ℕ) (verdict : Verdict) → 1 ≤ frames → frames ≤ 1000 → good_follows (record { cpu = cpu; frames = frames; events = [] }) 0 verdict → good_runnable verdict
+unfolding good_follows good_runnable
+IsRunnable-body cpu frames (Bad number kind) least most follows = tt
+IsRunnable-body cpu frames (Good script) least most follows = record {
+  least = omega (arith, follows.frames);
+  most = omega (arith, follows.frames);
+  limits = subst (λ n. AreInLimits n script.events) (sym follows.frames) follows.limits;
+  order = follows.order }
+
+IsRunnable-count : (count : Option ℕ) (cpu : Bool) (lines : List (List ℕ)) → good_runnable (with_frames cpu lines (kept_frames count))
+unfolding good_runnable
+IsRunnable-count None cpu lines = tt
+IsRunnable-count (Some n) cpu lines = tested (nat_le 1 n) (nat_le n 1000) refl refl
+  where
+    tested : (a b : Bool) → nat_le 1 n ≡ a → nat_le n 1000 ≡ b → good_runnable (with_frames cpu lines (if a && b then Some n else None))
+    tested true true e f = IsRunnable-body cpu n (body_of (record { cpu = cpu; frames = n; events = [] }) 4 0 lines) (leb-true 1 n e) (leb-true n 1000 f) (Follows-body (record { cpu = cpu; frames = n; events = [] }) 4 0 lines refl)
+    tested true false e f = tt
+    tested false b e f = tt
+
+IsRunnable-third : (words : List (List ℕ)) (cpu : Bool) (lines : List (List ℕ)) → good_runnable (with_frames cpu lines (frames_in words))
+unfolding good_runnable frames_in
+IsRunnable-third [] cpu lines = tt
+IsRunnable-third (a ∷ []) cpu lines = tt
+IsRunnable-third (a ∷ b ∷ []) cpu lines = tested (bytes_eq a (codes "frames"))
+  where
+    tested : (t : Bool) → good_runnable (with_frames cpu lines (if t then kept_frames (dec_of b) else None))
+    tested true = IsRunnable-count (dec_of b) cpu lines
+    tested false = tt
+IsRunnable-third (a ∷ b ∷ c ∷ words) cpu lines = tt
+
+IsRunnable-frames : (cpu : Bool) (lines : List (List ℕ)) → good_runnable (from_frames cpu lines)
+unfolding good_runnable from_frames
+IsRunnable-frames cpu [] = tt
+IsRunnable-frames cpu (line ∷ lines) = IsRunnable-third (words_of line) cpu lines
+
+IsRunnable-cpu : (lines : List (List ℕ)) → good_runnable (from_cpu lines)
+unfolding good_runnable from_cpu
+IsRunnable-cpu [] = tt
+IsRunnable-cpu (line ∷ lines) = named (cpu_in line)
+  where
+    named : (cpu : Option Bool) → good_runnable (with_cpu lines cpu)
+    named None = tt
+    named (Some cpu) = IsRunnable-frames cpu lines
+
+IsRunnable-header : (lines : List (List ℕ)) → good_runnable (from_header lines)
+unfolding good_runnable from_header
+IsRunnable-header [] = tt
+IsRunnable-header (line ∷ lines) = tested (bytes_eq line (codes "ocs 1"))
+  where
+    tested : (b : Bool) → good_runnable (if b then from_cpu lines else Bad 1 Header)
+    tested true = IsRunnable-cpu lines
+    tested false = tt
+
+-- the script of a text is one that a run takes
+pub IsRunnable-script_of : (text : List ℕ) (script : ScriptValue) → script_of text ≡ Good script → IsRunnable script
+unfolding script_of good_runnable
+IsRunnable-script_of text script is = subst good_runnable is (tested (nat_lt 4194304 (length text)))
+  where
+    tested : (b : Bool) → good_runnable (if b then Bad 0 Long else from_header (lines_of text))
+    tested true = tt
+    tested false = IsRunnable-header (lines_of text)
+
+pub IsRunnable-read : (lines : List (List ℕ)) (answer : Result ScriptValue ScriptFault) → ReadsAs (from_header lines) answer → IfOk answer IsRunnable
+unfolding good_runnable
+IsRunnable-read lines (Ok script) reads = subst good_runnable reads (IsRunnable-header lines)
+IsRunnable-read lines (Err fault) reads = tt
+
+pub ruleset runnable_laws = (IsRunnable-read)

@@ -1,0 +1,124 @@
+//! The line of an event.
+
+ghost use Rattle.std.specs.Prelude.{◌≡◌, ◌^◌, ◌<◌, IfSome};
+ghost use Rattle.script_read.specs.Words.{below, hex_number, register_named, poke_of, peek_of, joy_of, fire_of, key_of, act_of, event_of};
+ghost use Rattle.script_read.specs.Cut.{words_left};
+
+use crate::parts::{event_words, one_word, two_words};
+use ocs_base::{Act, At, Reg};
+use ocs_io::{dec, hex};
+
+/// Reads an event of a run of so many frames; None exactly where the line is none.
+#[tactic(auto, using(crate::proofs::EventLaws::event_laws), unfolding(crate::specs::Words::event_of))]
+pub fn read_event(frames: u32, line: &[u8]) -> Option<At>
+    ensures { result ≡ event_of frames line.now }
+{
+    let words = event_words(line)?;
+    if words.at != b"at".as_slice() {
+        return None;
+    }
+    let frame = number_below(frames, words.frame)?;
+    let v = number_below(312, words.v)? as u16;
+    let h = number_below(227, words.h)? as u16;
+    let act = read_act(words.verb, words.args)?;
+    Some(At { frame, v, h, act })
+}
+
+#[tactic(auto, unfolding(crate::specs::Words::act_of))]
+fn read_act(verb: &[u8], args: Option<&[u8]>) -> Option<Act>
+    ensures { result ≡ act_of verb.now (words_left args.entry) }
+{
+    if verb == b"poke".as_slice() {
+        read_poke(args)
+    } else if verb == b"peek".as_slice() {
+        read_peek(args)
+    } else if verb == b"joy".as_slice() {
+        read_joy(args)
+    } else if verb == b"fire".as_slice() {
+        read_fire(args)
+    } else if verb == b"key".as_slice() {
+        read_key(args)
+    } else {
+        None
+    }
+}
+
+#[tactic(auto, using(crate::proofs::EventLaws::act_laws))]
+fn read_poke(args: Option<&[u8]>) -> Option<Act>
+    ensures { result ≡ poke_of (words_left args.entry) }
+{
+    let words = two_words(args)?;
+    let reg = register(words.first)?;
+    let word = hex_digits(4, words.second)?;
+    Some(Act::Poke { reg, word })
+}
+
+#[tactic(auto, using(crate::proofs::EventLaws::act_laws))]
+fn read_peek(args: Option<&[u8]>) -> Option<Act>
+    ensures { result ≡ peek_of (words_left args.entry) }
+{
+    let reg = register(one_word(args)?)?;
+    Some(Act::Peek { reg })
+}
+
+#[tactic(auto, using(crate::proofs::EventLaws::act_laws))]
+fn read_joy(args: Option<&[u8]>) -> Option<Act>
+    ensures { result ≡ joy_of (words_left args.entry) }
+{
+    let words = two_words(args)?;
+    let port = number_below(2, words.first)? as u8;
+    let word = hex_digits(4, words.second)?;
+    Some(Act::Joy { port, word })
+}
+
+#[tactic(auto, using(crate::proofs::EventLaws::act_laws))]
+fn read_fire(args: Option<&[u8]>) -> Option<Act>
+    ensures { result ≡ fire_of (words_left args.entry) }
+{
+    let words = two_words(args)?;
+    let port = number_below(2, words.first)? as u8;
+    let down = number_below(2, words.second)? == 1;
+    Some(Act::Fire { port, down })
+}
+
+#[tactic(auto, using(crate::proofs::EventLaws::act_laws))]
+fn read_key(args: Option<&[u8]>) -> Option<Act>
+    ensures { result ≡ key_of (words_left args.entry) }
+{
+    let code = hex_digits(2, one_word(args)?)? as u8;
+    Some(Act::Key { code })
+}
+
+/// A register by its three digits.
+#[tactic(auto, using(crate::proofs::EventLaws::register_laws))]
+fn register(text: &[u8]) -> Option<Reg>
+    ensures { result ≡ register_named text.now }
+{
+    Reg::new(hex_digits(3, text)?)
+}
+
+/// A number of so many hexadecimal digits.
+#[tactic(auto, using(crate::proofs::EventLaws::hex_laws), unfolding(crate::specs::Words::hex_number))]
+fn hex_digits(digits: usize, text: &[u8]) -> Option<u16>
+    ensures value { result ≡ hex_number digits text.now }
+    ensures fits { IfSome result (λ n. n < 16 ^ digits) }
+{
+    if text.len() != digits {
+        return None;
+    }
+    hex(text)
+}
+
+/// A decimal number below a limit.
+#[tactic(auto, unfolding(crate::specs::Words::below))]
+fn number_below(limit: u32, text: &[u8]) -> Option<u32>
+    ensures value { result ≡ below limit text.now }
+    ensures fits { IfSome result (λ n. n < limit) }
+{
+    let n = dec(text)?;
+    if n < limit as u64 {
+        Some(n as u32)
+    } else {
+        None
+    }
+}

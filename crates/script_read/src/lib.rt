@@ -1,0 +1,11 @@
+//! The text of a script: its grammar, a reader and a printer.
+#![tactic(auto)]
+
+mod cut;
+mod event;
+pub mod fault;
+mod parts;
+mod reader;
+
+pub use fault::{BadKind, ScriptFault};
+pub use reader::read_script;
