@@ -1,4 +1,5 @@
 pub mod KeptLaws
+pub mod OrderLaws
 pub mod PictureLaws
 pub mod RunLaws
 pub mod StepLaws

@@ -1,6 +1,9 @@
+pub mod Asked
 pub mod Chips
 pub mod Fault
+pub mod Order
 pub mod Out
 pub mod Run
 pub mod Steps
 pub mod Underway
+pub mod Verdict

@@ -4,5 +4,6 @@
 mod chips;
 mod fault;
 mod foreground;
+mod order;
 mod picture;
 mod run;
