@@ -1,5 +1,5 @@
+pub mod InputLaws
 pub mod KeptLaws
-pub mod OrderLaws
 pub mod PictureLaws
 pub mod RunLaws
 pub mod StepLaws

@@ -1,6 +1,8 @@
 pub mod Asked
 pub mod Chips
+pub mod Command
 pub mod Fault
+pub mod Inputs
 pub mod Order
 pub mod Out
 pub mod Run

@@ -3,6 +3,7 @@
 use crate::foreground::TickFault;
 use ocs_base::OutOfMemory;
 use out_files::{OutFile, WriteFault};
+use script_read::BadKind;
 
 /// Why a run stopped: a file could not be written, memory was wanting, or the run came to a colour
 /// clock that does something which is not built.
@@ -49,5 +50,61 @@ impl From<OutOfMemory> for RunFault {
 
     fn from(_refused: OutOfMemory) -> RunFault {
         RunFault::OutOfMemory
+    }
+}
+
+/// One of the two files that a run reads.
+#[derive(Clone, Copy, PartialEq, Eq, Debug)]
+pub enum Input {
+    Image,
+    Script,
+}
+
+/// Why a command did not do what it was asked: the words are not of the form, an input file could not
+/// be read, the image or the script is bad, what the script or the run needs is not built, a file could
+/// not be written, or memory was wanting.
+#[derive(Clone, Copy, Debug)]
+pub enum Fault {
+    Usage,
+    BadImage,
+    BadScript { line: u32, kind: BadKind },
+    Unread { input: Input },
+    Unwritten { file: OutFile },
+    OutOfMemory,
+    NotBuilt,
+}
+
+impl From<RunFault> for Fault {
+    ghost use Rattle.std.specs.Prelude.{◌≡◌};
+    ghost use Rattle.ocs_run.specs.Fault.{of_run};
+
+    ghost from_gives = { λ from fault. fault ≡ of_run from };
+
+    fn from(fault: RunFault) -> Fault {
+        match fault {
+            RunFault::Write { file } => Fault::Unwritten { file },
+            RunFault::OutOfMemory => Fault::OutOfMemory,
+            RunFault::NotBuilt => Fault::NotBuilt,
+        }
+    }
+}
+
+impl Fault {
+    ghost use Rattle.std.specs.Prelude.{◌≡◌};
+    ghost use Rattle.ocs_run.specs.Fault.{status_of};
+
+    /// The exit status of the command.
+    pub fn status(self) -> u8
+        ensures { result ≡ status_of self }
+    {
+        match self {
+            Fault::Usage => 2,
+            Fault::BadImage => 3,
+            Fault::BadScript { .. } => 4,
+            Fault::Unread { .. } => 5,
+            Fault::Unwritten { .. } => 6,
+            Fault::OutOfMemory => 7,
+            Fault::NotBuilt => 8,
+        }
     }
 }

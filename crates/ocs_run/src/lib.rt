@@ -4,6 +4,8 @@
 mod chips;
 mod fault;
 mod foreground;
+mod gate;
+mod inputs;
 mod order;
 mod picture;
 mod run;
