@@ -1,5 +1,5 @@
 -- What a reader of the command line answers.
-use Rattle.std.specs.Prelude.{◌≡◌, ℕ, ◌≤◌, Option, Some, None}
+use Rattle.std.specs.Prelude.{◌≡◌, ◌≢◌, ℕ, ◌≤◌, Option, Some, None}
 use Rattle.ocs_run.specs.Order.{OrderValue, RunWordsValue}
 use Rattle.ocs_run.specs.declared.order.Order.{Order}
 use Rattle.ocs_run.specs.declared.order.RunWords.{RunWords}
@@ -34,3 +34,9 @@ words_value w = record {
 abbrev pub AreRunWords : Option RunWordsValue → Option RunWords → Type 0
 AreRunWords words None = words ≡ None
 AreRunWords words (Some w) = words ≡ Some (words_value w)
+
+-- the names of the files that are written are three
+pub record AreApart (o : Order) : Type 0 where
+  pub frames_trace : o.frames.now ≢ o.trace.now
+  pub frames_memory : o.frames.now ≢ o.memory.now
+  pub trace_memory : o.trace.now ≢ o.memory.now

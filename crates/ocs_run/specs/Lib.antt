@@ -1,6 +1,7 @@
 pub mod Asked
 pub mod Chips
 pub mod Command
+pub mod Commanded
 pub mod Fault
 pub mod Inputs
 pub mod Order

@@ -2,6 +2,7 @@
 #![tactic(auto)]
 
 mod chips;
+mod command;
 mod fault;
 mod foreground;
 mod gate;

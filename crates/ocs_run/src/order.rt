@@ -2,7 +2,7 @@
 
 ghost use Rattle.std.specs.Prelude.{◌≡◌, ◌<◌, ◌≤◌, map, length, string_bytes, IfSome};
 ghost use Rattle.ocs_run.specs.Order.{order_of, order_from, run_words_of, is_new as new_name, are_names as names_of, band_of, workers_of};
-ghost use Rattle.ocs_run.specs.Asked.{IsOrder, AreRunWords, words_value};
+ghost use Rattle.ocs_run.specs.Asked.{AreApart, IsOrder, AreRunWords, words_value};
 
 use ocs_io::dec;
 
@@ -33,7 +33,8 @@ struct RunWords<'a> {
 
 /// Reads the words of a run; None exactly where they are not of the form above.
 pub fn read_order(words: &[String]) -> Option<Order<'_>>
-    ensures { IsOrder (order_of (map string_bytes words.now)) result }
+    ensures order { IsOrder (order_of (map string_bytes words.now)) result }
+    ensures apart { IfSome result AreApart }
 {
     match run_words(words) {
         Some(words) => order_in(words),
@@ -64,7 +65,8 @@ fn run_words(words: &[String]) -> Option<RunWords<'_>>
 
 /// What the words ask for.
 fn order_in(words: RunWords<'_>) -> Option<Order<'_>>
-    ensures { IsOrder (order_from (words_value words.entry)) result }
+    ensures order { IsOrder (order_from (words_value words.entry)) result }
+    ensures apart { IfSome result AreApart }
 {
     let RunWords {
         image,
@@ -97,7 +99,7 @@ fn order_in(words: RunWords<'_>) -> Option<Order<'_>>
 
 /// Whether the names are not empty, and no two of them one.
 fn are_names(names: &[&str; 5]) -> bool
-    ensures { result ≡ names_of (map (λ name. name.now) names.now) }
+    ensures value { result ≡ names_of (map (λ name. name.now) names.now) }
 {
     let [image, script, frames, trace, memory] = *names;
     is_new(image, &[script, frames, trace, memory])
