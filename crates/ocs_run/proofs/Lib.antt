@@ -1,4 +1,7 @@
+pub mod InputLaws
+pub mod KeptLaws
 pub mod PictureLaws
+pub mod RunLaws
 pub mod StepLaws
 pub mod TickLaws
 pub mod TraceLaws

@@ -20,18 +20,6 @@ pub pixels-hidden : (system : System) (v h : ℕ) (p : Denise) → is_visible sy
 unfolding pixels
 pixels-hidden system v h p is = let c = colour_bytes (slice_index p.palette 0) in ap (λ b. if b then c ++ (c ++ (c ++ c)) else []) is
 
-pub Shows-none : (out : OutFilesValue) → Shows [] out out
-unfolding framed
-Shows-none out = record { names = refl; frames = sym (append-nil out.frames); given = ap (λ n. n % frame_bytes) (let e : out.given ≡ out.given + 0 = omega arith in e); trace = refl }
-
-pub Shows-piece : (piece : List ℕ) (old new : OutFilesValue) → new ≡ with_pixels old piece → Shows piece old new
-Shows-piece piece old new is = record {
-  names = ap (λ o. o.names) is;
-  frames = ap (λ o. o.frames) is;
-  given = ap (λ o. o.given % frame_bytes) is ∙ (let e : (old.given + length piece) % frame_bytes % frame_bytes ≡ (old.given + length piece) % frame_bytes = omega arith in e);
-  trace = ap (λ o. o.trace) is;
-}
-
 -- a poke touches the picture exactly where it is one of Denise's registers
 pub all_touched-poke : (h : ℕ) (word_at : ℕ → ℕ) (touches : List Touch) (offset word : ℕ) (p : Denise)
     → all_touched h word_at touches (set offset word p)

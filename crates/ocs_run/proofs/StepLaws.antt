@@ -1,5 +1,5 @@
 -- The steps of the foreground over plain values.
-use Rattle.std.proofs.Common.{◌≡◌, ℕ, ◌+◌, ◌%◌, ◌<◌, Bool, true, false, List, [], ◌∷◌, ◌++◌, length, arith, refl, ap, subst, ◌∙◌, sym, append_assoc, append-nil, length-append}
+use Rattle.std.proofs.Common.{◌≡◌, ℕ, ◌+◌, ◌%◌, ◌<◌, Bool, true, false, List, [], ◌∷◌, ◌++◌, length, arith, refl, ap, subst, inl, inr, ◌∙◌, sym, append_assoc, append-nil, length-append}
 use Rattle.std.proofs.lemmas.Grind.{flat_map-append}
 use Rattle.ocs_base.specs.declared.script.System.TheVariants.{Pal}
 use Rattle.ocs_base.specs.declared.beam.Beam.{Beam}
@@ -41,23 +41,42 @@ traced-text written before after trace lines text grows =
     ∙ ap (λ t. t ++ trace_text lines) text
     ∙ sym (flat_map-append line_text trace lines)
 
+Makes-piece : (old new : Foreground) (piece : List ℕ) → new.t ≡ old.t → new.beam ≡ old.beam → new.chip.words ≡ old.chip.words → new.chips ≡ old.chips
+    → new.picture ≡ old.picture → piece ≡ pixels Pal old.beam.v old.beam.h old.picture → Shows piece old.out new.out → Makes Any (displayed Pal) old new
+Makes-piece old new piece t beam memory chips picture what grows written s any is =
+    let same : pixels Pal s.beam.v s.beam.h s.picture ≡ piece =
+    ap (λ b. pixels Pal b.v b.h s.picture) is.beam ∙ ap (λ p. pixels Pal old.beam.v old.beam.h p) is.picture ∙ sym what in
+    let shown : Stands new written (record s { shown = s.shown ++ piece }) =
+    elim grows [
+      | inl more ↦ record {
+        t = is.t ∙ sym t;
+        beam = is.beam ∙ sym beam;
+        memory = is.memory ∙ sym memory;
+        chips = is.chips ∙ sym chips;
+        picture = is.picture ∙ sym picture;
+        frames = shown-text written.frames old.out.frames new.out.frames s.shown piece old.out.given is.frames
+            (ap (λ n. n % frame_bytes) is.given ∙ (let e : length s.shown % frame_bytes % frame_bytes ≡ length s.shown % frame_bytes = omega arith in e))
+            (ap (λ o. o.frames) more);
+        given = (let n : new.out.given ≡ (old.out.given + length piece) % frame_bytes = ap (λ o. o.given) more in
+            omega (arith, n, is.given, length-append s.shown piece));
+        trace = ap (λ o. written.trace ++ o.trace) more ∙ is.trace;
+      }
+      | inr none ↦ record {
+        t = is.t ∙ sym t;
+        beam = is.beam ∙ sym beam;
+        memory = is.memory ∙ sym memory;
+        chips = is.chips ∙ sym chips;
+        picture = is.picture ∙ sym picture;
+        frames = ap (λ o. written.frames ++ o.frames) none.1 ∙ is.frames ∙ ap (λ t. frames_text t) (sym (append-nil s.shown) ∙ ap (λ p. s.shown ++ p) (sym none.0));
+        given = ap (λ o. o.given) none.1 ∙ is.given ∙ ap (λ t. length t % frame_bytes) (sym (append-nil s.shown) ∙ ap (λ p. s.shown ++ p) (sym none.0));
+        trace = ap (λ o. written.trace ++ o.trace) none.1 ∙ is.trace;
+      }
+    ] in
+    subst (λ p. Stands new written (record s { shown = s.shown ++ p })) (sym same) shown
+
 pub Makes-displayed : (old new : Foreground) → new.t ≡ old.t → new.beam ≡ old.beam → new.chip.words ≡ old.chip.words → new.chips ≡ old.chips
     → new.picture ≡ old.picture → Shows (pixels Pal old.beam.v old.beam.h old.picture) old.out new.out → Makes Any (displayed Pal) old new
-Makes-displayed old new t beam memory chips picture grows written s any is =
-    let piece : List ℕ = pixels Pal s.beam.v s.beam.h s.picture in
-    let same : piece ≡ pixels Pal old.beam.v old.beam.h old.picture = ap (λ b. pixels Pal b.v b.h s.picture) is.beam ∙ ap (λ p. pixels Pal old.beam.v old.beam.h p) is.picture in
-    record {
-      t = is.t ∙ sym t;
-      beam = is.beam ∙ sym beam;
-      memory = is.memory ∙ sym memory;
-      chips = is.chips ∙ sym chips;
-      picture = is.picture ∙ sym picture;
-      frames = shown-text written.frames old.out.frames new.out.frames s.shown piece old.out.given is.frames is.given
-          (grows.frames ∙ ap (λ p. old.out.frames ++ framed old.out.given p) (sym same));
-      given = (let n : new.out.given % frame_bytes ≡ (old.out.given + length piece) % frame_bytes = grows.given ∙ ap (λ p. (old.out.given + length p) % frame_bytes) (sym same) in
-          omega (arith, n, is.given, length-append s.shown piece));
-      trace = ap (λ t. written.trace ++ t) grows.trace ∙ is.trace;
-    }
+Makes-displayed old new t beam memory chips picture grows = Makes-piece old new _ t beam memory chips picture refl grows
 
 both : {X : Type 0} (f : Ask → ℕ → X) (a b : Ask) (v w : ℕ) → a ≡ b → v ≡ w → f a v ≡ f b w
 both f a b v w e d = ap (λ x. f x v) e ∙ ap (λ y. f b y) d
@@ -78,7 +97,7 @@ Makes-accessed old new ask word e w t beam memory chips picture tells written s 
       picture = both (λ a v. maybe_touched s.beam.h (word_of s.memory) (touch_of a v) s.picture) _ _ _ _ same_ask same_word
           ∙ ap (λ p. maybe_touched s.beam.h (word_of s.memory) (touch_of ask word) p) is.picture ∙ sym (picture s.beam.h (word_of s.memory));
       frames = ap (λ b. written.frames ++ b) tells.frames ∙ is.frames;
-      given = ap (λ n. n % frame_bytes) tells.given ∙ is.given;
+      given = tells.given ∙ is.given;
       trace = traced-text written.trace old.out.trace new.out.trace s.trace
           (bus_lines s.beam (asked s.beam s.chips) (word_for (asked s.beam s.chips) s.memory)) is.trace
           (tells.trace ∙ ap (λ lines. old.out.trace ++ trace_text lines)
@@ -146,7 +165,7 @@ Makes-scripted events left old new so none written s any is =
           ∙ sym (so.picture old.beam.h (word_of s.memory))
           ∙ ap (λ es. all_touched old.beam.h (word_of s.memory) (touches_of es) new.picture) none;
       frames = ap (λ b. written.frames ++ b) so.frames ∙ is.frames;
-      given = ap (λ n. n % frame_bytes) so.given ∙ is.given;
+      given = so.given ∙ is.given;
       trace = traced-text written.trace old.out.trace new.out.trace s.trace _ is.trace
           (told ∙ ap (λ lines. old.out.trace ++ trace_text lines)
           (sym (ap (λ b. event_lines b (due b events) s.chips) beam ∙ ap (λ c. event_lines old.beam (due old.beam events) c) is.chips)));
@@ -193,7 +212,7 @@ Makes-kept old new kept written s any is = record {
   chips = is.chips ∙ sym kept.chips;
   picture = is.picture ∙ sym kept.picture;
   frames = ap (λ o. written.frames ++ o.frames) kept.out ∙ is.frames;
-  given = ap (λ o. o.given % frame_bytes) kept.out ∙ is.given;
+  given = ap (λ o. o.given) kept.out ∙ is.given;
   trace = ap (λ o. written.trace ++ o.trace) kept.out ∙ is.trace;
 }
 

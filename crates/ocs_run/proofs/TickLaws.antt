@@ -36,9 +36,9 @@ Meets-tick events f0 f1 f2 f3 f4 ask word answer m1 m2 m3 m4 e w is written s st
     ap (λ a. is_unbuilt a (word_for (asked b.beam b.chips) b.memory)) same_ask ∙ ap (λ v. is_unbuilt ask v) same_word ∙ is
 
 pub HasNext-tick : (events left : List At) (f0 f6 f7 : Foreground) (lace : Bool) → IsOnScreen f0.beam → f6.beam ≡ f0.beam → f6.t ≡ f0.t
-    → f7.beam ≡ next_place lace f6.beam → f7.t ≡ f6.t + 1
+    → f7.beam ≡ next_place lace f6.beam → f7.t ≡ f6.t + 1 → f7.out.names ≡ f0.out.names
     → IsLeft (place_of f0.beam + 1) left → HasLater f0.beam events left → HasNext events left f0 f7
-HasNext-tick events left f0 f6 f7 lace on beam t next count queue same =
+HasNext-tick events left f0 f6 f7 lace on beam t next count names queue same =
     let here : f7.beam ≡ next_place lace f0.beam = next ∙ ap (λ b. next_place lace b) beam in
     let is = next_place-IsNext lace f0.beam on in
     let P : Beam → Type 0 = λ b. HasNext events left f0 (record f7 { beam = b }) in
@@ -57,4 +57,5 @@ HasNext-tick events left f0 f6 f7 lace on beam t next count queue same =
         };
       };
       same = same;
+      names = names;
     })

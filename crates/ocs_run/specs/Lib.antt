@@ -1,3 +1,12 @@
+pub mod Asked
 pub mod Chips
+pub mod Command
+pub mod Commanded
+pub mod Fault
+pub mod Inputs
+pub mod Order
 pub mod Out
+pub mod Run
 pub mod Steps
+pub mod Underway
+pub mod Verdict

@@ -30,7 +30,7 @@ pub record Stands (fore : Foreground) (written : Written) (s : State) : Type 0 w
   pub chips : s.chips ≡ fore.chips
   pub picture : s.picture ≡ fore.picture
   pub frames : written.frames ++ fore.out.frames ≡ frames_text s.shown
-  pub given : fore.out.given % frame_bytes ≡ length s.shown % frame_bytes
+  pub given : fore.out.given ≡ length s.shown % frame_bytes
   pub trace : written.trace ++ fore.out.trace ≡ trace_text s.trace
 
 abbrev pub Any : State → Type 0
@@ -107,3 +107,4 @@ pub record HasNext (events left : List At) (old new : Foreground) : Type 0 where
   pub count : new.t ≡ old.t + 1
   pub queue : IsLeft (place_of new.beam) left
   pub same : HasLater old.beam events left
+  pub names : new.out.names ≡ old.out.names

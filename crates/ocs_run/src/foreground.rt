@@ -1,6 +1,6 @@
 //! The machine of the clock loop: one function for each of the seven steps of a colour clock.
 
-ghost use Rattle.std.specs.Prelude.{◌≡◌, ℕ, ◌+◌, ◌<◌, ◌^◌, ◌↔◌, false, true, OnOk, IfOk};
+ghost use Rattle.std.specs.Prelude.{◌≡◌, ℕ, ◌+◌, ◌<◌, ◌^◌, ◌↔◌, ◌%◌, ◌≤◌, false, true, [], length, OnOk, OnErr, IfOk, IfErr};
 ghost use Rattle.ocs_base.specs.declared.beam.Beam.{Beam};
 ghost use Rattle.serial_model.specs.Beam.{IsOnScreen, place_of, next_place, lines};
 ghost use Rattle.serial_model.specs.Registers.{is_interlaced};
@@ -10,14 +10,21 @@ ghost use Rattle.serial_model.specs.Built.{is_unbuilt as unbuilt, is_built as bu
 ghost use Rattle.serial_model.specs.Events.{is_due as due_at};
 ghost use Rattle.serial_model.specs.Tick.{started, scripted, timed, displayed, accessed, processed, advanced, tick as ticked};
 ghost use Rattle.ocs_run.specs.Steps.{Makes, Any, KeepsPlace, Acts, IsLeft, HasLater, Meets, HasNext, KeepsAll};
+ghost use Rattle.ocs_io.specs.Place.{Rose, OnlyWrites, KeepsNames};
+ghost use Rattle.out_files.specs.OutFiles.{all_given};
+ghost use Rattle.out_files.specs.Answers.{NamesFile, AreGrowable};
+ghost use Rattle.out_files.specs.Together.{LeavesParts};
 ghost use Rattle.ocs_run.specs.Out.{Tells};
+ghost use Rattle.ocs_run.specs.Underway.{IsReset, Flushes};
 
 use crate::chips::Chips;
 use crate::picture;
 use mem_versions::Chip;
 use ocs_base::{Act, Addr, At, Beam, OutOfMemory, Reg, System};
-use out_files::OutFiles;
+use ocs_io::Place;
+use out_files::{OutFiles, WriteFault};
 use serial_model::{Ask, Denise, Source, Touch, TraceLine};
+use std::alloc::Global;
 
 /// Why a colour clock was not done: want of memory, or an access that is not built.
 #[derive(Clone, Copy, PartialEq, Eq, Debug)]
@@ -48,6 +55,58 @@ pub struct Foreground {
 }
 
 impl Foreground {
+    /// The working state at reset, over output files with nothing pending.
+    pub fn new(alloc: Global, image: &[u8], out: OutFiles) -> Result<Foreground, OutOfMemory>
+        requires even { length image.now % 2 ≡ 0 }
+        requires least { 8 ≤ length image.now }
+        requires most { length image.now ≤ 524288 }
+        ensures { IfOk result (IsReset image.now out) }
+    {
+        let chip = Chip::new(alloc, image)?;
+        Ok(Foreground {
+            t: 0,
+            beam: Beam {
+                frame: 0,
+                v: 0,
+                h: 0,
+                lof: true,
+            },
+            chip,
+            chips: Chips::reset(),
+            picture: picture::reset(),
+            out,
+        })
+    }
+
+    /// Appends what is pending at the first clock of every 32nd line, which keeps it below 70,000 pixel
+    /// bytes.
+    pub fn flush_lines<P: Place>(&mut self, place: &mut P) -> Result<(), WriteFault>
+        requires { AreGrowable (P.growable place.old) self.old.out.names }
+        ensures flushed { OnOk result (Flushes self.old self.new (P.outside place.old).files (P.outside place.new).files) }
+        ensures parts { OnErr result (LeavesParts self.old.out (P.outside place.old).files (P.outside place.new).files []) }
+        ensures kept { OnlyWrites (P.outside place.old) (P.outside place.new) }
+        ensures cause { IfErr result (λ fault. NamesFile fault → Rose (P.outside place.old).write_faults (P.outside place.new).write_faults) }
+        ensures names { KeepsNames (P.readable place.old) (P.growable place.old) (P.readable place.new) (P.growable place.new) }
+    {
+        if self.beam.h == 0 && self.beam.v % 32 == 0 {
+            return self.flush(place);
+        }
+        Ok(())
+    }
+
+    /// Appends all that is pending.
+    pub fn flush<P: Place>(&mut self, place: &mut P) -> Result<(), WriteFault>
+        requires { AreGrowable (P.growable place.old) self.old.out.names }
+        ensures flushed { OnOk result (Flushes self.old self.new (P.outside place.old).files (P.outside place.new).files) }
+        ensures empty { OnOk result (self.new.out ≡ all_given self.old.out) }
+        ensures parts { OnErr result (LeavesParts self.old.out (P.outside place.old).files (P.outside place.new).files []) }
+        ensures kept { OnlyWrites (P.outside place.old) (P.outside place.new) }
+        ensures cause { IfErr result (λ fault. NamesFile fault → Rose (P.outside place.old).write_faults (P.outside place.new).write_faults) }
+        ensures names { KeepsNames (P.readable place.old) (P.growable place.old) (P.readable place.new) (P.growable place.new) }
+    {
+        self.out.flush(place)
+    }
+
     /// First step: at a field's first clock the Copper starts.
     pub fn start(&mut self)
         ensures step { Makes Any started self.old self.new }
@@ -151,6 +210,7 @@ impl Foreground {
         ensures step { Makes Any advanced self.old self.new }
         ensures beam { self.new.beam ≡ next_place (is_interlaced self.old.chips.registers) self.old.beam }
         ensures count { self.new.t ≡ self.old.t + 1 }
+        ensures names { self.new.out.names ≡ self.old.out.names }
     {
         advance(&mut self.beam, self.chips.is_interlaced());
         self.t += 1;

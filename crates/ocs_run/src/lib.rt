@@ -2,5 +2,11 @@
 #![tactic(auto)]
 
 mod chips;
+mod command;
+mod fault;
 mod foreground;
+mod gate;
+mod inputs;
+mod order;
 mod picture;
+mod run;

@@ -21,14 +21,16 @@ chips_started b c =
 abbrev pub started : State → State
 started s = record s { chips = chips_started s.beam s.chips }
 
+-- events happen one after another
+abbrev pub happened : List At → State → State
+happened acts s = record s {
+  chips = all_acted acts s.chips;
+  picture = all_touched s.beam.h (word_of s.memory) (touches_of acts) s.picture;
+  trace = s.trace ++ event_lines s.beam acts s.chips }
+
 -- second: the script's events of this clock happen in their order
 abbrev pub scripted : List At → State → State
-scripted events s =
-    let acts = due s.beam events in
-    record s {
-      chips = all_acted acts s.chips;
-      picture = all_touched s.beam.h (word_of s.memory) (touches_of acts) s.picture;
-      trace = s.trace ++ event_lines s.beam acts s.chips }
+scripted events s = happened (due s.beam events) s
 
 -- third: the timers of the CIAs, of which this machine has none yet
 abbrev pub timed : State → State

@@ -1,16 +1,16 @@
-use Rattle.std.proofs.Common.{◌≡◌, Bool, true, false, sym, ◌∙◌}
+use Rattle.std.proofs.Common.{◌≡◌, Bool, true, false, List, [], inl, inr, refl, sym, ◌∙◌}
 use Rattle.ocs_base.specs.declared.script.System.TheVariants.{Pal}
 use Rattle.serial_model.specs.Beam.{is_visible}
-use Rattle.ocs_run.proofs.PictureLaws.{pixels-visible, pixels-hidden, Shows-none, Shows-piece}
+use Rattle.ocs_run.proofs.PictureLaws.{pixels-visible, pixels-hidden}
 use Rattle.ocs_run.proofs.picture.show.Goals as goal
 
 pub returns-in_ok-pixels : goal.returns-in_ok-pixels
 returns-in_ok-pixels c =
     let shown : is_visible Pal c.args.beam.now.v c.args.beam.now.h ≡ true = sym c.is_visible.ensures ∙ c.if-is_visible.true in
     rw (pixels-visible Pal c.args.beam.now.v c.args.beam.now.h c.args.picture.now shown)
-    (rw c.colour_bytes.ensures at (Shows-piece _ _ _ c.in_ok-pixels.ensures.ok))
+    (inl (rw c.colour_bytes.ensures at c.in_ok-pixels.ensures.ok))
 
 pub returns-else-is_visible : goal.returns-else-is_visible
 returns-else-is_visible c =
     let hidden : is_visible Pal c.args.beam.now.v c.args.beam.now.h ≡ false = sym c.is_visible.ensures ∙ c.if-is_visible.false in
-    rw (pixels-hidden Pal c.args.beam.now.v c.args.beam.now.h c.args.picture.now hidden) (Shows-none c.args.out.now)
+    inr (pixels-hidden Pal c.args.beam.now.v c.args.beam.now.h c.args.picture.now hidden, refl)

@@ -1,7 +1,8 @@
-use Rattle.std.proofs.Common.{◌≡◌, ℕ, ◌+◌, ◌∙◌, sym, subst, true, false}
+use Rattle.std.proofs.Common.{◌≡◌, ℕ, ◌+◌, ◌∙◌, sym, ap, subst, true, false}
 use Rattle.ocs_base.specs.declared.beam.Beam.{Beam}
 use Rattle.serial_model.specs.Beam.{place_of}
 use Rattle.serial_model.specs.Registers.{is_interlaced}
+use Rattle.out_files.specs.OutFiles.{OutFilesValue}
 use Rattle.ocs_run.specs.Steps.{IsLeft, HasLater}
 use Rattle.ocs_run.proofs.StepLaws.{Makes-kept}
 use Rattle.ocs_run.proofs.TickLaws.{Makes-tick, Meets-tick, HasNext-tick}
@@ -35,6 +36,10 @@ returns-clause-next c =
     let count : c.process.new.self.t ≡ c.args.self.now.t =
     c.process.ensures.place.t ∙ c.in_ok-access.ensures.place.t ∙ c.ask-ask.ensures.same.t ∙ c.in_ok-show.ensures.place.t
     ∙ c.count_timers.ensures.place.t ∙ c.in_ok-left.ensures.place.t ∙ c.start.ensures.place.t in
+    let names : c.advance.new.self.out.names ≡ c.args.self.now.out.names =
+    c.advance.ensures.names ∙ c.process.ensures.place.names ∙ c.in_ok-access.ensures.place.names
+    ∙ ap (λ (o : OutFilesValue). o.names) c.ask-ask.ensures.same.out ∙ c.in_ok-show.ensures.place.names
+    ∙ c.count_timers.ensures.place.names ∙ c.in_ok-left.ensures.place.names ∙ c.start.ensures.place.names in
     HasNext-tick c.args.events.now _ c.args.self.now c.process.new.self c.advance.new.self (is_interlaced c.process.new.self.chips.registers)
-    c.requires.screen beam count c.advance.ensures.beam c.advance.ensures.count
+    c.requires.screen beam count c.advance.ensures.beam c.advance.ensures.count names
     (subst Left first c.in_ok-left.ensures.left) (subst Later first c.in_ok-left.ensures.later)

@@ -1,0 +1,6 @@
+use Rattle.ocs_run.proofs.InputLaws.{too_long}
+use Rattle.ocs_run.proofs.inputs.read_script_file.Goals as goal
+
+pub returns-in-Err-TooLong-clause-fault : goal.returns-in-Err-TooLong-clause-fault
+returns-in-Err-TooLong-clause-fault g c =
+    too_long (g.P.Place.outside c.args.place.now).files c.args.name.now (rw c.in-Err-TooLong.field-0-is at c.in-Err-TooLong.ensures.answer).0

@@ -1,0 +1,42 @@
+-- What a reader of the command line answers.
+use Rattle.std.specs.Prelude.{◌≡◌, ◌≢◌, ℕ, ◌≤◌, Option, Some, None}
+use Rattle.ocs_run.specs.Order.{OrderValue, RunWordsValue}
+use Rattle.ocs_run.specs.declared.order.Order.{Order}
+use Rattle.ocs_run.specs.declared.order.RunWords.{RunWords}
+
+-- the order as a value
+abbrev pub value_of : Order → OrderValue
+value_of o = record {
+  image = o.image.now;
+  script = o.script.now;
+  frames = o.frames.now;
+  trace = o.trace.now;
+  memory = o.memory.now;
+  band = o.band;
+  workers = o.workers;
+}
+
+abbrev pub IsOrder : Option OrderValue → Option Order → Type 0
+IsOrder order None = order ≡ None
+IsOrder order (Some o) = order ≡ Some (value_of o)
+
+abbrev pub words_value : RunWords → RunWordsValue
+words_value w = record {
+  image = w.image.now;
+  script = w.script.now;
+  frames = w.frames.now;
+  trace = w.trace.now;
+  memory = w.memory.now;
+  band = w.band.now;
+  workers = w.workers.now;
+}
+
+abbrev pub AreRunWords : Option RunWordsValue → Option RunWords → Type 0
+AreRunWords words None = words ≡ None
+AreRunWords words (Some w) = words ≡ Some (words_value w)
+
+-- the names of the files that are written are three
+pub record AreApart (o : Order) : Type 0 where
+  pub frames_trace : o.frames.now ≢ o.trace.now
+  pub frames_memory : o.frames.now ≢ o.memory.now
+  pub trace_memory : o.trace.now ≢ o.memory.now

@@ -1,0 +1,114 @@
+-- What stands after a command.
+use Rattle.std.specs.Prelude.{◌≡◌, ◌≢◌, ℕ, ◌≤◌, Bool, true, false, not, ◌&&◌, ◌⊎◌, List, [], ◌∷◌, ◌++◌, take, length, codes, decimal, Option, Some, None, Result, Ok, Err}
+use Rattle.ocs_base.specs.Script.{ScriptValue}
+use Rattle.ocs_base.specs.declared.script.At.{At}
+use Rattle.ocs_base.specs.declared.script.Act.{Act}
+use Rattle.ocs_base.specs.declared.script.Act.TheVariants.{Poke, Peek, Joy, Fire, Key}
+use Rattle.ocs_io.specs.Answers.{WhereTold}
+use Rattle.ocs_io.specs.Place.{Files, Outside, Rose, said_more}
+use Rattle.out_files.specs.OutFiles.{OutNames}
+use Rattle.out_files.specs.declared.fault.OutFile.{OutFile}
+use Rattle.out_files.specs.declared.fault.OutFile.TheVariants.{Frames, Trace, Memory}
+use Rattle.script_read.specs.declared.fault.BadKind.{BadKind}
+use Rattle.script_read.specs.KindName.{kind_name}
+use Rattle.serial_model.specs.Built.{is_built}
+use Rattle.ocs_run.specs.declared.fault.Fault.{Fault}
+use Rattle.ocs_run.specs.declared.fault.Fault.TheVariants.{Usage, BadImage, BadScript, Unread, Unwritten, OutOfMemory, NotBuilt}
+use Rattle.ocs_run.specs.declared.fault.Input.{Input}
+use Rattle.ocs_run.specs.declared.fault.Input.TheVariants.{Image, Script}
+use Rattle.ocs_run.specs.Order.{OrderValue}
+use Rattle.ocs_run.specs.Run.{HasFiles, Remains, StopsUnbuilt}
+use Rattle.ocs_run.specs.Verdict.{Verdict, Usage as UsageVerdict, Absent, BadImage as BadImageVerdict, BadScript as BadScriptVerdict, Good, of_order}
+
+-- the names of the files that a run writes
+abbrev pub out_names : OrderValue → OutNames
+out_names order = record { frames = order.frames; trace = order.trace; memory = order.memory }
+
+-- what a script may do in the machine that is built so far: no processor, and pokes of built registers alone
+abbrev pub is_built_act : Act → Bool
+is_built_act (Poke reg word) = is_built reg.offset word
+is_built_act (Peek reg) = false
+is_built_act (Joy port word) = false
+is_built_act (Fire port down) = false
+is_built_act (Key code) = false
+
+unfoldable pub are_built : List At → Bool
+are_built [] = true
+are_built (e ∷ events) = is_built_act e.act && are_built events
+
+abbrev pub is_built_script : ScriptValue → Bool
+is_built_script script = not script.cpu && are_built script.events
+
+-- done: the three files are the texts of the run, whole, and every other file is as before
+abbrev pub IsDone : Verdict → Files → Option Files → Type 0
+IsDone (Good image script order) files new = HasFiles image script (out_names order) (Some files) new
+IsDone UsageVerdict files new = ⊥
+IsDone (Absent name) files new = ⊥
+IsDone BadImageVerdict files new = ⊥
+IsDone (BadScriptVerdict line kind) files new = ⊥
+
+-- stopped by a file that could not be written, which only a good verdict comes to
+abbrev pub IsUnwritten : Verdict → Files → Option Files → Type 0
+IsUnwritten (Good image script order) files new = Remains image script (out_names order) (Some files) new
+IsUnwritten UsageVerdict files new = ⊥
+IsUnwritten (Absent name) files new = ⊥
+IsUnwritten BadImageVerdict files new = ⊥
+IsUnwritten (BadScriptVerdict line kind) files new = ⊥
+
+-- stopped for want of memory: where the verdict is good the files may have parts, else they are as before
+abbrev pub IsWanting : Verdict → Files → Option Files → Type 0
+IsWanting (Good image script order) files new = Remains image script (out_names order) (Some files) new
+IsWanting UsageVerdict files new = ⊥
+IsWanting (Absent name) files new = new ≡ Some files
+IsWanting BadImageVerdict files new = new ≡ Some files
+IsWanting (BadScriptVerdict line kind) files new = new ≡ Some files
+
+-- something is not built: in the script, and then all files are as before, or at a clock of the run
+abbrev pub IsUnbuilt : Verdict → Files → Option Files → Type 0
+IsUnbuilt (Good image script order) files new =
+    ((is_built_script script ≡ false) × (new ≡ Some files))
+    ⊎ ((is_built_script script ≡ true) × StopsUnbuilt image script (out_names order) (Some files) new)
+IsUnbuilt UsageVerdict files new = ⊥
+IsUnbuilt (Absent name) files new = ⊥
+IsUnbuilt BadImageVerdict files new = ⊥
+IsUnbuilt (BadScriptVerdict line kind) files new = ⊥
+
+-- the script is built, where the command comes to the run
+abbrev pub IsBuiltGood : Verdict → Type 0
+IsBuiltGood (Good image script order) = is_built_script script ≡ true
+IsBuiltGood UsageVerdict = ⊥
+IsBuiltGood (Absent name) = ⊥
+IsBuiltGood BadImageVerdict = ⊥
+IsBuiltGood (BadScriptVerdict line kind) = ⊥
+
+abbrev pub IsGood : Verdict → Type 0
+IsGood (Good image script order) = Unit {0}
+IsGood UsageVerdict = ⊥
+IsGood (Absent name) = ⊥
+IsGood BadImageVerdict = ⊥
+IsGood (BadScriptVerdict line kind) = ⊥
+
+-- the image is good: only then is the script read
+abbrev pub HasGoodImage : OrderValue → Verdict → Type 0
+HasGoodImage asked (Good image script order) = Unit {0}
+HasGoodImage asked UsageVerdict = ⊥
+HasGoodImage asked (Absent name) = name ≡ asked.script
+HasGoodImage asked BadImageVerdict = ⊥
+HasGoodImage asked (BadScriptVerdict line kind) = Unit {0}
+
+-- what stands after an answer to the words, where they are those of an order
+abbrev pub OrderAnswers : OrderValue → Outside → Outside → Result (Unit {0}) Fault → Type 0
+OrderAnswers order old new (Ok done) = WhereTold old.files (λ files. IsDone (of_order (Some order) files) files new.files)
+OrderAnswers order old new (Err Usage) = ⊥
+OrderAnswers order old new (Err BadImage) =
+    WhereTold old.files (λ files. of_order (Some order) files ≡ BadImageVerdict) × (new.files ≡ old.files)
+OrderAnswers order old new (Err (BadScript line kind)) =
+    WhereTold old.files (λ files. of_order (Some order) files ≡ BadScriptVerdict line kind) × (new.files ≡ old.files)
+OrderAnswers order old new (Err (Unread Image)) = Rose old.read_faults new.read_faults × (new.files ≡ old.files)
+OrderAnswers order old new (Err (Unread Script)) =
+    Rose old.read_faults new.read_faults × (new.files ≡ old.files)
+    × WhereTold old.files (λ files. HasGoodImage order (of_order (Some order) files))
+OrderAnswers order old new (Err (Unwritten file)) =
+    Rose old.write_faults new.write_faults × WhereTold old.files (λ files. IsUnwritten (of_order (Some order) files) files new.files)
+OrderAnswers order old new (Err OutOfMemory) = WhereTold old.files (λ files. IsWanting (of_order (Some order) files) files new.files)
+OrderAnswers order old new (Err NotBuilt) = WhereTold old.files (λ files. IsUnbuilt (of_order (Some order) files) files new.files)

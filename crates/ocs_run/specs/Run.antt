@@ -1,0 +1,71 @@
+-- A run and its files.
+use Rattle.std.specs.Prelude.{◌≡◌, ℕ, ◌<◌, ◌+◌, Bool, false, true, List, [], ◌++◌, ◌⊎◌, take, Option}
+use Rattle.ocs_base.specs.Script.{ScriptValue}
+use Rattle.ocs_base.specs.declared.script.System.TheVariants.{Pal}
+use Rattle.ocs_io.specs.Place.{Files, with_file}
+use Rattle.out_files.specs.OutFiles.{OutNames}
+use Rattle.out_files.specs.Answers.{with_empty, in_order}
+use Rattle.out_files.specs.Together.{three_files, HoldParts}
+use Rattle.serial_model.specs.Built.{meets_unbuilt}
+use Rattle.serial_model.specs.MemoryText.{memory_text}
+use Rattle.serial_model.specs.Outputs.{frames_text}
+use Rattle.serial_model.specs.Serial.{state_at, IsEnd}
+use Rattle.serial_model.specs.State.{State}
+use Rattle.serial_model.specs.TraceText.{trace_text}
+use Rattle.ocs_run.specs.declared.fault.RunFault.{RunFault}
+use Rattle.ocs_run.specs.declared.fault.RunFault.TheVariants.{Write, OutOfMemory, NotBuilt}
+
+-- the states before this clock are those of a run that goes on, and what their clocks do is built
+pub record HasRun (image : List ℕ) (script : ScriptValue) (clocks : ℕ) : Type 0 where
+  pub running : (n : ℕ) → n < clocks → (state_at image script n).beam.frame < script.frames
+  pub built : (n : ℕ) → n < clocks → meets_unbuilt Pal script.events (state_at image script n) ≡ false
+
+-- the run came to its end, and the three files are its texts, whole; every other file is as before
+pub record HasFiles (image : List ℕ) (script : ScriptValue) (names : OutNames) (base new : Option Files) : Type 0 where
+  pub clocks : ℕ
+  pub end : IsEnd image script clocks
+  pub run : HasRun image script clocks
+  pub files : new ≡ (let s = state_at image script clocks in
+      three_files names base (frames_text s.shown) (trace_text s.trace) (memory_text s.memory))
+
+-- the run stopped after so many clocks: each of the three files holds a part of the text up to there, from the
+-- first byte on, and the memory file nothing; every other file is as before
+pub record HasParts (image : List ℕ) (script : ScriptValue) (names : OutNames) (base new : Option Files) (clocks : ℕ) : Type 0 where
+  pub run : HasRun image script clocks
+  pub parts : (let s = state_at image script clocks in HoldParts names base new s.shown s.trace [])
+
+-- the same at the end of the run, where the memory file holds a part of its text too
+pub record HasEndParts (image : List ℕ) (script : ScriptValue) (names : OutNames) (base new : Option Files) (clocks : ℕ) : Type 0 where
+  pub end : IsEnd image script clocks
+  pub run : HasRun image script clocks
+  pub parts : (let s = state_at image script clocks in HoldParts names base new s.shown s.trace (memory_text s.memory))
+
+-- the run stopped at a clock that does something unbuilt
+pub record StopsUnbuilt (image : List ℕ) (script : ScriptValue) (names : OutNames) (base new : Option Files) : Type 0 where
+  pub clocks : ℕ
+  pub so_far : HasParts image script names base new clocks
+  pub frame : (state_at image script clocks).beam.frame < script.frames
+  pub unbuilt : meets_unbuilt Pal script.events (state_at image script clocks) ≡ true
+
+-- what stands after a run was stopped by a fault
+abbrev pub Stopped : List ℕ → ScriptValue → OutNames → Option Files → Option Files → RunFault → Type 0
+Stopped image script names base new (Write file) = (clocks : ℕ) × HasParts image script names base new clocks
+Stopped image script names base new OutOfMemory = (clocks : ℕ) × HasParts image script names base new clocks
+Stopped image script names base new NotBuilt = StopsUnbuilt image script names base new
+
+-- the first so many of the three files were created, and nothing else was done
+abbrev pub HasCreated : OutNames → Option Files → Option Files → Type 0
+HasCreated names base new = (created : ℕ) × (new ≡ with_empty (take created (in_order names)) base)
+
+-- what stands after a whole run was stopped by a fault of writing or want of memory
+abbrev pub Remains : List ℕ → ScriptValue → OutNames → Option Files → Option Files → Type 0
+Remains image script names base new =
+    HasCreated names base new
+    ⊎ (((clocks : ℕ) × HasParts image script names base new clocks)
+    ⊎ ((clocks : ℕ) × HasEndParts image script names base new clocks))
+
+-- the same by the fault
+abbrev pub LeavesAfter : RunFault → List ℕ → ScriptValue → OutNames → Option Files → Option Files → Type 0
+LeavesAfter (Write file) image script names base new = Remains image script names base new
+LeavesAfter OutOfMemory image script names base new = Remains image script names base new
+LeavesAfter NotBuilt image script names base new = StopsUnbuilt image script names base new

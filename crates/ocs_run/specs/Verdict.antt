@@ -1,0 +1,40 @@
+-- What the words of the command line and the files come to.
+use Rattle.std.specs.Prelude.{◌≡◌, ℕ, ◌%◌, Bool, true, false, ◌&&◌, ◌==◌, nat_le, if◌then◌else◌, List, length, Option, Some, None}
+use Rattle.ocs_base.specs.Script.{ScriptValue}
+use Rattle.ocs_io.specs.Place.{Files, file}
+use Rattle.script_read.specs.Grammar.{script_of, Good as GoodScript, Bad as BadLine, Verdict as ScriptVerdict}
+use Rattle.script_read.specs.declared.fault.BadKind.{BadKind}
+use Rattle.ocs_run.specs.Order.{OrderValue}
+
+-- the first of these that applies, in the order in which the command does its work
+pub data Verdict : Type 0 where
+  -- the words are not of the form
+  Usage : Verdict
+  -- an input file is not there
+  Absent : List ℕ → Verdict
+  -- the image is odd, too short or too long
+  BadImage : Verdict
+  -- the script is bad at a line
+  BadScript : ℕ → BadKind → Verdict
+  -- an image and a script, and what is asked
+  Good : List ℕ → ScriptValue → OrderValue → Verdict
+
+-- an image: an even number of 8 to 524,288 bytes
+abbrev pub is_image : List ℕ → Bool
+is_image image = (length image % 2 == 0) && nat_le 8 (length image) && nat_le (length image) 524288
+
+abbrev pub of_script : OrderValue → List ℕ → ScriptVerdict → Verdict
+of_script order image (GoodScript script) = Good image script order
+of_script order image (BadLine line kind) = BadScript line kind
+
+abbrev pub of_text : OrderValue → List ℕ → Option (List ℕ) → Verdict
+of_text order image None = Absent order.script
+of_text order image (Some text) = of_script order image (script_of text)
+
+abbrev pub of_image : OrderValue → Files → Option (List ℕ) → Verdict
+of_image order files None = Absent order.image
+of_image order files (Some image) = if is_image image then of_text order image (file files order.script) else BadImage
+
+abbrev pub of_order : Option OrderValue → Files → Verdict
+of_order None files = Usage
+of_order (Some order) files = of_image order files (file files order.image)

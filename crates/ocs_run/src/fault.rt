@@ -1,0 +1,110 @@
+//! Why a run did not come to its end.
+
+use crate::foreground::TickFault;
+use ocs_base::OutOfMemory;
+use out_files::{OutFile, WriteFault};
+use script_read::BadKind;
+
+/// Why a run stopped: a file could not be written, memory was wanting, or the run came to a colour
+/// clock that does something which is not built.
+#[derive(Clone, Copy, PartialEq, Eq, Debug)]
+pub enum RunFault {
+    Write { file: OutFile },
+    OutOfMemory,
+    NotBuilt,
+}
+
+impl From<WriteFault> for RunFault {
+    ghost use Rattle.std.specs.Prelude.{◌≡◌};
+    ghost use Rattle.ocs_run.specs.Fault.{of_write};
+
+    ghost from_gives = { λ from fault. fault ≡ of_write from };
+
+    fn from(fault: WriteFault) -> RunFault {
+        match fault {
+            WriteFault::Failed { file } => RunFault::Write { file },
+            WriteFault::OutOfMemory => RunFault::OutOfMemory,
+        }
+    }
+}
+
+impl From<TickFault> for RunFault {
+    ghost use Rattle.std.specs.Prelude.{◌≡◌};
+    ghost use Rattle.ocs_run.specs.Fault.{of_tick};
+
+    ghost from_gives = { λ from fault. fault ≡ of_tick from };
+
+    fn from(fault: TickFault) -> RunFault {
+        match fault {
+            TickFault::OutOfMemory => RunFault::OutOfMemory,
+            TickFault::NotBuilt => RunFault::NotBuilt,
+        }
+    }
+}
+
+impl From<OutOfMemory> for RunFault {
+    ghost use Rattle.std.specs.Prelude.{◌≡◌};
+    ghost use Rattle.ocs_run.specs.declared.fault.RunFault.{RunFault};
+
+    ghost from_gives = { λ refused fault. fault ≡ RunFault.OutOfMemory };
+
+    fn from(_refused: OutOfMemory) -> RunFault {
+        RunFault::OutOfMemory
+    }
+}
+
+/// One of the two files that a run reads.
+#[derive(Clone, Copy, PartialEq, Eq, Debug)]
+pub enum Input {
+    Image,
+    Script,
+}
+
+/// Why a command did not do what it was asked: the words are not of the form, an input file could not
+/// be read, the image or the script is bad, what the script or the run needs is not built, a file could
+/// not be written, or memory was wanting.
+#[derive(Clone, Copy, Debug)]
+pub enum Fault {
+    Usage,
+    BadImage,
+    BadScript { line: u32, kind: BadKind },
+    Unread { input: Input },
+    Unwritten { file: OutFile },
+    OutOfMemory,
+    NotBuilt,
+}
+
+impl From<RunFault> for Fault {
+    ghost use Rattle.std.specs.Prelude.{◌≡◌};
+    ghost use Rattle.ocs_run.specs.Fault.{of_run};
+
+    ghost from_gives = { λ from fault. fault ≡ of_run from };
+
+    fn from(fault: RunFault) -> Fault {
+        match fault {
+            RunFault::Write { file } => Fault::Unwritten { file },
+            RunFault::OutOfMemory => Fault::OutOfMemory,
+            RunFault::NotBuilt => Fault::NotBuilt,
+        }
+    }
+}
+
+impl Fault {
+    ghost use Rattle.std.specs.Prelude.{◌≡◌};
+    ghost use Rattle.ocs_run.specs.Fault.{status_of};
+
+    /// The exit status of the command.
+    pub fn status(self) -> u8
+        ensures { result ≡ status_of self }
+    {
+        match self {
+            Fault::Usage => 2,
+            Fault::BadImage => 3,
+            Fault::BadScript { .. } => 4,
+            Fault::Unread { .. } => 5,
+            Fault::Unwritten { .. } => 6,
+            Fault::OutOfMemory => 7,
+            Fault::NotBuilt => 8,
+        }
+    }
+}

@@ -1,0 +1,81 @@
+//! The two input files: the image of chip memory and the script.
+
+ghost use Rattle.std.specs.Prelude.{◌≡◌, true, IfOk, IfErr};
+ghost use Rattle.ocs_io.specs.Place.{OnlyReads, KeepsNames};
+ghost use Rattle.ocs_run.specs.Inputs.{IsImageOf, IsImageFault, IsScriptOf, IsScriptFault, IsTextFault};
+ghost use Rattle.ocs_base.specs.Limits.{IsRunnable};
+ghost use Rattle.script_read.specs.Grammar.{script_of, Good};
+ghost use Rattle.ocs_run.specs.Verdict.{is_image as good_image};
+
+use crate::fault::{Fault, Input};
+use ocs_base::Script;
+use ocs_io::{Place, ReadRefusal};
+use script_read::{BadKind, ScriptFault, read_script};
+use std::alloc::Global;
+
+/// The most bytes of an image, those of chip memory.
+const IMAGE_BYTES: usize = 524_288;
+
+/// The most bytes of a script.
+const SCRIPT_BYTES: usize = 4_194_304;
+
+/// Reads the image: an even number of 8 to 524,288 bytes.
+pub fn read_image<P: Place>(alloc: Global, name: &str, place: &mut P) -> Result<Vec<u8>, Fault>
+    requires { P.readable place.old name.now }
+    ensures good { IfOk result (λ image. IsImageOf (P.outside place.old) name.now image.items) }
+    ensures fault { IfErr result (IsImageFault (P.outside place.old) (P.outside place.new) name.now) }
+    ensures kept { OnlyReads (P.outside place.old) (P.outside place.new) }
+    ensures names { KeepsNames (P.readable place.old) (P.growable place.old) (P.readable place.new) (P.growable place.new) }
+{
+    let mut image = Vec::new(alloc);
+    match place.read(name, IMAGE_BYTES, &mut image) {
+        Ok(()) if is_image(&image) => Ok(image),
+        Ok(()) | Err(ReadRefusal::TooLong) => Err(Fault::BadImage),
+        Err(ReadRefusal::Failed) => Err(Fault::Unread {
+            input: Input::Image,
+        }),
+        Err(ReadRefusal::OutOfMemory) => Err(Fault::OutOfMemory),
+    }
+}
+
+/// Whether bytes are an image.
+fn is_image(image: &[u8]) -> bool
+    ensures { result ≡ good_image image.now }
+{
+    image.len() % 2 == 0 && 8 <= image.len() && image.len() <= IMAGE_BYTES
+}
+
+/// Reads the script. A text that is longer than a script may be is bad at line 0.
+pub fn read_script_file<P: Place>(alloc: Global, name: &str, place: &mut P) -> Result<Script, Fault>
+    requires { P.readable place.old name.now }
+    ensures good { IfOk result (λ script. IsScriptOf (P.outside place.old) name.now script) }
+    ensures fault { IfErr result (IsScriptFault (P.outside place.old) (P.outside place.new) name.now) }
+    ensures kept { OnlyReads (P.outside place.old) (P.outside place.new) }
+    ensures names { KeepsNames (P.readable place.old) (P.growable place.old) (P.readable place.new) (P.growable place.new) }
+{
+    let mut text = Vec::new(alloc);
+    match place.read(name, SCRIPT_BYTES, &mut text) {
+        Ok(()) => parse(alloc, &text),
+        Err(ReadRefusal::TooLong) => Err(Fault::BadScript {
+            line: 0,
+            kind: BadKind::Long,
+        }),
+        Err(ReadRefusal::Failed) => Err(Fault::Unread {
+            input: Input::Script,
+        }),
+        Err(ReadRefusal::OutOfMemory) => Err(Fault::OutOfMemory),
+    }
+}
+
+/// The script of a text.
+fn parse(alloc: Global, text: &[u8]) -> Result<Script, Fault>
+    ensures good { IfOk result (λ script. script_of text.now ≡ Good script) }
+    ensures runnable { IfOk result IsRunnable }
+    ensures fault { IfErr result (IsTextFault text.now) }
+{
+    match read_script(alloc, text) {
+        Ok(script) => Ok(script),
+        Err(ScriptFault::Bad { line, kind }) => Err(Fault::BadScript { line, kind }),
+        Err(ScriptFault::OutOfMemory) => Err(Fault::OutOfMemory),
+    }
+}
