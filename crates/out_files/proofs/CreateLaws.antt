@@ -1,12 +1,11 @@
 -- What a refused create leaves of the three files.
-use Rattle.std.proofs.Common.{◌≡◌, ℕ, ◌+◌, ◌≤◌, List, [], ◌∷◌, take, Result, Ok, Err, inl, inr, arith, refl, sym, ap, ◌∙◌, subst}
+use Rattle.std.proofs.Common.{◌≡◌, [], Result, Ok, Err, inl, inr, arith, ap, ◌∙◌}
 use Rattle.ocs_io.specs.Place.{Outside, with_file}
-use Rattle.out_files.specs.declared.fault.OutFile.{OutFile}
 use Rattle.out_files.specs.declared.fault.OutFile.TheVariants.{Frames, Trace, Memory}
 use Rattle.out_files.specs.declared.fault.WriteFault.{WriteFault}
 use Rattle.out_files.specs.declared.fault.WriteFault.TheVariants.{Failed, OutOfMemory}
 use Rattle.out_files.specs.OutFiles.{OutNames}
-use Rattle.out_files.specs.Answers.{CreateAnswers, before_file}
+use Rattle.out_files.specs.Answers.{CreateAnswers}
 use Rattle.out_files.specs.Pieces.{MakeAnswers}
 
 -- the second create was refused

@@ -1,10 +1,10 @@
 -- The answer of a flush, by what the appends of the two files answered.
-use Rattle.std.proofs.Common.{◌≡◌, ℕ, List, [], take, Option, Result, Ok, Err, inl, inr, refl, sym, ap, ◌∙◌, subst}
+use Rattle.std.proofs.Common.{◌≡◌, ℕ, List, [], take, Option, Result, Ok, Err, inl, inr, ap, ◌∙◌, subst}
 use Rattle.ocs_io.specs.Place.{Files, Outside, grown}
 use Rattle.out_files.specs.declared.fault.OutFile.TheVariants.{Frames, Trace, Memory}
 use Rattle.out_files.specs.declared.fault.WriteFault.{WriteFault}
 use Rattle.out_files.specs.declared.fault.WriteFault.TheVariants.{Failed, OutOfMemory}
-use Rattle.out_files.specs.OutFiles.{OutNames, OutFilesValue}
+use Rattle.out_files.specs.OutFiles.{OutFilesValue}
 use Rattle.out_files.specs.Answers.{appended, FlushAnswers}
 use Rattle.out_files.specs.Pieces.{Gave, GiveAnswers}
 

@@ -1,5 +1,5 @@
 -- Hexadecimal digits of registers and words.
-use Rattle.std.proofs.Common.{◌≡◌, ℕ, ◌/◌, ◌%◌, List, [], ◌∷◌, refl, ap, arith}
+use Rattle.std.proofs.Common.{◌≡◌, ℕ, ◌/◌, ◌%◌, [], ◌∷◌, ap, arith}
 use Rattle.ocs_io.specs.Numbers.{hex_text}
 use Rattle.serial_model.specs.TraceText.{character_of, offset_text, word_text}
 

@@ -1,5 +1,5 @@
 -- The frames text of a piece that is given in parts.
-use Rattle.std.proofs.Common.{◌≡◌, ℕ, ◌+◌, ◌-◌, ◌%◌, ◌<◌, ◌≤◌, List, [], ◌∷◌, ◌++◌, length, take, drop, arith, refl, ap, ◌∙◌, sym, append_assoc, length-append, length-take-le, ◌==◌, zero, suc, Bool, true, false}
+use Rattle.std.proofs.Common.{◌≡◌, ℕ, ◌+◌, ◌%◌, ◌<◌, ◌≤◌, List, [], ◌∷◌, ◌++◌, length, take, drop, arith, ap, ◌∙◌, sym, append_assoc, length-take-le, ◌==◌, zero, suc, true, false}
 use Rattle.std.proofs.lemmas.List.{take-append-drop, append-nil, take-append-le}
 use borrow.Author.Tests.{eqb-true}
 use Rattle.serial_model.specs.Outputs.{heading_at, framed, frame_bytes}

@@ -1,7 +1,7 @@
 -- The files and what is pending stay together the texts of what was given.
 use Rattle.std.proofs.Common.{◌≡◌, ℕ, ◌+◌, ◌%◌, List, [], ◌∷◌, ◌++◌, length, take, drop, Option, Result, Ok, Err, OnOk, OnErr, inl, inr, refl, sym, ap, ◌∙◌, append_assoc, length-append, arith}
 use Rattle.std.proofs.lemmas.List.{append-nil, take-append-drop}
-use Rattle.ocs_io.specs.Place.{Files, Outside, with_file, grown}
+use Rattle.ocs_io.specs.Place.{Files, Outside, grown}
 use Rattle.ocs_io.specs.Answers.{AppendAnswers}
 use Rattle.ocs_io.specs.declared.place.WriteRefusal.{WriteRefusal}
 use Rattle.ocs_io.specs.declared.place.WriteRefusal.TheVariants.{Failed as Refused, OutOfMemory as NoRoom}
@@ -12,9 +12,9 @@ use Rattle.serial_model.proofs.FramedLaws.{framed-append, framed-place}
 use Rattle.out_files.specs.declared.fault.OutFile.TheVariants.{Frames, Trace, Memory}
 use Rattle.out_files.specs.declared.fault.WriteFault.{WriteFault}
 use Rattle.out_files.specs.declared.fault.WriteFault.TheVariants.{Failed, OutOfMemory}
-use Rattle.out_files.specs.OutFiles.{OutNames, OutFilesValue, with_pixels, with_line, frames_given, all_given}
-use Rattle.out_files.specs.Answers.{CreateAnswers, in_order, with_empty, appended, FramesFailed, TraceFailed, KeepsFrames, GivesFrames, GivesAll, FlushAnswers, MemoryAnswers}
-use Rattle.out_files.specs.Together.{AreDifferent, AreTogether, HoldParts, three_files, Begins, AddsPixels, AddsLine, StayTogether, LeavesParts, Completes}
+use Rattle.out_files.specs.OutFiles.{OutFilesValue, with_pixels, with_line}
+use Rattle.out_files.specs.Answers.{CreateAnswers, in_order, with_empty, appended, GivesAll, FlushAnswers, MemoryAnswers}
+use Rattle.out_files.specs.Together.{AreDifferent, AreTogether, three_files, Begins, AddsPixels, AddsLine, StayTogether, LeavesParts, Completes}
 use Rattle.out_files.proofs.FilesLaws.{grown-frames, grown-trace, grown-memory, appended-frames, appended-trace}
 
 -- from the creates on

@@ -66,15 +66,17 @@ pub record TraceFailed (was now : OutFilesValue) (old new : Outside) : Type 0 wh
   pub files : new.files ≡ grown (appended old.files was.names.frames was.frames) was.names.trace (take count was.trace)
   pub kept : now ≡ frames_given was
 
--- the files have, whole, what is no longer pending for the frames file
-pub record KeepsFrames (was now : OutFilesValue) (old new : Outside) : Type 0 where
+-- nothing has changed
+pub record GivesNothing (was now : OutFilesValue) (old new : Outside) : Type 0 where
   pub files : new.files ≡ old.files
   pub kept : now ≡ was
 
+-- the frames file has all that was pending for it, and the trace is as before
 pub record GivesFrames (was now : OutFilesValue) (old new : Outside) : Type 0 where
   pub files : new.files ≡ appended old.files was.names.frames was.frames
   pub kept : now ≡ frames_given was
 
+-- both files have all that was pending for them
 pub record GivesAll (was now : OutFilesValue) (old new : Outside) : Type 0 where
   pub files : new.files ≡ appended (appended old.files was.names.frames was.frames) was.names.trace was.trace
   pub kept : now ≡ all_given was
@@ -84,7 +86,7 @@ FlushAnswers was now old new (Ok done) = GivesAll was now old new
 FlushAnswers was now old new (Err (Failed Frames)) = FramesFailed was now old new
 FlushAnswers was now old new (Err (Failed Trace)) = TraceFailed was now old new
 FlushAnswers was now old new (Err (Failed Memory)) = ⊥
-FlushAnswers was now old new (Err OutOfMemory) = KeepsFrames was now old new ⊎ GivesFrames was now old new
+FlushAnswers was now old new (Err OutOfMemory) = GivesNothing was now old new ⊎ GivesFrames was now old new
 
 -- the text is appended to the file of the name, or a part of it, or nothing
 abbrev pub MemoryAnswers : List ℕ → List ℕ → Outside → Outside → Result (Unit {0}) WriteFault → Type 0

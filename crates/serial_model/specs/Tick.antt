@@ -26,7 +26,8 @@ abbrev pub happened : List At → State → State
 happened acts s = record s {
   chips = all_acted acts s.chips;
   picture = all_touched s.beam.h (word_of s.memory) (touches_of acts) s.picture;
-  trace = s.trace ++ event_lines s.beam acts s.chips }
+  trace = s.trace ++ event_lines s.beam acts s.chips;
+}
 
 -- second: the script's events of this clock happen in their order
 abbrev pub scripted : List At → State → State
@@ -48,7 +49,8 @@ accessed s =
     record s {
       chips = answered s.beam ask word s.chips;
       picture = maybe_touched s.beam.h (word_of s.memory) (touch_of ask word) s.picture;
-      trace = s.trace ++ bus_lines s.beam ask word }
+      trace = s.trace ++ bus_lines s.beam ask word;
+    }
 
 -- sixth: the processor's part that needs no slot; this machine has no processor yet
 abbrev pub processed : State → State

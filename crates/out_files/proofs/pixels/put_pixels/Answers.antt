@@ -1,5 +1,5 @@
 -- A turn gives the part of the piece that the present frame takes.
-use Rattle.std.proofs.Common.{◌≡◌, ℕ, ◌+◌, ◌-◌, ◌%◌, ◌<◌, ◌≤◌, ◌==◌, Bool, true, false, List, ◌++◌, length, take, drop, sym, ap, ◌∙◌, arith, append_assoc, length-append, length-drop, min}
+use Rattle.std.proofs.Common.{◌≡◌, ◌+◌, ◌-◌, ◌%◌, ◌<◌, ◌≤◌, ◌++◌, length, take, drop, ap, ◌∙◌, arith, append_assoc, length-append, length-drop, min}
 use Rattle.std.proofs.lemmas.List.{take_rest}
 use Rattle.serial_model.specs.Outputs.{framed, heading_at, frame_bytes}
 use Rattle.out_files.proofs.PixelsLaws.{pixels-turn, pixels-end, kept-grown, some_left, none_left}

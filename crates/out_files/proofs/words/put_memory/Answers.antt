@@ -1,5 +1,5 @@
 -- A turn appends a page and counts its words.
-use Rattle.std.proofs.Common.{◌≡◌, ℕ, ◌*◌, ◌++◌, List, [], take, drop, sym, ap, ◌∙◌, refl, arith}
+use Rattle.std.proofs.Common.{◌≡◌, ℕ, ◌*◌, List, take, drop, sym, ap, ◌∙◌, refl, arith}
 use Rattle.std.proofs.lemmas.List.{append-nil}
 use Rattle.serial_model.specs.MemoryText.{memory_text}
 use Rattle.out_files.proofs.WordsLaws.{page-more, reads-more, words-read}

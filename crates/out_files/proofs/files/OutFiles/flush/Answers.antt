@@ -1,6 +1,5 @@
 -- The appends of the two files, one after the other, are the flush.
-use Rattle.std.proofs.Common.{◌≡◌, ℕ, List, [], ap, sym, ◌∙◌, subst, Result, Err, OnErr}
-use Rattle.std.proofs.lemmas.Result.{err_from_is_err_and}
+use Rattle.std.proofs.Common.{[], subst}
 use Rattle.ocs_io.proofs.MapLaws.{on_err}
 use Rattle.out_files.specs.OutFiles.{OutFilesValue}
 use Rattle.out_files.specs.Together.{AreDifferent, LeavesParts}

@@ -1,5 +1,5 @@
 -- The text of the memory is appended in one piece.
-use Rattle.std.proofs.Common.{◌≡◌, ℕ, List, [], ◌++◌, ap, sym, refl, ◌∙◌, OnErr}
+use Rattle.std.proofs.Common.{◌≡◌, ℕ, List, ◌++◌, ap, refl, ◌∙◌}
 use Rattle.ocs_io.proofs.MapLaws.{on_err}
 use Rattle.serial_model.specs.MemoryText.{memory_text}
 use Rattle.out_files.specs.declared.fault.WriteFault.TheVariants.{OutOfMemory}
