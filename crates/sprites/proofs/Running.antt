@@ -24,6 +24,7 @@ running_at-last x starts last le =
     ∙ alone x (last_or None (filter test starts)) last come
 
 pub value_on_line : (x : ℕ) (kept : List Start) (value : ℕ) → value ≡ sprite_value x kept → IsValueOnLine x kept value
+unfolding sprite_value
 value_on_line x kept value is starts last one le =
     let bits : Option Start → ℕ = λ o. unwrap_or (option_map (value_of x) o) 0 in
     is ∙ ap (sprite_value x) one ∙ ap bits (running_at-last x [] last le) ∙ sym (ap bits (running_at-last x starts last le))

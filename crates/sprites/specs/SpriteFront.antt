@@ -18,7 +18,7 @@ pair_pixel values attached pair =
     else option_or (pixel_of pair (16 + 4 * pair) even) (pixel_of pair (16 + 4 * pair) odd)
 
 -- the pixel of the first pair that shows, since lower-numbered sprites are in front
-abbrev pub front_pixel : List ℕ → ℕ → Option SpritePixel
+unfoldable pub front_pixel : List ℕ → ℕ → Option SpritePixel
 front_pixel values attached =
     option_or (pair_pixel values attached 0)
     (option_or (pair_pixel values attached 1)

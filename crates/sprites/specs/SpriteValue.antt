@@ -21,7 +21,7 @@ value_of x start =
     else 0
 
 -- the value of a sprite at a position, from its starts on the line
-abbrev pub sprite_value : ℕ → List Start → ℕ
+unfoldable pub sprite_value : ℕ → List Start → ℕ
 sprite_value x starts = unwrap_or (option_map (value_of x) (running_at x starts)) 0
 
 -- the start that is kept of a sprite, if any

@@ -17,6 +17,7 @@ pub struct SpritePixel {
 ///
 /// `values` are the values of the eight sprites, and bit p of `attached`, p from 0 to 3, says that
 /// pair p is attached (bit 7 of SPRnCTL of its odd sprite).
+#[tactic(auto, unfolding(crate::specs::SpriteFront::front_pixel))]
 pub fn front(values: &[u8; 8], attached: u8) -> Option<SpritePixel>
     requires { All (λ v. v ≤ 3) values.now }
     ensures value { result ≡ front_pixel values.now attached }

@@ -56,6 +56,7 @@ impl Runs {
     /// The value of sprite `sprite`, 0 to 7, at position `x`: two bits, 0 where nothing runs.
     ///
     /// Where `x` is not below the sprite's last start, this is its value by all its starts on the line.
+    #[tactic(auto, unfolding(crate::specs::SpriteValue::sprite_value))]
     pub fn value(&self, sprite: u8, x: u16) -> u8
         requires { sprite < 8 }
         ensures value { result ≡ sprite_value x (kept_start self.now sprite) }
@@ -74,6 +75,7 @@ impl Start {
     ghost use Rattle.sprites.specs.SpriteValue.{sprite_value};
 
     /// The value at a position if no other start comes.
+    #[tactic(auto, unfolding(crate::specs::SpriteValue::sprite_value))]
     fn value(self, x: u16) -> u8
         ensures value { result ≡ sprite_value x (self ∷ []) }
         ensures few { result ≤ 3 }
