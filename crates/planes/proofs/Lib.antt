@@ -1,0 +1,4 @@
+pub mod Showing
+pub mod Pruning
+pub mod Standing
+pub mod Searching

@@ -1,0 +1,2 @@
+pub mod PlaneCount
+pub mod PixelColour

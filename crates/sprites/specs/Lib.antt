@@ -1,0 +1,2 @@
+pub mod SpriteValue
+pub mod SpriteFront
