@@ -1,0 +1,52 @@
+-- Each line's way of taking an opcode apart gives the table's instruction.
+use Rattle.std.proofs.Common.{◌∙◌, arith}
+use Rattle.m68k_decode.proofs.Table.{at_0, at_1, at_2, at_3, at_4, at_5, at_6, at_7, at_8, at_9, at_A, at_B, at_C, at_D, at_E, at_F}
+use Rattle.m68k_decode.proofs.opcode.decode.Goals as goal
+
+pub returns-in-0 : goal.returns-in-0
+returns-in-0 c = c.immediates_and_bits.ensures ∙ (at_0 _ c.in-0.is).instr
+
+pub returns-in-1 : goal.returns-in-1
+returns-in-1 c = c.moves.ensures ∙ (at_1 _ c.in-1.is).instr
+
+pub returns-in-2 : goal.returns-in-2
+returns-in-2 c = c.moves.ensures ∙ (at_2 _ c.in-2.is).instr
+
+pub returns-in-3 : goal.returns-in-3
+returns-in-3 c = c.moves.ensures ∙ (at_3 _ c.in-3.is).instr
+
+pub returns-in-4 : goal.returns-in-4
+returns-in-4 c = c.miscellaneous.ensures ∙ (at_4 _ c.in-4.is).instr
+
+pub returns-in-5 : goal.returns-in-5
+returns-in-5 c = c.quick_and_conditions.ensures ∙ (at_5 _ c.in-5.is).instr
+
+pub returns-in-6 : goal.returns-in-6
+returns-in-6 c = c.branch.ensures ∙ (at_6 _ c.in-6.is).instr
+
+pub returns-in-7 : goal.returns-in-7
+returns-in-7 c = c.move_quick.ensures ∙ (at_7 _ c.in-7.is).instr
+
+pub returns-in-8 : goal.returns-in-8
+returns-in-8 c = c.or_and_divide.ensures ∙ (at_8 _ c.in-8.is).instr
+
+pub returns-in-9 : goal.returns-in-9
+returns-in-9 c = c.sums.ensures ∙ (at_9 _ c.in-9.is).instr
+
+pub returns-in-10 : goal.returns-in-10
+returns-in-10 c = (at_A _ c.in-10.is).instr
+
+pub returns-in-11 : goal.returns-in-11
+returns-in-11 c = c.compare.ensures ∙ (at_B _ c.in-11.is).instr
+
+pub returns-in-12 : goal.returns-in-12
+returns-in-12 c = c.and_and_multiply.ensures ∙ (at_C _ c.in-12.is).instr
+
+pub returns-in-13 : goal.returns-in-13
+returns-in-13 c = c.sums.ensures ∙ (at_D _ c.in-13.is).instr
+
+pub returns-in-14 : goal.returns-in-14
+returns-in-14 c = c.shifts.ensures ∙ (at_E _ c.in-14.is).instr
+
+pub returns-in_default : goal.returns-in_default
+returns-in_default c = (at_F _ (omega arith)).instr
