@@ -1,5 +1,5 @@
 -- An instruction as a list of numbers, which tells instructions apart.
-use Rattle.std.proofs.Common.{◌≡◌, ℕ, Bool, true, false, List, [], ◌∷◌, ◌==◌, ◌&&◌, if◌then◌else◌, refl, ap, ◌∙◌, sym, get_or, arith, eqb-true}
+use Rattle.std.proofs.Common.{◌≡◌, ℕ, Bool, true, false, List, [], ◌∷◌, ◌==◌, if◌then◌else◌, refl, ap, ◌∙◌, sym, get_or, eqb-true}
 use Rattle.m68k_decode.specs.declared.operand.Size.{Size}
 use Rattle.m68k_decode.specs.declared.operand.Size.TheVariants as S
 use Rattle.m68k_decode.specs.declared.operand.Mode.{Mode}

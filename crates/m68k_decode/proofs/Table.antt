@@ -1,5 +1,5 @@
 -- The code's ways to take an opcode apart agree with the table of instructions: computed over all opcodes, line by line.
-use Rattle.std.proofs.Common.{◌≡◌, ◌⊎◌, ℕ, suc, zero, Bool, true, false, List, [], ◌∷◌, ◌+◌, ◌-◌, ◌*◌, ◌/◌, ◌%◌, ◌<◌, ◌≤◌, ◌==◌, ◌&&◌, if◌then◌else◌, refl, ap, sym, ◌∙◌, subst, inl, inr, get_or, arith}
+use Rattle.std.proofs.Common.{◌≡◌, ℕ, suc, zero, Bool, true, false, List, [], ◌∷◌, ◌+◌, ◌-◌, ◌*◌, ◌/◌, ◌<◌, ◌==◌, ◌&&◌, if◌then◌else◌, refl, ap, sym, ◌∙◌, subst, inl, inr, get_or, arith}
 use Rattle.std.proofs.lemmas.Bool.{cases_eq}
 use Rattle.m68k_decode.specs.declared.operand.Size.TheVariants as S
 use Rattle.m68k_decode.specs.declared.instr.Instr.{Instr}

@@ -7,3 +7,6 @@ pub mod Table
 pub mod Lines
 pub mod Parts
 pub mod Timing
+pub mod Frames
+pub mod Places
+pub mod Registers

@@ -1,5 +1,5 @@
 -- The address modes: their codes, their classes and their clocks.
-use Rattle.std.specs.Prelude.{ℕ, Bool, false, List, [], ◌∷◌, ◌++◌, ◌==◌, ◌+◌, ◌/◌, ◌%◌, ◌||◌, if◌then◌else◌, slice_index}
+use Rattle.std.specs.Prelude.{ℕ, Bool, false, List, [], ◌∷◌, ◌++◌, ◌==◌, ◌+◌, ◌||◌, if◌then◌else◌, slice_index}
 use Rattle.m68k_decode.specs.declared.operand.Size.{Size}
 use Rattle.m68k_decode.specs.declared.operand.Size.TheVariants as S
 use Rattle.m68k_decode.specs.declared.operand.Mode.{Mode}

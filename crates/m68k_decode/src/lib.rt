@@ -18,3 +18,6 @@ pub use outcome::{Flags, Outcome};
 pub use regs::CpuRegs;
 pub use timing::clocks;
 pub use trap::Trap;
+
+#[cfg(test)]
+mod tests;

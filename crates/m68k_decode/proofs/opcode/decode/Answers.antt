@@ -10,10 +10,10 @@ pub returns-in-1 : goal.returns-in-1
 returns-in-1 c = c.moves.ensures ∙ (at_1 _ c.in-1.is).instr
 
 pub returns-in-2 : goal.returns-in-2
-returns-in-2 c = c.moves.ensures ∙ (at_2 _ c.in-2.is).instr
+returns-in-2 c = c.moves-in-2.ensures ∙ (at_2 _ c.in-2.is).instr
 
 pub returns-in-3 : goal.returns-in-3
-returns-in-3 c = c.moves.ensures ∙ (at_3 _ c.in-3.is).instr
+returns-in-3 c = c.moves-in-3.ensures ∙ (at_3 _ c.in-3.is).instr
 
 pub returns-in-4 : goal.returns-in-4
 returns-in-4 c = c.miscellaneous.ensures ∙ (at_4 _ c.in-4.is).instr
@@ -22,7 +22,7 @@ pub returns-in-5 : goal.returns-in-5
 returns-in-5 c = c.quick_and_conditions.ensures ∙ (at_5 _ c.in-5.is).instr
 
 pub returns-in-6 : goal.returns-in-6
-returns-in-6 c = c.branch.ensures ∙ (at_6 _ c.in-6.is).instr
+returns-in-6 c = c.branch-opcode.ensures ∙ (at_6 _ c.in-6.is).instr
 
 pub returns-in-7 : goal.returns-in-7
 returns-in-7 c = c.move_quick.ensures ∙ (at_7 _ c.in-7.is).instr
@@ -43,7 +43,7 @@ pub returns-in-12 : goal.returns-in-12
 returns-in-12 c = c.and_and_multiply.ensures ∙ (at_C _ c.in-12.is).instr
 
 pub returns-in-13 : goal.returns-in-13
-returns-in-13 c = c.sums.ensures ∙ (at_D _ c.in-13.is).instr
+returns-in-13 c = c.sums-in-13.ensures ∙ (at_D _ c.in-13.is).instr
 
 pub returns-in-14 : goal.returns-in-14
 returns-in-14 c = c.shifts.ensures ∙ (at_E _ c.in-14.is).instr
