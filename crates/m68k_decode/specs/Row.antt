@@ -1,5 +1,5 @@
 -- What a row of the table of instructions says, and which opcodes it takes.
-use Rattle.std.specs.Prelude.{ℕ, Bool, true, List, [], ◌∷◌, ◌==◌, ◌/◌, ◌%◌, ◌&&◌, ◌||◌, not, if◌then◌else◌, nat_lt}
+use Rattle.std.specs.Prelude.{ℕ, Bool, true, List, [], ◌∷◌, ◌==◌, ◌+◌, ◌/◌, ◌%◌, ◌&&◌, ◌||◌, not, if◌then◌else◌, nat_lt}
 use Rattle.m68k_decode.specs.declared.instr.Instr.{Instr}
 use Rattle.m68k_decode.specs.declared.instr.Instr.TheVariants as I
 use Rattle.m68k_decode.specs.Text.{fits, field, places}
@@ -56,3 +56,8 @@ made r opcode = r.makes (λ c. field c r.text opcode)
 
 abbrev pub taken : Row → ℕ → Clocks
 taken r opcode = r.takes (λ c. field c r.text opcode)
+
+-- how many rows take an opcode
+abbrev pub rows_taking : List Row → ℕ → ℕ
+rows_taking [] opcode = 0
+rows_taking (r ∷ rs) opcode = if in_row r opcode then 1 + rows_taking rs opcode else rows_taking rs opcode

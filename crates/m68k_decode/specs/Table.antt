@@ -5,7 +5,7 @@ use Rattle.m68k_decode.specs.declared.instr.Instr.{Instr}
 use Rattle.m68k_decode.specs.declared.instr.Instr.TheVariants as I
 use Rattle.m68k_decode.specs.Modes.{code, all_modes, data_modes, data_but_immediate, memory_alterable, data_alterable, alterable, control, control_or_post, control_alterable_or_pre, listed, sized, ea, move_dest}
 use Rattle.m68k_decode.specs.Clocks.{Clocks, Always, Counted, Outcomes, Exception, in_dn, to_register}
-use Rattle.m68k_decode.specs.Row.{Row, row, first, made, taken}
+use Rattle.m68k_decode.specs.Row.{Row, row, first, made, taken, rows_taking}
 use Rattle.m68k_decode.specs.Letters.{a, c, d, i, m, o, q, r, t, v, x, y, rr, ss, s, zz, z, e, dest}
 
 abbrev pub rows_0 : List Row
@@ -178,3 +178,7 @@ decode_of opcode = made (first (rows_of (opcode / 4096)) opcode) opcode
 -- the clocks of an opcode's row
 unfoldable pub clocks_at : ℕ → Clocks
 clocks_at opcode = taken (first (rows_of (opcode / 4096)) opcode) opcode
+
+-- how many rows take an opcode: at most one, so their order means nothing
+unfoldable pub rows_at : ℕ → ℕ
+rows_at opcode = rows_taking (rows_of (opcode / 4096)) opcode

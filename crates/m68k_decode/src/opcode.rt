@@ -1,7 +1,7 @@
 //! From an opcode to its instruction.
 
 ghost use Rattle.std.specs.Prelude.{◌≡◌, ◌≤◌};
-ghost use Rattle.m68k_decode.specs.Table.{decode_of};
+ghost use Rattle.m68k_decode.specs.Table.{decode_of, rows_at};
 ghost use Rattle.m68k_decode.specs.Lines as L;
 
 use crate::class::Class;
@@ -15,7 +15,8 @@ use crate::operand::Size;
 /// The instruction of an opcode (M68000 Programmer's Reference Manual, operation code map).
 /// A mode outside the class of its row, or a byte of an address register, is no instruction.
 pub fn decode(opcode: u16) -> Instr
-    ensures { result ≡ decode_of opcode }
+    ensures instruction { result ≡ decode_of opcode }
+    ensures one_row { rows_at opcode ≤ 1 }
 {
     match opcode >> 12 {
         0 => immediates_and_bits(opcode),
