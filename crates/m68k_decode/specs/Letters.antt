@@ -1,8 +1,9 @@
--- The fields of an opcode by their letters. A row's `f` gives the number under each letter's code.
+-- The fields of an opcode by their letters. A row gives f, which gives the number under the letter with a code.
 use Rattle.std.specs.Prelude.{ℕ, ◌==◌, ◌/◌, ◌%◌, if◌then◌else◌}
 use Rattle.m68k_decode.specs.declared.operand.Size.{Size}
 use Rattle.m68k_decode.specs.declared.operand.Size.TheVariants as S
 use Rattle.m68k_decode.specs.declared.operand.Mode.{Mode}
+use Rattle.m68k_decode.specs.Text.{letter_s, letter_z, letter_e, letter_M, letter_R}
 use Rattle.m68k_decode.specs.Modes.{code_at, mode_with}
 
 abbrev pub a : (ℕ → ℕ) → ℕ
@@ -43,28 +44,28 @@ y f = f 121
 
 -- the register under RRR
 abbrev pub rr : (ℕ → ℕ) → ℕ
-rr f = f 82
+rr f = f letter_R
 
 -- a size under ss: 00 byte, 01 word, 10 long
 abbrev pub ss : (ℕ → ℕ) → Size
-ss f = if f 115 == 0 then S.Byte else (if f 115 == 1 then S.Word else S.Long)
+ss f = if f letter_s == 0 then S.Byte else (if f letter_s == 1 then S.Word else S.Long)
 
 -- a size under s: 0 word, 1 long
 abbrev pub s : (ℕ → ℕ) → Size
-s f = if f 115 == 0 then S.Word else S.Long
+s f = if f letter_s == 0 then S.Word else S.Long
 
 -- a size under zz: 01 byte, 11 word, 10 long
 abbrev pub zz : (ℕ → ℕ) → Size
-zz f = if f 122 == 1 then S.Byte else (if f 122 == 3 then S.Word else S.Long)
+zz f = if f letter_z == 1 then S.Byte else (if f letter_z == 3 then S.Word else S.Long)
 
 -- a size under the last digit of zz: 1 word, 0 long
 abbrev pub z : (ℕ → ℕ) → Size
-z f = if f 122 == 1 then S.Word else S.Long
+z f = if f letter_z == 1 then S.Word else S.Long
 
 -- the mode under eeeeee: three bits of mode and three of register
 abbrev pub e : (ℕ → ℕ) → Mode
-e f = mode_with (code_at (f 101 / 8) (f 101 % 8)) (f 101 % 8)
+e f = mode_with (code_at (f letter_e / 8) (f letter_e % 8)) (f letter_e % 8)
 
 -- the mode under RRRMMM: three bits of register and three of mode
 abbrev pub dest : (ℕ → ℕ) → Mode
-dest f = mode_with (code_at (f 77) (f 82)) (f 82)
+dest f = mode_with (code_at (f letter_M) (f letter_R)) (f letter_R)

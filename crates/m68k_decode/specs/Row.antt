@@ -2,7 +2,7 @@
 use Rattle.std.specs.Prelude.{ℕ, Bool, true, List, [], ◌∷◌, ◌==◌, ◌+◌, ◌/◌, ◌%◌, ◌&&◌, ◌||◌, not, if◌then◌else◌, nat_lt}
 use Rattle.m68k_decode.specs.declared.instr.Instr.{Instr}
 use Rattle.m68k_decode.specs.declared.instr.Instr.TheVariants as I
-use Rattle.m68k_decode.specs.Text.{fits, field, places}
+use Rattle.m68k_decode.specs.Text.{fits, field, places, letter_s, letter_z, letter_e, letter_M, letter_R}
 use Rattle.m68k_decode.specs.Modes.{code_at, among, data_alterable}
 use Rattle.m68k_decode.specs.Clocks.{Clocks, Exception}
 
@@ -20,24 +20,24 @@ row text modes makes takes = record { text = text; modes = modes; makes = makes;
 
 -- a size: ss is 00, 01 or 10
 abbrev pub size_fits : List ℕ → ℕ → Bool
-size_fits text opcode = if places 115 text == 2 then nat_lt (field 115 text opcode) 3 else true
+size_fits text opcode = if places letter_s text == 2 then nat_lt (field letter_s text opcode) 3 else true
 
 -- the operand is a byte: ss is 00, or zz is 01
 abbrev pub is_byte : List ℕ → ℕ → Bool
 is_byte text opcode =
-    ((places 115 text == 2) && (field 115 text opcode == 0)) || ((places 122 text == 2) && (field 122 text opcode == 1))
+    ((places letter_s text == 2) && (field letter_s text opcode == 0)) || ((places letter_z text == 2) && (field letter_z text opcode == 1))
 
 -- the mode under eeeeee is of the class; a byte operand is never An
 abbrev pub mode_fits : Row → ℕ → Bool
 mode_fits r opcode =
-    if places 101 r.text == 0 then true
-    else (let mode = code_at (field 101 r.text opcode / 8) (field 101 r.text opcode % 8) in
+    if places letter_e r.text == 0 then true
+    else (let mode = code_at (field letter_e r.text opcode / 8) (field letter_e r.text opcode % 8) in
     among mode r.modes && not ((mode == 1) && is_byte r.text opcode))
 
 -- the destination under RRRMMM can be written as data
 abbrev pub dest_fits : List ℕ → ℕ → Bool
 dest_fits text opcode =
-    if places 77 text == 0 then true else among (code_at (field 77 text opcode) (field 82 text opcode)) data_alterable
+    if places letter_M text == 0 then true else among (code_at (field letter_M text opcode) (field letter_R text opcode)) data_alterable
 
 abbrev pub in_row : Row → ℕ → Bool
 in_row r opcode =

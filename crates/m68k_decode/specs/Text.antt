@@ -12,6 +12,23 @@ zero_digit = 48
 abbrev pub one_digit : ℕ
 one_digit = 49
 
+-- the codes of the letters that say a size (s and z), the mode of an operand (e), and the mode and the register of MOVE's
+-- destination (M and R)
+abbrev pub letter_s : ℕ
+letter_s = 115
+
+abbrev pub letter_z : ℕ
+letter_z = 122
+
+abbrev pub letter_e : ℕ
+letter_e = 101
+
+abbrev pub letter_M : ℕ
+letter_M = 77
+
+abbrev pub letter_R : ℕ
+letter_R = 82
+
 -- the number that begins with n and goes on, at each place, with the binary digit that d makes of what stands there
 abbrev pub digits : (ℕ → ℕ) → ℕ → List ℕ → ℕ
 digits d n [] = n
