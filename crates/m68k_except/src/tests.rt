@@ -1,0 +1,82 @@
+//! Vectors and frames, worked by hand.
+
+use crate::*;
+
+fn registers(sr: u16) -> CpuRegs {
+    CpuRegs {
+        d: [0; 8],
+        a: [0; 7],
+        usp: 0,
+        ssp: 0,
+        pc: 0x0012_3456,
+        sr,
+    }
+}
+
+fn address_error(read: bool, program: bool, instruction: bool) -> Trap {
+    Trap::AddressError {
+        at: 0x00ab_cdef,
+        opcode: 0x4e75,
+        read,
+        program,
+        instruction,
+    }
+}
+
+#[test]
+fn vectors(rt: HostRuntime) {
+    let kinds = [
+        (address_error(true, false, true), 3),
+        (Trap::Illegal, 4),
+        (Trap::ZeroDivide, 5),
+        (Trap::Chk, 6),
+        (Trap::Trapv, 7),
+        (Trap::Privilege, 8),
+        (Trap::Trace, 9),
+        (Trap::LineA, 10),
+        (Trap::LineF, 11),
+        (Trap::Interrupt { level: 1 }, 25),
+        (Trap::Interrupt { level: 7 }, 31),
+        (Trap::Number { v: 0 }, 32),
+        (Trap::Number { v: 15 }, 47),
+    ];
+    for (kind, want) in kinds {
+        assert_eq!(rt; vector(&kind), want);
+    }
+}
+
+#[test]
+fn short_frames(rt: HostRuntime) {
+    let kinds = [
+        Trap::Illegal,
+        Trap::Privilege,
+        Trap::LineA,
+        Trap::LineF,
+        Trap::ZeroDivide,
+        Trap::Chk,
+        Trap::Trapv,
+        Trap::Trace,
+        Trap::Interrupt { level: 4 },
+        Trap::Number { v: 2 },
+    ];
+    for kind in kinds {
+        assert!(rt;
+            frame(&kind, &registers(0x8704)).as_slice() == [0x3456, 0x0012, 0x8704].as_slice()
+        );
+    }
+}
+
+#[test]
+fn frames_of_address_errors(rt: HostRuntime) {
+    let cases = [
+        (address_error(true, false, true), 0, 0x11),
+        (address_error(true, true, true), 0, 0x12),
+        (address_error(false, false, true), 0x2000, 5),
+        (address_error(true, true, false), 0x2000, 0x1e),
+        (address_error(false, false, false), 0x2000, 0xd),
+    ];
+    for (kind, sr, access) in cases {
+        let words = [0x3456, 0x0012, sr, 0x4e75, 0xcdef, 0x00ab, access];
+        assert!(rt; frame(&kind, &registers(sr)).as_slice() == words.as_slice());
+    }
+}
