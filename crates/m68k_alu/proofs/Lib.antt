@@ -1,0 +1,4 @@
+pub mod Words
+pub mod SingleBits
+pub mod Shifting
+pub mod Turning
