@@ -20,4 +20,4 @@ pub use decimal::{op_abcd, op_nbcd, op_sbcd};
 pub use logic::{op_and, op_clr, op_eor, op_ext, op_move, op_not, op_or, op_swap, op_tas, op_tst};
 //pub use products::{op_divs, op_divu, op_muls, op_mulu};
 //pub use rotations::{op_rol, op_ror, op_roxl, op_roxr};
-//pub use shifts::{op_asl, op_asr, op_lsl, op_lsr};
+pub use shifts::{op_asl, op_asr, op_lsl, op_lsr};

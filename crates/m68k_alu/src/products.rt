@@ -1,1 +1,89 @@
-//! To come.
+//! Multiplication and division: words to a long, and a long by a word.
+
+ghost use Rattle.std.specs.Prelude.{◌≡◌, ◌<◌, ◌≢◌, ◌*◌, ◌*ℤ◌, pos, int_div, int_rem};
+ghost use Rattle.m68k_decode.specs.declared.operand.Size.TheVariants.{Word as WordSize, Long as LongSize};
+ghost use Rattle.m68k_decode.specs.Results.{low, signed, is_signed, wrapped};
+ghost use Rattle.m68k_decode.specs.ResultsProducts.{divided, not_divided, mulu_of, muls_of, divu_of, divs_of};
+
+use crate::size::{low_part, plain_outcome, sign, with_sign, without_sign};
+use m68k_decode::{Flags, Outcome, Size};
+
+/// MULU: a product of two words. The size says nothing.
+pub fn op_mulu(size: Size, a: u32, b: u32, f: Flags) -> Outcome
+    ensures { result ≡ mulu_of size a b f }
+{
+    plain_outcome(Size::Long, low_part(Size::Word, a) * low_part(Size::Word, b), f)
+}
+
+/// The product of two words with signs.
+fn signed_product(a: u32, b: u32) -> u32
+    requires left { a < 65536 }
+    requires right { b < 65536 }
+    ensures { result ≡ wrapped LongSize (signed WordSize a *ℤ signed WordSize b) }
+{
+    let product = with_sign(Size::Word, a) * with_sign(Size::Word, b);
+    without_sign(Size::Long, product)
+}
+
+/// MULS: a product of two words with signs. The size says nothing.
+pub fn op_muls(size: Size, a: u32, b: u32, f: Flags) -> Outcome
+    ensures { result ≡ muls_of size a b f }
+{
+    let product = signed_product(low_part(Size::Word, a), low_part(Size::Word, b));
+    plain_outcome(Size::Long, product, f)
+}
+
+/// The quotient in the low word and the remainder in the high word.
+fn divided_outcome(quotient: u32, remainder: u32, f: Flags) -> Outcome
+    requires quotient { quotient < 65536 }
+    requires remainder { remainder < 65536 }
+    ensures { result ≡ divided quotient remainder f }
+{
+    Outcome {
+        value: (remainder << 16) | quotient,
+        flags: Flags {
+            n: sign(Size::Word, quotient),
+            z: quotient == 0,
+            v: false,
+            c: false,
+            ..f
+        },
+    }
+}
+
+/// The quotient is no word: V is set, C is clear, the value and the other flags stay.
+fn overflowed(a: u32, f: Flags) -> Outcome
+    ensures { result ≡ not_divided a f }
+{
+    Outcome {
+        value: a,
+        flags: Flags {
+            v: true,
+            c: false,
+            ..f
+        },
+    }
+}
+
+/// DIVU: a long by a word, which is not 0. The size says nothing.
+#[tactic(auto, unfolding(m68k_decode::specs::ResultsProducts::divu_of))]
+pub fn op_divu(size: Size, a: u32, b: u32, f: Flags) -> Outcome
+    requires { low WordSize b ≢ 0 }
+    ensures { result ≡ divu_of size a b f }
+{
+    let divisor = low_part(Size::Word, b);
+    let quotient = a / divisor;
+    if quotient <= 0xffff {
+        divided_outcome(quotient, a % divisor, f)
+    } else {
+        overflowed(a, f)
+    }
+}
+
+/// The quotient of a long by a word, rounded toward 0.
+fn signed_quotient(dividend: i64, divisor: i64) -> i64
+    requires divisor { divisor ≢ pos 0 }
+    ensures { result ≡ int_div dividend divisor }
+{
+    dividend / divisor
+}

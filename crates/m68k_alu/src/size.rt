@@ -1,6 +1,6 @@
 //! The numbers of a size.
 
-ghost use Rattle.std.specs.Prelude.{◌≡◌, ◌<◌, ◌+◌};
+ghost use Rattle.std.specs.Prelude.{◌≡◌, ◌<◌, ◌%◌};
 ghost use Rattle.m68k_decode.specs.Results.{bits, low, span, is_negative, signed, wrapped, plain};
 
 use m68k_decode::{Flags, Outcome, Size};
@@ -25,6 +25,13 @@ pub(crate) fn low_part(size: Size, number: u32) -> u32
         Size::Word => number & 0xffff,
         Size::Long => number,
     }
+}
+
+/// The low 32 bits of a number.
+pub(crate) fn low_long(number: u64) -> u32
+    ensures { result ≡ number % 4294967296 }
+{
+    (number & 0xffff_ffff) as u32
 }
 
 /// The top bit of a number of the size is set.
