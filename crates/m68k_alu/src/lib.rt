@@ -18,6 +18,6 @@ pub use arithmetic::{op_add, op_addx, op_chk, op_cmp, op_neg, op_negx, op_sub, o
 pub use bits::{op_bchg, op_bclr, op_bset, op_btst};
 pub use decimal::{op_abcd, op_nbcd, op_sbcd};
 pub use logic::{op_and, op_clr, op_eor, op_ext, op_move, op_not, op_or, op_swap, op_tas, op_tst};
-//pub use products::{op_divs, op_divu, op_muls, op_mulu};
-//pub use rotations::{op_rol, op_ror, op_roxl, op_roxr};
+pub use products::{op_divs, op_divu, op_muls, op_mulu};
+pub use rotations::{op_rol, op_ror, op_roxl, op_roxr};
 pub use shifts::{op_asl, op_asr, op_lsl, op_lsr};

@@ -80,10 +80,42 @@ pub fn op_divu(size: Size, a: u32, b: u32, f: Flags) -> Outcome
     }
 }
 
-/// The quotient of a long by a word, rounded toward 0.
-fn signed_quotient(dividend: i64, divisor: i64) -> i64
-    requires divisor { divisor ≢ pos 0 }
-    ensures { result ≡ int_div dividend divisor }
+/// The quotient of a long by a word, both with signs, rounded toward 0.
+fn signed_quotient(a: u32, b: u32) -> i64
+    requires divisor { b ≢ 0 }
+    requires below { b < 65536 }
+    ensures { result ≡ int_div (signed LongSize a) (signed WordSize b) }
 {
-    dividend / divisor
+    with_sign(Size::Long, a) / with_sign(Size::Word, b)
+}
+
+/// The remainder of that quotient, with the sign of the long.
+fn signed_remainder(a: u32, b: u32) -> u32
+    requires divisor { b ≢ 0 }
+    requires below { b < 65536 }
+    ensures { result ≡ wrapped WordSize (int_rem (signed LongSize a) (signed WordSize b)) }
+{
+    without_sign(Size::Word, with_sign(Size::Long, a) % with_sign(Size::Word, b))
+}
+
+/// A number with a sign is a word.
+fn is_word(number: i64) -> bool
+    ensures { result ≡ is_signed WordSize number }
+{
+    (-0x8000..0x8000).contains(&number)
+}
+
+/// DIVS: a long by a word, which is not 0, both with signs. The size says nothing.
+#[tactic(auto, unfolding(m68k_decode::specs::ResultsProducts::divs_of))]
+pub fn op_divs(size: Size, a: u32, b: u32, f: Flags) -> Outcome
+    requires { low WordSize b ≢ 0 }
+    ensures { result ≡ divs_of size a b f }
+{
+    let divisor = low_part(Size::Word, b);
+    let quotient = signed_quotient(a, divisor);
+    if is_word(quotient) {
+        divided_outcome(without_sign(Size::Word, quotient), signed_remainder(a, divisor), f)
+    } else {
+        overflowed(a, f)
+    }
 }

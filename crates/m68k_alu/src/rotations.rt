@@ -1,6 +1,6 @@
 //! Rotations. A count is taken modulo 64.
 
-ghost use Rattle.std.specs.Prelude.{◌≡◌, ◌<◌, ◌≤◌, ◌+◌, ◌^◌, ◌%◌};
+ghost use Rattle.std.specs.Prelude.{◌≡◌, ◌<◌, ◌≤◌, ◌+◌, ◌*◌, ◌^◌, ◌%◌};
 ghost use Rattle.m68k_decode.specs.Results.{bits, span};
 ghost use Rattle.m68k_decode.specs.ResultsShifts.{count, turned, turned_left, turned_right, rotated, with_x, rotated_with_x, rol_of, ror_of, roxl_of, roxr_of};
 
@@ -8,7 +8,7 @@ use crate::size::{bit_count, low_long, low_part, sign};
 use m68k_decode::{Flags, Outcome, Size};
 
 /// A number of so many bits turned to the left.
-#[tactic(auto, using(crate::proofs::Turning::turned_is))]
+#[tactic(auto, using(crate::proofs::Turning::turned_is, crate::proofs::Turning::joined_below))]
 fn turn(width: u32, number: u64, count: u32) -> u64
     requires width { width ≤ 33 }
     requires count { count ≤ width }
@@ -18,4 +18,101 @@ fn turn(width: u32, number: u64, count: u32) -> u64
 {
     let mask = (1 << width) - 1;
     ((number << count) & mask) | (number >> (width - count))
+}
+
+/// A number of the size turned to the left.
+fn turn_left(size: Size, number: u32, count: u32) -> u32
+    requires { number < span size }
+    ensures { result ≡ turned_left size number count }
+{
+    let width = bit_count(size);
+    low_long(turn(width, u64::from(number), count % width))
+}
+
+/// A number of the size turned to the right.
+fn turn_right(size: Size, number: u32, count: u32) -> u32
+    requires { number < span size }
+    ensures { result ≡ turned_right size number count }
+{
+    let width = bit_count(size);
+    low_long(turn(width, u64::from(number), width - count % width))
+}
+
+/// The flags of a rotation without X, at a last bit out.
+fn rotated_outcome(size: Size, value: u32, last: bool, count: u32, f: Flags) -> Outcome
+    ensures { result ≡ rotated size value last count f }
+{
+    Outcome {
+        value,
+        flags: Flags {
+            n: sign(size, value),
+            z: value == 0,
+            v: false,
+            c: count != 0 && last,
+            ..f
+        },
+    }
+}
+
+/// ROL.
+pub fn op_rol(size: Size, a: u32, b: u32, f: Flags) -> Outcome
+    ensures { result ≡ rol_of size a b f }
+{
+    let count = b % 64;
+    let value = turn_left(size, low_part(size, a), count);
+    rotated_outcome(size, value, value & 1 == 1, count, f)
+}
+
+/// ROR.
+pub fn op_ror(size: Size, a: u32, b: u32, f: Flags) -> Outcome
+    ensures { result ≡ ror_of size a b f }
+{
+    let count = b % 64;
+    let value = turn_right(size, low_part(size, a), count);
+    rotated_outcome(size, value, sign(size, value), count, f)
+}
+
+/// X above a number of the size.
+fn extended(size: Size, number: u32, x: bool) -> u64
+    requires { number < span size }
+    ensures { result ≡ with_x size number x }
+{
+    (u64::from(x) << bit_count(size)) + u64::from(number)
+}
+
+/// What a rotation through X gives, of a number that has X above it.
+fn parted(size: Size, number: u64) -> Outcome
+    requires { number < 2 * span size }
+    ensures { result ≡ rotated_with_x size number }
+{
+    let value = low_part(size, low_long(number));
+    let x = (number >> bit_count(size)) == 1;
+    Outcome {
+        value,
+        flags: Flags {
+            x,
+            n: sign(size, value),
+            z: value == 0,
+            v: false,
+            c: x,
+        },
+    }
+}
+
+/// ROXL.
+pub fn op_roxl(size: Size, a: u32, b: u32, f: Flags) -> Outcome
+    ensures { result ≡ roxl_of size a b f }
+{
+    let width = bit_count(size) + 1;
+    let number = extended(size, low_part(size, a), f.x);
+    parted(size, turn(width, number, b % 64 % width))
+}
+
+/// ROXR.
+pub fn op_roxr(size: Size, a: u32, b: u32, f: Flags) -> Outcome
+    ensures { result ≡ roxr_of size a b f }
+{
+    let width = bit_count(size) + 1;
+    let number = extended(size, low_part(size, a), f.x);
+    parted(size, turn(width, number, width - b % 64 % width))
 }
