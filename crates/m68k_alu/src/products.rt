@@ -1,7 +1,6 @@
 //! Multiplication and division: words to a long, and a long by a word.
 
-ghost use Rattle.std.specs.Prelude.{◌≡◌, ◌<◌, ◌≢◌, ◌*◌, ◌*ℤ◌, pos, int_div, int_rem};
-ghost use Rattle.m68k_decode.specs.declared.operand.Size.TheVariants.{Word as WordSize, Long as LongSize};
+ghost use Rattle.std.specs.Prelude.{◌≡◌, ◌<◌, ◌≢◌, ◌*ℤ◌, int_div, int_rem};
 ghost use Rattle.m68k_decode.specs.Results.{low, signed, is_signed, wrapped};
 ghost use Rattle.m68k_decode.specs.ResultsProducts.{divided, not_divided, mulu_of, muls_of, divu_of, divs_of};
 
@@ -19,7 +18,7 @@ pub fn op_mulu(size: Size, a: u32, b: u32, f: Flags) -> Outcome
 fn signed_product(a: u32, b: u32) -> u32
     requires left { a < 65536 }
     requires right { b < 65536 }
-    ensures { result ≡ wrapped LongSize (signed WordSize a *ℤ signed WordSize b) }
+    ensures { result ≡ wrapped Size.Long (signed Size.Word a *ℤ signed Size.Word b) }
 {
     let product = with_sign(Size::Word, a) * with_sign(Size::Word, b);
     without_sign(Size::Long, product)
@@ -68,7 +67,7 @@ fn overflowed(a: u32, f: Flags) -> Outcome
 /// DIVU: a long by a word, which is not 0. The size says nothing.
 #[tactic(auto, unfolding(m68k_decode::specs::ResultsProducts::divu_of))]
 pub fn op_divu(size: Size, a: u32, b: u32, f: Flags) -> Outcome
-    requires { low WordSize b ≢ 0 }
+    requires { low Size.Word b ≢ 0 }
     ensures { result ≡ divu_of size a b f }
 {
     let divisor = low_part(Size::Word, b);
@@ -84,7 +83,7 @@ pub fn op_divu(size: Size, a: u32, b: u32, f: Flags) -> Outcome
 fn signed_quotient(a: u32, b: u32) -> i64
     requires divisor { b ≢ 0 }
     requires below { b < 65536 }
-    ensures { result ≡ int_div (signed LongSize a) (signed WordSize b) }
+    ensures { result ≡ int_div (signed Size.Long a) (signed Size.Word b) }
 {
     with_sign(Size::Long, a) / with_sign(Size::Word, b)
 }
@@ -93,14 +92,14 @@ fn signed_quotient(a: u32, b: u32) -> i64
 fn signed_remainder(a: u32, b: u32) -> u32
     requires divisor { b ≢ 0 }
     requires below { b < 65536 }
-    ensures { result ≡ wrapped WordSize (int_rem (signed LongSize a) (signed WordSize b)) }
+    ensures { result ≡ wrapped Size.Word (int_rem (signed Size.Long a) (signed Size.Word b)) }
 {
     without_sign(Size::Word, with_sign(Size::Long, a) % with_sign(Size::Word, b))
 }
 
 /// A number with a sign is a word.
 fn is_word(number: i64) -> bool
-    ensures { result ≡ is_signed WordSize number }
+    ensures { result ≡ is_signed Size.Word number }
 {
     (-0x8000..0x8000).contains(&number)
 }
@@ -108,7 +107,7 @@ fn is_word(number: i64) -> bool
 /// DIVS: a long by a word, which is not 0, both with signs. The size says nothing.
 #[tactic(auto, unfolding(m68k_decode::specs::ResultsProducts::divs_of))]
 pub fn op_divs(size: Size, a: u32, b: u32, f: Flags) -> Outcome
-    requires { low WordSize b ≢ 0 }
+    requires { low Size.Word b ≢ 0 }
     ensures { result ≡ divs_of size a b f }
 {
     let divisor = low_part(Size::Word, b);
