@@ -2,3 +2,4 @@ pub mod Words
 pub mod SingleBits
 pub mod Shifting
 pub mod Turning
+pub mod TopBit

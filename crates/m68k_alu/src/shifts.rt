@@ -1,8 +1,8 @@
 //! Shifts. A count is taken modulo 64.
 
-ghost use Rattle.std.specs.Prelude.{◌≡◌, ◌<◌, ◌≤◌, ◌-◌, ◌*◌, ◌/◌, ◌%◌, ◌^◌, ◌==◌, min};
-ghost use Rattle.m68k_decode.specs.Results.{half, span, signed};
-ghost use Rattle.m68k_decode.specs.ResultsShifts.{count, shifted, left, left_last, top_changes, right, right_last, signed_right, signed_right_last, asl_of, asr_of, lsl_of, lsr_of};
+ghost use Rattle.std.specs.Prelude.{◌≡◌, ◌<◌, ◌≤◌, ◌-◌, ◌*◌, ◌/◌, ◌%◌, ◌^◌, ◌==◌, ◌↔◌, IsTrue, min};
+ghost use Rattle.m68k_decode.specs.Results.{half, low, span, signed};
+ghost use Rattle.m68k_decode.specs.ResultsShifts.{count, shifted, left, left_last, top_changes, ChangesAtStep, right, right_last, signed_right, signed_right_last, asl_of, asr_of, lsl_of, lsr_of};
 
 use crate::size::{bit_count, low_long, low_part, sign, with_sign, without_sign};
 use m68k_decode::{Flags, Outcome, Size};
@@ -124,7 +124,8 @@ fn shifted_outcome(size: Size, value: u32, last: bool, overflow: bool, count: u3
 
 /// ASL: V is set where the top bit changed at any step.
 pub fn op_asl(size: Size, a: u32, b: u32, f: Flags) -> Outcome
-    ensures { result ≡ asl_of size a b f }
+    ensures value { result ≡ asl_of size a b f }
+    ensures step { IsTrue result.flags.v ↔ ChangesAtStep size (low size a) (count b) }
 {
     let (number, count) = (low_part(size, a), b % 64);
     let value = moved_left(size, number, count);

@@ -1,5 +1,5 @@
 -- The outcomes of shifts and rotations, in closed form: a shift by n is a product with 2 to the n or a quotient by it.
-use Rattle.std.specs.Prelude.{ℕ, ◌+◌, ◌-◌, ◌*◌, ◌/◌, ◌%◌, ◌^◌, Bool, false, not, ◌&&◌, if◌then◌else◌, ◌==◌, ℤ, pos, ◌*ℤ◌}
+use Rattle.std.specs.Prelude.{ℕ, ◌+◌, ◌-◌, ◌*◌, ◌/◌, ◌%◌, ◌^◌, Bool, false, not, ◌&&◌, if◌then◌else◌, ◌==◌, ◌≤◌, ◌≢◌, ℤ, pos, ◌*ℤ◌}
 use Rattle.std.specs.Int.{int_div_euclid}
 use Rattle.m68k_decode.specs.declared.operand.Size.{Size}
 use Rattle.m68k_decode.specs.declared.outcome.Flags.{Flags}
@@ -25,9 +25,13 @@ abbrev pub left_last : Size → ℕ → ℕ → Bool
 left_last s n k = n * 2 ^ k / span s % 2 == 1
 
 -- The top bit changes at some step of a shift to the left by k: the number with its sign, doubled k times, leaves the size.
--- (Once it has left it stays outside, since the next doubling is farther from 0.)
+-- (Once it has left it stays outside, since the next doubling is farther from 0.) ASL promises that this is ChangesAtStep.
 abbrev pub top_changes : Size → ℕ → ℕ → Bool
 top_changes s n k = not (is_signed s (signed s n *ℤ pos (2 ^ k)))
+
+-- some j of the k steps leaves a top bit that is not the first
+abbrev pub ChangesAtStep : Size → ℕ → ℕ → Type 0
+ChangesAtStep s n k = (j : ℕ) × ((j ≤ k) × (is_negative s (left s n j) ≢ is_negative s n))
 
 abbrev pub right : ℕ → ℕ → ℕ
 right n k = n / 2 ^ k
