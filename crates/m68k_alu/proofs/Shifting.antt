@@ -31,16 +31,19 @@ beyond k h = omega arith
 
 pub left_is : (s : Size) (n k : ℕ) → n * 2 ^ min k 32 % 4294967296 % span s ≡ left s n k
 left_is s n k =
-    elim (cases_lt k 33) [ inl h ↦ (let small : k < 33 = h in
-        let m : min k 32 ≡ k = within k small in
-        let P : Size → Type 0 = λ s. n * 2 ^ k % 4294967296 % span s ≡ n * 2 ^ k % span s in
-        rw m (elim s as P [ Byte ↦ omega arith | Word ↦ omega arith | Long ↦ omega arith ])) | inr h ↦ (let large : 33 ≤ k = h in
-        let m : min k 32 ≡ 32 = beyond k large in
-        let less : 32 ≤ k = omega arith in
-        let y : ℕ = n * 2 ^ (k - 32) in
-        let f : n * 2 ^ k ≡ y * 4294967296 = far 32 n k less in
-        let P : Size → Type 0 = λ s. n * 4294967296 % 4294967296 % span s ≡ y * 4294967296 % span s in
-        rw (m, f) (elim s as P [ Byte ↦ omega arith | Word ↦ omega arith | Long ↦ omega arith ])) ]
+    elim (cases_lt k 33) [
+      | inl h ↦ (let small : k < 33 = h in
+          let m : min k 32 ≡ k = within k small in
+          let P : Size → Type 0 = λ s. n * 2 ^ k % 4294967296 % span s ≡ n * 2 ^ k % span s in
+          rw m (elim s as P [ Byte ↦ omega arith | Word ↦ omega arith | Long ↦ omega arith ]))
+      | inr h ↦ (let large : 33 ≤ k = h in
+          let m : min k 32 ≡ 32 = beyond k large in
+          let less : 32 ≤ k = omega arith in
+          let y : ℕ = n * 2 ^ (k - 32) in
+          let f : n * 2 ^ k ≡ y * 4294967296 = far 32 n k less in
+          let P : Size → Type 0 = λ s. n * 4294967296 % 4294967296 % span s ≡ y * 4294967296 % span s in
+          rw (m, f) (elim s as P [ Byte ↦ omega arith | Word ↦ omega arith | Long ↦ omega arith ]))
+    ]
 
 pub last_within : (w n k : ℕ) → w ≤ 32 → k ≤ w → n * 2 ^ min k 32 ≡ n * 2 ^ k
 last_within w n k h below =
@@ -70,35 +73,47 @@ negative_top Long n k h below = rw (le-ltb n 2147483648 h) (search rules)
 -- for a bound up to 2 ^ 32 a shift by more than 32 is as one by 32
 at_least : (h m k : ℕ) → 0 < h → h ≤ 4294967296 → nat_le h (m * 2 ^ min k 32) ≡ nat_le h (m * 2 ^ k)
 at_least h m k some bound =
-    elim (cases_lt k 33) [ inl small ↦ (let s : k < 33 = small in
-        rw (within k s) refl) | inr large ↦ (let l : 33 ≤ k = large in
-        let less : 32 ≤ k = omega arith in
-        let y : ℕ = m * 2 ^ (k - 32) in
-        let f : m * 2 ^ k ≡ y * 4294967296 = far 32 m k less in
-        rw (beyond k l, f) (elim (cases_eq m 0) [ inl zero ↦ (let z : m ≡ 0 = zero in
-            let none : y ≡ 0 = rw z (omega arith) in
-            rw (none, z) refl) | inr more ↦ (let o : m ≡ 0 → ⊥ = more in
-            let one : 1 ≤ m = omega arith in
-            let two : 1 ≤ y = mul-le 1 1 m (2 ^ (k - 32)) one (pow_pos (k - 32)) in
-            let left : h ≤ m * 4294967296 = omega arith in
-            let right : h ≤ y * 4294967296 = omega arith in
-            le-leb h (m * 4294967296) left ∙ sym (le-leb h (y * 4294967296) right)) ])) ]
+    elim (cases_lt k 33) [
+      | inl small ↦ (let s : k < 33 = small in
+          rw (within k s) refl)
+      | inr large ↦ (let l : 33 ≤ k = large in
+          let less : 32 ≤ k = omega arith in
+          let y : ℕ = m * 2 ^ (k - 32) in
+          let f : m * 2 ^ k ≡ y * 4294967296 = far 32 m k less in
+          rw (beyond k l, f) (elim (cases_eq m 0) [
+            | inl zero ↦ (let z : m ≡ 0 = zero in
+                let none : y ≡ 0 = rw z (omega arith) in
+                rw (none, z) refl)
+            | inr more ↦ (let o : m ≡ 0 → ⊥ = more in
+                let one : 1 ≤ m = omega arith in
+                let two : 1 ≤ y = mul-le 1 1 m (2 ^ (k - 32)) one (pow_pos (k - 32)) in
+                let left : h ≤ m * 4294967296 = omega arith in
+                let right : h ≤ y * 4294967296 = omega arith in
+                le-leb h (m * 4294967296) left ∙ sym (le-leb h (y * 4294967296) right))
+          ]))
+    ]
 
 more_than : (h m k : ℕ) → h < 4294967296 → nat_lt h (m * 2 ^ min k 32) ≡ nat_lt h (m * 2 ^ k)
 more_than h m k bound =
-    elim (cases_lt k 33) [ inl small ↦ (let s : k < 33 = small in
-        rw (within k s) refl) | inr large ↦ (let l : 33 ≤ k = large in
-        let less : 32 ≤ k = omega arith in
-        let y : ℕ = m * 2 ^ (k - 32) in
-        let f : m * 2 ^ k ≡ y * 4294967296 = far 32 m k less in
-        rw (beyond k l, f) (elim (cases_eq m 0) [ inl zero ↦ (let z : m ≡ 0 = zero in
-            let none : y ≡ 0 = rw z (omega arith) in
-            rw (none, z) refl) | inr more ↦ (let o : m ≡ 0 → ⊥ = more in
-            let one : 1 ≤ m = omega arith in
-            let two : 1 ≤ y = mul-le 1 1 m (2 ^ (k - 32)) one (pow_pos (k - 32)) in
-            let left : h < m * 4294967296 = omega arith in
-            let right : h < y * 4294967296 = omega arith in
-            lt-ltb h (m * 4294967296) left ∙ sym (lt-ltb h (y * 4294967296) right)) ])) ]
+    elim (cases_lt k 33) [
+      | inl small ↦ (let s : k < 33 = small in
+          rw (within k s) refl)
+      | inr large ↦ (let l : 33 ≤ k = large in
+          let less : 32 ≤ k = omega arith in
+          let y : ℕ = m * 2 ^ (k - 32) in
+          let f : m * 2 ^ k ≡ y * 4294967296 = far 32 m k less in
+          rw (beyond k l, f) (elim (cases_eq m 0) [
+            | inl zero ↦ (let z : m ≡ 0 = zero in
+                let none : y ≡ 0 = rw z (omega arith) in
+                rw (none, z) refl)
+            | inr more ↦ (let o : m ≡ 0 → ⊥ = more in
+                let one : 1 ≤ m = omega arith in
+                let two : 1 ≤ y = mul-le 1 1 m (2 ^ (k - 32)) one (pow_pos (k - 32)) in
+                let left : h < m * 4294967296 = omega arith in
+                let right : h < y * 4294967296 = omega arith in
+                lt-ltb h (m * 4294967296) left ∙ sym (lt-ltb h (y * 4294967296) right))
+          ]))
+    ]
 
 half_bounds : (s : Size) → (0 < half s) × (half s < 4294967296)
 half_bounds Byte = (omega arith, omega arith)

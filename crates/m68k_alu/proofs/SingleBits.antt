@@ -19,8 +19,11 @@ or_one n =
 
 xor_with_one : (n : ℕ) → n < 2 → bit_xor n 1 ≡ 1 - n
 xor_with_one n h =
-    elim (cases_eq n 0) [ inl e ↦ (let zero : n ≡ 0 = e in rw zero refl) | inr e ↦ (let other : n ≡ 0 → ⊥ = e in
-        let one : n ≡ 1 = omega arith in rw one refl) ]
+    elim (cases_eq n 0) [
+      | inl e ↦ (let zero : n ≡ 0 = e in rw zero refl)
+      | inr e ↦ (let other : n ≡ 0 → ⊥ = e in
+          let one : n ≡ 1 = omega arith in rw one refl)
+    ]
 
 xor_one : (n : ℕ) → bit_xor n 1 ≡ n / 2 * 2 + (1 - n % 2)
 xor_one n =
@@ -56,12 +59,15 @@ or_is n k =
     let q : ℕ = n / 2 ^ k in
     let P : Bool → Type 0 = λ b. is_set n k ≡ b → bit_or n (2 ^ k) ≡ (if b then n else n + 2 ^ k) in
     let split : (b : Bool) → P b =
-        (λ b. elim b as P [ true ↦ λ e. (let odd : q % 2 ≡ 1 = eqb-true (q % 2) 1 e in
-            let h : q / 2 * 2 + 1 ≡ q = omega arith in
-            or_parts n k ∙ rw h (shr_split n k)) | false ↦ λ e. (let even : q % 2 ≡ 0 = is_one q e in
-            let h : q / 2 * 2 + 1 ≡ q + 1 = omega arith in
-            let it : (q + 1) * 2 ^ k + n % 2 ^ k ≡ n + 2 ^ k = omega (arith, shr_split n k) in
-            or_parts n k ∙ rw h it) ]) in
+    (λ b. elim b as P [
+      | true ↦ λ e. (let odd : q % 2 ≡ 1 = eqb-true (q % 2) 1 e in
+          let h : q / 2 * 2 + 1 ≡ q = omega arith in
+          or_parts n k ∙ rw h (shr_split n k))
+      | false ↦ λ e. (let even : q % 2 ≡ 0 = is_one q e in
+          let h : q / 2 * 2 + 1 ≡ q + 1 = omega arith in
+          let it : (q + 1) * 2 ^ k + n % 2 ^ k ≡ n + 2 ^ k = omega (arith, shr_split n k) in
+          or_parts n k ∙ rw h it)
+    ]) in
     split (is_set n k) refl
 
 xor_is : (n k : ℕ) → bit_xor n (2 ^ k) ≡ turned_bit n k
@@ -69,13 +75,16 @@ xor_is n k =
     let q : ℕ = n / 2 ^ k in
     let P : Bool → Type 0 = λ b. is_set n k ≡ b → bit_xor n (2 ^ k) ≡ (if b then n - 2 ^ k else n + 2 ^ k) in
     let split : (b : Bool) → P b =
-        (λ b. elim b as P [ true ↦ λ e. (let odd : q % 2 ≡ 1 = eqb-true (q % 2) 1 e in
-            let h : q / 2 * 2 + (1 - q % 2) + 1 ≡ q = omega arith in
-            let whole : (q / 2 * 2 + (1 - q % 2) + 1) * 2 ^ k + n % 2 ^ k ≡ n = rw h (shr_split n k) in
-            xor_parts n k ∙ omega (arith, whole)) | false ↦ λ e. (let even : q % 2 ≡ 0 = is_one q e in
-            let h : q / 2 * 2 + (1 - q % 2) ≡ q + 1 = omega arith in
-            let it : (q + 1) * 2 ^ k + n % 2 ^ k ≡ n + 2 ^ k = omega (arith, shr_split n k) in
-            xor_parts n k ∙ rw h it) ]) in
+    (λ b. elim b as P [
+      | true ↦ λ e. (let odd : q % 2 ≡ 1 = eqb-true (q % 2) 1 e in
+          let h : q / 2 * 2 + (1 - q % 2) + 1 ≡ q = omega arith in
+          let whole : (q / 2 * 2 + (1 - q % 2) + 1) * 2 ^ k + n % 2 ^ k ≡ n = rw h (shr_split n k) in
+          xor_parts n k ∙ omega (arith, whole))
+      | false ↦ λ e. (let even : q % 2 ≡ 0 = is_one q e in
+          let h : q / 2 * 2 + (1 - q % 2) ≡ q + 1 = omega arith in
+          let it : (q + 1) * 2 ^ k + n % 2 ^ k ≡ n + 2 ^ k = omega (arith, shr_split n k) in
+          xor_parts n k ∙ rw h it)
+    ]) in
     split (is_set n k) refl
 
 and_not_is : (n k : ℕ) → k < 32 → n < 4294967296 → bit_and n (4294967295 - 2 ^ k) ≡ without_bit n k
@@ -86,11 +95,14 @@ and_not_is n k h fits =
     let masked : bit_and (2 ^ k) n ≡ q % 2 * 2 ^ k = and_comm (2 ^ k) n ∙ and_pow n k in
     let P : Bool → Type 0 = λ b. is_set n k ≡ b → bit_and n (4294967295 - 2 ^ k) ≡ (if b then n - 2 ^ k else n) in
     let split : (b : Bool) → P b =
-        (λ b. elim b as P [ true ↦ λ e. (let odd : q % 2 ≡ 1 = eqb-true (q % 2) 1 e in
-            let m : bit_and (2 ^ k) n ≡ 1 * 2 ^ k = rw odd at masked in
-            and_comm n (4294967295 - 2 ^ k) ∙ omega arith) | false ↦ λ e. (let even : q % 2 ≡ 0 = is_one q e in
-            let m : bit_and (2 ^ k) n ≡ 0 * 2 ^ k = rw even at masked in
-            and_comm n (4294967295 - 2 ^ k) ∙ omega arith) ]) in
+    (λ b. elim b as P [
+      | true ↦ λ e. (let odd : q % 2 ≡ 1 = eqb-true (q % 2) 1 e in
+          let m : bit_and (2 ^ k) n ≡ 1 * 2 ^ k = rw odd at masked in
+          and_comm n (4294967295 - 2 ^ k) ∙ omega arith)
+      | false ↦ λ e. (let even : q % 2 ≡ 0 = is_one q e in
+          let m : bit_and (2 ^ k) n ≡ 0 * 2 ^ k = rw even at masked in
+          and_comm n (4294967295 - 2 ^ k) ∙ omega arith)
+    ]) in
     split (is_set n k) refl
 
 -- ---- as the code has them

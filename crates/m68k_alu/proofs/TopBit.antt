@@ -48,15 +48,18 @@ doubled n k = rw (pow-suc 2 k) (omega arith)
 positive_found : (s : Size) (n k : ℕ) → n < half s → half s ≤ n * 2 ^ k → ChangesAtStep s n k
 positive_found s n zero h out = (let none : ⊥ = omega arith in absurd none)
 positive_found s n (suc k) h out =
-    elim (cases_lt (n * 2 ^ k) (half s)) [ inl w ↦ (let within : n * 2 ^ k < half s = w in
-        let d : n * 2 ^ suc k ≡ n * 2 ^ k + n * 2 ^ k = doubled n k in
-        let below : n * 2 ^ suc k < half s + half s = omega arith in
-        let set : is_negative s (left s n (suc k)) ≡ true = set_beyond s (n * 2 ^ suc k) out below in
-        let clear : is_negative s n ≡ false = lt-leb (half s) n h in
-        (suc k, (omega arith, λ same. true≢false (sym set ∙ same ∙ clear)))) | inr o ↦ (let earlier : half s ≤ n * 2 ^ k = o in
-        let r : ChangesAtStep s n k = positive_found s n k h earlier in
-        let b : r.0 ≤ k = r.1.0 in
-        (r.0, (omega arith, r.1.1))) ]
+    elim (cases_lt (n * 2 ^ k) (half s)) [
+      | inl w ↦ (let within : n * 2 ^ k < half s = w in
+          let d : n * 2 ^ suc k ≡ n * 2 ^ k + n * 2 ^ k = doubled n k in
+          let below : n * 2 ^ suc k < half s + half s = omega arith in
+          let set : is_negative s (left s n (suc k)) ≡ true = set_beyond s (n * 2 ^ suc k) out below in
+          let clear : is_negative s n ≡ false = lt-leb (half s) n h in
+          (suc k, (omega arith, λ same. true≢false (sym set ∙ same ∙ clear))))
+      | inr o ↦ (let earlier : half s ≤ n * 2 ^ k = o in
+          let r : ChangesAtStep s n k = positive_found s n k h earlier in
+          let b : r.0 ≤ k = r.1.0 in
+          (r.0, (omega arith, r.1.1)))
+    ]
 
 positive_kept : (s : Size) (n k j : ℕ) → n < half s → n * 2 ^ k < half s → j ≤ k → is_negative s (left s n j) ≡ is_negative s n
 positive_kept s n k j h within step =
@@ -83,15 +86,18 @@ negative_found s n zero h below out =
     (let e : half s + half s ≡ span s = halves s in
     let none : ⊥ = omega arith in absurd none)
 negative_found s n (suc k) h below out =
-    elim (cases_lt (half s) ((span s - n) * 2 ^ k)) [ inl o ↦ (let earlier : half s < (span s - n) * 2 ^ k = o in
-        let r : ChangesAtStep s n k = negative_found s n k h below earlier in
-        let b : r.0 ≤ k = r.1.0 in
-        (r.0, (omega arith, r.1.1))) | inr w ↦ (let within : (span s - n) * 2 ^ k ≤ half s = w in
-        let d : (span s - n) * 2 ^ suc k ≡ (span s - n) * 2 ^ k + (span s - n) * 2 ^ k = doubled (span s - n) k in
-        let most : (span s - n) * 2 ^ suc k ≤ half s + half s = omega arith in
-        let clear : is_negative s (left s n (suc k)) ≡ false = clear_beyond s (n * 2 ^ suc k) ((span s - n) * 2 ^ suc k) (2 ^ suc k) (negative_sum s n (suc k) below) out most in
-        let set : is_negative s n ≡ true = le-leb (half s) n h in
-        (suc k, (omega arith, λ same. true≢false (sym set ∙ sym same ∙ clear)))) ]
+    elim (cases_lt (half s) ((span s - n) * 2 ^ k)) [
+      | inl o ↦ (let earlier : half s < (span s - n) * 2 ^ k = o in
+          let r : ChangesAtStep s n k = negative_found s n k h below earlier in
+          let b : r.0 ≤ k = r.1.0 in
+          (r.0, (omega arith, r.1.1)))
+      | inr w ↦ (let within : (span s - n) * 2 ^ k ≤ half s = w in
+          let d : (span s - n) * 2 ^ suc k ≡ (span s - n) * 2 ^ k + (span s - n) * 2 ^ k = doubled (span s - n) k in
+          let most : (span s - n) * 2 ^ suc k ≤ half s + half s = omega arith in
+          let clear : is_negative s (left s n (suc k)) ≡ false = clear_beyond s (n * 2 ^ suc k) ((span s - n) * 2 ^ suc k) (2 ^ suc k) (negative_sum s n (suc k) below) out most in
+          let set : is_negative s n ≡ true = le-leb (half s) n h in
+          (suc k, (omega arith, λ same. true≢false (sym set ∙ sym same ∙ clear))))
+    ]
 
 negative_kept : (s : Size) (n k j : ℕ) → half s ≤ n → n < span s → (span s - n) * 2 ^ k ≤ half s → j ≤ k → is_negative s (left s n j) ≡ is_negative s n
 negative_kept s n k j h below within step =
@@ -104,15 +110,21 @@ negative_kept s n k j h below within step =
 
 found : (s : Size) (n k : ℕ) → n < span s → top_changes s n k ≡ true → ChangesAtStep s n k
 found s n k below t =
-    elim (cases_lt n (half s)) [ inl p ↦ (let h : n < half s = p in
-        positive_found s n k h (leb-true (half s) (n * 2 ^ k) (sym (positive_top s n k h) ∙ t))) | inr q ↦ (let h : half s ≤ n = q in
-        negative_found s n k h below (ltb-true (half s) ((span s - n) * 2 ^ k) (sym (negative_top s n k h below) ∙ t))) ]
+    elim (cases_lt n (half s)) [
+      | inl p ↦ (let h : n < half s = p in
+          positive_found s n k h (leb-true (half s) (n * 2 ^ k) (sym (positive_top s n k h) ∙ t)))
+      | inr q ↦ (let h : half s ≤ n = q in
+          negative_found s n k h below (ltb-true (half s) ((span s - n) * 2 ^ k) (sym (negative_top s n k h below) ∙ t)))
+    ]
 
 kept : (s : Size) (n k j : ℕ) → n < span s → top_changes s n k ≡ false → j ≤ k → is_negative s (left s n j) ≡ is_negative s n
 kept s n k j below t step =
-    elim (cases_lt n (half s)) [ inl p ↦ (let h : n < half s = p in
-        positive_kept s n k j h (leb-false (half s) (n * 2 ^ k) (sym (positive_top s n k h) ∙ t)) step) | inr q ↦ (let h : half s ≤ n = q in
-        negative_kept s n k j h below (ltb-false (half s) ((span s - n) * 2 ^ k) (sym (negative_top s n k h below) ∙ t)) step) ]
+    elim (cases_lt n (half s)) [
+      | inl p ↦ (let h : n < half s = p in
+          positive_kept s n k j h (leb-false (half s) (n * 2 ^ k) (sym (positive_top s n k h) ∙ t)) step)
+      | inr q ↦ (let h : half s ≤ n = q in
+          negative_kept s n k j h below (ltb-false (half s) ((span s - n) * 2 ^ k) (sym (negative_top s n k h below) ∙ t)) step)
+    ]
 
 only_true : (b : Bool) → (b ≡ false → ⊥) → b ≡ true
 only_true true h = refl

@@ -13,8 +13,11 @@ words_joined n h =
 
 pub or_with_one : (n : ℕ) → n < 2 → bit_or n 1 ≡ 1
 or_with_one n h =
-    elim (cases_eq n 0) [ inl e ↦ (let zero : n ≡ 0 = e in rw zero refl) | inr e ↦ (let other : n ≡ 0 → ⊥ = e in
-        let one : n ≡ 1 = omega arith in rw one refl) ]
+    elim (cases_eq n 0) [
+      | inl e ↦ (let zero : n ≡ 0 = e in rw zero refl)
+      | inr e ↦ (let other : n ≡ 0 → ⊥ = e in
+          let one : n ≡ 1 = omega arith in rw one refl)
+    ]
 
 pub byte_with_top_bit : (n : ℕ) → n < 256 → bit_or n 128 ≡ n % 128 + 128
 byte_with_top_bit n h =

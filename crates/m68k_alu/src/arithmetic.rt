@@ -164,11 +164,7 @@ pub fn op_negx(size: Size, a: u32, b: u32, f: Flags) -> Outcome
 fn checked_sign(value: i64, bound: i64, n: bool) -> bool
     ensures { result ≡ checked value bound n }
 {
-    if value < 0 {
-        true
-    } else {
-        n && value <= bound
-    }
+    if value < 0 { true } else { n && value <= bound }
 }
 
 /// CHK: words are compared, `b` being the bound, and the value is `a`. The size says nothing. N is set below 0 and

@@ -29,7 +29,11 @@ fn low_digit_adjusted(a: u32, b: u32, extend: bool) -> u32
 {
     let extend = u32::from(extend);
     let sum = a + b + extend;
-    if (a & 0xf) + (b & 0xf) + extend > 9 { sum + 6 } else { sum }
+    if (a & 0xf) + (b & 0xf) + extend > 9 {
+        sum + 6
+    } else {
+        sum
+    }
 }
 
 /// ABCD. The size says nothing.

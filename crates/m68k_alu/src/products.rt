@@ -11,7 +11,11 @@ use m68k_decode::{Flags, Outcome, Size};
 pub fn op_mulu(size: Size, a: u32, b: u32, f: Flags) -> Outcome
     ensures { result ≡ mulu_of size a b f }
 {
-    plain_outcome(Size::Long, low_part(Size::Word, a) * low_part(Size::Word, b), f)
+    plain_outcome(
+        Size::Long,
+        low_part(Size::Word, a) * low_part(Size::Word, b),
+        f,
+    )
 }
 
 /// The product of two words with signs.
@@ -94,7 +98,10 @@ fn signed_remainder(a: u32, b: u32) -> u32
     requires below { b < 65536 }
     ensures { result ≡ wrapped Size.Word (int_rem (signed Size.Long a) (signed Size.Word b)) }
 {
-    without_sign(Size::Word, with_sign(Size::Long, a) % with_sign(Size::Word, b))
+    without_sign(
+        Size::Word,
+        with_sign(Size::Long, a) % with_sign(Size::Word, b),
+    )
 }
 
 /// A number with a sign is a word.
@@ -113,7 +120,11 @@ pub fn op_divs(size: Size, a: u32, b: u32, f: Flags) -> Outcome
     let divisor = low_part(Size::Word, b);
     let quotient = signed_quotient(a, divisor);
     if is_word(quotient) {
-        divided_outcome(without_sign(Size::Word, quotient), signed_remainder(a, divisor), f)
+        divided_outcome(
+            without_sign(Size::Word, quotient),
+            signed_remainder(a, divisor),
+            f,
+        )
     } else {
         overflowed(a, f)
     }

@@ -107,7 +107,14 @@ fn signed_last_right(size: Size, number: u32, count: u32) -> bool
 }
 
 /// The flags of a shift: C is the last bit out, X is C where the count is not 0.
-fn shifted_outcome(size: Size, value: u32, last: bool, overflow: bool, count: u32, f: Flags) -> Outcome
+fn shifted_outcome(
+    size: Size,
+    value: u32,
+    last: bool,
+    overflow: bool,
+    count: u32,
+    f: Flags,
+) -> Outcome
     ensures { result ≡ shifted size value last overflow count f }
 {
     Outcome {
@@ -130,7 +137,8 @@ pub fn op_asl(size: Size, a: u32, b: u32, f: Flags) -> Outcome
     let (number, count) = (low_part(size, a), b % 64);
     let value = moved_left(size, number, count);
     let last = last_left(size, number, count);
-    shifted_outcome(size, value, last, sign_changes(size, number, count), count, f)
+    let overflow = sign_changes(size, number, count);
+    shifted_outcome(size, value, last, overflow, count, f)
 }
 
 /// ASR.

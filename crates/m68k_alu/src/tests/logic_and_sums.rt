@@ -6,14 +6,39 @@ use m68k_decode::Size::{Byte, Long, Word};
 
 #[test]
 fn moves_and_logic(rt: HostRuntime) {
-    expect(&rt, op_move(Word, 0x1234_8000, 0, flags(0b10111)), 0x8000, 0b11000);
+    expect(
+        &rt,
+        op_move(Word, 0x1234_8000, 0, flags(0b10111)),
+        0x8000,
+        0b11000,
+    );
     expect(&rt, op_move(Byte, 0xff00, 0, flags(0)), 0, 0b00100);
-    expect(&rt, op_and(Byte, 0xf0f0, 0xff80, flags(0b00011)), 0x80, 0b01000);
-    expect(&rt, op_or(Word, 0x0f00, 0x1_00f0, flags(0b10000)), 0x0ff0, 0b10000);
-    expect(&rt, op_eor(Long, 0xffff_0000, 0xffff_0000, flags(0)), 0, 0b00100);
+    expect(
+        &rt,
+        op_and(Byte, 0xf0f0, 0xff80, flags(0b00011)),
+        0x80,
+        0b01000,
+    );
+    expect(
+        &rt,
+        op_or(Word, 0x0f00, 0x1_00f0, flags(0b10000)),
+        0x0ff0,
+        0b10000,
+    );
+    expect(
+        &rt,
+        op_eor(Long, 0xffff_0000, 0xffff_0000, flags(0)),
+        0,
+        0b00100,
+    );
     expect(&rt, op_not(Byte, 0x1200, 0, flags(0)), 0xff, 0b01000);
     expect(&rt, op_not(Long, 0xffff_fffe, 0, flags(0)), 1, 0);
-    expect(&rt, op_tst(Long, 0x8000_0000, 0, flags(0b00111)), 0x8000_0000, 0b01000);
+    expect(
+        &rt,
+        op_tst(Long, 0x8000_0000, 0, flags(0b00111)),
+        0x8000_0000,
+        0b01000,
+    );
     expect(&rt, op_clr(Word, 0x8000, 0, flags(0b11011)), 0, 0b10100);
 }
 
@@ -21,10 +46,20 @@ fn moves_and_logic(rt: HostRuntime) {
 fn extension_and_exchange(rt: HostRuntime) {
     expect(&rt, op_ext(Word, 0x1280, 0, flags(0)), 0xff80, 0b01000);
     expect(&rt, op_ext(Word, 0xff7f, 0, flags(0b10000)), 0x7f, 0b10000);
-    expect(&rt, op_ext(Long, 0x1234_8000, 0, flags(0)), 0xffff_8000, 0b01000);
+    expect(
+        &rt,
+        op_ext(Long, 0x1234_8000, 0, flags(0)),
+        0xffff_8000,
+        0b01000,
+    );
     expect(&rt, op_ext(Byte, 0x0180, 0, flags(0)), 0x80, 0b01000);
     expect(&rt, op_swap(Word, 0x1234_5678, 0, flags(0)), 0x5678_1234, 0);
-    expect(&rt, op_swap(Byte, 0x8000, 0, flags(0b10011)), 0x8000_0000, 0b11000);
+    expect(
+        &rt,
+        op_swap(Byte, 0x8000, 0, flags(0b10011)),
+        0x8000_0000,
+        0b11000,
+    );
     expect(&rt, op_tas(Long, 0xff00, 0, flags(0b11011)), 0x80, 0b10100);
     expect(&rt, op_tas(Byte, 0x81, 0, flags(0)), 0x81, 0b01000);
 }
@@ -40,7 +75,12 @@ fn sums(rt: HostRuntime) {
         expect(&rt, op_add(Byte, a, b, flags(0b11111)), value, after);
     }
     expect(&rt, op_add(Word, 0x7fff, 0x7fff, flags(0)), 0xfffe, 0b01010);
-    expect(&rt, op_add(Long, 0x8000_0000, 0xffff_ffff, flags(0)), 0x7fff_ffff, 0b10011);
+    expect(
+        &rt,
+        op_add(Long, 0x8000_0000, 0xffff_ffff, flags(0)),
+        0x7fff_ffff,
+        0b10011,
+    );
     for (a, b, before, value, after) in [
         (0xff, 0x00, 0b10100, 0x00, 0b10101),
         (0xff, 0x00, 0b10000, 0x00, 0b10001),
@@ -61,7 +101,12 @@ fn differences(rt: HostRuntime) {
     ] {
         expect(&rt, op_sub(Byte, a, b, flags(0b10000)), value, after);
     }
-    expect(&rt, op_sub(Long, 0, 0x8000_0000, flags(0)), 0x8000_0000, 0b11011);
+    expect(
+        &rt,
+        op_sub(Long, 0, 0x8000_0000, flags(0)),
+        0x8000_0000,
+        0b11011,
+    );
     expect(&rt, op_neg(Byte, 0x80, 0, flags(0)), 0x80, 0b11011);
     expect(&rt, op_neg(Byte, 0x00, 0, flags(0b10000)), 0x00, 0b00100);
     expect(&rt, op_neg(Word, 0x01, 0, flags(0)), 0xffff, 0b11001);
@@ -71,8 +116,18 @@ fn differences(rt: HostRuntime) {
 
 #[test]
 fn differences_with_x(rt: HostRuntime) {
-    expect(&rt, op_subx(Byte, 0x00, 0x00, flags(0b10100)), 0xff, 0b11001);
-    expect(&rt, op_subx(Byte, 0x01, 0x00, flags(0b10100)), 0x00, 0b00100);
+    expect(
+        &rt,
+        op_subx(Byte, 0x00, 0x00, flags(0b10100)),
+        0xff,
+        0b11001,
+    );
+    expect(
+        &rt,
+        op_subx(Byte, 0x01, 0x00, flags(0b10100)),
+        0x00,
+        0b00100,
+    );
     expect(&rt, op_subx(Byte, 0x01, 0x00, flags(0b10000)), 0x00, 0);
     expect(&rt, op_negx(Byte, 0x00, 0, flags(0b00100)), 0x00, 0b00100);
     expect(&rt, op_negx(Byte, 0x00, 0, flags(0b10100)), 0xff, 0b11001);
@@ -125,7 +180,12 @@ fn bits(rt: HostRuntime) {
     expect(&rt, op_btst(Byte, 0x7f, 15, flags(0b11011)), 0x7f, 0b11111);
     expect(&rt, op_bchg(Byte, 0x80, 7, flags(0b00100)), 0, 0);
     expect(&rt, op_bchg(Long, 0, 0, flags(0)), 1, 0b00100);
-    expect(&rt, op_bclr(Long, 0xffff_ffff, 31, flags(0)), 0x7fff_ffff, 0);
+    expect(
+        &rt,
+        op_bclr(Long, 0xffff_ffff, 31, flags(0)),
+        0x7fff_ffff,
+        0,
+    );
     expect(&rt, op_bclr(Byte, 0x7f, 7, flags(0)), 0x7f, 0b00100);
     expect(&rt, op_bset(Long, 0, 63, flags(0)), 0x8000_0000, 0b00100);
     expect(&rt, op_bset(Byte, 0x08, 3, flags(0)), 0x08, 0);

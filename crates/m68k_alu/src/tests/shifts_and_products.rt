@@ -16,7 +16,12 @@ fn arithmetic_left(rt: HostRuntime) {
     ] {
         expect(&rt, op_asl(Byte, a, count, flags(0)), value, after);
     }
-    expect(&rt, op_asl(Long, 0x8000_0001, 0, flags(0b10001)), 0x8000_0001, 0b11000);
+    expect(
+        &rt,
+        op_asl(Long, 0x8000_0001, 0, flags(0b10001)),
+        0x8000_0001,
+        0b11000,
+    );
     for (count, value, after) in [
         (31, 0x8000_0000, 0b01010),
         (32, 0, 0b10111),
@@ -37,7 +42,12 @@ fn arithmetic_right(rt: HostRuntime) {
         (33, 0xffff_ffff, 0b11001),
         (63, 0xffff_ffff, 0b11001),
     ] {
-        expect(&rt, op_asr(Long, 0x8000_0000, count, flags(0b10011)), value, after);
+        expect(
+            &rt,
+            op_asr(Long, 0x8000_0000, count, flags(0b10011)),
+            value,
+            after,
+        );
     }
     expect(&rt, op_asr(Byte, 0x81, 1, flags(0)), 0xc0, 0b11001);
     expect(&rt, op_asr(Byte, 0x7f, 8, flags(0b10000)), 0x00, 0b00100);
@@ -58,7 +68,12 @@ fn logical_shifts(rt: HostRuntime) {
         (33, 0, 0b00100),
         (63, 0, 0b00100),
     ] {
-        expect(&rt, op_lsr(Long, 0x8000_0000, count, flags(0b00011)), value, after);
+        expect(
+            &rt,
+            op_lsr(Long, 0x8000_0000, count, flags(0b00011)),
+            value,
+            after,
+        );
     }
 }
 
@@ -70,8 +85,18 @@ fn rotations(rt: HostRuntime) {
     expect(&rt, op_rol(Word, 0x8000, 33, flags(0)), 1, 0b00001);
     expect(&rt, op_ror(Byte, 0x01, 1, flags(0)), 0x80, 0b01001);
     expect(&rt, op_ror(Long, 1, 32, flags(0)), 1, 0);
-    expect(&rt, op_ror(Long, 0x8000_0000, 31, flags(0b10000)), 1, 0b10000);
-    expect(&rt, op_ror(Long, 0x8000_0000, 0, flags(0b00001)), 0x8000_0000, 0b01000);
+    expect(
+        &rt,
+        op_ror(Long, 0x8000_0000, 31, flags(0b10000)),
+        1,
+        0b10000,
+    );
+    expect(
+        &rt,
+        op_ror(Long, 0x8000_0000, 0, flags(0b00001)),
+        0x8000_0000,
+        0b01000,
+    );
 }
 
 #[test]
@@ -85,7 +110,12 @@ fn rotations_through_x(rt: HostRuntime) {
     ] {
         expect(&rt, op_roxl(Byte, a, count, flags(before)), value, after);
     }
-    expect(&rt, op_roxl(Long, 0x1234_5678, 33, flags(0b10000)), 0x1234_5678, 0b10001);
+    expect(
+        &rt,
+        op_roxl(Long, 0x1234_5678, 33, flags(0b10000)),
+        0x1234_5678,
+        0b10001,
+    );
     expect(&rt, op_roxl(Long, 0, 63, flags(0b10000)), 0x2000_0000, 0);
     expect(&rt, op_roxr(Byte, 0x01, 1, flags(0)), 0x00, 0b10101);
     expect(&rt, op_roxr(Byte, 0x00, 1, flags(0b10000)), 0x80, 0b01000);
@@ -95,18 +125,38 @@ fn rotations_through_x(rt: HostRuntime) {
 
 #[test]
 fn products(rt: HostRuntime) {
-    expect(&rt, op_mulu(Word, 0x1_ffff, 0xffff, flags(0b10011)), 0xfffe_0001, 0b11000);
+    expect(
+        &rt,
+        op_mulu(Word, 0x1_ffff, 0xffff, flags(0b10011)),
+        0xfffe_0001,
+        0b11000,
+    );
     expect(&rt, op_mulu(Word, 0x1_0000, 0xffff, flags(0)), 0, 0b00100);
     expect(&rt, op_muls(Word, 0x8000, 0x8000, flags(0)), 0x4000_0000, 0);
-    expect(&rt, op_muls(Word, 0xffff, 0x7fff, flags(0)), 0xffff_8001, 0b01000);
+    expect(
+        &rt,
+        op_muls(Word, 0xffff, 0x7fff, flags(0)),
+        0xffff_8001,
+        0b01000,
+    );
 }
 
 #[test]
 fn quotients(rt: HostRuntime) {
-    expect(&rt, op_divu(Word, 0xffff, 0x10, flags(0b10011)), 0x000f_0fff, 0b10000);
+    expect(
+        &rt,
+        op_divu(Word, 0xffff, 0x10, flags(0b10011)),
+        0x000f_0fff,
+        0b10000,
+    );
     expect(&rt, op_divu(Word, 7, 8, flags(0)), 0x0007_0000, 0b00100);
     expect(&rt, op_divu(Word, 0x8000, 1, flags(0)), 0x8000, 0b01000);
-    expect(&rt, op_divu(Word, 0x1_0000, 1, flags(0b11101)), 0x1_0000, 0b11110);
+    expect(
+        &rt,
+        op_divu(Word, 0x1_0000, 1, flags(0b11101)),
+        0x1_0000,
+        0b11110,
+    );
     for (a, b, value, after) in [
         (0x8000_0000, 0xffff, 0x8000_0000, 0b00010),
         (0xffff_fff9, 0x0002, 0xffff_fffd, 0b01000),
