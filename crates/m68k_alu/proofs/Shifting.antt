@@ -1,11 +1,11 @@
 -- Shifts of numbers below 2 ^ 32.
-use Rattle.std.proofs.Common.{◌≡◌, ℕ, ◌+◌, ◌-◌, ◌*◌, ◌/◌, ◌%◌, ◌^◌, ◌<◌, ◌≤◌, min, Bool, true, false, ◌==◌, nat_lt, nat_le, not, if◌then◌else◌, ℤ, pos, ◌*ℤ◌, ◌-ℤ◌, arith, refl, inl, inr, ◌∙◌, sym, ap, pow-add, rules, lt-ltb, le-ltb, le-leb, leb-false}
+use Rattle.std.proofs.Common.{◌≡◌, ℕ, ◌+◌, ◌-◌, ◌*◌, ◌/◌, ◌%◌, ◌^◌, ◌<◌, ◌≤◌, min, nat_lt, nat_le, arith, refl, inl, inr, ◌∙◌, sym, pow-add, rules, lt-ltb, le-ltb, le-leb}
 use Rattle.std.proofs.lemmas.Nat.{shl_whole, shl-shr, pow_pos, mul-le}
 use Rattle.std.proofs.lemmas.Bool.{cases_lt, cases_eq}
 use Rattle.std.proofs.lemmas.Int.{ints}
 use Rattle.m68k_decode.specs.declared.operand.Size.{Size}
 use Rattle.m68k_decode.specs.declared.operand.Size.TheVariants.{Byte, Word, Long}
-use Rattle.m68k_decode.specs.Results.{bits, span, half, signed, is_signed}
+use Rattle.m68k_decode.specs.Results.{span, half}
 use Rattle.m68k_decode.specs.ResultsShifts.{left, top_changes}
 
 -- `number << count.min(32)` loses nothing

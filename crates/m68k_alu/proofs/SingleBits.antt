@@ -1,5 +1,5 @@
 -- One bit of a number, set, cleared and turned by masks.
-use Rattle.std.proofs.Common.{◌≡◌, ℕ, ◌+◌, ◌-◌, ◌*◌, ◌/◌, ◌%◌, ◌^◌, ◌<◌, Bool, true, false, if◌then◌else◌, ◌==◌, bit_and, bit_or, bit_xor, arith, refl, inl, inr, ◌∙◌, sym, eqb-true}
+use Rattle.std.proofs.Common.{◌≡◌, ℕ, ◌+◌, ◌-◌, ◌*◌, ◌/◌, ◌%◌, ◌^◌, ◌<◌, Bool, true, false, if◌then◌else◌, ◌==◌, bit_and, bit_or, bit_xor, arith, refl, inl, inr, ◌∙◌, eqb-true}
 use Rattle.std.specs.Int.Bits.{or_zero_r, xor_zero_r}
 use Rattle.std.proofs.lemmas.Bool.{cases_eq, eqb-false}
 use Rattle.std.proofs.lemmas.Nat.{or_block, xor_block, shr_split, mod_below, pow_pos, and-not, and_comm, one_shl, pow_below}

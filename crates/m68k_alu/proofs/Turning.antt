@@ -1,5 +1,5 @@
 -- A number of some bits, turned to the left.
-use Rattle.std.proofs.Common.{◌≡◌, ℕ, ◌+◌, ◌-◌, ◌*◌, ◌/◌, ◌%◌, ◌^◌, ◌<◌, ◌≤◌, bit_and, bit_or, arith, refl, ◌∙◌, sym, ap, pow-add}
+use Rattle.std.proofs.Common.{◌≡◌, ℕ, ◌+◌, ◌-◌, ◌*◌, ◌/◌, ◌%◌, ◌^◌, ◌<◌, ◌≤◌, bit_and, bit_or, arith, sym, pow-add}
 use Rattle.std.proofs.lemmas.Nat.{one_shl, and_mask, or_shifted, pow_pos, mod_below, shl-shr, shr-shr, shr_below, mod-pow-add, mod_low, mul-add-lt}
 use Rattle.m68k_decode.specs.ResultsShifts.{turned}
 
