@@ -6,11 +6,11 @@ use Rattle.std.proofs.lemmas.Int.{ints}
 use Rattle.m68k_decode.specs.declared.operand.Size.{Size}
 use Rattle.m68k_decode.specs.declared.operand.Size.TheVariants.{Byte, Word, Long}
 use Rattle.m68k_decode.specs.Results.{span, half}
-use Rattle.m68k_decode.specs.ResultsShifts.{left, top_changes}
+use Rattle.m68k_decode.specs.ResultsShifts.{shifted_left, top_bit_changes}
 
 -- `number << count.min(32)` loses nothing
-pub moved_is : (n k : ℕ) → n < 4294967296 → n * 2 ^ min k 32 % 18446744073709551616 ≡ n * 2 ^ min k 32
-moved_is n k h =
+pub wide_is : (n k : ℕ) → n < 4294967296 → n * 2 ^ min k 32 % 18446744073709551616 ≡ n * 2 ^ min k 32
+wide_is n k h =
     let room : 32 + min k 32 ≤ 64 = omega arith in shl_whole n 32 (min k 32) 64 h room
 
 -- a shift by w or more is one by w after another
@@ -29,7 +29,7 @@ beyond k h = omega arith
 
 -- ---- to the left
 
-pub left_is : (s : Size) (n k : ℕ) → n * 2 ^ min k 32 % 4294967296 % span s ≡ left s n k
+pub left_is : (s : Size) (n k : ℕ) → n * 2 ^ min k 32 % 4294967296 % span s ≡ shifted_left s n k
 left_is s n k =
     elim (cases_lt k 33) [
       | inl h ↦ (let small : k < 33 = h in
@@ -60,12 +60,12 @@ last_beyond w n k h =
 
 -- ---- the top bit
 
-pub positive_top : (s : Size) (n k : ℕ) → n < half s → top_changes s n k ≡ nat_le (half s) (n * 2 ^ k)
+pub positive_top : (s : Size) (n k : ℕ) → n < half s → top_bit_changes s n k ≡ nat_le (half s) (n * 2 ^ k)
 positive_top Byte n k h = rw (lt-ltb n 128 h) (search rules)
 positive_top Word n k h = grind (arith, ints)
 positive_top Long n k h = rw (lt-ltb n 2147483648 h) (grind arith)
 
-pub negative_top : (s : Size) (n k : ℕ) → half s ≤ n → n < span s → top_changes s n k ≡ nat_lt (half s) ((span s - n) * 2 ^ k)
+pub negative_top : (s : Size) (n k : ℕ) → half s ≤ n → n < span s → top_bit_changes s n k ≡ nat_lt (half s) ((span s - n) * 2 ^ k)
 negative_top Byte n k h below = rw (le-ltb n 128 h) (search rules)
 negative_top Word n k h below = rw (le-ltb n 32768 h) (grind (arith, ints))
 negative_top Long n k h below = rw (le-ltb n 2147483648 h) (search rules)
@@ -120,11 +120,11 @@ half_bounds Byte = (omega arith, omega arith)
 half_bounds Word = (omega arith, omega arith)
 half_bounds Long = (omega arith, omega arith)
 
-pub positive_is : (s : Size) (n k : ℕ) → n < half s → nat_le (half s) (n * 2 ^ min k 32) ≡ top_changes s n k
+pub positive_is : (s : Size) (n k : ℕ) → n < half s → nat_le (half s) (n * 2 ^ min k 32) ≡ top_bit_changes s n k
 positive_is s n k h =
     let b : half s < 4294967296 = (half_bounds s).1 in
     at_least (half s) n k (half_bounds s).0 (omega arith) ∙ sym (positive_top s n k h)
 
-pub negative_is : (s : Size) (n k : ℕ) → half s ≤ n → n < span s → nat_lt (half s) ((span s - n) * 2 ^ min k 32) ≡ top_changes s n k
+pub negative_is : (s : Size) (n k : ℕ) → half s ≤ n → n < span s → nat_lt (half s) ((span s - n) * 2 ^ min k 32) ≡ top_bit_changes s n k
 negative_is s n k h below =
     more_than (half s) (span s - n) k (half_bounds s).1 ∙ sym (negative_top s n k h below)

@@ -1,10 +1,10 @@
--- One bit of a number, set, cleared and turned by masks.
+-- One bit of a number, set, cleared and changed by masks.
 use Rattle.std.proofs.Common.{◌≡◌, ℕ, ◌+◌, ◌-◌, ◌*◌, ◌/◌, ◌%◌, ◌^◌, ◌<◌, Bool, true, false, if◌then◌else◌, ◌==◌, bit_and, bit_or, bit_xor, arith, refl, inl, inr, ◌∙◌, eqb-true}
 use Rattle.std.specs.Int.Bits.{or_zero_r, xor_zero_r}
 use Rattle.std.proofs.lemmas.Bool.{cases_eq, eqb-false}
 use Rattle.std.proofs.lemmas.Nat.{or_block, xor_block, shr_split, mod_below, pow_pos, and-not, and_comm, one_shl, pow_below}
 use Rattle.std.proofs.lemmas.Nat.Bits.{and_pow}
-use Rattle.m68k_decode.specs.ResultsBits.{is_set, with_bit, without_bit, turned_bit}
+use Rattle.m68k_decode.specs.ResultsBits.{is_set, with_bit, without_bit, changed_bit}
 use Rattle.m68k_alu.proofs.Words.{or_with_one}
 
 -- ---- the lowest bit
@@ -70,7 +70,7 @@ or_is n k =
     ]) in
     split (is_set n k) refl
 
-xor_is : (n k : ℕ) → bit_xor n (2 ^ k) ≡ turned_bit n k
+xor_is : (n k : ℕ) → bit_xor n (2 ^ k) ≡ changed_bit n k
 xor_is n k =
     let q : ℕ = n / 2 ^ k in
     let P : Bool → Type 0 = λ b. is_set n k ≡ b → bit_xor n (2 ^ k) ≡ (if b then n - 2 ^ k else n + 2 ^ k) in
@@ -110,8 +110,8 @@ and_not_is n k h fits =
 pub set_by_mask : (n k : ℕ) → k < 32 → bit_or n (1 * 2 ^ k % 4294967296) ≡ with_bit n k
 set_by_mask n k h = rw (one_shl k 32 h) (or_is n k)
 
-pub turned_by_mask : (n k : ℕ) → k < 32 → bit_xor n (1 * 2 ^ k % 4294967296) ≡ turned_bit n k
-turned_by_mask n k h = rw (one_shl k 32 h) (xor_is n k)
+pub changed_by_mask : (n k : ℕ) → k < 32 → bit_xor n (1 * 2 ^ k % 4294967296) ≡ changed_bit n k
+changed_by_mask n k h = rw (one_shl k 32 h) (xor_is n k)
 
 pub cleared_by_mask : (n k : ℕ) → k < 32 → n < 4294967296 → bit_and n (4294967295 - 1 * 2 ^ k % 4294967296) ≡ without_bit n k
 cleared_by_mask n k h fits = rw (one_shl k 32 h) (and_not_is n k h fits)

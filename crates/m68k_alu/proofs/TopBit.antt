@@ -7,7 +7,7 @@ use Rattle.std.proofs.lemmas.Bool.{cases_lt, lt-leb, leb-true, leb-false, ltb-tr
 use Rattle.m68k_decode.specs.declared.operand.Size.{Size}
 use Rattle.m68k_decode.specs.declared.operand.Size.TheVariants.{Byte, Word, Long}
 use Rattle.m68k_decode.specs.Results.{low, span, half, is_negative}
-use Rattle.m68k_decode.specs.ResultsShifts.{left, top_changes, ChangesAtStep}
+use Rattle.m68k_decode.specs.ResultsShifts.{shifted_left, top_bit_changes, ChangesAtSomeStep}
 use Rattle.m68k_alu.proofs.Shifting.{positive_top, negative_top}
 
 -- ---- the top bit of x, which is a number of the size or less than one below a multiple of the span
@@ -45,23 +45,23 @@ doubled n k = rw (pow-suc 2 k) (omega arith)
 
 -- ---- a number with a clear top bit
 
-positive_found : (s : Size) (n k : ℕ) → n < half s → half s ≤ n * 2 ^ k → ChangesAtStep s n k
+positive_found : (s : Size) (n k : ℕ) → n < half s → half s ≤ n * 2 ^ k → ChangesAtSomeStep s n k
 positive_found s n zero h out = (let none : ⊥ = omega arith in absurd none)
 positive_found s n (suc k) h out =
     elim (cases_lt (n * 2 ^ k) (half s)) [
       | inl w ↦ (let within : n * 2 ^ k < half s = w in
           let d : n * 2 ^ suc k ≡ n * 2 ^ k + n * 2 ^ k = doubled n k in
           let below : n * 2 ^ suc k < half s + half s = omega arith in
-          let set : is_negative s (left s n (suc k)) ≡ true = set_beyond s (n * 2 ^ suc k) out below in
+          let set : is_negative s (shifted_left s n (suc k)) ≡ true = set_beyond s (n * 2 ^ suc k) out below in
           let clear : is_negative s n ≡ false = lt-leb (half s) n h in
           (suc k, (omega arith, λ same. true≢false (sym set ∙ same ∙ clear))))
       | inr o ↦ (let earlier : half s ≤ n * 2 ^ k = o in
-          let r : ChangesAtStep s n k = positive_found s n k h earlier in
+          let r : ChangesAtSomeStep s n k = positive_found s n k h earlier in
           let b : r.0 ≤ k = r.1.0 in
           (r.0, (omega arith, r.1.1)))
     ]
 
-positive_kept : (s : Size) (n k j : ℕ) → n < half s → n * 2 ^ k < half s → j ≤ k → is_negative s (left s n j) ≡ is_negative s n
+positive_kept : (s : Size) (n k j : ℕ) → n < half s → n * 2 ^ k < half s → j ≤ k → is_negative s (shifted_left s n j) ≡ is_negative s n
 positive_kept s n k j h within step =
     let l : n * 2 ^ j ≤ n * 2 ^ k = less_at n j k step in
     let still : n * 2 ^ j < half s = omega arith in
@@ -81,25 +81,25 @@ positive_product m k h =
     let z : 0 ≤ k = omega arith in
     let l : m * 2 ^ 0 ≤ m * 2 ^ k = less_at m 0 k z in omega arith
 
-negative_found : (s : Size) (n k : ℕ) → half s ≤ n → n < span s → half s < (span s - n) * 2 ^ k → ChangesAtStep s n k
+negative_found : (s : Size) (n k : ℕ) → half s ≤ n → n < span s → half s < (span s - n) * 2 ^ k → ChangesAtSomeStep s n k
 negative_found s n zero h below out =
     (let e : half s + half s ≡ span s = halves s in
     let none : ⊥ = omega arith in absurd none)
 negative_found s n (suc k) h below out =
     elim (cases_lt (half s) ((span s - n) * 2 ^ k)) [
       | inl o ↦ (let earlier : half s < (span s - n) * 2 ^ k = o in
-          let r : ChangesAtStep s n k = negative_found s n k h below earlier in
+          let r : ChangesAtSomeStep s n k = negative_found s n k h below earlier in
           let b : r.0 ≤ k = r.1.0 in
           (r.0, (omega arith, r.1.1)))
       | inr w ↦ (let within : (span s - n) * 2 ^ k ≤ half s = w in
           let d : (span s - n) * 2 ^ suc k ≡ (span s - n) * 2 ^ k + (span s - n) * 2 ^ k = doubled (span s - n) k in
           let most : (span s - n) * 2 ^ suc k ≤ half s + half s = omega arith in
-          let clear : is_negative s (left s n (suc k)) ≡ false = clear_beyond s (n * 2 ^ suc k) ((span s - n) * 2 ^ suc k) (2 ^ suc k) (negative_sum s n (suc k) below) out most in
+          let clear : is_negative s (shifted_left s n (suc k)) ≡ false = clear_beyond s (n * 2 ^ suc k) ((span s - n) * 2 ^ suc k) (2 ^ suc k) (negative_sum s n (suc k) below) out most in
           let set : is_negative s n ≡ true = le-leb (half s) n h in
           (suc k, (omega arith, λ same. true≢false (sym set ∙ sym same ∙ clear))))
     ]
 
-negative_kept : (s : Size) (n k j : ℕ) → half s ≤ n → n < span s → (span s - n) * 2 ^ k ≤ half s → j ≤ k → is_negative s (left s n j) ≡ is_negative s n
+negative_kept : (s : Size) (n k j : ℕ) → half s ≤ n → n < span s → (span s - n) * 2 ^ k ≤ half s → j ≤ k → is_negative s (shifted_left s n j) ≡ is_negative s n
 negative_kept s n k j h below within step =
     let l : (span s - n) * 2 ^ j ≤ (span s - n) * 2 ^ k = less_at (span s - n) j k step in
     let still : (span s - n) * 2 ^ j ≤ half s = omega arith in
@@ -108,7 +108,7 @@ negative_kept s n k j h below within step =
 
 -- ---- the two together
 
-found : (s : Size) (n k : ℕ) → n < span s → top_changes s n k ≡ true → ChangesAtStep s n k
+found : (s : Size) (n k : ℕ) → n < span s → top_bit_changes s n k ≡ true → ChangesAtSomeStep s n k
 found s n k below t =
     elim (cases_lt n (half s)) [
       | inl p ↦ (let h : n < half s = p in
@@ -117,7 +117,7 @@ found s n k below t =
           negative_found s n k h below (ltb-true (half s) ((span s - n) * 2 ^ k) (sym (negative_top s n k h below) ∙ t)))
     ]
 
-kept : (s : Size) (n k j : ℕ) → n < span s → top_changes s n k ≡ false → j ≤ k → is_negative s (left s n j) ≡ is_negative s n
+kept : (s : Size) (n k j : ℕ) → n < span s → top_bit_changes s n k ≡ false → j ≤ k → is_negative s (shifted_left s n j) ≡ is_negative s n
 kept s n k j below t step =
     elim (cases_lt n (half s)) [
       | inl p ↦ (let h : n < half s = p in
@@ -130,9 +130,9 @@ only_true : (b : Bool) → (b ≡ false → ⊥) → b ≡ true
 only_true true h = refl
 only_true false h = absurd (h refl)
 
-top_changes_is : (s : Size) (n k : ℕ) → n < span s → IsTrue (top_changes s n k) ↔ ChangesAtStep s n k
-top_changes_is s n k below =
-    (found s n k below, λ c. only_true (top_changes s n k) (λ t. c.1.1 (kept s n k c.0 below t c.1.0)))
+top_bit_changes_is : (s : Size) (n k : ℕ) → n < span s → IsTrue (top_bit_changes s n k) ↔ ChangesAtSomeStep s n k
+top_bit_changes_is s n k below =
+    (found s n k below, λ c. only_true (top_bit_changes s n k) (λ t. c.1.1 (kept s n k c.0 below t c.1.0)))
 
 low_below : (s : Size) (n : ℕ) → low s n < span s
 low_below Byte n = omega arith
@@ -140,5 +140,5 @@ low_below Word n = omega arith
 low_below Long n = omega arith
 
 -- as ASL has it
-pub flag_is : (v : Bool) (s : Size) (a k : ℕ) → v ≡ top_changes s (low s a) k → IsTrue v ↔ ChangesAtStep s (low s a) k
-flag_is v s a k e = rw e (top_changes_is s (low s a) k (low_below s a))
+pub flag_is : (v : Bool) (s : Size) (a k : ℕ) → v ≡ top_bit_changes s (low s a) k → IsTrue v ↔ ChangesAtSomeStep s (low s a) k
+flag_is v s a k e = rw e (top_bit_changes_is s (low s a) k (low_below s a))

@@ -1,7 +1,7 @@
 //! Sums, differences and comparisons.
 
 ghost use Rattle.std.specs.Prelude.{◌≡◌, ◌<◌};
-ghost use Rattle.m68k_decode.specs.Results.{span, signed, one_if};
+ghost use Rattle.m68k_decode.specs.Results.{span};
 ghost use Rattle.m68k_decode.specs.ResultsSums.{sum, sum_carries, sum_overflows, sum_of, difference, difference_borrows, difference_overflows, difference_of, checked, add_of, sub_of, neg_of, cmp_of, addx_of, subx_of, negx_of, chk_of};
 
 use crate::size::{low_part, sign, with_sign};

@@ -1,7 +1,7 @@
 //! The bit operations. All test the bit before they change it.
 
 ghost use Rattle.std.specs.Prelude.{◌≡◌, ◌<◌};
-ghost use Rattle.m68k_decode.specs.ResultsBits.{place, is_set, with_bit, without_bit, turned_bit, bit_outcome, btst_of, bchg_of, bclr_of, bset_of};
+ghost use Rattle.m68k_decode.specs.ResultsBits.{place, is_set, with_bit, without_bit, changed_bit, bit_outcome, btst_of, bchg_of, bclr_of, bset_of};
 
 use crate::size::{bit_count, low_part};
 use m68k_decode::{Flags, Outcome, Size};
@@ -44,11 +44,11 @@ fn bit_cleared(number: u32, place: u32) -> u32
     number & !(1 << place)
 }
 
-/// The number with the bit at a place turned.
-#[tactic(auto, using(crate::proofs::SingleBits::turned_by_mask))]
-fn bit_turned(number: u32, place: u32) -> u32
+/// The number with the bit at a place changed.
+#[tactic(auto, using(crate::proofs::SingleBits::changed_by_mask))]
+fn bit_changed(number: u32, place: u32) -> u32
     requires { place < 32 }
-    ensures { result ≡ turned_bit number place }
+    ensures { result ≡ changed_bit number place }
 {
     number ^ (1 << place)
 }
@@ -76,7 +76,7 @@ pub fn op_bchg(size: Size, a: u32, b: u32, f: Flags) -> Outcome
     ensures { result ≡ bchg_of size a b f }
 {
     let (value, place) = (low_part(size, a), place_of(size, b));
-    tested(bit_turned(value, place), is_bit_set(value, place), f)
+    tested(bit_changed(value, place), is_bit_set(value, place), f)
 }
 
 /// BCLR.

@@ -1,7 +1,7 @@
 //! The decimal operations, on bytes of two digits.
 
 ghost use Rattle.std.specs.Prelude.{◌≡◌, ◌<◌};
-ghost use Rattle.m68k_decode.specs.ResultsDecimal.{decimal, decimal_sum, digits_adjusted, decimal_carries, decimal_borrows, decimal_difference, abcd_of, sbcd_of, nbcd_of};
+ghost use Rattle.m68k_decode.specs.ResultsDecimal.{decimal, digits_adjusted, decimal_borrows, decimal_difference, abcd_of, sbcd_of, nbcd_of};
 
 use crate::size::low_part;
 use m68k_decode::{Flags, Outcome, Size};

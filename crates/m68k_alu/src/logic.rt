@@ -3,7 +3,7 @@
 ghost use Rattle.std.specs.Prelude.{◌≡◌, ◌<◌, ◌+◌, ◌*◌, ◌/◌, ◌%◌};
 ghost use Rattle.m68k_decode.specs.Results.{move_of, and_of, or_of, eor_of, not_of, tst_of, clr_of, ext_of, swap_of, tas_of};
 
-use crate::size::{low_part, plain_outcome, sign, with_sign, without_sign};
+use crate::size::{low_part, plain_outcome, with_sign, without_sign};
 use m68k_decode::{Flags, Outcome, Size};
 
 /// MOVE and MOVEQ: the moved value is `a`.

@@ -68,7 +68,7 @@ fn overflowed(a: u32, f: Flags) -> Outcome
     }
 }
 
-/// DIVU: a long by a word, which is not 0. The size says nothing.
+/// DIVU: a long by a word, the low one of `b`, which is not 0. The size says nothing. On overflow the value is `a`.
 #[tactic(auto, unfolding(m68k_decode::specs::ResultsProducts::divu_of))]
 pub fn op_divu(size: Size, a: u32, b: u32, f: Flags) -> Outcome
     requires { low Size.Word b ≢ 0 }
@@ -111,7 +111,7 @@ fn is_word(number: i64) -> bool
     (-0x8000..0x8000).contains(&number)
 }
 
-/// DIVS: a long by a word, which is not 0, both with signs. The size says nothing.
+/// DIVS: DIVU with signs; the remainder has the sign of the long.
 #[tactic(auto, unfolding(m68k_decode::specs::ResultsProducts::divs_of))]
 pub fn op_divs(size: Size, a: u32, b: u32, f: Flags) -> Outcome
     requires { low Size.Word b ≢ 0 }

@@ -2,14 +2,14 @@
 
 ghost use Rattle.std.specs.Prelude.{◌≡◌, ◌<◌, ◌≤◌, ◌-◌, ◌*◌, ◌/◌, ◌%◌, ◌^◌, ◌==◌, ◌↔◌, IsTrue, min};
 ghost use Rattle.m68k_decode.specs.Results.{half, low, span, signed};
-ghost use Rattle.m68k_decode.specs.ResultsShifts.{count, shifted, left, left_last, top_changes, ChangesAtStep, right, right_last, signed_right, signed_right_last, asl_of, asr_of, lsl_of, lsr_of};
+ghost use Rattle.m68k_decode.specs.ResultsShifts.{shift_count, shift_outcome, shifted_left, last_out_left, top_bit_changes, ChangesAtSomeStep, shifted_right, last_out_right, shifted_right_signed, last_out_right_signed, asl_of, asr_of, lsl_of, lsr_of};
 
 use crate::size::{bit_count, low_long, low_part, sign, with_sign, without_sign};
 use m68k_decode::{Flags, Outcome, Size};
 
 /// The number shifted to the left with all its bits kept. From a count of 32 on the size's bits are all out.
-#[tactic(auto, using(crate::proofs::Shifting::moved_is))]
-fn moved(number: u32, count: u32) -> u64
+#[tactic(auto, using(crate::proofs::Shifting::wide_is))]
+fn shift_wide(number: u32, count: u32) -> u64
     ensures { result ≡ number * 2 ^ min count 32 }
 {
     u64::from(number) << count.min(32)
@@ -17,26 +17,26 @@ fn moved(number: u32, count: u32) -> u64
 
 /// The number of the size shifted to the left.
 #[tactic(auto, using(crate::proofs::Shifting::left_is))]
-fn moved_left(size: Size, number: u32, count: u32) -> u32
-    ensures { result ≡ left size number count }
+fn shift_left(size: Size, number: u32, count: u32) -> u32
+    ensures { result ≡ shifted_left size number count }
 {
-    low_part(size, low_long(moved(number, count)))
+    low_part(size, low_long(shift_wide(number, count)))
 }
 
 /// The bit above a width, after a shift to the left.
 #[tactic(auto, using(crate::proofs::Shifting::last_within, crate::proofs::Shifting::last_beyond))]
-fn last_above(width: u32, number: u32, count: u32) -> bool
+fn bit_above(width: u32, number: u32, count: u32) -> bool
     requires { width ≤ 32 }
     ensures { result ≡ (number * 2 ^ count / 2 ^ width % 2 == 1) }
 {
-    count <= width && (moved(number, count) >> width) & 1 == 1
+    count <= width && (shift_wide(number, count) >> width) & 1 == 1
 }
 
 /// The last bit out to the left.
-fn last_left(size: Size, number: u32, count: u32) -> bool
-    ensures { result ≡ left_last size number count }
+fn last_bit_left(size: Size, number: u32, count: u32) -> bool
+    ensures { result ≡ last_out_left size number count }
 {
-    last_above(bit_count(size), number, count)
+    bit_above(bit_count(size), number, count)
 }
 
 /// The half of the span of a size.
@@ -63,47 +63,47 @@ fn magnitude(size: Size, number: u32) -> u32
 #[tactic(auto, using(crate::proofs::Shifting::positive_is, crate::proofs::Shifting::negative_is))]
 fn sign_changes(size: Size, number: u32, count: u32) -> bool
     requires { number < span size }
-    ensures { result ≡ top_changes size number count }
+    ensures { result ≡ top_bit_changes size number count }
 {
     let half = half_of(size);
     if sign(size, number) {
-        moved(magnitude(size, number), count) > half
+        shift_wide(magnitude(size, number), count) > half
     } else {
-        moved(number, count) >= half
+        shift_wide(number, count) >= half
     }
 }
 
 /// The number of a size shifted to the right.
-fn moved_right(number: u32, count: u32) -> u32
+fn shift_right(number: u32, count: u32) -> u32
     requires { count < 64 }
-    ensures { result ≡ right number count }
+    ensures { result ≡ shifted_right number count }
 {
     (u64::from(number) >> count) as u32
 }
 
 /// The last bit out to the right.
-fn last_right(number: u32, count: u32) -> bool
+fn last_bit_right(number: u32, count: u32) -> bool
     requires { count < 64 }
-    ensures { result ≡ right_last number count }
+    ensures { result ≡ last_out_right number count }
 {
     ((u64::from(number) * 2) >> count) & 1 == 1
 }
 
 /// The number shifted to the right, with copies of its sign.
-fn signed_moved_right(size: Size, number: i64, count: u32) -> u32
+fn shift_right_signed(size: Size, number: i64, count: u32) -> u32
     requires { count < 64 }
-    ensures { result ≡ signed_right size number count }
+    ensures { result ≡ shifted_right_signed size number count }
 {
     without_sign(size, number >> count)
 }
 
 /// The last bit out to the right of a number with its sign.
-fn signed_last_right(size: Size, number: u32, count: u32) -> bool
+fn last_bit_right_signed(size: Size, number: u32, count: u32) -> bool
     requires number { number < span size }
     requires count { count < 64 }
-    ensures { result ≡ signed_right_last size (signed size number) count }
+    ensures { result ≡ last_out_right_signed size (signed size number) count }
 {
-    signed_moved_right(size, with_sign(size, number) * 2, count) & 1 == 1
+    shift_right_signed(size, with_sign(size, number) * 2, count) & 1 == 1
 }
 
 /// The flags of a shift: C is the last bit out, X is C where the count is not 0.
@@ -115,7 +115,7 @@ fn shifted_outcome(
     count: u32,
     f: Flags,
 ) -> Outcome
-    ensures { result ≡ shifted size value last overflow count f }
+    ensures { result ≡ shift_outcome size value last overflow count f }
 {
     Outcome {
         value,
@@ -132,11 +132,11 @@ fn shifted_outcome(
 /// ASL: V is set where the top bit changed at any step.
 pub fn op_asl(size: Size, a: u32, b: u32, f: Flags) -> Outcome
     ensures value { result ≡ asl_of size a b f }
-    ensures step { IsTrue result.flags.v ↔ ChangesAtStep size (low size a) (count b) }
+    ensures step { IsTrue result.flags.v ↔ ChangesAtSomeStep size (low size a) (shift_count b) }
 {
     let (number, count) = (low_part(size, a), b % 64);
-    let value = moved_left(size, number, count);
-    let last = last_left(size, number, count);
+    let value = shift_left(size, number, count);
+    let last = last_bit_left(size, number, count);
     let overflow = sign_changes(size, number, count);
     shifted_outcome(size, value, last, overflow, count, f)
 }
@@ -146,8 +146,8 @@ pub fn op_asr(size: Size, a: u32, b: u32, f: Flags) -> Outcome
     ensures { result ≡ asr_of size a b f }
 {
     let (number, count) = (low_part(size, a), b % 64);
-    let value = signed_moved_right(size, with_sign(size, number), count);
-    let last = signed_last_right(size, number, count);
+    let value = shift_right_signed(size, with_sign(size, number), count);
+    let last = last_bit_right_signed(size, number, count);
     shifted_outcome(size, value, last, false, count, f)
 }
 
@@ -156,8 +156,15 @@ pub fn op_lsl(size: Size, a: u32, b: u32, f: Flags) -> Outcome
     ensures { result ≡ lsl_of size a b f }
 {
     let (number, count) = (low_part(size, a), b % 64);
-    let value = moved_left(size, number, count);
-    shifted_outcome(size, value, last_left(size, number, count), false, count, f)
+    let value = shift_left(size, number, count);
+    shifted_outcome(
+        size,
+        value,
+        last_bit_left(size, number, count),
+        false,
+        count,
+        f,
+    )
 }
 
 /// LSR.
@@ -165,6 +172,6 @@ pub fn op_lsr(size: Size, a: u32, b: u32, f: Flags) -> Outcome
     ensures { result ≡ lsr_of size a b f }
 {
     let (number, count) = (low_part(size, a), b % 64);
-    let value = moved_right(number, count);
-    shifted_outcome(size, value, last_right(number, count), false, count, f)
+    let value = shift_right(number, count);
+    shifted_outcome(size, value, last_bit_right(number, count), false, count, f)
 }

@@ -73,7 +73,7 @@ or_of s a b f = plain s (bit_or (low s a) (low s b)) f
 abbrev pub eor_of : Size → ℕ → ℕ → Flags → Outcome
 eor_of s a b f = plain s (bit_xor (low s a) (low s b)) f
 
--- NOT: each bit turned
+-- NOT: each bit inverted
 abbrev pub not_of : Size → ℕ → ℕ → Flags → Outcome
 not_of s a b f = plain s (span s - 1 - low s a) f
 
