@@ -10,3 +10,9 @@ pub mod Timing
 pub mod Frames
 pub mod Places
 pub mod Registers
+pub mod Results
+pub mod ResultsSums
+pub mod ResultsDecimal
+pub mod ResultsBits
+pub mod ResultsShifts
+pub mod ResultsProducts

@@ -1,0 +1,5 @@
+pub mod Words
+pub mod SingleBits
+pub mod Shifting
+pub mod Rotating
+pub mod TopBit

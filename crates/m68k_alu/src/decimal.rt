@@ -1,0 +1,76 @@
+//! The decimal operations, on bytes of two digits.
+
+ghost use Rattle.std.specs.Prelude.{◌≡◌, ◌<◌};
+ghost use Rattle.m68k_decode.specs.ResultsDecimal.{decimal, digits_adjusted, decimal_borrows, decimal_difference, abcd_of, sbcd_of, nbcd_of};
+
+use crate::size::low_part;
+use m68k_decode::{Flags, Outcome, Size};
+
+/// A decimal result: the carry is C and X, Z can only be cleared, N and V stay.
+fn decimal_outcome(value: u32, carry: bool, f: Flags) -> Outcome
+    ensures { result ≡ decimal value carry f }
+{
+    Outcome {
+        value,
+        flags: Flags {
+            x: carry,
+            z: f.z && value == 0,
+            c: carry,
+            ..f
+        },
+    }
+}
+
+/// The sum of two bytes, with its low digit made decimal.
+fn low_digit_adjusted(a: u32, b: u32, extend: bool) -> u32
+    requires left { a < 256 }
+    requires right { b < 256 }
+    ensures { result ≡ digits_adjusted a b extend }
+{
+    let extend = u32::from(extend);
+    let sum = a + b + extend;
+    if (a & 0xf) + (b & 0xf) + extend > 9 {
+        sum + 6
+    } else {
+        sum
+    }
+}
+
+/// ABCD. The size says nothing.
+pub fn op_abcd(size: Size, a: u32, b: u32, f: Flags) -> Outcome
+    ensures { result ≡ abcd_of size a b f }
+{
+    let sum = low_digit_adjusted(low_part(Size::Byte, a), low_part(Size::Byte, b), f.x);
+    let carry = sum > 0x9f;
+    let adjusted = if carry { sum + 0x60 } else { sum };
+    decimal_outcome(adjusted & 0xff, carry, f)
+}
+
+/// The difference of two bytes in decimal digits, modulo 256.
+fn difference_in_digits(a: u32, b: u32, extend: bool, borrow: bool) -> u32
+    requires left { a < 256 }
+    requires right { b < 256 }
+    requires borrow { borrow ≡ decimal_borrows a b extend }
+    ensures { result ≡ decimal_difference a b extend }
+{
+    let extend = u32::from(extend);
+    let low_digit = if (a & 0xf) < (b & 0xf) + extend { 6 } else { 0 };
+    let high_digit = if borrow { 0x60 } else { 0 };
+    a.wrapping_sub(b + extend + low_digit + high_digit) & 0xff
+}
+
+/// SBCD. The size says nothing.
+pub fn op_sbcd(size: Size, a: u32, b: u32, f: Flags) -> Outcome
+    ensures { result ≡ sbcd_of size a b f }
+{
+    let (from, taken) = (low_part(Size::Byte, a), low_part(Size::Byte, b));
+    let borrow = from < taken + u32::from(f.x);
+    decimal_outcome(difference_in_digits(from, taken, f.x, borrow), borrow, f)
+}
+
+/// NBCD: 0 less the operand, in decimal digits. The size says nothing.
+pub fn op_nbcd(size: Size, a: u32, b: u32, f: Flags) -> Outcome
+    ensures { result ≡ nbcd_of size a b f }
+{
+    op_sbcd(size, 0, a, f)
+}

@@ -1,0 +1,24 @@
+//! Each operation at its edges. Flags are written XNZVC; the numbers are worked by hand from the rules.
+
+mod logic_and_sums;
+mod shifts_and_products;
+
+use m68k_decode::{Flags, Outcome};
+use std::process::Abort;
+
+/// Flags from five bits, X first.
+fn flags(xnzvc: u8) -> Flags {
+    Flags {
+        x: xnzvc & 0b10000 != 0,
+        n: xnzvc & 0b01000 != 0,
+        z: xnzvc & 0b00100 != 0,
+        v: xnzvc & 0b00010 != 0,
+        c: xnzvc & 0b00001 != 0,
+    }
+}
+
+/// Compares an outcome with a value and flags.
+fn expect(rt: &impl Abort, got: Outcome, value: u32, xnzvc: u8) {
+    assert_eq!(rt; got.value, value);
+    assert_eq!(rt; got.flags, flags(xnzvc));
+}
