@@ -8,5 +8,6 @@ pub mod Order
 pub mod Out
 pub mod Run
 pub mod Steps
+pub mod Texts
 pub mod Underway
 pub mod Verdict

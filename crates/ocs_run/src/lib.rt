@@ -10,3 +10,4 @@ mod inputs;
 mod order;
 mod picture;
 mod run;
+mod texts;

@@ -1,0 +1,94 @@
+//! What each status says.
+
+ghost use Rattle.std.specs.Prelude.{◌≡◌, ◌++◌, map, string_bytes, OnOk, codes, decimal};
+ghost use Rattle.ocs_io.specs.Place.{OnlySays};
+ghost use Rattle.ocs_run.specs.Order.{order_of};
+ghost use Rattle.ocs_run.specs.Texts.{text_of, Says, order_or_none, input_name as name_of_input, file_name as name_of_file};
+ghost use Rattle.script_read.specs.KindName.{kind_name};
+
+use crate::fault::{Fault, Input};
+use crate::order::read_order;
+use ocs_base::OutOfMemory;
+use ocs_io::{Place, put_dec};
+use out_files::OutFile;
+use script_read::BadKind;
+use std::alloc::Global;
+
+/// Says the text of a fault. A refusal to say it, or want of memory for it, changes nothing else.
+pub fn say_fault<P: Place>(alloc: Global, words: &[String], fault: Fault, place: &mut P)
+    ensures says { Says (text_of (order_of (map string_bytes words.now)) fault) (P.outside place.old) (P.outside place.new) }
+    ensures kept { OnlySays (P.outside place.old) (P.outside place.new) }
+{
+    let mut text = Vec::new(alloc);
+    if put_text(words, fault, &mut text).is_ok() {
+        let _refused = place.say(&text);
+    }
+}
+
+/// Appends the text of a fault.
+#[tactic(auto, unfolding(crate::specs::Texts::fault_text))]
+fn put_text(words: &[String], fault: Fault, text: &mut Vec<u8>) -> Result<(), OutOfMemory>
+    ensures { OnOk result (text.new.items ≡ text.old.items ++ text_of (order_of (map string_bytes words.now)) fault) }
+{
+    match fault {
+        Fault::Usage => put(
+            text,
+            "usage: ocs run IMAGE SCRIPT FRAMES TRACE MEMORY BAND WORKERS\n",
+        ),
+        Fault::BadImage => put(text, "bad image\n"),
+        Fault::BadScript { line, kind } => put_bad_line(text, line, kind),
+        Fault::Unread { input } => put_named(text, "cannot read ", input_name(words, input)),
+        Fault::Unwritten { file } => put_named(text, "cannot write ", file_name(words, file)),
+        Fault::OutOfMemory => put(text, "out of memory\n"),
+        Fault::NotBuilt => put(text, "not built\n"),
+    }
+}
+
+/// The name of an input, empty where the words are not those of a run.
+fn input_name(words: &[String], input: Input) -> &str
+    ensures { result.now ≡ name_of_input (order_or_none (order_of (map string_bytes words.now))) input }
+{
+    match (read_order(words), input) {
+        (Some(order), Input::Image) => order.image,
+        (Some(order), Input::Script) => order.script,
+        (None, _) => "",
+    }
+}
+
+/// The name of an output, empty where the words are not those of a run.
+fn file_name(words: &[String], file: OutFile) -> &str
+    ensures { result.now ≡ name_of_file (order_or_none (order_of (map string_bytes words.now))) file }
+{
+    match (read_order(words), file) {
+        (Some(order), OutFile::Frames) => order.frames,
+        (Some(order), OutFile::Trace) => order.trace,
+        (Some(order), OutFile::Memory) => order.memory,
+        (None, _) => "",
+    }
+}
+
+/// Appends a text.
+fn put(text: &mut Vec<u8>, piece: &str) -> Result<(), OutOfMemory>
+    ensures { OnOk result (text.new.items ≡ text.old.items ++ piece.now) }
+{
+    text.extend_from_slice(piece.as_bytes())?;
+    Ok(())
+}
+
+/// Appends a text and a name, and ends the line.
+fn put_named(text: &mut Vec<u8>, start: &str, name: &str) -> Result<(), OutOfMemory>
+    ensures { OnOk result (text.new.items ≡ text.old.items ++ (start.now ++ name.now ++ codes "\n")) }
+{
+    put(text, start)?;
+    put(text, name)?;
+    put(text, "\n")
+}
+
+/// Appends the place and the kind of a bad line.
+fn put_bad_line(text: &mut Vec<u8>, line: u32, kind: BadKind) -> Result<(), OutOfMemory>
+    ensures { OnOk result (text.new.items ≡ text.old.items ++ (codes "bad script: line " ++ decimal line ++ codes ": " ++ kind_name kind ++ codes "\n")) }
+{
+    put(text, "bad script: line ")?;
+    put_dec(line as u64, text)?;
+    put_named(text, ": ", kind.name())
+}
