@@ -5,4 +5,5 @@ pub mod RunLaws
 pub mod StepLaws
 pub mod TextLaws
 pub mod TickLaws
+pub mod TopLaws
 pub mod TraceLaws

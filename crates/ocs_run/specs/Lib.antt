@@ -9,5 +9,6 @@ pub mod Out
 pub mod Run
 pub mod Steps
 pub mod Texts
+pub mod Top
 pub mod Underway
 pub mod Verdict

@@ -11,3 +11,7 @@ mod order;
 mod picture;
 mod run;
 mod texts;
+mod top;
+
+pub use gate::{Gate, NoGate};
+pub use top::ocs_main;
