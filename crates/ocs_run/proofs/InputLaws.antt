@@ -1,10 +1,10 @@
 -- What the inputs tell of the verdict.
-use Rattle.std.proofs.Common.{◌≡◌, ℕ, ◌<◌, Bool, true, false, if◌then◌else◌, List, length, Option, Some, None, arith, refl, ap, ◌∙◌, sym, nat_lt}
+use Rattle.std.proofs.Common.{◌≡◌, ℕ, ◌<◌, true, if◌then◌else◌, List, length, Option, Some, None, arith, ap, nat_lt}
 use Rattle.std.proofs.lemmas.Bool.Decides.{nat_tests}
 use Rattle.ocs_io.specs.Answers.{WhereTold, HoldsMore}
-use Rattle.ocs_io.specs.Place.{Files, file}
+use Rattle.ocs_io.specs.Place.{Files}
 use Rattle.script_read.specs.declared.fault.BadKind.TheVariants.{Long}
-use Rattle.script_read.specs.Grammar.{script_of, from_header, Good, Bad, Verdict}
+use Rattle.script_read.specs.Grammar.{script_of, from_header, Bad}
 use Rattle.script_read.specs.Split.{lines_of}
 use Rattle.ocs_run.specs.Inputs.{HoldsBadScript}
 

@@ -1,6 +1,6 @@
 -- What calls of a place leave, one after another.
-use Rattle.std.proofs.Common.{◌≡◌, ℕ, ◌≤◌, List, ◌∙◌, arith, refl, subst, sym}
-use Rattle.ocs_io.specs.Place.{Outside, OnlyWrites, OnlyReads, KeepsNames}
+use Rattle.std.proofs.Common.{◌≡◌, ℕ, List, ◌∙◌, arith, refl, subst, sym}
+use Rattle.ocs_io.specs.Place.{Outside, OnlyWrites, KeepsNames}
 use Rattle.out_files.specs.Answers.{AreGrowable}
 use Rattle.out_files.specs.OutFiles.{OutNames}
 

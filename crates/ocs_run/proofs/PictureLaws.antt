@@ -1,15 +1,12 @@
 -- The pixels of a clock, and a poke of a colour.
-use Rattle.std.proofs.Common.{◌≡◌, ℕ, ◌+◌, ◌-◌, ◌/◌, ◌%◌, ◌*◌, Bool, true, false, if◌then◌else◌, List, [], ◌∷◌, ◌++◌, slice_index, slice_set, length, arith, refl, ap, ◌∙◌, sym, append-nil}
+use Rattle.std.proofs.Common.{◌≡◌, ℕ, ◌-◌, ◌/◌, ◌%◌, Bool, true, false, if◌then◌else◌, List, [], ◌∷◌, ◌++◌, slice_index, slice_set, refl, ap}
 use Rattle.ocs_base.specs.declared.script.System.{System}
-use Rattle.out_files.specs.OutFiles.{OutFilesValue, with_pixels}
 use Rattle.serial_model.specs.declared.picture.Denise.{Denise}
 use Rattle.serial_model.specs.declared.picture.Touch.{Touch}
 use Rattle.serial_model.specs.declared.picture.Touch.TheVariants.{Set}
 use Rattle.serial_model.specs.Beam.{is_visible}
 use Rattle.serial_model.specs.Registers.{is_colour}
-use Rattle.serial_model.specs.Picture.{pixels, colour_bytes, set, touched, all_touched, is_picture_register}
-use Rattle.serial_model.specs.Outputs.{framed, frame_bytes}
-use Rattle.ocs_run.specs.Out.{Shows}
+use Rattle.serial_model.specs.Picture.{pixels, colour_bytes, set, all_touched, is_picture_register}
 
 pub pixels-visible : (system : System) (v h : ℕ) (p : Denise) → is_visible system v h ≡ true
     → pixels system v h p ≡ (let c = colour_bytes (slice_index p.palette 0) in c ++ (c ++ (c ++ c)))

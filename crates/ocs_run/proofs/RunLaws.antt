@@ -1,26 +1,24 @@
 -- The run over plain values: its start, its turns, its end and its stops.
-use Rattle.std.proofs.Common.{◌≡◌, ℕ, zero, suc, ◌+◌, ◌<◌, ◌≤◌, ◌%◌, Bool, true, false, List, [], ◌++◌, length, Option, Result, Ok, Err, OnOk, IfErr, IsErrAnd, arith, refl, ap, ◌∙◌, sym, subst, append-nil, add-one, inl, inr, ◌∷◌, lit<}
+use Rattle.std.proofs.Common.{◌≡◌, ℕ, suc, ◌+◌, ◌<◌, true, false, List, [], ◌++◌, Option, Result, Ok, Err, OnOk, IfErr, IsErrAnd, arith, refl, ap, ◌∙◌, sym, subst, add-one, inl, inr, ◌∷◌, lit<}
 use Rattle.std.proofs.lemmas.Bool.{cases_eq}
-use Rattle.ocs_base.specs.Limits.{IsRunnable, AreFrom, AreInOrder, AreInLimits}
+use Rattle.ocs_base.specs.Limits.{IsRunnable, AreFrom}
 use Rattle.ocs_base.specs.Script.{ScriptValue}
-use Rattle.ocs_base.specs.declared.beam.Beam.{Beam}
 use Rattle.ocs_base.specs.declared.script.At.{At}
-use Rattle.ocs_base.specs.declared.script.System.{System}
 use Rattle.ocs_base.specs.declared.script.System.TheVariants.{Pal}
 use Rattle.ocs_io.specs.Place.{Files, Outside}
 use Rattle.out_files.specs.OutFiles.{OutNames, OutFilesValue, all_given}
 use Rattle.out_files.specs.Together.{three_files, AreTogether, HoldParts, StayTogether, LeavesParts, Completes, Begins}
-use Rattle.serial_model.specs.Beam.{IsOnScreen, place_of, first_place}
+use Rattle.serial_model.specs.Beam.{place_of, first_place}
 use Rattle.serial_model.specs.Built.{is_unbuilt, meets_unbuilt}
-use Rattle.serial_model.specs.Events.{due, all_acted, touches_of, event_lines}
+use Rattle.serial_model.specs.Events.{due}
 use Rattle.serial_model.specs.MemoryText.{memory_text}
-use Rattle.serial_model.specs.Outputs.{framed, frames_text, frame_bytes}
+use Rattle.serial_model.specs.Outputs.{frames_text}
 use Rattle.serial_model.specs.Serial.{state_at, IsEnd}
 use Rattle.serial_model.specs.State.{State, reset}
 use Rattle.serial_model.specs.TraceText.{trace_text}
 use Rattle.serial_model.specs.Tick.{started, happened, timed, displayed, accessed, processed, advanced, tick}
 use Rattle.serial_model.specs.Bus.{asked, word_for}
-use Rattle.ocs_run.specs.Run.{HasRun, HasFiles, HasParts, HasEndParts, StopsUnbuilt, Stopped, HasCreated, LeavesAfter}
+use Rattle.ocs_run.specs.Run.{HasFiles, HasParts, HasEndParts, StopsUnbuilt, Stopped, HasCreated, LeavesAfter}
 use Rattle.ocs_run.specs.Fault.{of_tick, of_write}
 use Rattle.ocs_run.specs.declared.fault.RunFault.{RunFault}
 use Rattle.ocs_run.specs.declared.fault.RunFault.TheVariants.{Write, OutOfMemory as NoRoomToRun, NotBuilt}
@@ -29,7 +27,7 @@ use Rattle.ocs_run.specs.declared.foreground.TickFault.{TickFault}
 use Rattle.ocs_run.specs.declared.foreground.TickFault.TheVariants.{OutOfMemory as NoRoomToTick, NotBuilt as TickNotBuilt}
 use Rattle.out_files.specs.declared.fault.WriteFault.{WriteFault}
 use Rattle.out_files.specs.declared.fault.WriteFault.TheVariants.{Failed, OutOfMemory as NoRoomToWrite}
-use Rattle.ocs_run.specs.Steps.{Written, Stands, Makes, Any, IsLeft, HasNext, Meets}
+use Rattle.ocs_run.specs.Steps.{Written, Stands, Makes, Any, HasNext, Meets}
 use Rattle.ocs_run.specs.Underway.{IsReset, IsUnderway, IsInStep, Flushes, Runs, IsStoppedBy, StopsFinish, Finishes, IsFresh}
 use Rattle.ocs_run.specs.declared.foreground.Foreground.{Foreground}
 

@@ -1,5 +1,5 @@
 -- The steps of the foreground over plain values.
-use Rattle.std.proofs.Common.{◌≡◌, ℕ, ◌+◌, ◌%◌, ◌<◌, Bool, true, false, List, [], ◌∷◌, ◌++◌, length, arith, refl, ap, subst, inl, inr, ◌∙◌, sym, append_assoc, append-nil, length-append}
+use Rattle.std.proofs.Common.{◌≡◌, ℕ, ◌+◌, ◌%◌, true, false, List, [], ◌∷◌, ◌++◌, length, arith, refl, ap, subst, inl, inr, ◌∙◌, sym, append_assoc, append-nil, length-append}
 use Rattle.std.proofs.lemmas.Grind.{flat_map-append}
 use Rattle.ocs_base.specs.declared.script.System.TheVariants.{Pal}
 use Rattle.ocs_base.specs.declared.beam.Beam.{Beam}
@@ -10,7 +10,6 @@ use Rattle.serial_model.specs.Beam.{IsOnScreen, place_of}
 use Rattle.serial_model.specs.Bus.{asked, word_of, word_for, answered, touch_of, bus_lines}
 use Rattle.serial_model.specs.Events.{is_due, due, acted, all_acted, touches_of, line_added, event_lines}
 use Rattle.serial_model.specs.Picture.{pixels, all_touched, maybe_touched}
-use Rattle.serial_model.specs.State.{State}
 use Rattle.serial_model.specs.Outputs.{framed, frames_text, frame_bytes}
 use Rattle.serial_model.specs.Tick.{displayed, scripted, accessed}
 use Rattle.serial_model.specs.TraceText.{line_text, trace_text}

@@ -1,5 +1,5 @@
 -- Texts that are appended piece by piece.
-use Rattle.std.proofs.Common.{◌≡◌, ℕ, List, ◌++◌, Result, Ok, Err, OnOk, append_assoc, ap, ◌∙◌, sym}
+use Rattle.std.proofs.Common.{◌≡◌, ℕ, List, ◌++◌, Result, Ok, Err, OnOk, append_assoc, ap, ◌∙◌}
 
 joined : (t a d c k n : List ℕ) → ((t ++ a) ++ d) ++ ((c ++ k) ++ n) ≡ t ++ ((((a ++ d) ++ c) ++ k) ++ n)
 joined t a d c k n = simp append_assoc

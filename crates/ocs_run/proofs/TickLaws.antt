@@ -1,18 +1,16 @@
 -- One colour clock of the foreground, from its steps.
-use Rattle.std.proofs.Common.{◌≡◌, ℕ, ◌+◌, ◌<◌, ◌≤◌, Bool, true, false, List, arith, refl, ap, ◌∙◌, sym, subst}
+use Rattle.std.proofs.Common.{◌≡◌, ℕ, ◌+◌, Bool, List, ap, ◌∙◌, sym, subst}
 use Rattle.ocs_base.specs.declared.beam.Beam.{Beam}
 use Rattle.ocs_base.specs.declared.script.At.{At}
 use Rattle.ocs_base.specs.declared.script.System.TheVariants.{Pal}
 use Rattle.serial_model.specs.declared.bus.Ask.{Ask}
 use Rattle.serial_model.specs.Beam.{IsOnScreen, place_of, next_place}
-use Rattle.serial_model.specs.Registers.{is_interlaced}
 use Rattle.serial_model.specs.Bus.{asked, word_for}
 use Rattle.serial_model.specs.Built.{is_unbuilt, meets_unbuilt}
-use Rattle.serial_model.specs.State.{State}
 use Rattle.serial_model.specs.Tick.{started, scripted, timed, displayed, accessed, processed, advanced, tick, before_access}
 use Rattle.serial_model.proofs.BeamLaws.{next_place-IsNext}
 use Rattle.serial_model.proofs.EventLaws.{AreFrom-next}
-use Rattle.ocs_run.specs.Steps.{Stands, Makes, Any, KeepsPlace, IsLeft, HasLater, Meets, HasNext}
+use Rattle.ocs_run.specs.Steps.{Stands, Makes, Any, IsLeft, HasLater, Meets, HasNext}
 use Rattle.ocs_run.specs.declared.foreground.Foreground.{Foreground}
 
 pub Makes-tick : (events : List At) (f0 f1 f2 f3 f4 f5 f6 f7 : Foreground) → Makes Any started f0 f1 → Makes Any (scripted events) f1 f2

@@ -1,8 +1,7 @@
 -- Lines that go to the trace.
-use Rattle.std.proofs.Common.{◌≡◌, ℕ, ◌*◌, ◌/◌, ◌%◌, Bool, ◌==◌, if◌then◌else◌, List, [], ◌∷◌, ◌++◌, arith, subst, refl, ap, ◌∙◌, sym, append_assoc, append-nil, codes}
-use Rattle.std.proofs.lemmas.Grind.{flat_map-append}
-use Rattle.std.proofs.lemmas.Bool.Decides.{nat_tests}
+use Rattle.std.proofs.Common.{◌≡◌, ℕ, true, false, if◌then◌else◌, List, [], ◌∷◌, ◌++◌, subst, refl, ap, ◌∙◌, sym, append_assoc, append-nil, codes}
 use Rattle.serial_model.specs.Bus.{bus_lines}
+use Rattle.serial_model.specs.Copper.{is_write}
 use Rattle.ocs_base.specs.Addr.{even_address}
 use Rattle.ocs_base.specs.Register.{register_of}
 use Rattle.ocs_base.specs.declared.beam.Beam.{Beam}
@@ -45,24 +44,25 @@ line_text-offset b reg other word by same =
     ap (λ n. place_text b ++ codes " W " ++ offset_text n ++ codes " " ++ word_text word ++ codes " " ++ letter_of by ++ codes "\n") same
 
 -- the Copper's line, by the first word
-pub Tells-move : (b : Beam) (at first word : ℕ) (old new : OutFilesValue) (reg : Reg) → first % 2 ≡ 0 → reg.offset ≡ even_address 512 first
+pub Tells-move : (b : Beam) (at first word : ℕ) (old new : OutFilesValue) (reg : Reg) → is_write first ≡ true → reg.offset ≡ even_address 512 first
     → new ≡ with_line old (Wrote b reg word Copper) → Tells (bus_lines b (CopperSecond at first) word) old new
 unfolding bus_lines
 Tells-move b at first word old new reg is named line =
-    let lines : (if first % 2 == 0 then Wrote b (register_of first) word Copper ∷ [] else []) ≡ Wrote b (register_of first) word Copper ∷ [] =
-    grind (arith, nat_tests) in
+    let lines : (if is_write first then Wrote b (register_of first) word Copper ∷ [] else []) ≡ Wrote b (register_of first) word Copper ∷ [] =
+    ap (λ w. if w then Wrote b (register_of first) word Copper ∷ [] else []) is in
     subst (λ ls. Tells ls old new) (sym lines)
     (Tells-line old new (Wrote b reg word Copper) (Wrote b (register_of first) word Copper) line (line_text-offset b reg (register_of first) word Copper named))
 
-pub Tells-wait : (b : Beam) (at first word : ℕ) (out : OutFilesValue) → (first % 2 ≡ 0 → ⊥) → Tells (bus_lines b (CopperSecond at first) word) out out
+pub Tells-wait : (b : Beam) (at first word : ℕ) (out : OutFilesValue) → is_write first ≡ false → Tells (bus_lines b (CopperSecond at first) word) out out
 unfolding bus_lines
 Tells-wait b at first word out not =
-    let lines : (if first % 2 == 0 then Wrote b (register_of first) word Copper ∷ [] else []) ≡ [] = grind (arith, nat_tests) in
+    let lines : (if is_write first then Wrote b (register_of first) word Copper ∷ [] else []) ≡ [] =
+    ap (λ w. if w then Wrote b (register_of first) word Copper ∷ [] else []) not in
     subst (λ ls. Tells ls out out) (sym lines) (Tells-none out)
 
 -- what is no second word of the Copper has no line
-pub Tells-other : (b : Beam) (ask : Ask) (word : ℕ) (out : OutFilesValue) → ((at first : ℕ) → ask ≡ CopperSecond at first → first % 2 ≡ 0 → ⊥) → Tells (bus_lines b ask word) out out
+pub Tells-other : (b : Beam) (ask : Ask) (word : ℕ) (out : OutFilesValue) → ((at first : ℕ) → ask ≡ CopperSecond at first → ⊥) → Tells (bus_lines b ask word) out out
 unfolding bus_lines
 Tells-other b Free word out not = Tells-none out
 Tells-other b (CopperFirst at) word out not = Tells-none out
-Tells-other b (CopperSecond at first) word out not = Tells-wait b at first word out (λ is. not at first refl is)
+Tells-other b (CopperSecond at first) word out not = absurd (not at first refl)

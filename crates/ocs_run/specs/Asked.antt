@@ -1,5 +1,5 @@
 -- What a reader of the command line answers.
-use Rattle.std.specs.Prelude.{◌≡◌, ◌≢◌, ℕ, ◌≤◌, Option, Some, None}
+use Rattle.std.specs.Prelude.{◌≡◌, ◌≢◌, Option, Some, None}
 use Rattle.ocs_run.specs.Order.{OrderValue, RunWordsValue}
 use Rattle.ocs_run.specs.declared.order.Order.{Order}
 use Rattle.ocs_run.specs.declared.order.RunWords.{RunWords}

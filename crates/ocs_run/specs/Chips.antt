@@ -1,5 +1,5 @@
 -- What the chips of the clock loop keep.
-use Rattle.std.specs.Prelude.{◌≡◌, ℕ, ◌<◌, ◌%◌}
+use Rattle.std.specs.Prelude.{◌<◌}
 use Rattle.serial_model.specs.declared.copper.CopperState.{CopperState}
 
 -- the Copper's address is one of chip memory

@@ -1,20 +1,15 @@
 -- What stands after a command.
-use Rattle.std.specs.Prelude.{◌≡◌, ◌≢◌, ℕ, ◌≤◌, Bool, true, false, not, ◌&&◌, ◌⊎◌, List, [], ◌∷◌, ◌++◌, take, length, codes, decimal, Option, Some, None, Result, Ok, Err}
+use Rattle.std.specs.Prelude.{◌≡◌, Bool, true, false, not, ◌&&◌, ◌⊎◌, List, [], ◌∷◌, Option, Some, Result, Ok, Err}
 use Rattle.ocs_base.specs.Script.{ScriptValue}
 use Rattle.ocs_base.specs.declared.script.At.{At}
 use Rattle.ocs_base.specs.declared.script.Act.{Act}
 use Rattle.ocs_base.specs.declared.script.Act.TheVariants.{Poke, Peek, Joy, Fire, Key}
 use Rattle.ocs_io.specs.Answers.{WhereTold}
-use Rattle.ocs_io.specs.Place.{Files, Outside, Rose, said_more}
+use Rattle.ocs_io.specs.Place.{Files, Outside, Rose}
 use Rattle.out_files.specs.OutFiles.{OutNames}
-use Rattle.out_files.specs.declared.fault.OutFile.{OutFile}
-use Rattle.out_files.specs.declared.fault.OutFile.TheVariants.{Frames, Trace, Memory}
-use Rattle.script_read.specs.declared.fault.BadKind.{BadKind}
-use Rattle.script_read.specs.KindName.{kind_name}
 use Rattle.serial_model.specs.Built.{is_built}
 use Rattle.ocs_run.specs.declared.fault.Fault.{Fault}
 use Rattle.ocs_run.specs.declared.fault.Fault.TheVariants.{Usage, BadImage, BadScript, Unread, Unwritten, OutOfMemory, NotBuilt}
-use Rattle.ocs_run.specs.declared.fault.Input.{Input}
 use Rattle.ocs_run.specs.declared.fault.Input.TheVariants.{Image, Script}
 use Rattle.ocs_run.specs.Order.{OrderValue}
 use Rattle.ocs_run.specs.Run.{HasFiles, Remains, StopsUnbuilt}

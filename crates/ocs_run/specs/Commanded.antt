@@ -1,7 +1,7 @@
 -- What the parts of a command leave.
-use Rattle.std.specs.Prelude.{◌≡◌, ℕ, Bool, true, false, List, [], ◌⊎◌, Option, Result, Ok, Err}
+use Rattle.std.specs.Prelude.{◌≡◌, ℕ, true, false, List, [], ◌⊎◌, Result, Ok, Err}
 use Rattle.ocs_base.specs.Script.{ScriptValue}
-use Rattle.ocs_io.specs.Place.{Files, Outside, Rose}
+use Rattle.ocs_io.specs.Place.{Outside, Rose}
 use Rattle.out_files.specs.OutFiles.{OutNames, OutFilesValue}
 use Rattle.ocs_run.specs.declared.fault.Fault.{Fault}
 use Rattle.ocs_run.specs.declared.fault.Fault.TheVariants.{Usage, BadImage, BadScript, Unread, Unwritten, OutOfMemory, NotBuilt}

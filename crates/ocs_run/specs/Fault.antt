@@ -1,5 +1,4 @@
 -- Faults of a run.
-use Rattle.out_files.specs.declared.fault.OutFile.{OutFile}
 use Rattle.out_files.specs.declared.fault.WriteFault.{WriteFault}
 use Rattle.out_files.specs.declared.fault.WriteFault.TheVariants.{Failed, OutOfMemory as NoRoomToWrite}
 use Rattle.ocs_run.specs.declared.foreground.TickFault.{TickFault}

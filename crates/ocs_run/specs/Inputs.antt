@@ -1,5 +1,5 @@
 -- What reading the inputs tells.
-use Rattle.std.specs.Prelude.{◌≡◌, ℕ, Bool, true, false, List, Option, Some, None}
+use Rattle.std.specs.Prelude.{◌≡◌, ℕ, true, false, List, Some}
 use Rattle.ocs_base.specs.Limits.{IsRunnable}
 use Rattle.ocs_base.specs.Script.{ScriptValue}
 use Rattle.ocs_io.specs.Answers.{WhereTold}

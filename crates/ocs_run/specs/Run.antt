@@ -1,8 +1,8 @@
 -- A run and its files.
-use Rattle.std.specs.Prelude.{◌≡◌, ℕ, ◌<◌, ◌+◌, Bool, false, true, List, [], ◌++◌, ◌⊎◌, take, Option}
+use Rattle.std.specs.Prelude.{◌≡◌, ℕ, ◌<◌, false, true, List, [], ◌⊎◌, take, Option}
 use Rattle.ocs_base.specs.Script.{ScriptValue}
 use Rattle.ocs_base.specs.declared.script.System.TheVariants.{Pal}
-use Rattle.ocs_io.specs.Place.{Files, with_file}
+use Rattle.ocs_io.specs.Place.{Files}
 use Rattle.out_files.specs.OutFiles.{OutNames}
 use Rattle.out_files.specs.Answers.{with_empty, in_order}
 use Rattle.out_files.specs.Together.{three_files, HoldParts}
@@ -10,7 +10,6 @@ use Rattle.serial_model.specs.Built.{meets_unbuilt}
 use Rattle.serial_model.specs.MemoryText.{memory_text}
 use Rattle.serial_model.specs.Outputs.{frames_text}
 use Rattle.serial_model.specs.Serial.{state_at, IsEnd}
-use Rattle.serial_model.specs.State.{State}
 use Rattle.serial_model.specs.TraceText.{trace_text}
 use Rattle.ocs_run.specs.declared.fault.RunFault.{RunFault}
 use Rattle.ocs_run.specs.declared.fault.RunFault.TheVariants.{Write, OutOfMemory, NotBuilt}

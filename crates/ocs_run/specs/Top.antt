@@ -1,7 +1,7 @@
 -- What the top call answers.
 use Rattle.std.specs.Prelude.{◌≡◌, ℕ, ◌⊎◌, List, Option, Some, None, Result, Ok, Err}
 use Rattle.ocs_io.specs.Answers.{WhereTold}
-use Rattle.ocs_io.specs.Place.{Files, Outside, Rose}
+use Rattle.ocs_io.specs.Place.{Outside, Rose}
 use Rattle.script_read.specs.declared.fault.BadKind.{BadKind}
 use Rattle.ocs_run.specs.Command.{OrderAnswers, HasGoodImage}
 use Rattle.ocs_run.specs.Fault.{status_of}

@@ -2,7 +2,7 @@
 
 ghost use Rattle.std.specs.Prelude.{◌≡◌, ◌<◌, if◌then◌else◌};
 ghost use Rattle.serial_model.specs.Registers.{pointer, is_interlaced as interlaced, written, set_or_cleared, dmacon_mask};
-ghost use Rattle.serial_model.specs.Copper.{has_come as come, started_at, copper_stepped, word_after, phase_after as after};
+ghost use Rattle.serial_model.specs.Copper.{has_come as come, started_at, copper_stepped, word_after, phase_after as after, is_forbidden as forbidden, is_write as writes};
 ghost use Rattle.serial_model.specs.Bus.{asked, answered, copper_runs as runs};
 ghost use Rattle.serial_model.specs.State.{poked};
 ghost use Rattle.serial_model.specs.Tick.{chips_started};
@@ -104,7 +104,7 @@ impl Chips {
                 at: self.copper.at,
                 first: self.copper.first,
             },
-            CopperPhase::Waiting => Ask::Free,
+            CopperPhase::Waiting | CopperPhase::Stopped => Ask::Free,
         }
     }
 
@@ -117,7 +117,7 @@ impl Chips {
             self.copper = stepped(&self.copper, beam, word);
         }
         if let Ask::CopperSecond { first, .. } = ask {
-            if first % 2 == 0 {
+            if is_write(*first) {
                 self.poke(Reg::masked(*first), word);
             }
         }
@@ -201,17 +201,34 @@ fn stepped(copper: &CopperState, beam: &Beam, word: u16) -> CopperState
             first,
             second,
         },
+        CopperPhase::Stopped => *copper,
     }
 }
 
-/// The phase after the second word was read: a MOVE is done, a WAIT begins.
+/// Whether a MOVE with this first word is forbidden: its register is below 080.
+pub fn is_forbidden(first: u16) -> bool
+    ensures { result ≡ forbidden first }
+{
+    Reg::masked(first).raw() < 0x80
+}
+
+/// Whether this is the first word of a MOVE that writes.
+pub fn is_write(first: u16) -> bool
+    ensures { result ≡ writes first }
+{
+    first % 2 == 0 && !is_forbidden(first)
+}
+
+/// The phase after the second word was read: a MOVE is done or forbidden, or a WAIT begins.
 fn phase_after(first: u16) -> CopperPhase
     ensures { result ≡ after first }
 {
-    if first % 2 == 0 {
-        CopperPhase::First
-    } else {
+    if first % 2 != 0 {
         CopperPhase::Waiting
+    } else if is_forbidden(first) {
+        CopperPhase::Stopped
+    } else {
+        CopperPhase::First
     }
 }
 

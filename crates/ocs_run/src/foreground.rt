@@ -17,7 +17,7 @@ ghost use Rattle.out_files.specs.Together.{LeavesParts};
 ghost use Rattle.ocs_run.specs.Out.{Tells};
 ghost use Rattle.ocs_run.specs.Underway.{IsReset, Flushes};
 
-use crate::chips::Chips;
+use crate::chips::{Chips, is_forbidden, is_write};
 use crate::picture;
 use mem_versions::Chip;
 use ocs_base::{Act, Addr, At, Beam, OutOfMemory, Reg, System};
@@ -281,7 +281,7 @@ fn trace_access(out: &mut OutFiles, beam: &Beam, ask: &Ask, word: u16) -> Result
     ensures { OnOk result (Tells (bus_lines beam.now ask.now word) out.old out.new) }
 {
     if let Ask::CopperSecond { first, .. } = ask {
-        if first % 2 == 0 {
+        if is_write(*first) {
             out.line(TraceLine::Wrote {
                 beam: *beam,
                 reg: Reg::masked(*first),
@@ -311,14 +311,14 @@ fn touch_of(ask: &Ask, word: u16) -> Option<Touch>
         return None;
     };
     let reg = Reg::masked(*first).raw();
-    if first % 2 == 0 && (0x180..=0x1be).contains(&reg) {
+    if is_write(*first) && (0x180..=0x1be).contains(&reg) {
         Some(Touch::Set { reg, word })
     } else {
         None
     }
 }
 
-/// Whether an access completes a SKIP, or a MOVE whose write is not built.
+/// Whether an access completes a SKIP, or a MOVE whose write is not built; a forbidden MOVE writes nothing.
 fn is_unbuilt(ask: &Ask, word: u16) -> bool
     ensures { result ≡ unbuilt ask.now word }
 {
@@ -326,7 +326,7 @@ fn is_unbuilt(ask: &Ask, word: u16) -> bool
         return false;
     };
     if first % 2 == 0 {
-        !is_built(Reg::masked(*first), word)
+        !is_forbidden(*first) && !is_built(Reg::masked(*first), word)
     } else {
         word % 2 == 1
     }

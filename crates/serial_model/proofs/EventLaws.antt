@@ -4,7 +4,7 @@ use Rattle.std.proofs.lemmas.Bool.Decides.{nat_tests}
 use Rattle.ocs_base.specs.Limits.{AreFrom, AreInOrder, AreInLimits, time_of}
 use Rattle.ocs_base.specs.declared.beam.Beam.{Beam}
 use Rattle.ocs_base.specs.declared.script.At.{At}
-use Rattle.serial_model.specs.Beam.{place_of, next_place, IsOnScreen, lines}
+use Rattle.serial_model.specs.Beam.{place_of, next_place, IsOnScreen}
 use Rattle.serial_model.specs.Events.{is_due, due}
 
 -- events that are none of them before the place, in order and in the limits of a run

@@ -7,14 +7,14 @@ use Rattle.serial_model.specs.declared.bus.Ask.{Ask}
 use Rattle.serial_model.specs.declared.bus.Ask.TheVariants.{Free, CopperFirst, CopperSecond}
 use Rattle.serial_model.specs.declared.copper.CopperState.{CopperState}
 use Rattle.serial_model.specs.declared.copper.CopperPhase.{CopperPhase}
-use Rattle.serial_model.specs.declared.copper.CopperPhase.TheVariants.{First, Second, Waiting}
+use Rattle.serial_model.specs.declared.copper.CopperPhase.TheVariants.{First, Second, Waiting, Stopped}
 use Rattle.serial_model.specs.declared.picture.Touch.{Touch}
 use Rattle.serial_model.specs.declared.picture.Touch.TheVariants.{Set}
 use Rattle.serial_model.specs.declared.trace.Source.TheVariants.{Copper}
 use Rattle.serial_model.specs.declared.trace.TraceLine.{TraceLine}
 use Rattle.serial_model.specs.declared.trace.TraceLine.TheVariants.{Wrote}
 use Rattle.serial_model.specs.Registers.{copper_dma}
-use Rattle.serial_model.specs.Copper.{copper_stepped, moved_register}
+use Rattle.serial_model.specs.Copper.{copper_stepped, moved_register, is_write}
 use Rattle.serial_model.specs.Picture.{is_picture_register}
 use Rattle.serial_model.specs.State.{Chips, poked}
 
@@ -27,6 +27,7 @@ abbrev pub copper_ask : CopperPhase → CopperState → Ask
 copper_ask First c = CopperFirst c.at
 copper_ask Second c = CopperSecond c.at c.first
 copper_ask Waiting c = Free
+copper_ask Stopped c = Free
 
 -- the access of this clock, from the state as it is then
 abbrev pub asked : Beam → Chips → Ask
@@ -42,11 +43,11 @@ word_for Free memory = 0
 word_for (CopperFirst at) memory = word_of memory at
 word_for (CopperSecond at first) memory = word_of memory at
 
--- a MOVE writes the second word to its register at the clock of the second read
+-- a MOVE that is not forbidden writes the second word to its register at the clock of the second read
 abbrev pub moved : Ask → ℕ → Chips → Chips
 moved Free word c = c
 moved (CopperFirst at) word c = c
-moved (CopperSecond at first) word c = if first % 2 == 0 then poked (moved_register first) word c else c
+moved (CopperSecond at first) word c = if is_write first then poked (moved_register first) word c else c
 
 -- the chips after the access: the Copper steps, and then its MOVE is made
 unfoldable pub answered : Beam → Ask → ℕ → Chips → Chips
@@ -58,10 +59,10 @@ unfoldable pub touch_of : Ask → ℕ → Option Touch
 touch_of Free word = None
 touch_of (CopperFirst at) word = None
 touch_of (CopperSecond at first) word =
-    if (first % 2 == 0) && is_picture_register (moved_register first) then Some (Set (moved_register first) word) else None
+    if is_write first && is_picture_register (moved_register first) then Some (Set (moved_register first) word) else None
 
 -- the trace line of an access: a MOVE is a write by the Copper
 unfoldable pub bus_lines : Beam → Ask → ℕ → List TraceLine
 bus_lines b Free word = []
 bus_lines b (CopperFirst at) word = []
-bus_lines b (CopperSecond at first) word = if first % 2 == 0 then Wrote b (register_of first) word Copper ∷ [] else []
+bus_lines b (CopperSecond at first) word = if is_write first then Wrote b (register_of first) word Copper ∷ [] else []

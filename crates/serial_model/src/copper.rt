@@ -1,12 +1,13 @@
 //! What the Copper keeps between two colour clocks.
 
 /// What the Copper does at its next even clock: read the first or the second word of an instruction,
-/// or compare the beam with the WAIT that it has read.
+/// compare the beam with the WAIT that it has read, or nothing until its next start or jump.
 #[derive(Clone, Copy, Debug)]
 pub enum CopperPhase {
     First,
     Second,
     Waiting,
+    Stopped,
 }
 
 /// The phase, the address of the next word that the Copper reads, and the two words of the

@@ -1,4 +1,4 @@
-use Rattle.std.proofs.Common.{◌≡◌, ◌<◌, Err, ap, subst, ◌∙◌}
+use Rattle.std.proofs.Common.{◌<◌, Err, ap, subst, ◌∙◌}
 use Rattle.ocs_run.proofs.KeptLaws.{OnlyWrites-more, KeepsNames-more, AreGrowable-kept}
 use Rattle.ocs_run.proofs.RunLaws.{if_err, stop-tick, stop-flush, IsUnderway-tick, IsInStep-tick, IsUnderway-flush, IsInStep-flush}
 use Rattle.ocs_run.proofs.run.run_clocks.Goals as goal

@@ -1,7 +1,6 @@
-use Rattle.std.proofs.Common.{◌≡◌, subst, sym}
-use Rattle.ocs_run.specs.Run.{LeavesAfter}
+use Rattle.std.proofs.Common.{subst, sym}
 use Rattle.ocs_run.specs.Underway.{IsStoppedBy}
-use Rattle.ocs_run.proofs.RunLaws.{if_err, IsInStep-start, run-stopped, run-done, run-finish-stopped, LeavesAfter-created}
+use Rattle.ocs_run.proofs.RunLaws.{if_err, IsInStep-start, run-stopped, run-done, run-finish-stopped}
 use Rattle.ocs_run.proofs.run.run_files.Goals as goal
 
 pub run_clocks-requires-clause-step : goal.run_clocks-requires-clause-step

@@ -1,4 +1,4 @@
-use Rattle.std.proofs.Common.{codes, decimal, ◌∙◌, ap, ◌++◌}
+use Rattle.std.proofs.Common.{codes, decimal}
 use Rattle.script_read.specs.KindName.{kind_name}
 use Rattle.ocs_run.proofs.TextLaws.{put_three}
 use Rattle.ocs_run.proofs.texts.put_bad_line.Goals as goal

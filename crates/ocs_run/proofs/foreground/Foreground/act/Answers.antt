@@ -1,9 +1,7 @@
-use Rattle.std.proofs.Common.{◌≡◌, ℕ, List, refl, ap, ◌∙◌}
-use Rattle.serial_model.specs.declared.picture.Touch.{Touch}
+use Rattle.std.proofs.Common.{refl, ap, ◌∙◌}
 use Rattle.serial_model.specs.Picture.{all_touched}
 use Rattle.ocs_run.proofs.PictureLaws.{all_touched-poke}
 use Rattle.ocs_run.proofs.TraceLaws.{line-first}
-use Rattle.ocs_run.specs.Steps.{Acts}
 use Rattle.ocs_run.proofs.foreground.Foreground.act.Goals as goal
 
 pub returns-in_ok-line-clause-acts : goal.returns-in_ok-line-clause-acts

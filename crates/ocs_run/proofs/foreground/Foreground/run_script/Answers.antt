@@ -1,5 +1,5 @@
-use Rattle.std.proofs.Common.{◌≡◌, refl, sym, ◌∙◌}
-use Rattle.ocs_run.proofs.StepLaws.{HasActed-start, turn, IsOver-later, IsOver-empty, Makes-scripted, KeepsPlace-acted}
+use Rattle.std.proofs.Common.{sym, ◌∙◌}
+use Rattle.ocs_run.proofs.StepLaws.{turn, IsOver-later, IsOver-empty, Makes-scripted, KeepsPlace-acted}
 use Rattle.ocs_run.proofs.foreground.Foreground.run_script.Goals as goal
 
 pub loop-event-preserved : goal.loop-event-preserved

@@ -1,4 +1,4 @@
-use Rattle.std.proofs.Common.{◌≡◌, ℕ, ◌+◌, ◌∙◌, sym, ap, subst, true, false}
+use Rattle.std.proofs.Common.{◌≡◌, ◌+◌, ◌∙◌, sym, ap, subst, true, false}
 use Rattle.ocs_base.specs.declared.beam.Beam.{Beam}
 use Rattle.serial_model.specs.Beam.{place_of}
 use Rattle.serial_model.specs.Registers.{is_interlaced}
