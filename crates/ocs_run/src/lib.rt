@@ -15,3 +15,6 @@ mod top;
 
 pub use gate::{Gate, NoGate};
 pub use top::ocs_main;
+
+#[cfg(test)]
+mod tests;

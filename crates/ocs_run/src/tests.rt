@@ -1,0 +1,231 @@
+//! Worked runs on a shelf. The expected files and texts are worked by hand.
+
+use crate::{NoGate, ocs_main};
+use ocs_base::OutOfMemory;
+use ocs_io::Shelf;
+use std::alloc::Global;
+
+const IMAGE: [u8; 8] = [0; 8];
+
+const HEAD: &str = "ocs 1\ncpu off\nframes 1\n";
+
+const HEADING: &[u8] = b"P6\n720 286\n255\n";
+
+const USAGE: &[u8] = b"usage: ocs run IMAGE SCRIPT FRAMES TRACE MEMORY BAND WORKERS\n";
+
+const WORDS: [&str; 8] = [
+    "run", "image", "script", "frames", "trace", "memory", "313", "2",
+];
+
+/// A script of one frame with these lines of events.
+fn script(alloc: Global, events: &str) -> Result<String, OutOfMemory> {
+    let mut text = String::from_str(alloc, HEAD)?;
+    text.push_str(events)?;
+    text.push_str("end\n")?;
+    Ok(text)
+}
+
+/// A shelf with the two input files.
+fn shelf(alloc: Global, image: &[u8], script: &[u8]) -> Result<Shelf, OutOfMemory> {
+    let mut shelf = Shelf::new(alloc);
+    shelf.put("image", image)?;
+    shelf.put("script", script)?;
+    Ok(shelf)
+}
+
+/// The status of the command with these words.
+fn run(alloc: Global, texts: &[&str], shelf: &mut Shelf) -> Result<u8, OutOfMemory> {
+    let mut words = Vec::new(alloc);
+    for text in texts {
+        words.push(String::from_str(alloc, text)?)?;
+    }
+    Ok(ocs_main(alloc, &words, shelf, NoGate))
+}
+
+/// A frame file image of runs of pixels of one colour.
+fn picture(alloc: Global, runs: &[(usize, [u8; 3])]) -> Result<Vec<u8>, OutOfMemory> {
+    let mut bytes = Vec::from_slice(alloc, HEADING)?;
+    for (count, colour) in runs {
+        for _ in 0..*count {
+            bytes.extend_from_slice(colour)?;
+        }
+    }
+    Ok(bytes)
+}
+
+/// Whether the file is there with these bytes.
+fn holds(shelf: &Shelf, name: &str, bytes: &[u8]) -> bool {
+    match shelf.file(name) {
+        Some(file) => file == bytes,
+        None => false,
+    }
+}
+
+const BLACK: [u8; 3] = [0, 0, 0];
+
+const RED: [u8; 3] = [255, 0, 0];
+
+#[test]
+fn files_of_pokes(rt: HostRuntime) -> Result<(), OutOfMemory> {
+    let alloc = rt.alloc();
+    let black = picture(alloc, &[(205_920, BLACK)])?;
+    let red = picture(alloc, &[(53_492, BLACK), (152_428, RED)])?;
+    let blue = picture(alloc, &[(205_920, [0, 0, 34])])?;
+    let memory = vec![in alloc; 0u8; 524_288]?;
+    for (events, frames, trace) in [
+        ("", &black, ""),
+        (
+            "at 0 100 100 poke 180 0f00\n",
+            &red,
+            "0 100 100 W 180 0f00 S\n",
+        ),
+        (
+            "at 0 5 0 poke 180 0001\nat 0 5 0 poke 180 0002\n",
+            &blue,
+            "0 5 0 W 180 0001 S\n0 5 0 W 180 0002 S\n",
+        ),
+    ] {
+        let mut shelf = shelf(alloc, &IMAGE, script(alloc, events)?.as_bytes())?;
+        assert_eq!(rt; run(alloc, &WORDS, &mut shelf)?, 0, "{events}");
+        assert!(rt; holds(&shelf, "frames", frames), "frames of {events}");
+        assert!(rt;
+            holds(&shelf, "trace", trace.as_bytes()),
+            "trace of {events}"
+        );
+        assert!(rt; holds(&shelf, "memory", &memory), "memory of {events}");
+        assert!(rt; shelf.said().is_empty());
+    }
+    Ok(())
+}
+
+const BAR_TRACE: &str = "0 0 0 W 082 0008 S\n0 0 0 W 088 0000 S\n0 0 0 W 096 8280 S\n\
+0 60 4 W 180 0001 C\n0 61 4 W 180 0002 C\n0 62 4 W 180 0003 C\n0 63 4 W 180 0004 C\n\
+0 64 4 W 180 0005 C\n0 65 4 W 180 0006 C\n0 66 4 W 180 0007 C\n0 67 4 W 180 0008 C\n";
+
+/// Eight waits for the lines 60 to 67, each with a write of a shade of blue.
+fn bars(alloc: Global) -> Result<Vec<u8>, OutOfMemory> {
+    let mut image = Vec::from_slice(alloc, &IMAGE)?;
+    for k in 0u8..8 {
+        image.extend_from_slice(&[0x3c + k, 0x01, 0xff, 0xfe, 0x01, 0x80, 0x00, k + 1])?;
+    }
+    image.extend_from_slice(&[0xff, 0xff, 0xff, 0xfe])?;
+    Ok(image)
+}
+
+#[test]
+fn bars_for_every_band_and_worker(rt: HostRuntime) -> Result<(), OutOfMemory> {
+    let alloc = rt.alloc();
+    let image = bars(alloc)?;
+    let start = "at 0 0 0 poke 082 0008\nat 0 0 0 poke 088 0000\nat 0 0 0 poke 096 8280\n";
+    let text = script(alloc, start)?;
+    let frames = picture(
+        alloc,
+        &[
+            (24_480, BLACK),
+            (720, [0, 0, 17]),
+            (720, [0, 0, 34]),
+            (720, [0, 0, 51]),
+            (720, [0, 0, 68]),
+            (720, [0, 0, 85]),
+            (720, [0, 0, 102]),
+            (720, [0, 0, 119]),
+            (176_400, [0, 0, 136]),
+        ],
+    )?;
+    for (band, workers) in [("1", "0"), ("3", "4"), ("313", "0"), ("313", "4")] {
+        let words = [
+            "run", "image", "script", "frames", "trace", "memory", band, workers,
+        ];
+        let mut shelf = shelf(alloc, &image, text.as_bytes())?;
+        assert_eq!(rt; run(alloc, &words, &mut shelf)?, 0, "{band} {workers}");
+        assert!(rt; holds(&shelf, "frames", &frames), "frames");
+        assert!(rt; holds(&shelf, "trace", BAR_TRACE.as_bytes()), "trace");
+    }
+    Ok(())
+}
+
+#[test]
+fn answers_and_their_texts(rt: HostRuntime) -> Result<(), OutOfMemory> {
+    let alloc = rt.alloc();
+    let long = vec![in alloc; 0u8; 524_290]?;
+    let good = script(alloc, "")?;
+    let skip = [0, 0, 0, 0, 0, 0, 0, 0, 0, 1, 0xff, 0xff];
+    let start = "at 0 0 0 poke 082 0008\nat 0 0 0 poke 088 0000\nat 0 0 0 poke 096 8280\n";
+    let started = script(alloc, start)?;
+    let falling = script(alloc, "at 0 5 0 poke 180 0001\nat 0 4 0 poke 180 0002\n")?;
+    for (image, text, status, said) in [
+        (&[0u8; 7] as &[u8], good.as_str(), 3, "bad image\n"),
+        (long.as_slice(), good.as_str(), 3, "bad image\n"),
+        (
+            &IMAGE,
+            "ocs 1\ncpu off\nframes 0\nend\n",
+            4,
+            "bad script: line 3: frames\n",
+        ),
+        (&IMAGE, HEAD, 4, "bad script: line 4: missing\n"),
+        (&IMAGE, "", 4, "bad script: line 1: missing\n"),
+        (&IMAGE, falling.as_str(), 4, "bad script: line 5: order\n"),
+        (&IMAGE, "ocs 1\ncpu on\nframes 1\nend\n", 8, "not built\n"),
+    ] {
+        let mut shelf = shelf(alloc, image, text.as_bytes())?;
+        assert_eq!(rt; run(alloc, &WORDS, &mut shelf)?, status, "{said}");
+        assert!(rt; shelf.said() == said.as_bytes(), "{said}");
+        assert!(rt; shelf.file("frames").is_none(), "created for {said}");
+    }
+    let mut shelf = shelf(alloc, &skip, started.as_bytes())?;
+    assert_eq!(rt; run(alloc, &WORDS, &mut shelf)?, 8);
+    assert!(rt; shelf.said() == b"not built\n".as_slice());
+    Ok(())
+}
+
+#[test]
+fn words_that_are_no_run(rt: HostRuntime) -> Result<(), OutOfMemory> {
+    let alloc = rt.alloc();
+    for words in [
+        [
+            "run", "image", "script", "frames", "trace", "memory", "313", "33",
+        ],
+        [
+            "run", "image", "script", "frames", "trace", "memory", "0", "2",
+        ],
+        [
+            "run", "image", "script", "frames", "trace", "memory", "01", "2",
+        ],
+        [
+            "run", "image", "script", "frames", "frames", "memory", "313", "2",
+        ],
+        ["run", "image", "script", "", "trace", "memory", "313", "2"],
+        [
+            "walk", "image", "script", "frames", "trace", "memory", "313", "2",
+        ],
+    ] {
+        let mut shelf = shelf(alloc, &IMAGE, script(alloc, "")?.as_bytes())?;
+        shelf.fail_at(0)?;
+        assert_eq!(rt; run(alloc, &words, &mut shelf)?, 2);
+    }
+    let mut shelf = shelf(alloc, &IMAGE, &[])?;
+    let six = ["run", "image", "script", "frames", "trace", "memory"];
+    assert_eq!(rt; run(alloc, &six, &mut shelf)?, 2);
+    assert!(rt; shelf.said() == USAGE);
+    Ok(())
+}
+
+#[test]
+fn faults_of_the_place(rt: HostRuntime) -> Result<(), OutOfMemory> {
+    let alloc = rt.alloc();
+    let text = script(alloc, "at 0 100 100 poke 180 0f00\n")?;
+    for (call, status, said, created) in [
+        (0, 5, "cannot read image\n", false),
+        (1, 5, "cannot read script\n", false),
+        (2, 6, "cannot write frames\n", false),
+        (3, 6, "cannot write trace\n", true),
+        (5, 6, "cannot write frames\n", true),
+    ] {
+        let mut shelf = shelf(alloc, &IMAGE, text.as_bytes())?;
+        shelf.fail_at(call)?;
+        assert_eq!(rt; run(alloc, &WORDS, &mut shelf)?, status, "call {call}");
+        assert!(rt; shelf.said() == said.as_bytes(), "call {call}");
+        assert_eq!(rt; shelf.file("frames").is_some(), created, "call {call}");
+    }
+    Ok(())
+}
