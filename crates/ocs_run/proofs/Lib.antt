@@ -7,3 +7,5 @@ pub mod TextLaws
 pub mod TickLaws
 pub mod TopLaws
 pub mod TraceLaws
+pub mod GrowthLaws
+pub mod PrefixLaws

@@ -18,11 +18,12 @@ use Rattle.serial_model.specs.State.{State, reset}
 use Rattle.serial_model.specs.TraceText.{trace_text}
 use Rattle.serial_model.specs.Tick.{started, happened, timed, displayed, accessed, processed, advanced, tick}
 use Rattle.serial_model.specs.Bus.{asked, word_for}
+use Rattle.ocs_run.proofs.PrefixLaws.{LeavesPrefixes-parts, LeavesPrefixes-end, LeavesPrefixes-all}
 use Rattle.ocs_run.specs.Run.{HasFiles, HasParts, HasEndParts, StopsUnbuilt, Stopped, HasCreated, LeavesAfter}
 use Rattle.ocs_run.specs.Fault.{of_tick, of_write}
 use Rattle.ocs_run.specs.declared.fault.RunFault.{RunFault}
 use Rattle.ocs_run.specs.declared.fault.RunFault.TheVariants.{Write, OutOfMemory as NoRoomToRun, NotBuilt}
-use Rattle.out_files.specs.Answers.{CreateAnswers}
+use Rattle.out_files.specs.Answers.{CreateAnswers, with_empty, in_order}
 use Rattle.ocs_run.specs.declared.foreground.TickFault.{TickFault}
 use Rattle.ocs_run.specs.declared.foreground.TickFault.TheVariants.{OutOfMemory as NoRoomToTick, NotBuilt as TickNotBuilt}
 use Rattle.out_files.specs.declared.fault.WriteFault.{WriteFault}
@@ -290,9 +291,9 @@ stop-flush script before now after first fore NoRoomToWrite fault names runs lea
 pub StopsFinish-flush : (before after : Option Files) (fore : Foreground) (f : WriteFault) (fault : RunFault) → LeavesParts fore.out before after []
     → fault ≡ of_write f → StopsFinish fault fore before after
 StopsFinish-flush before after fore (Failed file) fault leaves is image script base ended so =
-    rw is (inr (inl (fore.t, HasParts-refused image script base before after fore leaves so)))
+    rw is (LeavesPrefixes-parts image script _ base after fore.t (HasParts-refused image script base before after fore leaves so))
 StopsFinish-flush before after fore NoRoomToWrite fault leaves is image script base ended so =
-    rw is (inr (inl (fore.t, HasParts-refused image script base before after fore leaves so)))
+    rw is (LeavesPrefixes-parts image script _ base after fore.t (HasParts-refused image script base before after fore leaves so))
 
 end_parts : (before now after : Option Files) (old fore : Foreground) (image : List ℕ) (script : ScriptValue) (base : Option Files) → Flushes old fore before now
     → old.beam.frame ≡ script.frames → LeavesParts fore.out now after (memory_text fore.chip.words) → IsUnderway image script base before old
@@ -305,9 +306,9 @@ end_parts before now after old fore image script base flushes ended leaves so =
 pub StopsFinish-memory : (before now after : Option Files) (old fore : Foreground) (f : WriteFault) (fault : RunFault) → Flushes old fore before now
     → LeavesParts fore.out now after (memory_text fore.chip.words) → fault ≡ of_write f → StopsFinish fault old before after
 StopsFinish-memory before now after old fore (Failed file) fault flushes leaves is image script base ended so =
-    rw is (inr (inr (fore.t, end_parts before now after old fore image script base flushes ended leaves so)))
+    rw is (LeavesPrefixes-end image script _ base after fore.t (end_parts before now after old fore image script base flushes ended leaves so))
 StopsFinish-memory before now after old fore NoRoomToWrite fault flushes leaves is image script base ended so =
-    rw is (inr (inr (fore.t, end_parts before now after old fore image script base flushes ended leaves so)))
+    rw is (LeavesPrefixes-end image script _ base after fore.t (end_parts before now after old fore image script base flushes ended leaves so))
 
 pub Finishes-all : (before now after : Option Files) (old fore : Foreground) → Flushes old fore before now → fore.out ≡ all_given old.out
     → Completes fore.out now after (memory_text fore.chip.words) → Finishes old before after
@@ -319,16 +320,16 @@ Finishes-all before now after old fore flushes empty completes image script base
 -- the whole run and its stops
 pub LeavesAfter-created : (image : List ℕ) (script : ScriptValue) (names : OutNames) (old new : Outside) (f : WriteFault) (fault : RunFault)
     → CreateAnswers names old new (Err f) → fault ≡ of_write f → LeavesAfter fault image script names old.files new.files
-LeavesAfter-created image script names old new (Failed file) fault made is = rw is (inl (made.0, made.3))
-LeavesAfter-created image script names old new NoRoomToWrite fault made is = rw is (inl made)
+LeavesAfter-created image script names old new (Failed file) fault made is = rw is (LeavesPrefixes-all image script names old.files new.files (inl (made.0, made.3)))
+LeavesAfter-created image script names old new NoRoomToWrite fault made is = rw is (LeavesPrefixes-all image script names old.files new.files (inl made))
 
 pub HasCreated-all : (names : OutNames) (old new : Outside) → CreateAnswers names old new (Ok tt) → HasCreated names old.files new.files
 HasCreated-all names old new made = (3, made)
 
 pub LeavesAfter-stopped : (image : List ℕ) (script : ScriptValue) (names : OutNames) (base new : Option Files) (fault : RunFault)
     → Stopped image script names base new fault → LeavesAfter fault image script names base new
-LeavesAfter-stopped image script names base new (Write file) parts = inr (inl parts)
-LeavesAfter-stopped image script names base new NoRoomToRun parts = inr (inl parts)
+LeavesAfter-stopped image script names base new (Write file) parts = LeavesPrefixes-parts image script names base new parts.0 parts.1
+LeavesAfter-stopped image script names base new NoRoomToRun parts = LeavesPrefixes-parts image script names base new parts.0 parts.1
 LeavesAfter-stopped image script names base new NotBuilt parts = parts
 
 -- from the creates to the end of a whole run
@@ -372,3 +373,8 @@ pub run-finish-stopped : (image : List ℕ) (script : ScriptValue) (base mid bef
 run-finish-stopped image script base mid before new out made fore last r fresh same begins reset runs ended names stops =
     if_err_more r _ _ stops (λ fault stop. subst (λ ns. LeavesAfter fault image script ns base new) (names ∙ named image out made fore same reset)
     (stop image script base ended (runs image base (begun image script base mid out made fore fresh same begins reset))))
+
+-- the files were created, and memory was wanting for the machine
+pub LeavesAfter-memory : (image : List ℕ) (script : ScriptValue) (names : OutNames) (old new : Outside) (fault : RunFault)
+    → new.files ≡ with_empty (in_order names) old.files → fault ≡ NoRoomToRun → LeavesAfter fault image script names old.files new.files
+LeavesAfter-memory image script names old new fault made is = rw is (LeavesPrefixes-all image script names old.files new.files (inl (3, made)))

@@ -12,7 +12,8 @@ use Rattle.ocs_run.specs.declared.fault.Fault.{Fault}
 use Rattle.ocs_run.specs.declared.fault.Fault.TheVariants.{Usage, BadImage, BadScript, Unread, Unwritten, OutOfMemory, NotBuilt}
 use Rattle.ocs_run.specs.declared.fault.Input.TheVariants.{Image, Script}
 use Rattle.ocs_run.specs.Order.{OrderValue}
-use Rattle.ocs_run.specs.Run.{HasFiles, Remains, StopsUnbuilt}
+use Rattle.ocs_run.specs.Run.{HasFiles, StopsUnbuilt}
+use Rattle.ocs_run.specs.Prefix.{LeavesPrefixes}
 use Rattle.ocs_run.specs.Verdict.{Verdict, Usage as UsageVerdict, Absent, BadImage as BadImageVerdict, BadScript as BadScriptVerdict, Good, of_order}
 
 -- the names of the files that a run writes
@@ -44,7 +45,7 @@ IsDone (BadScriptVerdict line kind) files new = ⊥
 
 -- stopped by a file that could not be written, which only a good verdict comes to
 abbrev pub IsUnwritten : Verdict → Files → Option Files → Type 0
-IsUnwritten (Good image script order) files new = Remains image script (out_names order) (Some files) new
+IsUnwritten (Good image script order) files new = LeavesPrefixes image script (out_names order) (Some files) new
 IsUnwritten UsageVerdict files new = ⊥
 IsUnwritten (Absent name) files new = ⊥
 IsUnwritten BadImageVerdict files new = ⊥
@@ -52,7 +53,7 @@ IsUnwritten (BadScriptVerdict line kind) files new = ⊥
 
 -- stopped for want of memory: where the verdict is good the files may have parts, else they are as before
 abbrev pub IsWanting : Verdict → Files → Option Files → Type 0
-IsWanting (Good image script order) files new = Remains image script (out_names order) (Some files) new
+IsWanting (Good image script order) files new = LeavesPrefixes image script (out_names order) (Some files) new
 IsWanting UsageVerdict files new = ⊥
 IsWanting (Absent name) files new = new ≡ Some files
 IsWanting BadImageVerdict files new = new ≡ Some files

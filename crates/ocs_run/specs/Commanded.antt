@@ -7,7 +7,8 @@ use Rattle.ocs_run.specs.declared.fault.Fault.{Fault}
 use Rattle.ocs_run.specs.declared.fault.Fault.TheVariants.{Usage, BadImage, BadScript, Unread, Unwritten, OutOfMemory, NotBuilt}
 use Rattle.ocs_run.specs.Command.{out_names, is_built_script}
 use Rattle.ocs_run.specs.Order.{OrderValue}
-use Rattle.ocs_run.specs.Run.{HasFiles, Remains, StopsUnbuilt}
+use Rattle.ocs_run.specs.Run.{HasFiles, StopsUnbuilt}
+use Rattle.ocs_run.specs.Prefix.{LeavesPrefixes}
 
 -- new output files of these names
 pub record IsOutOf (names : OutNames) (out : OutFilesValue) : Type 0 where
@@ -29,8 +30,8 @@ RunAnswers order image script old new (Err BadImage) = ⊥
 RunAnswers order image script old new (Err (BadScript line kind)) = ⊥
 RunAnswers order image script old new (Err (Unread input)) = ⊥
 RunAnswers order image script old new (Err (Unwritten file)) =
-    Rose old.write_faults new.write_faults × Remains image script (out_names order) old.files new.files
-RunAnswers order image script old new (Err OutOfMemory) = Remains image script (out_names order) old.files new.files
+    Rose old.write_faults new.write_faults × LeavesPrefixes image script (out_names order) old.files new.files
+RunAnswers order image script old new (Err OutOfMemory) = LeavesPrefixes image script (out_names order) old.files new.files
 RunAnswers order image script old new (Err NotBuilt) =
     ((is_built_script script ≡ false) × (new.files ≡ old.files))
     ⊎ ((is_built_script script ≡ true) × StopsUnbuilt image script (out_names order) old.files new.files)

@@ -6,6 +6,7 @@ pub mod Fault
 pub mod Inputs
 pub mod Order
 pub mod Out
+pub mod Prefix
 pub mod Run
 pub mod Steps
 pub mod Texts

@@ -6,6 +6,7 @@ use Rattle.ocs_io.specs.Place.{Files}
 use Rattle.out_files.specs.OutFiles.{OutNames}
 use Rattle.out_files.specs.Answers.{with_empty, in_order}
 use Rattle.out_files.specs.Together.{three_files, HoldParts}
+use Rattle.ocs_run.specs.Prefix.{LeavesPrefixes}
 use Rattle.serial_model.specs.Built.{meets_unbuilt}
 use Rattle.serial_model.specs.MemoryText.{memory_text}
 use Rattle.serial_model.specs.Outputs.{frames_text}
@@ -56,15 +57,15 @@ Stopped image script names base new NotBuilt = StopsUnbuilt image script names b
 abbrev pub HasCreated : OutNames → Option Files → Option Files → Type 0
 HasCreated names base new = (created : ℕ) × (new ≡ with_empty (take created (in_order names)) base)
 
--- what stands after a whole run was stopped by a fault of writing or want of memory
+-- the ways in which a whole run can have stopped by a fault of writing or want of memory
 abbrev pub Remains : List ℕ → ScriptValue → OutNames → Option Files → Option Files → Type 0
 Remains image script names base new =
     HasCreated names base new
     ⊎ (((clocks : ℕ) × HasParts image script names base new clocks)
     ⊎ ((clocks : ℕ) × HasEndParts image script names base new clocks))
 
--- the same by the fault
+-- what stands after a whole run was stopped, by the fault
 abbrev pub LeavesAfter : RunFault → List ℕ → ScriptValue → OutNames → Option Files → Option Files → Type 0
-LeavesAfter (Write file) image script names base new = Remains image script names base new
-LeavesAfter OutOfMemory image script names base new = Remains image script names base new
+LeavesAfter (Write file) image script names base new = LeavesPrefixes image script names base new
+LeavesAfter OutOfMemory image script names base new = LeavesPrefixes image script names base new
 LeavesAfter NotBuilt image script names base new = StopsUnbuilt image script names base new

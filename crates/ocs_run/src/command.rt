@@ -18,6 +18,7 @@ use out_files::OutFiles;
 use std::alloc::Global;
 
 /// Does what an order asks for: the image is read and tested, then the script, and then it is run.
+#[tactic(auto, using(crate::proofs::PrefixLaws::prefixes_kept))]
 pub fn run_order<P: Place>(alloc: Global, order: &Order<'_>, place: &mut P) -> Result<(), Fault>
     requires image { P.readable place.old order.now.image.now }
     requires script { P.readable place.old order.now.script.now }
@@ -31,6 +32,7 @@ pub fn run_order<P: Place>(alloc: Global, order: &Order<'_>, place: &mut P) -> R
 }
 
 /// Runs a good script over a good image.
+#[tactic(auto, using(crate::proofs::PrefixLaws::prefixes_kept))]
 fn run_inputs<P: Place>(
     alloc: Global,
     order: &Order<'_>,

@@ -148,6 +148,7 @@ fn bars_for_every_band_and_worker(rt: HostRuntime) -> Result<(), OutOfMemory> {
 fn answers_and_their_texts(rt: HostRuntime) -> Result<(), OutOfMemory> {
     let alloc = rt.alloc();
     let long = vec![in alloc; 0u8; 524_290]?;
+    let whole = vec![in alloc; 0u8; 524_288]?;
     let good = script(alloc, "")?;
     let skip = [0, 0, 0, 0, 0, 0, 0, 0, 0, 1, 0xff, 0xff];
     let start = "at 0 0 0 poke 082 0008\nat 0 0 0 poke 088 0000\nat 0 0 0 poke 096 8280\n";
@@ -172,9 +173,14 @@ fn answers_and_their_texts(rt: HostRuntime) -> Result<(), OutOfMemory> {
         assert!(rt; shelf.said() == said.as_bytes(), "{said}");
         assert!(rt; shelf.file("frames").is_none(), "created for {said}");
     }
-    let mut shelf = shelf(alloc, &skip, started.as_bytes())?;
-    assert_eq!(rt; run(alloc, &WORDS, &mut shelf)?, 8);
-    assert!(rt; shelf.said() == b"not built\n".as_slice());
+    for (image, text, status, said) in [
+        (&skip as &[u8], started.as_str(), 8, "not built\n"),
+        (whole.as_slice(), good.as_str(), 0, ""),
+    ] {
+        let mut shelf = shelf(alloc, image, text.as_bytes())?;
+        assert_eq!(rt; run(alloc, &WORDS, &mut shelf)?, status, "{said}");
+        assert!(rt; shelf.said() == said.as_bytes(), "{said}");
+    }
     Ok(())
 }
 

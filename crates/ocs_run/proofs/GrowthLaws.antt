@@ -1,0 +1,51 @@
+-- What was shown and traced stays: later states only add to it.
+use Rattle.std.proofs.Common.{◌≡◌, ℕ, zero, suc, ◌+◌, List, [], ◌++◌, refl, ap, ◌∙◌, sym, subst, append_assoc, append-nil, add-suc, add-zero}
+use Rattle.ocs_base.specs.Script.{ScriptValue}
+use Rattle.ocs_base.specs.declared.script.At.{At}
+use Rattle.ocs_base.specs.declared.script.System.TheVariants.{Pal}
+use Rattle.serial_model.specs.declared.trace.TraceLine.{TraceLine}
+use Rattle.serial_model.specs.Serial.{state_at}
+use Rattle.serial_model.specs.State.{State}
+use Rattle.serial_model.specs.Tick.{tick, started, scripted, timed, before_access}
+use Rattle.serial_model.specs.Picture.{pixels}
+use Rattle.serial_model.specs.Events.{due, event_lines}
+use Rattle.serial_model.specs.Bus.{asked, word_for, bus_lines}
+
+-- the list begins with the first
+pub record Extends {A : Type 0} (first now : List A) : Type 0 where
+  pub more : List A
+  pub is : now ≡ first ++ more
+
+pub Extends-refl : {A : Type 0} (xs : List A) → Extends xs xs
+Extends-refl xs = record { more = []; is = sym (append-nil xs) }
+
+pub Extends-trans : {A : Type 0} (xs ys zs : List A) → Extends xs ys → Extends ys zs → Extends xs zs
+Extends-trans xs ys zs first second = record {
+  more = first.more ++ second.more;
+  is = second.is ∙ ap (λ l. l ++ second.more) first.is ∙ append_assoc xs first.more second.more;
+}
+
+pub shown-tick : (events : List At) (s : State) → Extends s.shown (tick Pal events s).shown
+unfolding tick
+shown-tick events s = record { more = pixels Pal s.beam.v s.beam.h (scripted events (started s)).picture; is = refl }
+
+pub trace-tick : (events : List At) (s : State) → Extends s.trace (tick Pal events s).trace
+unfolding tick
+trace-tick events s =
+    let b : State = before_access Pal events s in
+    record {
+      more = event_lines s.beam (due s.beam events) (started s).chips ++ bus_lines b.beam (asked b.beam b.chips) (word_for (asked b.beam b.chips) b.memory);
+      is = append_assoc s.trace (event_lines s.beam (due s.beam events) (started s).chips) (bus_lines b.beam (asked b.beam b.chips) (word_for (asked b.beam b.chips) b.memory));
+    }
+
+pub shown-later : (image : List ℕ) (script : ScriptValue) (n k : ℕ) → Extends (state_at image script n).shown (state_at image script (n + k)).shown
+unfolding state_at
+shown-later image script n zero = rw add-zero (Extends-refl (state_at image script n).shown)
+shown-later image script n (suc k) =
+    rw add-suc (Extends-trans _ _ _ (shown-later image script n k) (shown-tick script.events (state_at image script (n + k))))
+
+pub trace-later : (image : List ℕ) (script : ScriptValue) (n k : ℕ) → Extends (state_at image script n).trace (state_at image script (n + k)).trace
+unfolding state_at
+trace-later image script n zero = rw add-zero (Extends-refl (state_at image script n).trace)
+trace-later image script n (suc k) =
+    rw add-suc (Extends-trans _ _ _ (trace-later image script n k) (trace-tick script.events (state_at image script (n + k))))
