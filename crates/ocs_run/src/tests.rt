@@ -150,7 +150,7 @@ fn answers_and_their_texts(rt: HostRuntime) -> Result<(), OutOfMemory> {
     let long = vec![in alloc; 0u8; 524_290]?;
     let whole = vec![in alloc; 0u8; 524_288]?;
     let good = script(alloc, "")?;
-    let skip = [0, 0, 0, 0, 0, 0, 0, 0, 0, 1, 0xff, 0xff];
+    let skip: [u8; 12] = [0, 0, 0, 0, 0, 0, 0, 0, 0, 1, 0xff, 0xff];
     let start = "at 0 0 0 poke 082 0008\nat 0 0 0 poke 088 0000\nat 0 0 0 poke 096 8280\n";
     let started = script(alloc, start)?;
     let falling = script(alloc, "at 0 5 0 poke 180 0001\nat 0 4 0 poke 180 0002\n")?;
