@@ -1,12 +1,11 @@
 -- What was shown and traced stays: later states only add to it.
-use Rattle.std.proofs.Common.{◌≡◌, ℕ, zero, suc, ◌+◌, List, [], ◌++◌, refl, ap, ◌∙◌, sym, subst, append_assoc, append-nil, add-suc, add-zero}
+use Rattle.std.proofs.Common.{◌≡◌, ℕ, zero, suc, ◌+◌, List, [], ◌++◌, refl, ap, ◌∙◌, sym, append_assoc, append-nil, add-suc, add-zero}
 use Rattle.ocs_base.specs.Script.{ScriptValue}
 use Rattle.ocs_base.specs.declared.script.At.{At}
 use Rattle.ocs_base.specs.declared.script.System.TheVariants.{Pal}
-use Rattle.serial_model.specs.declared.trace.TraceLine.{TraceLine}
 use Rattle.serial_model.specs.Serial.{state_at}
 use Rattle.serial_model.specs.State.{State}
-use Rattle.serial_model.specs.Tick.{tick, started, scripted, timed, before_access}
+use Rattle.serial_model.specs.Tick.{tick, started, scripted, before_access}
 use Rattle.serial_model.specs.Picture.{pixels}
 use Rattle.serial_model.specs.Events.{due, event_lines}
 use Rattle.serial_model.specs.Bus.{asked, word_for, bus_lines}

@@ -5,15 +5,14 @@ use Rattle.ocs_base.specs.Script.{ScriptValue}
 use Rattle.ocs_io.specs.Place.{Files}
 use Rattle.out_files.specs.Answers.{with_empty, in_order}
 use Rattle.out_files.specs.OutFiles.{OutNames}
-use Rattle.out_files.specs.Together.{HoldParts}
 use Rattle.serial_model.specs.declared.trace.TraceLine.{TraceLine}
 use Rattle.serial_model.specs.MemoryText.{memory_text}
 use Rattle.serial_model.specs.Outputs.{framed, frames_text}
 use Rattle.serial_model.specs.Serial.{state_at, IsEnd}
 use Rattle.serial_model.specs.TraceText.{line_text, trace_text}
 use Rattle.serial_model.proofs.FramedLaws.{framed-append}
-use Rattle.ocs_run.specs.Prefix.{with_part, IsPartOf, LeavesPrefixes}
-use Rattle.ocs_run.specs.Run.{HasRun, HasParts, HasEndParts, HasCreated, Remains}
+use Rattle.ocs_run.specs.Prefix.{IsPartOf, LeavesPrefixes}
+use Rattle.ocs_run.specs.Run.{HasRun, HasParts, HasEndParts, Remains}
 use Rattle.ocs_run.proofs.GrowthLaws.{Extends, shown-later, trace-later}
 
 -- a state of the run is no later than its end

@@ -187,25 +187,19 @@ fn answers_and_their_texts(rt: HostRuntime) -> Result<(), OutOfMemory> {
 #[test]
 fn words_that_are_no_run(rt: HostRuntime) -> Result<(), OutOfMemory> {
     let alloc = rt.alloc();
-    for words in [
-        [
-            "run", "image", "script", "frames", "trace", "memory", "313", "33",
-        ],
-        [
-            "run", "image", "script", "frames", "trace", "memory", "0", "2",
-        ],
-        [
-            "run", "image", "script", "frames", "trace", "memory", "01", "2",
-        ],
-        [
-            "run", "image", "script", "frames", "frames", "memory", "313", "2",
-        ],
-        ["run", "image", "script", "", "trace", "memory", "313", "2"],
-        [
-            "walk", "image", "script", "frames", "trace", "memory", "313", "2",
-        ],
+    let text = script(alloc, "")?;
+    for (command, frames, trace, band, workers) in [
+        ("run", "frames", "trace", "313", "33"),
+        ("run", "frames", "trace", "0", "2"),
+        ("run", "frames", "trace", "01", "2"),
+        ("run", "frames", "frames", "313", "2"),
+        ("run", "", "trace", "313", "2"),
+        ("walk", "frames", "trace", "313", "2"),
     ] {
-        let mut shelf = shelf(alloc, &IMAGE, script(alloc, "")?.as_bytes())?;
+        let words = [
+            command, "image", "script", frames, trace, "memory", band, workers,
+        ];
+        let mut shelf = shelf(alloc, &IMAGE, text.as_bytes())?;
         shelf.fail_at(0)?;
         assert_eq!(rt; run(alloc, &words, &mut shelf)?, 2);
     }
