@@ -35,9 +35,10 @@ are_built (e ∷ events) = is_built_act e.act && are_built events
 abbrev pub is_built_script : ScriptValue → Bool
 is_built_script script = not script.cpu && are_built script.events
 
--- done: the three files are the texts of the run, whole, and every other file is as before
+-- done: the script is built, the three files are the texts of the run, whole, and every other file is as before
 abbrev pub IsDone : Verdict → Files → Option Files → Type 0
-IsDone (Good image script order) files new = HasFiles image script (out_names order) (Some files) new
+IsDone (Good image script order) files new =
+    (is_built_script script ≡ true) × HasFiles image script (out_names order) (Some files) new
 IsDone UsageVerdict files new = ⊥
 IsDone (Absent name) files new = ⊥
 IsDone BadImageVerdict files new = ⊥
@@ -45,7 +46,8 @@ IsDone (BadScriptVerdict line kind) files new = ⊥
 
 -- stopped by a file that could not be written, which only a good verdict comes to
 abbrev pub IsUnwritten : Verdict → Files → Option Files → Type 0
-IsUnwritten (Good image script order) files new = LeavesPrefixes image script (out_names order) (Some files) new
+IsUnwritten (Good image script order) files new =
+    (is_built_script script ≡ true) × LeavesPrefixes image script (out_names order) (Some files) new
 IsUnwritten UsageVerdict files new = ⊥
 IsUnwritten (Absent name) files new = ⊥
 IsUnwritten BadImageVerdict files new = ⊥
@@ -68,21 +70,6 @@ IsUnbuilt UsageVerdict files new = ⊥
 IsUnbuilt (Absent name) files new = ⊥
 IsUnbuilt BadImageVerdict files new = ⊥
 IsUnbuilt (BadScriptVerdict line kind) files new = ⊥
-
--- the script is built, where the command comes to the run
-abbrev pub IsBuiltGood : Verdict → Type 0
-IsBuiltGood (Good image script order) = is_built_script script ≡ true
-IsBuiltGood UsageVerdict = ⊥
-IsBuiltGood (Absent name) = ⊥
-IsBuiltGood BadImageVerdict = ⊥
-IsBuiltGood (BadScriptVerdict line kind) = ⊥
-
-abbrev pub IsGood : Verdict → Type 0
-IsGood (Good image script order) = Unit {0}
-IsGood UsageVerdict = ⊥
-IsGood (Absent name) = ⊥
-IsGood BadImageVerdict = ⊥
-IsGood (BadScriptVerdict line kind) = ⊥
 
 -- the image is good: only then is the script read
 abbrev pub HasGoodImage : OrderValue → Verdict → Type 0

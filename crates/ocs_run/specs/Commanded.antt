@@ -24,13 +24,15 @@ pub record KeepsSaid (old new : Outside) : Type 0 where
 
 -- what stands after a run of good inputs
 abbrev pub RunAnswers : OrderValue → List ℕ → ScriptValue → Outside → Outside → Result (Unit {0}) Fault → Type 0
-RunAnswers order image script old new (Ok done) = HasFiles image script (out_names order) old.files new.files
+RunAnswers order image script old new (Ok done) =
+    (is_built_script script ≡ true) × HasFiles image script (out_names order) old.files new.files
 RunAnswers order image script old new (Err Usage) = ⊥
 RunAnswers order image script old new (Err BadImage) = ⊥
 RunAnswers order image script old new (Err (BadScript line kind)) = ⊥
 RunAnswers order image script old new (Err (Unread input)) = ⊥
 RunAnswers order image script old new (Err (Unwritten file)) =
-    Rose old.write_faults new.write_faults × LeavesPrefixes image script (out_names order) old.files new.files
+    Rose old.write_faults new.write_faults
+    × ((is_built_script script ≡ true) × LeavesPrefixes image script (out_names order) old.files new.files)
 RunAnswers order image script old new (Err OutOfMemory) = LeavesPrefixes image script (out_names order) old.files new.files
 RunAnswers order image script old new (Err NotBuilt) =
     ((is_built_script script ≡ false) × (new.files ≡ old.files))
