@@ -183,8 +183,8 @@ fn opcodes_outside_every_row(rt: HostRuntime) {
 }
 
 #[test]
-fn fields(rt: HostRuntime) {
-    // EORI.L, BSET D7,(A3), MOVE.B D1,(xxx).L, SUBQ.W #8,A2, BNE, ROXR.L D3,D5, EXG D1,A2.
+fn fields_of_operands(rt: HostRuntime) {
+    // EORI.L, BSET D7,(A3), MOVE.B D1,(xxx).L.
     assert!(rt;
         matches!(
             decode(0x0a80),
@@ -217,6 +217,11 @@ fn fields(rt: HostRuntime) {
             }
         )
     );
+}
+
+#[test]
+fn fields_of_counts_and_conditions(rt: HostRuntime) {
+    // SUBQ.W #8,A2, BNE, ROXR.L D3,D5, EXG D1,A2.
     assert!(rt;
         matches!(
             decode(0x514a),

@@ -1,5 +1,5 @@
 -- The register that a word names.
-use Rattle.std.specs.Prelude.{◌≡◌, ℕ, ◌<◌, ◌%◌, ◌/◌, ◌*◌}
+use Rattle.std.specs.Prelude.{◌≡◌, ℕ, ◌<◌, ◌%◌}
 use Rattle.std.proofs.Common.{arith}
 use Rattle.ocs_base.specs.Addr.{even_address}
 use Rattle.ocs_base.specs.declared.reg.Reg.{Reg}

@@ -2,12 +2,10 @@
 use Rattle.std.proofs.Common.{◌≡◌, ◌≢◌, ℕ, ◌%◌, ◌^◌, ◌<◌, Bool, true, false, ◌&&◌, ◌==◌, List, [], ◌∷◌, length, refl, sym, ap, subst, ◌∙◌, Option, Some, None, IsSome, IfSome, arith, nat_lt, nat_le, if◌then◌else◌, ◌↔◌, bytes_eq, codes}
 use Rattle.std.proofs.lemmas.Bool.Decides.{nat_tests}
 use Rattle.std.proofs.lemmas.Int.Digits.{digits_value-lt}
-use Rattle.std.proofs.Math.Nat.{ℕ_set}
-use Rattle.std.proofs.Math.Bridge.{le_prop}
-use mathlib.Core.HLevel.{Σ_prop_path}
 use borrow.Author.Tests.{eqb-true, ltb-true}
 use Rattle.std.specs.Str.Parse.{AllDigits, digits_value}
 use Rattle.std.specs.Char.{digit_value}
+use Rattle.ocs_base.proofs.Registers.{same_register}
 use Rattle.ocs_base.specs.Register.{register_of}
 use Rattle.ocs_base.specs.declared.reg.Reg.{Reg}
 use Rattle.ocs_io.specs.Numbers.{hex_of, all_bytes, is_lower_hex}
@@ -88,14 +86,6 @@ hex-fits bytes digits None is size = tt
 hex-fits bytes digits (Some n) is size = subst (λ m. n < 16 ^ m) size (hex_of-lt bytes n (sym is))
 
 -- a register by its number
-valid : (n : ℕ) → IsProp ((n % 2 ≡ 0) × (n < 512))
-valid n = hlevel (ℕ_set, le_prop)
-
-pub same_register : (a b : Reg) → a.offset ≡ b.offset → a ≡ b
-same_register a b same =
-    let pairs : ◌≡◌ {A = (n : ℕ) × ((n % 2 ≡ 0) × (n < 512))} (a.offset, (a.even, a.below)) (b.offset, (b.even, b.below)) = Σ_prop_path valid same in
-    λ i. record { offset = (pairs i).0; even = (pairs i).1.0; below = (pairs i).1.1 }
-
 pub register_of-offset : (reg : Reg) → register_of reg.offset ≡ reg
 register_of-offset reg = same_register (register_of reg.offset) reg (omega (arith, reg.even, reg.below))
 
