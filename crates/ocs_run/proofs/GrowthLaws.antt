@@ -5,10 +5,10 @@ use Rattle.ocs_base.specs.declared.script.At.{At}
 use Rattle.ocs_base.specs.declared.script.System.TheVariants.{Pal}
 use Rattle.serial_model.specs.Serial.{state_at}
 use Rattle.serial_model.specs.State.{State}
-use Rattle.serial_model.specs.Tick.{tick, started, scripted, before_access}
+use Rattle.serial_model.specs.Tick.{tick, started, scripted, before_access, act_of}
 use Rattle.serial_model.specs.Picture.{pixels}
 use Rattle.serial_model.specs.Events.{due, event_lines}
-use Rattle.serial_model.specs.Bus.{asked, word_for, bus_lines}
+use Rattle.serial_model.specs.Bus.{act_lines}
 
 -- the list begins with the first
 pub record Extends {A : Type 0} (first now : List A) : Type 0 where
@@ -26,15 +26,17 @@ Extends-trans xs ys zs first second = record {
 
 pub shown-tick : (events : List At) (s : State) → Extends s.shown (tick Pal events s).shown
 unfolding tick
-shown-tick events s = record { more = pixels Pal s.beam.v s.beam.h (scripted events (started s)).picture; is = refl }
+shown-tick events s =
+    let b : State = scripted events (started s) in
+    record { more = pixels Pal b.beam.v b.beam.h b.picture; is = refl }
 
 pub trace-tick : (events : List At) (s : State) → Extends s.trace (tick Pal events s).trace
 unfolding tick
 trace-tick events s =
     let b : State = before_access Pal events s in
     record {
-      more = event_lines s.beam (due s.beam events) (started s).chips ++ bus_lines b.beam (asked b.beam b.chips) (word_for (asked b.beam b.chips) b.memory);
-      is = append_assoc s.trace (event_lines s.beam (due s.beam events) (started s).chips) (bus_lines b.beam (asked b.beam b.chips) (word_for (asked b.beam b.chips) b.memory));
+      more = event_lines s.beam (due s.beam events) (started s).chips ++ act_lines b.beam (act_of b);
+      is = append_assoc s.trace (event_lines s.beam (due s.beam events) (started s).chips) (act_lines b.beam (act_of b));
     }
 
 pub shown-later : (image : List ℕ) (script : ScriptValue) (n k : ℕ) → Extends (state_at image script n).shown (state_at image script (n + k)).shown

@@ -1,3 +1,4 @@
+pub mod ChipsLaws
 pub mod InputLaws
 pub mod KeptLaws
 pub mod PictureLaws

@@ -16,8 +16,7 @@ use Rattle.serial_model.specs.Outputs.{frames_text}
 use Rattle.serial_model.specs.Serial.{state_at, IsEnd}
 use Rattle.serial_model.specs.State.{State, reset}
 use Rattle.serial_model.specs.TraceText.{trace_text}
-use Rattle.serial_model.specs.Tick.{started, happened, timed, displayed, accessed, processed, advanced, tick}
-use Rattle.serial_model.specs.Bus.{asked, word_for}
+use Rattle.serial_model.specs.Tick.{started, happened, timed, displayed, accessed, act_of, processed, advanced, tick}
 use Rattle.ocs_run.proofs.PrefixLaws.{LeavesPrefixes-parts, LeavesPrefixes-end, LeavesPrefixes-all}
 use Rattle.ocs_run.specs.Run.{HasFiles, HasParts, HasEndParts, StopsUnbuilt, Stopped, HasCreated, LeavesAfter}
 use Rattle.ocs_run.specs.Fault.{of_tick, of_write}
@@ -40,8 +39,7 @@ tick-due events left s same = ap (λ acts. advanced (processed (accessed (displa
 meets-due : (events left : List At) (s : State) → due s.beam events ≡ due s.beam left → meets_unbuilt Pal events s ≡ meets_unbuilt Pal left s
 unfolding meets_unbuilt
 meets-due events left s same =
-    ap (λ acts. let before = displayed Pal (timed (happened acts (started s))) in
-    let ask = asked before.beam before.chips in is_unbuilt ask (word_for ask before.memory)) same
+    ap (λ acts. is_unbuilt (act_of (displayed Pal (timed (happened acts (started s)))))) same
 
 -- nothing was appended
 pub Flushes-none : (fore : Foreground) (files : Option Files) → Flushes fore fore files files

@@ -7,7 +7,7 @@ use Rattle.ocs_base.specs.declared.script.Act.TheVariants.{Poke, Peek, Joy, Fire
 use Rattle.ocs_io.specs.Answers.{WhereTold}
 use Rattle.ocs_io.specs.Place.{Files, Outside, Rose}
 use Rattle.out_files.specs.OutFiles.{OutNames}
-use Rattle.serial_model.specs.Built.{is_built}
+use Rattle.serial_model.specs.Built.{is_missing, is_unreadable}
 use Rattle.ocs_run.specs.declared.fault.Fault.{Fault}
 use Rattle.ocs_run.specs.declared.fault.Fault.TheVariants.{Usage, BadImage, BadScript, Unread, Unwritten, OutOfMemory, NotBuilt}
 use Rattle.ocs_run.specs.declared.fault.Input.TheVariants.{Image, Script}
@@ -20,10 +20,10 @@ use Rattle.ocs_run.specs.Verdict.{Verdict, Usage as UsageVerdict, Absent, BadIma
 abbrev pub out_names : OrderValue → OutNames
 out_names order = record { frames = order.frames; trace = order.trace; memory = order.memory }
 
--- what a script may do in the machine that is built so far: no processor, and pokes of built registers alone
+-- what a script may do in the machine that is built so far: no processor, and pokes and peeks of built registers alone
 abbrev pub is_built_act : Act → Bool
-is_built_act (Poke reg word) = is_built reg.offset word
-is_built_act (Peek reg) = false
+is_built_act (Poke reg word) = not (is_missing reg.offset word)
+is_built_act (Peek reg) = not (is_unreadable reg.offset)
 is_built_act (Joy port word) = false
 is_built_act (Fire port down) = false
 is_built_act (Key code) = false

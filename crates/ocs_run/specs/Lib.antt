@@ -1,5 +1,4 @@
 pub mod Asked
-pub mod Chips
 pub mod Command
 pub mod Commanded
 pub mod Fault

@@ -1,58 +1,66 @@
 //! The chips between two colour clocks: the custom registers and the Copper.
 
-ghost use Rattle.std.specs.Prelude.{◌≡◌, ◌<◌, if◌then◌else◌};
-ghost use Rattle.serial_model.specs.Registers.{pointer, is_interlaced as interlaced, written, set_or_cleared, dmacon_mask};
-ghost use Rattle.serial_model.specs.Copper.{has_come as come, started_at, copper_stepped, word_after, phase_after as after, is_forbidden as forbidden, is_write as writes};
-ghost use Rattle.serial_model.specs.Bus.{asked, answered, copper_runs as runs};
-ghost use Rattle.serial_model.specs.State.{poked};
+ghost use Rattle.std.specs.Prelude.{◌≡◌, false};
+ghost use Rattle.serial_model.specs.Registers.{is_interlaced as interlaced, is_danger as danger, blitter_first, effect_of};
+ghost use Rattle.serial_model.specs.Bus.{asked, copper_runs as runs, copper_wish as wish_of, copper_moved_on, act_at};
+ghost use Rattle.serial_model.specs.State.{poked, read_word, restarted};
 ghost use Rattle.serial_model.specs.Tick.{chips_started};
 
+use beam::at_field_start;
+use bus_slots::{Owner, SlotState, slot_owner};
+use copper::Copper;
 use ocs_base::{Addr, Beam, Reg};
-use serial_model::{Ask, CopperPhase, CopperState};
+use reg_file::{Effect, Live, Regs};
+use serial_model::{Ask, CopperAct};
 use std::marker::Model;
 
-/// COP1LCH, the high word of the first Copper list's pointer.
-const COP1LCH: u16 = 0x80;
-/// COPJMP1, whose write makes the Copper fetch from COP1LC.
-const COPJMP1: u16 = 0x88;
+/// COPCON and its bit CDANG.
+const COPCON: u16 = 0x2e;
 
+const CDANG: u16 = 0x2;
+
+/// The high words of the pointers to the two Copper lists.
+const COP1LCH: u16 = 0x80;
+
+const COP2LCH: u16 = 0x84;
+
+/// DMACON, its bits DMAEN and COPEN, and its bit BLTPRI.
 const DMACON: u16 = 0x96;
 
-const BPLCON0: u16 = 0x100;
-/// DMAEN and COPEN of DMACON.
 const COPPER_DMA: u16 = 0x280;
-/// LACE of BPLCON0.
+
+const BLTPRI: u16 = 0x400;
+
+/// BPLCON0 and its bit LACE.
+const BPLCON0: u16 = 0x100;
+
 const LACE: u16 = 0x4;
 
 /// The custom registers and the Copper.
 #[derive(Drop)]
 pub struct Chips {
-    registers: [u16; 256],
-    copper: CopperState,
+    registers: Regs,
+    copper: Copper,
 }
 
 impl Model for Chips {
     ghost use Rattle.serial_model.specs.State.{Chips};
-    ghost use Rattle.ocs_run.specs.Chips.{IsSound};
 
     ghost Value = { Chips };
 
     ghost view = { λ c. record { registers = c.registers; copper = c.copper } };
-
-    ghost invariant = { λ c. IsSound c.copper };
 }
 
 impl Chips {
     ghost use Rattle.serial_model.specs.State.{reset_chips};
 
     /// The chips at reset.
-    #[tactic(auto, unfolding(serial_model::specs::Registers::no_registers))]
     pub fn reset() -> Chips
         ensures { result ≡ reset_chips }
     {
         Chips {
-            registers: [0; 256],
-            copper: copper_at(Addr::at(0)),
+            registers: Regs::reset(),
+            copper: Copper::start(Addr::at(0)),
         }
     }
 
@@ -60,202 +68,126 @@ impl Chips {
     pub fn is_interlaced(&self) -> bool
         ensures { result ≡ interlaced self.now.registers }
     {
-        self.registers[BPLCON0 as usize / 2] & LACE == LACE
+        self.registers.word(Reg::masked(BPLCON0)) & LACE == LACE
     }
 
     /// At a field's first clock the Copper starts at COP1LC.
     pub fn start(&mut self, beam: &Beam)
         ensures { self.new ≡ chips_started beam.now self.old }
     {
-        if beam.v == 0 && beam.h == 0 {
-            self.copper = copper_at(pointer_at(&self.registers, COP1LCH));
+        if at_field_start(beam) {
+            self.restart(1);
         }
     }
 
-    /// A write to a custom register.
+    /// A write to a custom register. The answer says what it does to others than the chips.
     #[tactic(auto, unfolding(serial_model::specs::State::poked))]
-    pub fn poke(&mut self, reg: Reg, word: u16)
-        ensures { self.new ≡ poked reg.offset word self.old }
+    pub fn poke(&mut self, reg: Reg, word: u16) -> Effect
+        ensures chips { self.new ≡ poked reg.offset word self.old }
+        ensures effect { result ≡ effect_of false reg.offset word }
     {
-        if reg.offset == COPJMP1 {
-            self.copper = copper_at(pointer_at(&self.registers, COP1LCH));
-        } else {
-            keep(&mut self.registers, reg, word);
+        let effect = self.registers.poke(reg, word, false);
+        if let Effect::Jump { list } = effect {
+            self.restart(list);
         }
+        effect
+    }
+
+    /// What a read of a custom register gives. There is no blitter and no joystick yet.
+    #[tactic(auto, unfolding(serial_model::specs::State::read_word))]
+    pub fn peek(&self, reg: Reg, beam: &Beam) -> u16
+        ensures { result ≡ read_word reg.offset beam.now self.now }
+    {
+        let live = Live {
+            beam: *beam,
+            busy: false,
+            zero: true,
+            joy0: 0,
+            joy1: 0,
+        };
+        self.registers.peek(reg, &live)
+    }
+
+    /// The access of this clock: what the owner of the slot asks for.
+    #[tactic(auto, unfolding(serial_model::specs::Bus::asked))]
+    pub fn ask(&self, beam: &Beam) -> Ask
+        ensures { result ≡ asked beam.now self.now }
+    {
+        let wish = self.copper_wish(beam);
+        let slot = SlotState {
+            h: beam.h,
+            disk: false,
+            audio: None,
+            plane: None,
+            sprite: None,
+            copper: wish.is_some(),
+            blitter: false,
+            processor: false,
+            missed: 0,
+            nasty: self.is_nasty(),
+        };
+        match (slot_owner(&slot), wish) {
+            (Owner::Copper, Some(at)) => Ask::Copper { at },
+            _ => Ask::Free,
+        }
+    }
+
+    /// The Copper's step of this clock, with the word that it read, and what that makes.
+    #[tactic(auto, unfolding(serial_model::specs::Bus::copper_moved_on, serial_model::specs::Bus::act_at))]
+    pub fn step_copper(&mut self, beam: &Beam, fetched: Option<u16>) -> CopperAct
+        ensures chips { self.new ≡ copper_moved_on beam.now fetched self.old }
+        ensures act { result ≡ act_at beam.now fetched self.old }
+    {
+        if !self.copper_runs(beam) {
+            return CopperAct::None;
+        }
+        let danger = self.is_danger();
+        self.copper.step(fetched, beam, false, danger)
     }
 
     /// Whether the Copper takes part in this clock: it is even, and the Copper's DMA is on.
     fn copper_runs(&self, beam: &Beam) -> bool
         ensures { result ≡ runs beam.now self.now }
     {
-        beam.h % 2 == 0 && self.registers[DMACON as usize / 2] & COPPER_DMA == COPPER_DMA
+        beam.h % 2 == 0 && self.registers.word(Reg::masked(DMACON)) & COPPER_DMA == COPPER_DMA
     }
 
-    /// The access that is asked for at this clock.
-    pub fn ask(&self, beam: &Beam) -> Ask
-        ensures { result ≡ asked beam.now self.now }
+    /// The address of the word that the Copper asks for at this clock.
+    fn copper_wish(&self, beam: &Beam) -> Option<u32>
+        ensures { result ≡ wish_of beam.now self.now }
     {
         if !self.copper_runs(beam) {
-            return Ask::Free;
+            return None;
         }
-        match self.copper.phase {
-            CopperPhase::First => Ask::CopperFirst { at: self.copper.at },
-            CopperPhase::Second => Ask::CopperSecond {
-                at: self.copper.at,
-                first: self.copper.first,
-            },
-            CopperPhase::Waiting | CopperPhase::Stopped => Ask::Free,
+        match self.copper.wants() {
+            Some(at) => Some(at.raw()),
+            None => None,
         }
     }
 
-    /// What the access and its word do to the chips.
-    #[tactic(auto, unfolding(serial_model::specs::Bus::answered))]
-    pub fn answer(&mut self, beam: &Beam, ask: &Ask, word: u16)
-        ensures { self.new ≡ answered beam.now ask.now word self.old }
+    /// The Copper fetches from its list 1 or 2.
+    fn restart(&mut self, list: u8)
+        ensures { self.new ≡ restarted list self.old }
     {
-        if self.copper_runs(beam) {
-            self.copper = stepped(&self.copper, beam, word);
-        }
-        if let Ask::CopperSecond { first, .. } = ask {
-            if is_write(*first) {
-                self.poke(Reg::masked(*first), word);
-            }
-        }
+        let at = if list == 1 {
+            self.registers.pointer(Reg::masked(COP1LCH))
+        } else {
+            self.registers.pointer(Reg::masked(COP2LCH))
+        };
+        self.copper.jump(at);
     }
-}
 
-/// A Copper that begins to fetch at an address.
-fn copper_at(at: Addr) -> CopperState
-    ensures { result ≡ started_at at.value }
-{
-    CopperState {
-        phase: CopperPhase::First,
-        at: at.raw(),
-        first: 0,
-        second: 0,
+    /// Whether CDANG is set.
+    fn is_danger(&self) -> bool
+        ensures { result ≡ danger self.now.registers }
+    {
+        self.registers.word(Reg::masked(COPCON)) & CDANG == CDANG
     }
-}
 
-/// The address in the pointer whose high word stands at the offset.
-fn pointer_at(registers: &[u16; 256], high: u16) -> Addr
-    requires { high < 510 }
-    ensures { result.value ≡ pointer registers.now high }
-{
-    let at = high as usize / 2;
-    Addr::at(registers[at] as u32 * 0x1_0000 + registers[at + 1] as u32)
-}
-
-/// Keeps a written word, in the bits that the register keeps.
-#[tactic(auto, unfolding(serial_model::specs::Registers::written))]
-fn keep(registers: &mut [u16; 256], reg: Reg, word: u16)
-    ensures { registers.new ≡ written registers.old reg.offset word }
-{
-    let place = &mut registers[reg.offset as usize / 2];
-    match reg.offset {
-        COP1LCH => *place = word & 0x7,
-        0x82 => *place = word & 0xfffe,
-        DMACON => *place = set_or_clear(*place, word),
-        0x180..=0x1be => *place = word & 0xfff,
-        _ => {}
+    /// Whether BLTPRI is set.
+    fn is_nasty(&self) -> bool
+        ensures { result ≡ blitter_first self.now.registers }
+    {
+        self.registers.word(Reg::masked(DMACON)) & BLTPRI == BLTPRI
     }
-}
-
-/// DMACON after a write: bit 15 says whether the other 1 bits are set or cleared.
-fn set_or_clear(old: u16, word: u16) -> u16
-    ensures { result ≡ set_or_cleared dmacon_mask old word }
-{
-    if word >= 0x8000 {
-        old | word & 0x7ff
-    } else {
-        old & !word
-    }
-}
-
-/// One step of the Copper at an even clock, with the word that it read, if any.
-fn stepped(copper: &CopperState, beam: &Beam, word: u16) -> CopperState
-    requires { copper.now.at < 524288 }
-    ensures { result ≡ copper_stepped beam.now word copper.now }
-{
-    let CopperState {
-        phase,
-        at,
-        first,
-        second,
-    } = *copper;
-    match phase {
-        CopperPhase::First => CopperState {
-            phase: CopperPhase::Second,
-            at: next_word(at),
-            first: word,
-            second,
-        },
-        CopperPhase::Second => CopperState {
-            phase: phase_after(first),
-            at: next_word(at),
-            first,
-            second: word,
-        },
-        CopperPhase::Waiting => CopperState {
-            phase: phase_at(beam, first, second),
-            at,
-            first,
-            second,
-        },
-        CopperPhase::Stopped => *copper,
-    }
-}
-
-/// Whether a MOVE with this first word is forbidden: its register is below 080.
-pub fn is_forbidden(first: u16) -> bool
-    ensures { result ≡ forbidden first }
-{
-    Reg::masked(first).raw() < 0x80
-}
-
-/// Whether this is the first word of a MOVE that writes.
-pub fn is_write(first: u16) -> bool
-    ensures { result ≡ writes first }
-{
-    first % 2 == 0 && !is_forbidden(first)
-}
-
-/// The phase after the second word was read: a MOVE is done or forbidden, or a WAIT begins.
-fn phase_after(first: u16) -> CopperPhase
-    ensures { result ≡ after first }
-{
-    if first % 2 != 0 {
-        CopperPhase::Waiting
-    } else if is_forbidden(first) {
-        CopperPhase::Stopped
-    } else {
-        CopperPhase::First
-    }
-}
-
-/// The phase after a comparison.
-fn phase_at(beam: &Beam, first: u16, second: u16) -> CopperPhase
-    ensures { result ≡ (if come beam.now first second then CopperPhase.First else CopperPhase.Waiting) }
-{
-    if has_come(beam, first, second) {
-        CopperPhase::First
-    } else {
-        CopperPhase::Waiting
-    }
-}
-
-/// The address of the word after this one.
-fn next_word(at: u32) -> u32
-    requires { at < 524288 }
-    ensures { result ≡ word_after at }
-{
-    Addr::at(at + 2).raw()
-}
-
-/// Whether the beam has come to where a WAIT with these words waits. Bit 15 of the mask is always set.
-fn has_come(beam: &Beam, first: u16, second: u16) -> bool
-    ensures { result ≡ come beam.now first second }
-{
-    let mask = 0x8000 | second & 0x7ffe;
-    let place = (beam.v as u32 % 256) * 256 + beam.h as u32 / 2 * 2;
-    place & mask as u32 >= (first & 0xfffe & mask) as u32
 }

@@ -7,8 +7,8 @@ ghost use Rattle.ocs_run.specs.Command.{OrderAnswers, is_built_script as built_s
 ghost use Rattle.ocs_run.specs.Commanded.{IsOutOf, RunAnswers, KeepsSaid};
 ghost use Rattle.ocs_run.specs.Verdict.{is_image};
 
+use crate::built::{is_missing, is_unreadable};
 use crate::fault::Fault;
-use crate::foreground::is_built;
 use crate::inputs::{read_image, read_script_file};
 use crate::order::Order;
 use crate::run::run_files;
@@ -77,7 +77,7 @@ fn owned(alloc: Global, text: &str) -> Result<String, Fault>
     }
 }
 
-/// Whether all that the script does is built: no processor, and pokes of built registers alone.
+/// Whether all that the script does is built: no processor, and pokes and peeks of built registers alone.
 pub fn is_built_script(script: &Script) -> bool
     ensures { result ≡ built_script script.now }
 {
@@ -104,7 +104,8 @@ fn is_built_act(act: &Act) -> bool
     ensures { result ≡ built_act act.now }
 {
     match act {
-        Act::Poke { reg, word } => is_built(*reg, *word),
-        Act::Peek { .. } | Act::Joy { .. } | Act::Fire { .. } | Act::Key { .. } => false,
+        Act::Poke { reg, word } => !is_missing(*reg, *word),
+        Act::Peek { reg } => !is_unreadable(*reg),
+        Act::Joy { .. } | Act::Fire { .. } | Act::Key { .. } => false,
     }
 }

@@ -1,29 +1,28 @@
 //! The machine of the clock loop: one function for each of the seven steps of a colour clock.
 
-ghost use Rattle.std.specs.Prelude.{◌≡◌, ℕ, ◌+◌, ◌<◌, ◌^◌, ◌↔◌, ◌%◌, ◌≤◌, false, true, [], length, OnOk, OnErr, IfOk, IfErr};
-ghost use Rattle.ocs_base.specs.declared.beam.Beam.{Beam};
-ghost use Rattle.serial_model.specs.Beam.{IsOnScreen, place_of, next_place, lines};
+ghost use Rattle.std.specs.Prelude.{◌≡◌, ◌+◌, ◌<◌, ◌^◌, ◌%◌, ◌≤◌, false, true, [], length, OnOk, OnErr, IfOk, IfErr};
+ghost use Rattle.serial_model.specs.Beam.{IsOnScreen, place_of, next_place};
 ghost use Rattle.serial_model.specs.Registers.{is_interlaced};
-ghost use Rattle.serial_model.specs.Bus.{asked, word_for, touch_of as touch_at, bus_lines};
-ghost use Rattle.serial_model.specs.Picture.{maybe_touched};
-ghost use Rattle.serial_model.specs.Built.{is_unbuilt as unbuilt, is_built as built};
+ghost use Rattle.serial_model.specs.Bus.{asked, answer_to};
+ghost use Rattle.serial_model.specs.Built.{is_unbuilt as unbuilt};
 ghost use Rattle.serial_model.specs.Events.{is_due as due_at};
 ghost use Rattle.serial_model.specs.Tick.{started, scripted, timed, displayed, accessed, processed, advanced, tick as ticked};
-ghost use Rattle.ocs_run.specs.Steps.{Makes, Any, KeepsPlace, Acts, IsLeft, HasLater, Meets, HasNext, KeepsAll};
+ghost use Rattle.ocs_run.specs.Steps.{Makes, Any, KeepsPlace, KeepsAll, StepsCopper, Writes, Peeks, Carries, Acts, Accesses, IsLeft, HasLater, Meets, HasNext};
 ghost use Rattle.ocs_io.specs.Place.{Rose, OnlyWrites, KeepsNames};
 ghost use Rattle.out_files.specs.OutFiles.{all_given};
 ghost use Rattle.out_files.specs.Answers.{NamesFile, AreGrowable};
 ghost use Rattle.out_files.specs.Together.{LeavesParts};
-ghost use Rattle.ocs_run.specs.Out.{Tells};
 ghost use Rattle.ocs_run.specs.Underway.{IsReset, Flushes};
 
-use crate::chips::{Chips, is_forbidden, is_write};
+use crate::built::is_missing;
+use crate::chips::Chips;
 use crate::picture;
 use mem_versions::Chip;
 use ocs_base::{Act, Addr, At, Beam, OutOfMemory, Reg, System};
 use ocs_io::Place;
 use out_files::{OutFiles, WriteFault};
-use serial_model::{Ask, Denise, Source, Touch, TraceLine};
+use reg_file::Effect;
+use serial_model::{Ask, CopperAct, Denise, Source, TraceLine};
 use std::alloc::Global;
 
 /// Why a colour clock was not done: want of memory, or an access that is not built.
@@ -65,12 +64,7 @@ impl Foreground {
         let chip = Chip::new(alloc, image)?;
         Ok(Foreground {
             t: 0,
-            beam: Beam {
-                frame: 0,
-                v: 0,
-                h: 0,
-                lof: true,
-            },
+            beam: beam::start(),
             chip,
             chips: Chips::reset(),
             picture: picture::reset(),
@@ -136,21 +130,50 @@ impl Foreground {
         Ok(left)
     }
 
-    /// What an event does: a poke is a write to a register, which the trace tells.
+    /// What an event does: a poke is a write to a register, a peek a read of one, and the trace tells both.
     fn act(&mut self, act: &Act) -> Result<(), OutOfMemory>
         ensures acts { OnOk result (Acts act.now self.old self.new) }
         ensures place { OnOk result (KeepsPlace self.old self.new) }
     {
-        if let Act::Poke { reg, word } = act {
-            self.out.line(TraceLine::Wrote {
-                beam: self.beam,
-                reg: *reg,
-                word: *word,
-                by: Source::Script,
-            })?;
-            self.chips.poke(*reg, *word);
-            picture::set(&mut self.picture, reg.offset, *word);
+        match act {
+            Act::Poke { reg, word } => self.write(*reg, *word, Source::Script)?,
+            Act::Peek { reg } => self.peek(*reg)?,
+            Act::Joy { .. } | Act::Fire { .. } | Act::Key { .. } => {}
         }
+        Ok(())
+    }
+
+    /// A write to a register, which the trace tells: it reaches the chips, and the picture or LOF where the
+    /// register is one of Denise's or VPOSW.
+    fn write(&mut self, reg: Reg, word: u16, by: Source) -> Result<(), OutOfMemory>
+        ensures writes { OnOk result (Writes reg word by self.old self.new) }
+        ensures place { OnOk result (KeepsPlace self.old self.new) }
+    {
+        self.out.line(TraceLine::Wrote {
+            beam: self.beam,
+            reg,
+            word,
+            by,
+        })?;
+        match self.chips.poke(reg, word) {
+            Effect::Picture => picture::set(&mut self.picture, reg.offset, word),
+            Effect::Lof { long } => self.beam.lof = long,
+            _ => {}
+        }
+        Ok(())
+    }
+
+    /// A read of a register by the script, which the trace tells.
+    fn peek(&mut self, reg: Reg) -> Result<(), OutOfMemory>
+        ensures peeks { OnOk result (Peeks reg self.old self.new) }
+    {
+        let word = self.chips.peek(reg, &self.beam);
+        self.out.line(TraceLine::Peeked {
+            beam: self.beam,
+            reg,
+            word,
+            by: Source::Script,
+        })?;
         Ok(())
     }
 
@@ -169,30 +192,50 @@ impl Foreground {
         Ok(())
     }
 
-    /// What is asked of the bus at this clock, and the word that answers it, 0 where nothing is read.
-    fn ask(&mut self) -> (Ask, u16)
-        ensures ask { result.0 ≡ asked self.old.beam self.old.chips }
-        ensures word { result.1 ≡ word_for result.0 self.old.chip.words }
-        ensures same { KeepsAll self.old self.new }
-    {
-        let ask = self.chips.ask(&self.beam);
-        let word = match ask {
-            Ask::Free => 0,
-            Ask::CopperFirst { at } | Ask::CopperSecond { at, .. } => self.chip.read(Addr::at(at)),
-        };
-        (ask, word)
-    }
-
-    /// Fifth step: the owner of the slot makes its access, which `ask` told.
-    fn access(&mut self, ask: &Ask, word: u16) -> Result<(), OutOfMemory>
-        requires ask { ask.now ≡ asked self.old.beam self.old.chips }
-        requires word { word ≡ word_for ask.now self.old.chip.words }
+    /// Fifth step: the owner of the slot makes its access, the Copper takes its step, and a MOVE is a write
+    /// to its register. `NotBuilt` comes exactly where that write is not built.
+    pub fn access(&mut self) -> Result<(), TickFault>
         ensures step { OnOk result (Makes Any accessed self.old self.new) }
         ensures place { OnOk result (KeepsPlace self.old self.new) }
+        ensures built { OnOk result (Accesses false self.old) }
+        ensures unbuilt { result ≡ Err TickFault.NotBuilt → Accesses true self.old }
     {
-        trace_access(&mut self.out, &self.beam, ask, word)?;
-        self.chips.answer(&self.beam, ask, word);
-        touch(&mut self.picture, ask, word);
+        let act = self.step_copper();
+        if is_unbuilt(&act) {
+            return Err(TickFault::NotBuilt);
+        }
+        self.carry_out(&act)?;
+        Ok(())
+    }
+
+    /// The word that the owner of the slot reads at this clock, where it reads one.
+    fn fetch(&mut self) -> Option<u16>
+        ensures word { result ≡ answer_to (asked self.old.beam self.old.chips) self.old.chip.words }
+        ensures same { KeepsAll self.old self.new }
+    {
+        match self.chips.ask(&self.beam) {
+            Ask::Free => None,
+            Ask::Copper { at } => Some(self.chip.read(Addr::at(at))),
+        }
+    }
+
+    /// The owner of the slot makes its access and the Copper takes its step. The answer is what that step
+    /// makes.
+    fn step_copper(&mut self) -> CopperAct
+        ensures { StepsCopper result self.old self.new }
+    {
+        let fetched = self.fetch();
+        self.chips.step_copper(&self.beam, fetched)
+    }
+
+    /// What a step of the Copper made is carried out: a MOVE is a write to its register.
+    fn carry_out(&mut self, act: &CopperAct) -> Result<(), OutOfMemory>
+        ensures carried { OnOk result (Carries act.now self.old self.new) }
+        ensures place { OnOk result (KeepsPlace self.old self.new) }
+    {
+        if let CopperAct::Move { reg, word } = act {
+            self.write(*reg, *word, Source::Copper)?;
+        }
         Ok(())
     }
 
@@ -212,12 +255,12 @@ impl Foreground {
         ensures count { self.new.t ≡ self.old.t + 1 }
         ensures names { self.new.out.names ≡ self.old.out.names }
     {
-        advance(&mut self.beam, self.chips.is_interlaced());
+        beam::advance(&mut self.beam, self.chips.is_interlaced());
         self.t += 1;
     }
 
     /// One colour clock: the seven steps in their order. `events` are those that are left, and the
-    /// answer is what is left afterwards. `NotBuilt` comes exactly where the access is not built.
+    /// answer is what is left afterwards. `NotBuilt` comes exactly where the write of a MOVE is not built.
     pub fn tick<'a>(&mut self, events: &'a [At]) -> Result<&'a [At], TickFault>
         requires screen { IsOnScreen self.old.beam }
         requires queue { IsLeft (place_of self.old.beam) events.now }
@@ -232,11 +275,7 @@ impl Foreground {
         let left = self.run_script(events)?;
         self.count_timers();
         self.show()?;
-        let (ask, word) = self.ask();
-        if is_unbuilt(&ask, word) {
-            return Err(TickFault::NotBuilt);
-        }
-        self.access(&ask, word)?;
+        self.access()?;
         self.process();
         self.advance();
         Ok(left)
@@ -250,95 +289,12 @@ fn is_due(beam: &Beam, event: &At) -> bool
     event.frame == beam.frame && event.v == beam.v && event.h == beam.h
 }
 
-/// The number of the last line of a field.
-fn last_line(lof: bool) -> u16
-    ensures { result + 1 ≡ lines lof }
+/// Whether the write of a MOVE is not built.
+fn is_unbuilt(act: &CopperAct) -> bool
+    ensures { result ≡ unbuilt act.now }
 {
-    if lof { 312 } else { 311 }
-}
-
-/// The next place of the beam.
-fn advance(beam: &mut Beam, lace: bool)
-    requires { beam.old.frame + 1 < 2 ^ 32 }
-    ensures { beam.new ≡ next_place lace beam.old }
-{
-    if beam.h < 226 {
-        beam.h += 1;
-    } else if beam.v < last_line(beam.lof) {
-        beam.v += 1;
-        beam.h = 0;
-    } else {
-        beam.frame += 1;
-        beam.v = 0;
-        beam.h = 0;
-        beam.lof = beam.lof != lace;
-    }
-}
-
-/// Tells the trace of an access: a MOVE is a write by the Copper.
-#[tactic(auto, unfolding(serial_model::specs::Bus::bus_lines))]
-fn trace_access(out: &mut OutFiles, beam: &Beam, ask: &Ask, word: u16) -> Result<(), OutOfMemory>
-    ensures { OnOk result (Tells (bus_lines beam.now ask.now word) out.old out.new) }
-{
-    if let Ask::CopperSecond { first, .. } = ask {
-        if is_write(*first) {
-            out.line(TraceLine::Wrote {
-                beam: *beam,
-                reg: Reg::masked(*first),
-                word,
-                by: Source::Copper,
-            })?;
-        }
-    }
-    Ok(())
-}
-
-/// What an access makes of the picture.
-fn touch(picture: &mut Denise, ask: &Ask, word: u16)
-    ensures { (h : ℕ) (word_at : ℕ → ℕ) → picture.new ≡ maybe_touched h word_at (touch_at ask.now word) picture.old }
-{
-    if let Some(Touch::Set { reg, word }) = touch_of(ask, word) {
-        picture::set(picture, reg, word);
-    }
-}
-
-/// How an access touches the picture: a MOVE to one of Denise's registers sets it.
-#[tactic(auto, unfolding(serial_model::specs::Bus::touch_of))]
-fn touch_of(ask: &Ask, word: u16) -> Option<Touch>
-    ensures { result ≡ touch_at ask.now word }
-{
-    let Ask::CopperSecond { first, .. } = ask else {
-        return None;
-    };
-    let reg = Reg::masked(*first).raw();
-    if is_write(*first) && (0x180..=0x1be).contains(&reg) {
-        Some(Touch::Set { reg, word })
-    } else {
-        None
-    }
-}
-
-/// Whether an access completes a SKIP, or a MOVE whose write is not built; a forbidden MOVE writes nothing.
-fn is_unbuilt(ask: &Ask, word: u16) -> bool
-    ensures { result ≡ unbuilt ask.now word }
-{
-    let Ask::CopperSecond { first, .. } = ask else {
-        return false;
-    };
-    if first % 2 == 0 {
-        !is_forbidden(*first) && !is_built(Reg::masked(*first), word)
-    } else {
-        word % 2 == 1
-    }
-}
-
-/// Whether a write is built: COP1LC, COPJMP1, the colours, and DMACON in its bits 15, 9 and 7.
-pub fn is_built(reg: Reg, word: u16) -> bool
-    ensures { result ≡ built reg.offset word }
-{
-    match reg.offset {
-        0x80 | 0x82 | 0x88 | 0x180..=0x1be => true,
-        0x96 => word & 0x7d7f == 0,
-        _ => false,
+    match act {
+        CopperAct::Move { reg, word } => is_missing(*reg, *word),
+        CopperAct::None => false,
     }
 }

@@ -1,6 +1,7 @@
 //! The top call: a run from the words of the command line to the output files.
 #![tactic(auto)]
 
+mod built;
 mod chips;
 mod command;
 mod fault;

@@ -17,6 +17,14 @@ const WORDS: [&str; 8] = [
     "run", "image", "script", "frames", "trace", "memory", "313", "2",
 ];
 
+/// The pokes that start a Copper list at address 8, and their lines of the trace.
+const START: &str = "at 0 0 0 poke 082 0008\nat 0 0 0 poke 088 0000\nat 0 0 0 poke 096 8280\n";
+
+const STARTED: &str = "0 0 0 W 082 0008 S\n0 0 0 W 088 0000 S\n0 0 0 W 096 8280 S\n";
+
+/// A Copper list whose first MOVE is to BPL1DAT.
+const MOVE_TO_BITPLANE: [u8; 12] = [0, 0, 0, 0, 0, 0, 0, 0, 0x01, 0x10, 0, 0];
+
 /// A script of one frame with these lines of events.
 fn script(alloc: Global, events: &str) -> Result<String, OutOfMemory> {
     let mut text = String::from_str(alloc, HEAD)?;
@@ -116,8 +124,7 @@ fn bars(alloc: Global) -> Result<Vec<u8>, OutOfMemory> {
 fn bars_for_every_band_and_worker(rt: HostRuntime) -> Result<(), OutOfMemory> {
     let alloc = rt.alloc();
     let image = bars(alloc)?;
-    let start = "at 0 0 0 poke 082 0008\nat 0 0 0 poke 088 0000\nat 0 0 0 poke 096 8280\n";
-    let text = script(alloc, start)?;
+    let text = script(alloc, START)?;
     let frames = picture(
         alloc,
         &[
@@ -144,15 +151,156 @@ fn bars_for_every_band_and_worker(rt: HostRuntime) -> Result<(), OutOfMemory> {
     Ok(())
 }
 
+/// The trace of a run of this image and of a script with these lines of events.
+fn trace_of(
+    alloc: Global,
+    image: &[u16],
+    frames: &str,
+    events: &str,
+) -> Result<String, OutOfMemory> {
+    let mut bytes = Vec::from_slice(alloc, &IMAGE)?;
+    for word in image {
+        bytes.extend_from_slice(&word.to_be_bytes())?;
+    }
+    let mut text = String::from_str(alloc, "ocs 1\ncpu off\n")?;
+    for part in [frames, events, "end\n"] {
+        text.push_str(part)?;
+    }
+    let mut shelf = shelf(alloc, &bytes, text.as_bytes())?;
+    let status = run(alloc, &WORDS, &mut shelf)?;
+    let mut trace = String::new(alloc);
+    if status == 0 {
+        if let Some(bytes) = shelf.file("trace") {
+            for byte in bytes {
+                trace.push(*byte as char)?;
+            }
+        }
+    }
+    Ok(trace)
+}
+
+#[test]
+fn copper_lists(rt: HostRuntime) -> Result<(), OutOfMemory> {
+    let alloc = rt.alloc();
+    let danger = "at 0 0 0 poke 02e 0002\n";
+    let second = "at 0 0 0 poke 086 0008\nat 0 0 0 poke 08a 0000\nat 0 0 0 poke 096 8280\n";
+    let turned = "0 0 0 W 086 0008 S\n0 0 0 W 08a 0000 S\n0 0 0 W 096 8280 S\n";
+    for (image, events, before, after) in [
+        (
+            &[
+                0x0001u16, 0xffff, 0x0180, 0x0f00, 0x0180, 0x00f0, 0xffff, 0xfffe,
+            ] as &[u16],
+            ["", START],
+            ["", STARTED],
+            "0 0 6 W 180 00f0 C\n",
+        ),
+        (
+            &[
+                0x6401, 0xffff, 0x0180, 0x0f00, 0x0180, 0x00f0, 0xffff, 0xfffe,
+            ],
+            ["", START],
+            ["", STARTED],
+            "0 0 6 W 180 0f00 C\n0 0 10 W 180 00f0 C\n",
+        ),
+        (
+            &[0x0040u16, 0x0000, 0x0180, 0x0f00, 0xffff, 0xfffe],
+            ["", START],
+            ["", STARTED],
+            "",
+        ),
+        (
+            &[0x0040u16, 0x0000, 0x0180, 0x0f00, 0xffff, 0xfffe],
+            [danger, START],
+            ["0 0 0 W 02e 0002 S\n", STARTED],
+            "0 0 2 W 040 0000 C\n0 0 6 W 180 0f00 C\n",
+        ),
+        (
+            &[0x0180u16, 0x000f, 0xffff, 0xfffe],
+            ["", second],
+            ["", turned],
+            "0 0 2 W 180 000f C\n",
+        ),
+        (
+            &[0x3041u16, 0x7ffe, 0x0180, 0x0f00, 0xffff, 0xfffe],
+            ["", START],
+            ["", STARTED],
+            "0 48 68 W 180 0f00 C\n",
+        ),
+    ] {
+        let mut script = String::new(alloc);
+        let mut wanted = String::new(alloc);
+        for part in events {
+            script.push_str(part)?;
+        }
+        for part in before {
+            wanted.push_str(part)?;
+        }
+        wanted.push_str(after)?;
+        let trace = trace_of(alloc, image, "frames 1\n", &script)?;
+        assert!(rt; trace.as_str() == wanted.as_str(), "{trace}");
+    }
+    Ok(())
+}
+
+#[test]
+fn peeks_of_beam_and_field(rt: HostRuntime) -> Result<(), OutOfMemory> {
+    let alloc = rt.alloc();
+    for (events, wanted) in [
+        (
+            "at 0 0 0 poke 100 0004\nat 0 300 5 peek 004\nat 0 300 5 peek 006\nat 1 10 0 peek 004\n",
+            "0 0 0 W 100 0004 S\n0 300 5 R 004 8001 S\n0 300 5 R 006 2c05 S\n1 10 0 R 004 0000 S\n",
+        ),
+        (
+            "at 0 10 0 poke 02a 0000\nat 0 10 0 peek 004\nat 1 0 0 peek 004\n",
+            "0 10 0 W 02a 0000 S\n0 10 0 R 004 0000 S\n1 0 0 R 004 0000 S\n",
+        ),
+        (
+            "at 0 0 0 poke 100 0004\nat 0 10 0 poke 02a 0000\nat 1 0 0 peek 004\n",
+            "0 0 0 W 100 0004 S\n0 10 0 W 02a 0000 S\n1 0 0 R 004 8000 S\n",
+        ),
+        (
+            "at 0 0 0 poke 096 8683\nat 0 0 0 peek 002\nat 0 0 0 peek 180\nat 0 0 0 peek 00a\n",
+            "0 0 0 W 096 8683 S\n0 0 0 R 002 2683 S\n0 0 0 R 180 0000 S\n0 0 0 R 00a 0000 S\n",
+        ),
+    ] {
+        let trace = trace_of(alloc, &[], "frames 2\n", events)?;
+        assert!(rt; trace.as_str() == wanted, "{trace}");
+    }
+    Ok(())
+}
+
+#[test]
+fn scripts_that_are_not_built(rt: HostRuntime) -> Result<(), OutOfMemory> {
+    let alloc = rt.alloc();
+    for events in [
+        "at 0 0 0 poke 058 0041\n",
+        "at 0 0 0 poke 09a c020\n",
+        "at 0 0 0 poke 09c 0020\n",
+        "at 0 0 0 poke 110 8000\n",
+        "at 0 0 0 poke 17e 0000\n",
+        "at 0 0 0 poke 096 0100\n",
+        "at 0 0 0 poke 100 1000\n",
+        "at 0 0 0 peek 00e\n",
+        "at 0 0 0 peek 01c\n",
+        "at 0 0 0 joy 0 0001\n",
+        "at 0 0 0 fire 0 1\n",
+        "at 0 0 0 key 45\n",
+    ] {
+        let mut shelf = shelf(alloc, &IMAGE, script(alloc, events)?.as_bytes())?;
+        assert_eq!(rt; run(alloc, &WORDS, &mut shelf)?, 8, "{events}");
+        assert!(rt; shelf.said() == b"not built\n".as_slice(), "{events}");
+        assert!(rt; shelf.file("frames").is_none(), "created for {events}");
+    }
+    Ok(())
+}
+
 #[test]
 fn answers_and_their_texts(rt: HostRuntime) -> Result<(), OutOfMemory> {
     let alloc = rt.alloc();
     let long = vec![in alloc; 0u8; 524_290]?;
     let whole = vec![in alloc; 0u8; 524_288]?;
     let good = script(alloc, "")?;
-    let skip: [u8; 12] = [0, 0, 0, 0, 0, 0, 0, 0, 0, 1, 0xff, 0xff];
-    let start = "at 0 0 0 poke 082 0008\nat 0 0 0 poke 088 0000\nat 0 0 0 poke 096 8280\n";
-    let started = script(alloc, start)?;
+    let started = script(alloc, START)?;
     let falling = script(alloc, "at 0 5 0 poke 180 0001\nat 0 4 0 poke 180 0002\n")?;
     for (image, text, status, said) in [
         (&[0u8; 7] as &[u8], good.as_str(), 3, "bad image\n"),
@@ -174,7 +322,12 @@ fn answers_and_their_texts(rt: HostRuntime) -> Result<(), OutOfMemory> {
         assert!(rt; shelf.file("frames").is_none(), "created for {said}");
     }
     for (image, text, status, said) in [
-        (&skip as &[u8], started.as_str(), 8, "not built\n"),
+        (
+            &MOVE_TO_BITPLANE as &[u8],
+            started.as_str(),
+            8,
+            "not built\n",
+        ),
         (whole.as_slice(), good.as_str(), 0, ""),
     ] {
         let mut shelf = shelf(alloc, image, text.as_bytes())?;

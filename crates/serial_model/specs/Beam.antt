@@ -1,5 +1,5 @@
 -- The beam: lines and fields, the order of places, and what of them is visible.
-use Rattle.std.specs.Prelude.{ℕ, ◌+◌, ◌<◌, Bool, true, not, ◌&&◌, nat_le, nat_lt, if◌then◌else◌}
+use Rattle.std.specs.Prelude.{ℕ, ◌+◌, ◌<◌, Bool, true, not, ◌&&◌, ◌==◌, nat_le, nat_lt, if◌then◌else◌}
 use Rattle.ocs_base.specs.declared.beam.Beam.{Beam}
 use Rattle.ocs_base.specs.Limits.{order_of}
 use Rattle.ocs_base.specs.declared.script.System.{System}
@@ -26,9 +26,16 @@ abbrev pub next_place : Bool → Beam → Beam
 next_place lace b =
     if nat_lt b.h 226 then record { frame = b.frame; v = b.v; h = b.h + 1; lof = b.lof } else next_line lace b
 
--- a place that the beam can have
+-- the first clock of a line, and of a field
+abbrev pub is_line_start : Beam → Bool
+is_line_start b = b.h == 0
+
+abbrev pub is_field_start : Beam → Bool
+is_field_start b = (b.v == 0) && (b.h == 0)
+
+-- a place that the beam can have. (LOF can be cleared while the last line of a long field runs.)
 pub record IsOnScreen (b : Beam) : Type 0 where
-  pub line : b.v < lines b.lof
+  pub line : b.v < 313
   pub clock : b.h < 227
 
 -- its place in the order of time, as one number

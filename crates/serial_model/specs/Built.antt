@@ -1,31 +1,31 @@
 -- What of the machine is built, and the clocks that need more.
-use Rattle.std.specs.Prelude.{ℕ, ◌%◌, Bool, false, not, ◌==◌, ◌&&◌, ◌||◌, if◌then◌else◌, bit_and, List}
+use Rattle.std.specs.Prelude.{ℕ, Bool, false, not, ◌==◌, ◌&&◌, ◌||◌, nat_le, bit_and, List}
 use Rattle.ocs_base.specs.declared.script.At.{At}
 use Rattle.ocs_base.specs.declared.script.System.{System}
-use Rattle.serial_model.specs.declared.bus.Ask.{Ask}
-use Rattle.serial_model.specs.declared.bus.Ask.TheVariants.{Free, CopperFirst, CopperSecond}
-use Rattle.serial_model.specs.Registers.{is_colour}
-use Rattle.serial_model.specs.Copper.{moved_register, is_forbidden}
-use Rattle.serial_model.specs.Bus.{asked, word_for}
+use Rattle.serial_model.specs.declared.copper.CopperAct.{CopperAct}
+use Rattle.serial_model.specs.declared.copper.CopperAct.TheVariants.{None as NoAct, Move}
 use Rattle.serial_model.specs.State.{State}
-use Rattle.serial_model.specs.Tick.{before_access}
+use Rattle.serial_model.specs.Tick.{before_access, act_of}
 
--- the writes that are built: COP1LC, COPJMP1, the colours, and DMACON in its bits 15, 9 and 7
-abbrev pub is_built : ℕ → ℕ → Bool
-is_built offset word =
-    (offset == 0x80) || (offset == 0x82) || (offset == 0x88) || is_colour offset
-    || ((offset == 0x96) && (bit_and word 0x7d7f == 0))
+-- the writes that are not built: BLTSIZE, INTENA, INTREQ, the data of bitplanes, the sprites, BPLEN and SPREN of DMACON,
+-- and every bit of BPLCON0 but LACE
+abbrev pub is_missing : ℕ → ℕ → Bool
+is_missing offset word =
+    (offset == 0x58) || (offset == 0x9a) || (offset == 0x9c)
+    || (nat_le 0x110 offset && nat_le offset 0x11a)
+    || (nat_le 0x140 offset && nat_le offset 0x17e)
+    || ((offset == 0x96) && not (bit_and word 0x120 == 0))
+    || ((offset == 0x100) && not (bit_and word 0xfffb == 0))
 
--- an access that completes a SKIP, or a MOVE whose write is none of these
-abbrev pub is_unbuilt : Ask → ℕ → Bool
-is_unbuilt Free word = false
-is_unbuilt (CopperFirst at) word = false
-is_unbuilt (CopperSecond at first) word =
-    if first % 2 == 0 then not (is_forbidden first) && not (is_built (moved_register first) word) else word % 2 == 1
+-- the reads that are not built: CLXDAT, INTENAR and INTREQR
+abbrev pub is_unreadable : ℕ → Bool
+is_unreadable offset = (offset == 0x0e) || (offset == 0x1c) || (offset == 0x1e)
+
+-- a MOVE whose write is not built
+abbrev pub is_unbuilt : CopperAct → Bool
+is_unbuilt NoAct = false
+is_unbuilt (Move reg word) = is_missing reg.offset word
 
 -- whether the colour clock that begins in this state does something unbuilt
 unfoldable pub meets_unbuilt : System → List At → State → Bool
-meets_unbuilt system events s =
-    let before = before_access system events s in
-    let ask = asked before.beam before.chips in
-    is_unbuilt ask (word_for ask before.memory)
+meets_unbuilt system events s = is_unbuilt (act_of (before_access system events s))

@@ -1,6 +1,8 @@
 pub mod Beam
+pub mod RegisterTable
 pub mod Registers
 pub mod Copper
+pub mod Owner
 pub mod Picture
 pub mod Bus
 pub mod Events

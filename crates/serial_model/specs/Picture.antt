@@ -1,21 +1,20 @@
 -- The picture state, what changes it, and what it shows.
-use Rattle.std.specs.Prelude.{ℕ, ◌-◌, ◌*◌, ◌/◌, ◌%◌, Bool, if◌then◌else◌, List, [], ◌∷◌, ◌++◌, slice_index, slice_set, replicate, Option, Some, None}
+use Rattle.std.specs.Prelude.{ℕ, ◌-◌, ◌*◌, ◌/◌, ◌%◌, Bool, ◌&&◌, nat_le, if◌then◌else◌, List, [], ◌∷◌, ◌++◌, slice_index, slice_set, replicate, Option, Some, None}
 use Rattle.ocs_base.specs.declared.script.System.{System}
 use Rattle.serial_model.specs.declared.picture.Denise.{Denise}
 use Rattle.serial_model.specs.declared.picture.Touch.{Touch}
 use Rattle.serial_model.specs.declared.picture.Touch.TheVariants.{Set}
 use Rattle.serial_model.specs.Beam.{is_visible}
-use Rattle.serial_model.specs.Registers.{is_colour}
 
 -- the picture state at reset: every colour is black
 unfoldable pub reset_picture : Denise
 reset_picture = record { palette = replicate 32 0 }
 
--- the registers of Denise, whose writes change the picture state
-abbrev pub is_picture_register : ℕ → Bool
-is_picture_register offset = is_colour offset
+-- one of the colour registers, 180 to 1BE
+abbrev pub is_colour : ℕ → Bool
+is_colour offset = nat_le 0x180 offset && nat_le offset 0x1be
 
--- a write to one of Denise's registers; a colour keeps bits 11 to 0
+-- a write to one of Denise's registers: a colour keeps bits 11 to 0. What the others do to the picture is not built yet
 abbrev pub set : ℕ → ℕ → Denise → Denise
 set offset word p =
     if is_colour offset then record { palette = slice_set p.palette ((offset - 0x180) / 2) (word % 4096) } else p

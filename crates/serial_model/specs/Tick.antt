@@ -1,22 +1,19 @@
 -- One colour clock: seven steps from state to state, in this order.
-use Rattle.std.specs.Prelude.{◌+◌, ◌==◌, ◌&&◌, if◌then◌else◌, List, ◌++◌}
+use Rattle.std.specs.Prelude.{◌+◌, if◌then◌else◌, List, ◌++◌}
 use Rattle.ocs_base.specs.declared.beam.Beam.{Beam}
 use Rattle.ocs_base.specs.declared.script.At.{At}
 use Rattle.ocs_base.specs.declared.script.System.{System}
-use Rattle.serial_model.specs.Beam.{next_place}
-use Rattle.serial_model.specs.Registers.{is_interlaced, pointer}
-use Rattle.serial_model.specs.Copper.{started_at}
+use Rattle.serial_model.specs.declared.copper.CopperAct.{CopperAct}
+use Rattle.serial_model.specs.Beam.{next_place, is_field_start}
+use Rattle.serial_model.specs.Registers.{is_interlaced}
 use Rattle.serial_model.specs.Picture.{pixels, all_touched, maybe_touched}
-use Rattle.serial_model.specs.Events.{due, all_acted, touches_of, event_lines}
-use Rattle.serial_model.specs.Bus.{asked, word_of, word_for, answered, touch_of, bus_lines}
-use Rattle.serial_model.specs.State.{Chips, State}
+use Rattle.serial_model.specs.Events.{due, all_acted, all_beam_acted, touches_of, event_lines}
+use Rattle.serial_model.specs.Bus.{asked, word_of, answer_to, copper_moved_on, act_at, carried_out, beam_carried_out, touch_of, act_lines}
+use Rattle.serial_model.specs.State.{Chips, State, restarted}
 
 -- first: at a field's first clock the Copper starts at COP1LC
 abbrev pub chips_started : Beam → Chips → Chips
-chips_started b c =
-    if (b.v == 0) && (b.h == 0)
-    then record { registers = c.registers; copper = started_at (pointer c.registers 0x80) }
-    else c
+chips_started b c = if is_field_start b then restarted 1 c else c
 
 abbrev pub started : State → State
 started s = record s { chips = chips_started s.beam s.chips }
@@ -24,6 +21,7 @@ started s = record s { chips = chips_started s.beam s.chips }
 -- events happen one after another
 abbrev pub happened : List At → State → State
 happened acts s = record s {
+  beam = all_beam_acted acts s.beam;
   chips = all_acted acts s.chips;
   picture = all_touched s.beam.h (word_of s.memory) (touches_of acts) s.picture;
   trace = s.trace ++ event_lines s.beam acts s.chips;
@@ -41,16 +39,17 @@ timed s = s
 abbrev pub displayed : System → State → State
 displayed system s = record s { shown = s.shown ++ pixels system s.beam.v s.beam.h s.picture }
 
--- fifth: the owner of the slot makes its access
+-- fifth: the owner of the slot makes its access, and the Copper takes its step
+abbrev pub act_of : State → CopperAct
+act_of s = act_at s.beam (answer_to (asked s.beam s.chips) s.memory) s.chips
+
 abbrev pub accessed : State → State
-accessed s =
-    let ask = asked s.beam s.chips in
-    let word = word_for ask s.memory in
-    record s {
-      chips = answered s.beam ask word s.chips;
-      picture = maybe_touched s.beam.h (word_of s.memory) (touch_of ask word) s.picture;
-      trace = s.trace ++ bus_lines s.beam ask word;
-    }
+accessed s = record s {
+  beam = beam_carried_out (act_of s) s.beam;
+  chips = carried_out (act_of s) (copper_moved_on s.beam (answer_to (asked s.beam s.chips) s.memory) s.chips);
+  picture = maybe_touched s.beam.h (word_of s.memory) (touch_of (act_of s)) s.picture;
+  trace = s.trace ++ act_lines s.beam (act_of s);
+}
 
 -- sixth: the processor's part that needs no slot; this machine has no processor yet
 abbrev pub processed : State → State

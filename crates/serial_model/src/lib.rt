@@ -5,9 +5,13 @@
 pub mod bus;
 pub mod copper;
 pub mod picture;
+pub mod registers;
+pub mod slots;
 pub mod trace;
 
 pub use bus::Ask;
-pub use copper::{CopperPhase, CopperState};
+pub use copper::{CopperAct, CopperPhase, CopperState};
 pub use picture::{Denise, Touch};
+pub use registers::{Effect, Live, Reading, Writing};
+pub use slots::{Owner, SlotState};
 pub use trace::{Source, TraceLine};

@@ -1,20 +1,9 @@
-use Rattle.std.proofs.Common.{refl, ap, ◌∙◌}
-use Rattle.serial_model.specs.Picture.{all_touched}
-use Rattle.ocs_run.proofs.PictureLaws.{all_touched-poke}
-use Rattle.ocs_run.proofs.TraceLaws.{line-first}
+use Rattle.ocs_run.proofs.StepLaws.{Acts-poke, Acts-peek}
 use Rattle.ocs_run.proofs.foreground.Foreground.act.Goals as goal
 
-pub returns-in_ok-line-clause-acts : goal.returns-in_ok-line-clause-acts
-returns-in_ok-line-clause-acts c =
-    rw c.in-Poke.is (record {
-      t = refl;
-      beam = refl;
-      memory = refl;
-      chips = c.poke.ensures;
-      picture = λ h word_at touches. ap (λ p. all_touched h word_at touches p) c.set.ensures
-          ∙ all_touched-poke h word_at touches c.in-Poke.reg.offset c.in-Poke.word c.args.self.now.picture;
-      names = ap (λ o. o.names) c.in_ok-line.ensures.ok;
-      frames = ap (λ o. o.frames) c.in_ok-line.ensures.ok;
-      given = ap (λ o. o.given) c.in_ok-line.ensures.ok;
-      trace = λ lines. line-first c.args.self.now.out _ _ lines c.in_ok-line.ensures.ok;
-    })
+pub returns-in_ok-write-in-Poke-clause-acts : goal.returns-in_ok-write-in-Poke-clause-acts
+returns-in_ok-write-in-Poke-clause-acts c =
+    rw c.in-Poke.is (Acts-poke c.in-Poke.reg c.in-Poke.word c.args.self.now _ c.in_ok-write-in-Poke.ensures.writes)
+
+pub returns-in_ok-peek-in-Peek-clause-acts : goal.returns-in_ok-peek-in-Peek-clause-acts
+returns-in_ok-peek-in-Peek-clause-acts c = rw c.in-Peek.is (Acts-peek c.in-Peek.reg c.args.self.now _ c.in_ok-peek-in-Peek.ensures.peeks)

@@ -1,0 +1,199 @@
+//! The Copper: a small processor that waits for the beam and writes registers.
+//!
+//! An instruction is two words, each read from chip memory in a slot of its own (Hardware Reference Manual,
+//! coprocessor hardware): MOVE where bit 0 of the first is clear; WAIT where it is set and bit 0 of the
+//! second is clear; SKIP where both are set. Addresses are in bytes and wrap at 512 KiB.
+#![tactic(auto)]
+
+ghost use Rattle.std.specs.Prelude.{◌≡◌, ◌<◌, Some, option_map};
+ghost use Rattle.ocs_base.specs.declared.addr.Addr.{Addr};
+ghost use Rattle.serial_model.specs.declared.copper.CopperPhase.{CopperPhase};
+ghost use Rattle.serial_model.specs.Copper.{started_at, wanted, copper_stepped, copper_act, bytes_after, holds as comparison, is_forbidden as forbidden, is_stopped, completed, act_in};
+ghost use Rattle.copper.specs.Phase.{phase_of};
+ghost use Rattle.copper.specs.Sound.{IsSound};
+
+use ocs_base::{Addr, Beam, Reg};
+pub use serial_model::{CopperAct, CopperPhase, CopperState};
+use std::marker::Model;
+
+/// The Copper between two colour clocks. Of the machine it sees only what its calls are given.
+#[derive(Drop)]
+pub struct Copper {
+    state: CopperState,
+}
+
+impl Model for Copper {
+    ghost use Rattle.serial_model.specs.declared.copper.CopperState.{CopperState};
+    ghost use Rattle.copper.specs.Sound.{IsSound};
+
+    ghost Value = { CopperState };
+
+    ghost view = { λ c. c.state };
+
+    ghost invariant = { λ c. IsSound c.state };
+}
+
+impl Copper {
+    /// A Copper that begins to fetch at an address.
+    pub fn start(at: Addr) -> Copper
+        ensures { result ≡ started_at at.value }
+    {
+        Copper {
+            state: fetching_from(at),
+        }
+    }
+
+    /// The Copper fetches from another address: from COP1LC at the start of a field and after a write to
+    /// COPJMP1, from COP2LC after one to COPJMP2 (Hardware Reference Manual, COPJMP1). It ends a wait and
+    /// starts a Copper that was stopped, and what was read of an instruction is dropped.
+    pub fn jump(&mut self, to: Addr)
+        ensures { self.new ≡ started_at to.value }
+    {
+        self.state = fetching_from(to);
+    }
+
+    /// The address of the word that it asks for: Some exactly in a fetch phase, and so None while it waits
+    /// or is stopped. Whether it may ask, on an even clock with DMAEN and COPEN set, is for the caller to
+    /// know.
+    pub fn wants(&self) -> Option<Addr>
+        ensures { option_map (λ at. at.value) result ≡ wanted self.now }
+    {
+        match self.state.phase {
+            CopperPhase::First | CopperPhase::Second => Some(Addr::at(self.state.at)),
+            CopperPhase::Waiting | CopperPhase::Stopped => None,
+        }
+    }
+
+    /// Whether a forbidden MOVE has stopped it until its next start or jump. That it stops so is this
+    /// project's profile.
+    pub fn stopped(&self) -> bool
+        ensures { result ≡ is_stopped self.now }
+    {
+        matches!(self.state.phase, CopperPhase::Stopped)
+    }
+
+    /// One step. It is made once on each even clock at which DMAEN and COPEN of DMACON are set (that the
+    /// Copper uses even clocks is this project's profile).
+    ///
+    /// `fetched` is the word that it asked for, and None where it got no slot: a fetch phase then stays as it
+    /// is. `busy` says that the blitter was busy before this clock's access, and `danger` is CDANG, bit 1 of
+    /// COPCON. The answer is a write exactly where a MOVE is completed, at the clock of its second word, and
+    /// its register is allowed: 080 or above, or 040 or above with `danger`.
+    ///
+    /// A WAIT compares from the step after its second word on, without a slot, and the Copper fetches again
+    /// from the step after the comparison held. A SKIP compares as its second word is read, and where that
+    /// holds the two words behind it are passed over without a slot.
+    #[tactic(auto, unfolding(serial_model::specs::Copper::copper_stepped, serial_model::specs::Copper::copper_act))]
+    pub fn step(&mut self, fetched: Option<u16>, beam: &Beam, busy: bool, danger: bool) -> CopperAct
+        ensures state { self.new ≡ copper_stepped beam.now busy danger fetched self.old }
+        ensures act { result ≡ copper_act danger fetched self.old }
+    {
+        match (self.state.phase, fetched) {
+            (CopperPhase::First, Some(word)) => {
+                self.state.first = word;
+                self.state.at = bytes_on(self.state.at, 2);
+                self.state.phase = CopperPhase::Second;
+                CopperAct::None
+            }
+            (CopperPhase::Second, Some(word)) => {
+                let first = self.state.first;
+                complete(&mut self.state, word, beam, busy, danger);
+                move_of(first, word, danger)
+            }
+            (CopperPhase::Waiting, _) => {
+                if holds(beam, busy, self.state.first, self.state.second) {
+                    self.state.phase = CopperPhase::First;
+                }
+                CopperAct::None
+            }
+            _ => CopperAct::None,
+        }
+    }
+}
+
+/// A Copper's state as it begins to fetch at an address.
+fn fetching_from(at: Addr) -> CopperState
+    ensures { result ≡ started_at at.value }
+{
+    CopperState {
+        phase: CopperPhase::First,
+        at: at.raw(),
+        first: 0,
+        second: 0,
+    }
+}
+
+/// Completes an instruction, whose second word was read.
+fn complete(state: &mut CopperState, word: u16, beam: &Beam, busy: bool, danger: bool)
+    requires { IsSound state.old }
+    ensures state { state.new ≡ completed beam.now busy danger word state.old }
+    ensures sound { IsSound state.new }
+{
+    let passes = state.first % 2 == 1 && word % 2 == 1 && holds(beam, busy, state.first, word);
+    state.at = bytes_on(state.at, if passes { 6 } else { 2 });
+    state.phase = phase_after(state.first, word, danger);
+    state.second = word;
+}
+
+/// The phase after an instruction's second word was read.
+fn phase_after(first: u16, second: u16, danger: bool) -> CopperPhase
+    ensures { result ≡ phase_of danger first second }
+{
+    if first % 2 == 0 {
+        if is_forbidden(first, danger) {
+            CopperPhase::Stopped
+        } else {
+            CopperPhase::First
+        }
+    } else if second % 2 == 0 {
+        CopperPhase::Waiting
+    } else {
+        CopperPhase::First
+    }
+}
+
+/// What an instruction makes at the clock of its second read: the write of a MOVE that is not forbidden.
+fn move_of(first: u16, word: u16, danger: bool) -> CopperAct
+    ensures { result ≡ act_in danger (Some word) CopperPhase.Second first }
+{
+    if first % 2 == 0 && !is_forbidden(first, danger) {
+        CopperAct::Move {
+            reg: Reg::masked(first),
+            word,
+        }
+    } else {
+        CopperAct::None
+    }
+}
+
+/// Whether a MOVE with this first word is forbidden: to a register below 040, and to one of 040 to 07E
+/// while CDANG is clear (Hardware Reference Manual, COPCON; these bounds are this project's profile).
+fn is_forbidden(first: u16, danger: bool) -> bool
+    ensures { result ≡ forbidden danger first }
+{
+    let offset = Reg::masked(first).raw();
+    offset < 0x40 || offset < 0x80 && !danger
+}
+
+/// The address so many bytes on, wrapping at 512 KiB.
+fn bytes_on(at: u32, bytes: u32) -> u32
+    requires below { at < 524288 }
+    requires few { bytes < 8 }
+    ensures { result ≡ bytes_after at bytes }
+{
+    Addr::at(at + bytes).raw()
+}
+
+/// Whether the comparison of a WAIT or SKIP with these words holds: the low eight bits of the line and the
+/// even clock are not below those of the first word, under the mask of the second. Bit 15 of the mask, that
+/// of the line's bit 7, is always set; bit 15 of the second word is BFD, which leaves the blitter out of it.
+fn holds(beam: &Beam, busy: bool, first: u16, second: u16) -> bool
+    ensures { result ≡ comparison beam.now busy first second }
+{
+    let mask = 0x8000 | second & 0x7ffe;
+    let place = (beam.v as u32 % 256) * 256 + beam.h as u32 / 2 * 2;
+    place & mask as u32 >= (first & 0xfffe & mask) as u32 && (second >= 0x8000 || !busy)
+}
+
+#[cfg(test)]
+mod tests;

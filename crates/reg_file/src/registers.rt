@@ -1,0 +1,163 @@
+//! The kept words of the custom registers.
+
+ghost use Rattle.std.specs.Prelude.{◌≡◌, ◌<◌, ◌%◌, true, if◌then◌else◌};
+ghost use Rattle.serial_model.specs.Registers.{no_registers, kept, pointer as address_at, with_pointer, written, effect_of, effect_in, peeked, set_or_cleared, is_closed as closed, bit as worth_of};
+ghost use Rattle.serial_model.specs.RegisterTable.{is_pointer_high};
+
+use crate::table::{kept_bits, reading, writing};
+use ocs_base::{Addr, Reg};
+use serial_model::{Effect, Live, Reading, Writing};
+use std::marker::Model;
+
+/// The offset of DMACON.
+const DMACON: usize = 0x96;
+
+/// The kept words of the custom registers (Hardware Reference Manual, register summary), by half their
+/// offset from DFF000. An offset without a register keeps 0 (profile).
+#[derive(Drop)]
+pub struct Regs {
+    words: [u16; 256],
+}
+
+impl Model for Regs {
+    ghost use Rattle.std.specs.Prelude.{List, ℕ};
+
+    ghost Value = { List ℕ };
+
+    ghost view = { λ r. r.words };
+}
+
+impl Regs {
+    /// The registers at reset: every kept word is 0 (profile).
+    #[tactic(auto, unfolding(serial_model::specs::Registers::no_registers))]
+    pub fn reset() -> Regs
+        ensures { result ≡ no_registers }
+    {
+        Regs { words: [0; 256] }
+    }
+
+    /// A write of a word to a register by the script, the Copper or the processor. The register keeps those
+    /// bits of the word that it has. At DMACON, INTENA and INTREQ bit 15 says whether the word's other 1 bits
+    /// are set or cleared in the kept word (Hardware Reference Manual, DMACON, INTENA, INTREQ). A write to a
+    /// register for reading only changes nothing, nor does one to an offset without a register (profile), or
+    /// to 040 to 074 where `busy` says that the blitter is busy (profile). The answer says what happens
+    /// beside the kept word.
+    #[tactic(auto, unfolding(serial_model::specs::Registers::written, serial_model::specs::Registers::effect_of))]
+    pub fn poke(&mut self, reg: Reg, word: u16, busy: bool) -> Effect
+        ensures words { self.new ≡ written busy self.old reg.offset word }
+        ensures effect { result ≡ effect_of busy reg.offset word }
+    {
+        if is_closed(reg, busy) {
+            return Effect::Nothing;
+        }
+        let place = &mut self.words[reg.offset as usize / 2];
+        let way = writing(reg);
+        match way {
+            Writing::Ignored => {}
+            Writing::SetOrClear | Writing::Interrupt => {
+                *place = set_or_clear(*place, word, kept_bits(reg));
+            }
+            Writing::Plain
+            | Writing::Jump { .. }
+            | Writing::Blit
+            | Writing::Picture
+            | Writing::Field => *place = word & kept_bits(reg),
+        }
+        effect(way, word)
+    }
+
+    /// What a read of a register gives (Hardware Reference Manual, DMACONR, VPOSR, VHPOSR, JOY0DAT, JOY1DAT).
+    /// DMACONR has bits 10 to 0 of DMACON, BBUSY in bit 14 and BZERO in bit 13. VPOSR has LOF in bit 15 and
+    /// bit 8 of the line in bit 0, and its other bits are 0 (profile). VHPOSR has bits 7 to 0 of the line in
+    /// its high byte and the colour clock, 0 to 226, in its low one. Other chips keep CLXDAT, INTENAR and
+    /// INTREQR, which are 0 here. A register for writing only reads as 0, as does an offset without one
+    /// (profile).
+    #[tactic(auto, unfolding(serial_model::specs::Registers::peeked))]
+    pub fn peek(&self, reg: Reg, live: &Live) -> u16
+        ensures { result ≡ peeked live.now self.now reg.offset }
+    {
+        match reading(reg) {
+            Reading::Zero | Reading::Elsewhere => 0,
+            Reading::DmaAndBlitter => {
+                (self.words[DMACON / 2] & 0x7ff) + bit(live.zero, 0x2000) + bit(live.busy, 0x4000)
+            }
+            Reading::FieldAndLine => live.beam.v / 256 % 2 + bit(live.beam.lof, 0x8000),
+            Reading::LineAndClock => live.beam.v % 256 * 256 + live.beam.h % 256,
+            Reading::Joystick { port } => { if port == 0 { live.joy0 } else { live.joy1 } }
+        }
+    }
+
+    /// The kept word of a register, also of one for writing only: what the chips see, and no read of the bus.
+    pub fn word(&self, reg: Reg) -> u16
+        ensures { result ≡ kept self.now reg.offset }
+    {
+        self.words[reg.offset as usize / 2]
+    }
+
+    /// The address in a pointer: bits 18 to 16 are bits 2 to 0 of the word at `high`, and bits 15 to 1 are
+    /// those of the next register's word (Hardware Reference Manual, pointer registers). Bit 0 of BLTAPTL is
+    /// kept, but is no part of the address.
+    #[tactic(auto, using(crate::proofs::TableLaws::low_follows))]
+    pub fn pointer(&self, high: Reg) -> Addr
+        requires { is_pointer_high high.offset ≡ true }
+        ensures { result.value ≡ address_at self.now high.offset }
+    {
+        let at = high.offset as usize / 2;
+        Addr::at(self.words[at] as u32 * 0x1_0000 + self.words[at + 1] as u32)
+    }
+
+    /// A pointer gets an address: the register at `high` its bits 18 to 16, and the next one bits 15 to 0, of
+    /// which bit 0 is 0. This is no write on the bus, so a busy blitter does not close it.
+    #[tactic(auto, using(crate::proofs::TableLaws::low_follows))]
+    pub fn set_pointer(&mut self, high: Reg, to: Addr)
+        requires { is_pointer_high high.offset ≡ true }
+        ensures { self.new ≡ with_pointer self.old high.offset to.value }
+    {
+        let at = high.offset as usize / 2;
+        self.words[at] = (to.raw() / 0x1_0000) as u16;
+        self.words[at + 1] = (to.raw() % 0x1_0000) as u16;
+    }
+}
+
+/// Whether a busy blitter closes a register to a write: 040 to 074 (profile).
+fn is_closed(reg: Reg, busy: bool) -> bool
+    ensures { result ≡ closed busy reg.offset }
+{
+    busy && (0x40..=0x74).contains(&reg.offset)
+}
+
+/// A kept word after a write to a register of the kind of DMACON: bit 15 of the written word says whether
+/// its other 1 bits are set or cleared. `bits` are those that the register keeps.
+fn set_or_clear(old: u16, word: u16, bits: u16) -> u16
+    ensures { result ≡ set_or_cleared bits old word }
+{
+    if word >= 0x8000 {
+        old | word & bits
+    } else {
+        old & !word
+    }
+}
+
+/// What a write of a word does beside the kept word, by the kind of the register.
+fn effect(writing: Writing, word: u16) -> Effect
+    ensures { result ≡ effect_in writing word }
+{
+    match writing {
+        Writing::Ignored => Effect::Nothing,
+        Writing::Plain | Writing::SetOrClear => Effect::Kept,
+        Writing::Jump { list } => Effect::Jump { list },
+        Writing::Blit => Effect::Blit,
+        Writing::Picture => Effect::Picture,
+        Writing::Interrupt => Effect::Interrupt,
+        Writing::Field => Effect::Lof {
+            long: word >= 0x8000,
+        },
+    }
+}
+
+/// What a bit of a word adds to it: `worth` where it is set, else 0.
+fn bit(set: bool, worth: u16) -> u16
+    ensures { result ≡ worth_of set worth }
+{
+    if set { worth } else { 0 }
+}

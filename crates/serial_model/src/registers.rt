@@ -1,0 +1,56 @@
+//! The custom registers: what a read gives, what a write does, and what of the machine a read sees.
+
+use ocs_base::Beam;
+
+/// What a read of a register gives: 0; the kept bits of DMACON with the state of the blitter; LOF and the
+/// line's bit 8; the line's bits 7 to 0 and the clock; a joystick's word; or a word that another chip keeps.
+#[derive(Clone, Copy, PartialEq, Eq, Debug)]
+pub enum Reading {
+    Zero,
+    DmaAndBlitter,
+    FieldAndLine,
+    LineAndClock,
+    Joystick { port: u8 },
+    Elsewhere,
+}
+
+/// What a write to a register does. `Ignored` changes nothing; every other keeps the word in the bits that
+/// the register keeps. `SetOrClear` and `Interrupt` set or clear bits of the kept word, by bit 15 of the
+/// written one. `Jump` makes the Copper fetch from its list 1 or 2, `Blit` starts a blit, `Picture` reaches
+/// Denise and `Field` sets LOF.
+#[derive(Clone, Copy, PartialEq, Eq, Debug)]
+pub enum Writing {
+    Ignored,
+    Plain,
+    SetOrClear,
+    Jump { list: u8 },
+    Blit,
+    Picture,
+    Interrupt,
+    Field,
+}
+
+/// What a write does beside the register's kept word. `Nothing` says that the write changes nothing, not
+/// even that; `Kept` that the word is kept and no more happens. `Jump` names the Copper's list, 1 or 2, and
+/// `Lof` the new LOF.
+#[derive(Clone, Copy, PartialEq, Eq, Debug)]
+pub enum Effect {
+    Kept,
+    Nothing,
+    Jump { list: u8 },
+    Blit,
+    Picture,
+    Interrupt,
+    Lof { long: bool },
+}
+
+/// What a read sees beside the kept words: the beam, whether the blitter is busy, BZERO, and the two
+/// joystick words.
+#[derive(Clone, Copy, Debug)]
+pub struct Live {
+    pub beam: Beam,
+    pub busy: bool,
+    pub zero: bool,
+    pub joy0: u16,
+    pub joy1: u16,
+}
