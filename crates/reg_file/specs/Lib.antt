@@ -1,1 +1,1 @@
-pub mod KeptBits
+pub mod Table
