@@ -179,66 +179,61 @@ fn trace_of(
     Ok(trace)
 }
 
+/// Whether a Copper list at address 8 gives these lines of the trace. Events and lines of the script stand
+/// before those that start the list.
+fn list_gives(
+    alloc: Global,
+    list: &[u16],
+    before: (&str, &str),
+    lines: &str,
+) -> Result<bool, OutOfMemory> {
+    let mut script = String::from_str(alloc, before.0)?;
+    script.push_str(START)?;
+    let mut wanted = String::from_str(alloc, before.1)?;
+    wanted.push_str(STARTED)?;
+    wanted.push_str(lines)?;
+    let trace = trace_of(alloc, list, "frames 1\n", &script)?;
+    Ok(trace.as_str() == wanted.as_str())
+}
+
 #[test]
-fn copper_lists(rt: HostRuntime) -> Result<(), OutOfMemory> {
+fn skips_and_waits(rt: HostRuntime) -> Result<(), OutOfMemory> {
     let alloc = rt.alloc();
-    let danger = "at 0 0 0 poke 02e 0002\n";
-    let second = "at 0 0 0 poke 086 0008\nat 0 0 0 poke 08a 0000\nat 0 0 0 poke 096 8280\n";
-    let turned = "0 0 0 W 086 0008 S\n0 0 0 W 08a 0000 S\n0 0 0 W 096 8280 S\n";
-    for (image, events, before, after) in [
-        (
-            &[
-                0x0001u16, 0xffff, 0x0180, 0x0f00, 0x0180, 0x00f0, 0xffff, 0xfffe,
-            ] as &[u16],
-            ["", START],
-            ["", STARTED],
-            "0 0 6 W 180 00f0 C\n",
-        ),
-        (
-            &[
-                0x6401, 0xffff, 0x0180, 0x0f00, 0x0180, 0x00f0, 0xffff, 0xfffe,
-            ],
-            ["", START],
-            ["", STARTED],
-            "0 0 6 W 180 0f00 C\n0 0 10 W 180 00f0 C\n",
-        ),
-        (
-            &[0x0040u16, 0x0000, 0x0180, 0x0f00, 0xffff, 0xfffe],
-            ["", START],
-            ["", STARTED],
-            "",
-        ),
-        (
-            &[0x0040u16, 0x0000, 0x0180, 0x0f00, 0xffff, 0xfffe],
-            [danger, START],
-            ["0 0 0 W 02e 0002 S\n", STARTED],
-            "0 0 2 W 040 0000 C\n0 0 6 W 180 0f00 C\n",
-        ),
-        (
-            &[0x0180u16, 0x000f, 0xffff, 0xfffe],
-            ["", second],
-            ["", turned],
-            "0 0 2 W 180 000f C\n",
-        ),
-        (
-            &[0x3041u16, 0x7ffe, 0x0180, 0x0f00, 0xffff, 0xfffe],
-            ["", START],
-            ["", STARTED],
-            "0 48 68 W 180 0f00 C\n",
-        ),
-    ] {
-        let mut script = String::new(alloc);
-        let mut wanted = String::new(alloc);
-        for part in events {
-            script.push_str(part)?;
-        }
-        for part in before {
-            wanted.push_str(part)?;
-        }
-        wanted.push_str(after)?;
-        let trace = trace_of(alloc, image, "frames 1\n", &script)?;
-        assert!(rt; trace.as_str() == wanted.as_str(), "{trace}");
-    }
+    let plain = ("", "");
+    let holds = [
+        0x0001u16, 0xffff, 0x0180, 0x0f00, 0x0180, 0x00f0, 0xffff, 0xfffe,
+    ];
+    let not = [
+        0x6401u16, 0xffff, 0x0180, 0x0f00, 0x0180, 0x00f0, 0xffff, 0xfffe,
+    ];
+    let both = "0 0 6 W 180 0f00 C\n0 0 10 W 180 00f0 C\n";
+    assert!(rt; list_gives(alloc, &holds, plain, "0 0 6 W 180 00f0 C\n")?);
+    assert!(rt; list_gives(alloc, &not, plain, both)?);
+    let wait = [0x3041u16, 0x7ffe, 0x0180, 0x0f00, 0xffff, 0xfffe];
+    assert!(rt; list_gives(alloc, &wait, plain, "0 48 68 W 180 0f00 C\n")?);
+    Ok(())
+}
+
+#[test]
+fn forbidden_moves(rt: HostRuntime) -> Result<(), OutOfMemory> {
+    let alloc = rt.alloc();
+    let plain = ("", "");
+    let danger = ("at 0 0 0 poke 02e 0002\n", "0 0 0 W 02e 0002 S\n");
+    let list = [0x0040u16, 0x0000, 0x0180, 0x0f00, 0xffff, 0xfffe];
+    let both = "0 0 2 W 040 0000 C\n0 0 6 W 180 0f00 C\n";
+    assert!(rt; list_gives(alloc, &list, plain, "")?);
+    assert!(rt; list_gives(alloc, &list, danger, both)?);
+    Ok(())
+}
+
+#[test]
+fn second_copper_list(rt: HostRuntime) -> Result<(), OutOfMemory> {
+    let alloc = rt.alloc();
+    let list = [0x0180u16, 0x000f, 0xffff, 0xfffe];
+    let events = "at 0 0 0 poke 086 0008\nat 0 0 0 poke 08a 0000\nat 0 0 0 poke 096 8280\n";
+    let wanted = "0 0 0 W 086 0008 S\n0 0 0 W 08a 0000 S\n0 0 0 W 096 8280 S\n0 0 2 W 180 000f C\n";
+    let trace = trace_of(alloc, &list, "frames 1\n", events)?;
+    assert!(rt; trace.as_str() == wanted, "{trace}");
     Ok(())
 }
 
