@@ -18,8 +18,8 @@ pub record Row : Type 0 where
   -- the bits of a written word that are kept
   pub kept_bits : ℕ
 
-abbrev pub row : ℕ → ℕ → ℕ → List ℕ → Reading → Writing → ℕ → Row
-row first count apart name reading writing kept_bits = record {
+abbrev pub entry : ℕ → ℕ → ℕ → List ℕ → Reading → Writing → ℕ → Row
+entry first count apart name reading writing kept_bits = record {
   first = first;
   count = count;
   apart = apart;
@@ -31,13 +31,13 @@ row first count apart name reading writing kept_bits = record {
 
 -- a register for reading only, and one or more for writing only
 abbrev pub read_only : ℕ → List ℕ → Reading → Row
-read_only offset name reading = row offset 1 2 name reading W.Ignored 0
+read_only offset name reading = entry offset 1 2 name reading W.Ignored 0
 
 abbrev pub write_only : ℕ → List ℕ → Writing → ℕ → Row
-write_only offset name writing kept_bits = row offset 1 2 name R.Zero writing kept_bits
+write_only offset name writing kept_bits = entry offset 1 2 name R.Zero writing kept_bits
 
 abbrev pub group : ℕ → ℕ → ℕ → List ℕ → Writing → ℕ → Row
-group first count apart name writing kept_bits = row first count apart name R.Zero writing kept_bits
+group first count apart name writing kept_bits = entry first count apart name R.Zero writing kept_bits
 
 -- the table. A pointer keeps bits 2 to 0 of its high word and bits 15 to 1 of its low word; BLTAPTL keeps all, for line mode
 unfoldable pub rows : List Row
@@ -110,7 +110,7 @@ in_row r offset =
 
 -- an offset without a register reads as 0, and a write there changes nothing (profile)
 abbrev pub no_row : Row
-no_row = row 0 0 2 [] R.Zero W.Ignored 0
+no_row = entry 0 0 2 [] R.Zero W.Ignored 0
 
 abbrev pub row_among : List Row → ℕ → Row
 row_among [] offset = no_row
