@@ -8,8 +8,7 @@
 ghost use Rattle.std.specs.Prelude.{◌≡◌, ◌<◌, Some, option_map};
 ghost use Rattle.ocs_base.specs.declared.addr.Addr.{Addr};
 ghost use Rattle.serial_model.specs.declared.copper.CopperPhase.{CopperPhase};
-ghost use Rattle.serial_model.specs.Copper.{started_at, wanted, copper_stepped, copper_act, bytes_after, holds as comparison, is_forbidden as forbidden, is_stopped, completed, act_in};
-ghost use Rattle.copper.specs.Phase.{phase_of};
+ghost use Rattle.serial_model.specs.Copper.{started_at, wanted, copper_stepped, copper_act, bytes_after, holds as comparison, is_forbidden as forbidden, is_stopped, phase_of, completed, act_in};
 ghost use Rattle.copper.specs.Sound.{IsSound};
 
 use ocs_base::{Addr, Beam, Reg};

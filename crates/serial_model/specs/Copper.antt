@@ -53,15 +53,26 @@ moved_register first = even_address 512 first
 abbrev pub is_forbidden : Bool → ℕ → Bool
 is_forbidden danger first = nat_lt (moved_register first) 0x40 || (nat_lt (moved_register first) 0x80 && not danger)
 
--- the second word of an instruction was read. A MOVE is done, or forbidden, which stops the Copper until its next start or
--- jump (profile); a WAIT begins; and where the comparison of a SKIP holds, the next two words are passed over
+-- what comes after an instruction's second word. A MOVE is done, or forbidden, which stops the Copper until its next start
+-- or jump (profile); a WAIT begins to wait; and a SKIP is done
+abbrev pub phase_of : Bool → ℕ → ℕ → CopperPhase
+phase_of danger first second =
+    if first % 2 == 0
+    then (if is_forbidden danger first then Stopped else First)
+    else (if second % 2 == 0 then Waiting else First)
+
+-- a SKIP whose comparison holds passes over the next two words
+abbrev pub passes : Beam → Bool → ℕ → ℕ → Bool
+passes b busy first second = (first % 2 == 1) && (second % 2 == 1) && holds b busy first second
+
+-- the second word of an instruction was read
 abbrev pub completed : Beam → Bool → Bool → ℕ → CopperState → CopperState
-completed b busy danger word c =
-    if c.first % 2 == 0
-    then record { phase = if is_forbidden danger c.first then Stopped else First; at = bytes_after c.at 2; first = c.first; second = word }
-    else (if word % 2 == 0
-    then record { phase = Waiting; at = bytes_after c.at 2; first = c.first; second = word }
-    else record { phase = First; at = bytes_after c.at (if holds b busy c.first word then 6 else 2); first = c.first; second = word })
+completed b busy danger word c = record {
+  phase = phase_of danger c.first word;
+  at = bytes_after c.at (if passes b busy c.first word then 6 else 2);
+  first = c.first;
+  second = word;
+}
 
 -- one step at an even clock, with the word that was read where the Copper got its slot
 abbrev pub stepped_in : Beam → Bool → Bool → Option ℕ → CopperPhase → CopperState → CopperState
