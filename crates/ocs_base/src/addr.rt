@@ -18,11 +18,13 @@ const SPAN: u32 = 0x8_0000;
 
 impl Addr {
     ghost use Rattle.ocs_base.specs.Span.{span_of};
+    ghost use Rattle.ocs_base.specs.AddressOf.{addr_at};
 
     /// The address that a pointer's number names: `raw AND 7FFFE`.
     #[tactic(auto, using(crate::proofs::Masks::even_address_masked))]
     pub fn at(raw: u32) -> Addr
         ensures value { result.value ≡ even_address chip_span raw }
+        ensures named { result ≡ addr_at raw }
         ensures span { span_of result ≡ chip_span }
     {
         Addr {

@@ -12,6 +12,8 @@ pub struct Reg {
 }
 
 impl Reg {
+    ghost use Rattle.ocs_base.specs.Register.{register_of};
+
     /// The register at an offset; None exactly where the number is odd or above 1FE.
     pub fn new(raw: u16) -> Option<Reg>
         ensures there { IsSome result ↔ ((raw % 2 ≡ 0) × (raw < 512)) }
@@ -28,7 +30,8 @@ impl Reg {
     /// `word AND 1FE`.
     #[tactic(auto, using(crate::proofs::Masks::even_offset_masked))]
     pub fn masked(word: u16) -> Reg
-        ensures { result.offset ≡ even_address 512 word }
+        ensures offset { result.offset ≡ even_address 512 word }
+        ensures named { result ≡ register_of word }
     {
         Reg {
             offset: word & 0x1fe,
