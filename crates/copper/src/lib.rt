@@ -5,13 +5,13 @@
 //! second is clear; SKIP where both are set. Addresses are in bytes and wrap at 512 KiB.
 #![tactic(auto)]
 
-ghost use Rattle.std.specs.Prelude.{◌≡◌, ◌<◌, Some, option_map};
-ghost use Rattle.ocs_base.specs.declared.addr.Addr.{Addr};
-ghost use Rattle.serial_model.specs.declared.copper.CopperPhase.{CopperPhase};
-ghost use Rattle.serial_model.specs.Copper.{started_at, wanted, copper_stepped, copper_act, bytes_after, holds as comparison, is_forbidden as forbidden, is_stopped, phase_of, completed, act_in};
-ghost use Rattle.copper.specs.Sound.{IsSound};
+ghost use Rattle.std.specs.Prelude.{◌≡◌, ◌<◌};
+ghost use Rattle.serial_model.specs.Copper.{copper_from, wish_of, step_copper, copper_act, bytes_after};
+ghost use Rattle.serial_model.specs.Copper.{comparison_holds, is_forbidden as forbidden, is_stopped, instruction_of};
+ghost use Rattle.serial_model.specs.Copper.{complete_instruction, phase_after as phase_of, length_of, act_of};
 
 use ocs_base::{Addr, Beam, Reg};
+use serial_model::CopperInstruction;
 pub use serial_model::{CopperAct, CopperPhase, CopperState};
 use std::marker::Model;
 
@@ -23,19 +23,16 @@ pub struct Copper {
 
 impl Model for Copper {
     ghost use Rattle.serial_model.specs.declared.copper.CopperState.{CopperState};
-    ghost use Rattle.copper.specs.Sound.{IsSound};
 
     ghost Value = { CopperState };
 
     ghost view = { λ c. c.state };
-
-    ghost invariant = { λ c. IsSound c.state };
 }
 
 impl Copper {
     /// A Copper that begins to fetch at an address.
     pub fn start(at: Addr) -> Copper
-        ensures { result ≡ started_at at.value }
+        ensures { result ≡ copper_from at }
     {
         Copper {
             state: fetching_from(at),
@@ -46,7 +43,7 @@ impl Copper {
     /// COPJMP1, from COP2LC after one to COPJMP2 (Hardware Reference Manual, COPJMP1). It ends a wait and
     /// starts a Copper that was stopped, and what was read of an instruction is dropped.
     pub fn jump(&mut self, to: Addr)
-        ensures { self.new ≡ started_at to.value }
+        ensures { self.new ≡ copper_from to }
     {
         self.state = fetching_from(to);
     }
@@ -55,10 +52,10 @@ impl Copper {
     /// or is stopped. Whether it may ask, on an even clock with DMAEN and COPEN set, is for the caller to
     /// know.
     pub fn wants(&self) -> Option<Addr>
-        ensures { option_map (λ at. at.value) result ≡ wanted self.now }
+        ensures { result ≡ wish_of self.now }
     {
         match self.state.phase {
-            CopperPhase::First | CopperPhase::Second => Some(Addr::at(self.state.at)),
+            CopperPhase::First | CopperPhase::Second => Some(self.state.at),
             CopperPhase::Waiting | CopperPhase::Stopped => None,
         }
     }
@@ -82,9 +79,9 @@ impl Copper {
     /// A WAIT compares from the step after its second word on, without a slot, and the Copper fetches again
     /// from the step after the comparison held. A SKIP compares as its second word is read, and where that
     /// holds the two words behind it are passed over without a slot.
-    #[tactic(auto, unfolding(serial_model::specs::Copper::copper_stepped, serial_model::specs::Copper::copper_act))]
+    #[tactic(auto, unfolding(serial_model::specs::Copper::step_copper, serial_model::specs::Copper::copper_act))]
     pub fn step(&mut self, fetched: Option<u16>, beam: &Beam, busy: bool, danger: bool) -> CopperAct
-        ensures state { self.new ≡ copper_stepped beam.now busy danger fetched self.old }
+        ensures state { self.new ≡ step_copper beam.now busy danger fetched self.old }
         ensures act { result ≡ copper_act danger fetched self.old }
     {
         match (self.state.phase, fetched) {
@@ -95,9 +92,9 @@ impl Copper {
                 CopperAct::None
             }
             (CopperPhase::Second, Some(word)) => {
-                let first = self.state.first;
-                complete(&mut self.state, word, beam, busy, danger);
-                move_of(first, word, danger)
+                let instruction = decode(self.state.first, word, danger);
+                complete(&mut self.state, &instruction, word, beam, busy);
+                act(&instruction)
             }
             (CopperPhase::Waiting, _) => {
                 if holds(beam, busy, self.state.first, self.state.second) {
@@ -112,56 +109,86 @@ impl Copper {
 
 /// A Copper's state as it begins to fetch at an address.
 fn fetching_from(at: Addr) -> CopperState
-    ensures { result ≡ started_at at.value }
+    ensures { result ≡ copper_from at }
 {
     CopperState {
         phase: CopperPhase::First,
-        at: at.raw(),
+        at,
         first: 0,
         second: 0,
     }
 }
 
-/// Completes an instruction, whose second word was read.
-fn complete(state: &mut CopperState, word: u16, beam: &Beam, busy: bool, danger: bool)
-    requires { IsSound state.old }
-    ensures state { state.new ≡ completed beam.now busy danger word state.old }
-    ensures sound { IsSound state.new }
-{
-    let passes = state.first % 2 == 1 && word % 2 == 1 && holds(beam, busy, state.first, word);
-    state.at = bytes_on(state.at, if passes { 6 } else { 2 });
-    state.phase = phase_after(state.first, word, danger);
-    state.second = word;
-}
-
-/// The phase after an instruction's second word was read.
-fn phase_after(first: u16, second: u16, danger: bool) -> CopperPhase
-    ensures { result ≡ phase_of danger first second }
+/// The instruction of two words: MOVE where bit 0 of the first is clear, WAIT where it is set and bit 0 of the
+/// second is clear, SKIP where both are set.
+fn decode(first: u16, second: u16, danger: bool) -> CopperInstruction
+    ensures { result ≡ instruction_of danger first second }
 {
     if first % 2 == 0 {
         if is_forbidden(first, danger) {
-            CopperPhase::Stopped
+            CopperInstruction::ForbiddenMove
         } else {
-            CopperPhase::First
+            CopperInstruction::Move {
+                reg: Reg::masked(first),
+                word: second,
+            }
         }
     } else if second % 2 == 0 {
-        CopperPhase::Waiting
+        CopperInstruction::Wait
     } else {
-        CopperPhase::First
+        CopperInstruction::Skip
+    }
+}
+
+/// Completes an instruction, whose second word was read.
+fn complete(
+    state: &mut CopperState,
+    instruction: &CopperInstruction,
+    word: u16,
+    beam: &Beam,
+    busy: bool,
+)
+    ensures { state.new ≡ complete_instruction beam.now busy instruction.now word state.old }
+{
+    let bytes = length(instruction, holds(beam, busy, state.first, word));
+    state.at = bytes_on(state.at, bytes);
+    state.phase = phase_after(instruction);
+    state.second = word;
+}
+
+/// The phase after an instruction.
+fn phase_after(instruction: &CopperInstruction) -> CopperPhase
+    ensures { result ≡ phase_of instruction.now }
+{
+    match instruction {
+        CopperInstruction::Move { .. } | CopperInstruction::Skip => CopperPhase::First,
+        CopperInstruction::ForbiddenMove => CopperPhase::Stopped,
+        CopperInstruction::Wait => CopperPhase::Waiting,
+    }
+}
+
+/// How many bytes the Copper's address moves at an instruction's second word: past the next two words where a
+/// SKIP's comparison holds.
+fn length(instruction: &CopperInstruction, holds: bool) -> u32
+    ensures length { result ≡ length_of holds instruction.now }
+    ensures few { result < 8 }
+{
+    match instruction {
+        CopperInstruction::Skip => if holds { 6 } else { 2 },
+        _ => 2,
     }
 }
 
 /// What an instruction makes at the clock of its second read: the write of a MOVE that is not forbidden.
-fn move_of(first: u16, word: u16, danger: bool) -> CopperAct
-    ensures { result ≡ act_in danger (Some word) CopperPhase.Second first }
+fn act(instruction: &CopperInstruction) -> CopperAct
+    ensures { result ≡ act_of instruction.now }
 {
-    if first % 2 == 0 && !is_forbidden(first, danger) {
-        CopperAct::Move {
-            reg: Reg::masked(first),
-            word,
-        }
-    } else {
-        CopperAct::None
+    match instruction {
+        CopperInstruction::Move { reg, word } => CopperAct::Move {
+            reg: *reg,
+            word: *word,
+        },
+        _ => CopperAct::None,
     }
 }
 
@@ -175,19 +202,18 @@ fn is_forbidden(first: u16, danger: bool) -> bool
 }
 
 /// The address so many bytes on, wrapping at 512 KiB.
-fn bytes_on(at: u32, bytes: u32) -> u32
-    requires below { at < 524288 }
-    requires few { bytes < 8 }
+fn bytes_on(at: Addr, bytes: u32) -> Addr
+    requires { bytes < 8 }
     ensures { result ≡ bytes_after at bytes }
 {
-    Addr::at(at + bytes).raw()
+    Addr::at(at.raw() + bytes)
 }
 
 /// Whether the comparison of a WAIT or SKIP with these words holds: the low eight bits of the line and the
 /// even clock are not below those of the first word, under the mask of the second. Bit 15 of the mask, that
 /// of the line's bit 7, is always set; bit 15 of the second word is BFD, which leaves the blitter out of it.
 fn holds(beam: &Beam, busy: bool, first: u16, second: u16) -> bool
-    ensures { result ≡ comparison beam.now busy first second }
+    ensures { result ≡ comparison_holds beam.now busy first second }
 {
     let mask = 0x8000 | second & 0x7ffe;
     let place = (beam.v as u32 % 256) * 256 + beam.h as u32 / 2 * 2;

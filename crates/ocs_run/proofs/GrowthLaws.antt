@@ -1,14 +1,16 @@
 -- What was shown and traced stays: later states only add to it.
-use Rattle.std.proofs.Common.{◌≡◌, ℕ, zero, suc, ◌+◌, List, [], ◌++◌, refl, ap, ◌∙◌, sym, append_assoc, append-nil, add-suc, add-zero}
+use Rattle.std.proofs.Common.{◌≡◌, ℕ, zero, suc, ◌+◌, List, [], ◌++◌, ap, ◌∙◌, sym, append_assoc, append-nil, add-suc, add-zero}
 use Rattle.ocs_base.specs.Script.{ScriptValue}
 use Rattle.ocs_base.specs.declared.script.At.{At}
 use Rattle.ocs_base.specs.declared.script.System.TheVariants.{Pal}
 use Rattle.serial_model.specs.Serial.{state_at}
 use Rattle.serial_model.specs.State.{State}
-use Rattle.serial_model.specs.Tick.{tick, started, scripted, before_access, act_of}
-use Rattle.serial_model.specs.Picture.{pixels}
-use Rattle.serial_model.specs.Events.{due, event_lines}
-use Rattle.serial_model.specs.Bus.{act_lines}
+use Rattle.serial_model.specs.declared.bus.SideAsk.TheVariants as S
+use Rattle.serial_model.specs.Events.{due_events, event_lines}
+use Rattle.serial_model.specs.Laws.{made_in, step_in}
+use Rattle.serial_model.specs.Made.{lines_of}
+use Rattle.serial_model.specs.Tick.{tick, start_clock, answer_state, before_access}
+use Rattle.serial_model.proofs.NextLaws.{shown_next, trace_next}
 
 -- the list begins with the first
 pub record Extends {A : Type 0} (first now : List A) : Type 0 where
@@ -25,18 +27,14 @@ Extends-trans xs ys zs first second = record {
 }
 
 pub shown-tick : (events : List At) (s : State) → Extends s.shown (tick Pal events s).shown
-unfolding tick
-shown-tick events s =
-    let b : State = scripted events (started s) in
-    record { more = pixels Pal b.beam.v b.beam.h b.picture; is = refl }
+shown-tick events s = record { more = (step_in Pal events s).bytes; is = shown_next Pal events s }
 
 pub trace-tick : (events : List At) (s : State) → Extends s.trace (tick Pal events s).trace
-unfolding tick
 trace-tick events s =
-    let b : State = before_access Pal events s in
+    let b : State = answer_state S.Nothing (before_access Pal events s) in
     record {
-      more = event_lines s.beam (due s.beam events) (started s).chips ++ act_lines b.beam (act_of b);
-      is = append_assoc s.trace (event_lines s.beam (due s.beam events) (started s).chips) (act_lines b.beam (act_of b));
+      more = event_lines (due_events s.beam events) (start_clock s) ++ lines_of b.beam b.clx b.chips (made_in Pal events s);
+      is = trace_next Pal events s;
     }
 
 pub shown-later : (image : List ℕ) (script : ScriptValue) (n k : ℕ) → Extends (state_at image script n).shown (state_at image script (n + k)).shown

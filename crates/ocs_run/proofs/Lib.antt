@@ -1,3 +1,4 @@
+pub mod AskLaws
 pub mod ChipsLaws
 pub mod InputLaws
 pub mod KeptLaws

@@ -1,12 +1,13 @@
--- The pixels of a clock, and a poke of a colour.
-use Rattle.std.proofs.Common.{◌≡◌, ℕ, Bool, true, false, if◌then◌else◌, List, [], ◌∷◌, ◌++◌, slice_index, Some, None, refl, ap}
+-- The registers of the picture, and the pixels of a clock.
+use Rattle.std.proofs.Common.{◌≡◌, ℕ, Bool, true, false, if◌then◌else◌, [], ◌++◌, slice_index, slice_set, ◌-◌, ◌/◌, ◌%◌, ◌≤◌, arith, ap}
+use Rattle.std.proofs.lemmas.Bool.Decides.{nat_tests}
+use Rattle.ocs_base.specs.declared.beam.Beam.{Beam}
 use Rattle.ocs_base.specs.declared.script.System.{System}
 use Rattle.serial_model.specs.declared.picture.Denise.{Denise}
-use Rattle.serial_model.specs.declared.picture.Touch.{Touch}
-use Rattle.serial_model.specs.declared.picture.Touch.TheVariants.{Set}
-use Rattle.serial_model.specs.Beam.{is_visible}
-use Rattle.serial_model.specs.Registers.{is_picture_write}
-use Rattle.serial_model.specs.Picture.{pixels, colour_bytes, set, all_touched, maybe_touched}
+use Rattle.serial_model.specs.Beam.{is_visible, is_line_start}
+use Rattle.serial_model.specs.Picture.{pixels, colour_bytes, set_picture, set_sprite, clear_line, PictureStep, after_step}
+use Rattle.ocs_run.specs.Picture.{IsPictureOf}
+use Rattle.ocs_run.specs.declared.picture.Picture.{Picture}
 
 pub pixels-visible : (system : System) (v h : ℕ) (p : Denise) → is_visible system v h ≡ true
     → pixels system v h p ≡ (let c = colour_bytes (slice_index p.palette 0) in c ++ (c ++ (c ++ c)))
@@ -17,19 +18,53 @@ pub pixels-hidden : (system : System) (v h : ℕ) (p : Denise) → is_visible sy
 unfolding pixels
 pixels-hidden system v h p is = let c = colour_bytes (slice_index p.palette 0) in ap (λ b. if b then c ++ (c ++ (c ++ c)) else []) is
 
--- a write touches the picture exactly where it is one of Denise's
-pub all_touched-poke : (h : ℕ) (word_at : ℕ → ℕ) (touches : List Touch) (offset word : ℕ) (p : Denise)
-    → all_touched h word_at touches (if is_picture_write offset word then set offset word p else p)
-    ≡ all_touched h word_at (if is_picture_write offset word then Set offset word ∷ touches else touches) p
-unfolding all_touched
-all_touched-poke h word_at touches offset word p =
-    let P : Bool → Type 0 = λ b. all_touched h word_at touches (if b then set offset word p else p)
-    ≡ all_touched h word_at (if b then Set offset word ∷ touches else touches) p in
-    elim (is_picture_write offset word) as P [ true ↦ refl | false ↦ refl ]
+-- a write to a sprite's register, and to a colour
+pub sprite_set : (h offset word : ℕ) (p : Denise) → 320 ≤ offset → offset ≤ 382
+    → set_picture h offset word p ≡ set_sprite ((offset - 320) / 8) ((offset - 320) % 8) word p
+unfolding set_picture
+sprite_set h offset word p least most = grind (arith, nat_tests)
 
-pub touch-write : (h : ℕ) (word_at : ℕ → ℕ) (offset word : ℕ) (p : Denise)
-    → (if is_picture_write offset word then set offset word p else p)
-    ≡ maybe_touched h word_at (if is_picture_write offset word then Some (Set offset word) else None) p
-touch-write h word_at offset word p =
-    let P : Bool → Type 0 = λ b. (if b then set offset word p else p) ≡ maybe_touched h word_at (if b then Some (Set offset word) else None) p in
-    elim (is_picture_write offset word) as P [ true ↦ refl | false ↦ refl ]
+pub colour_set : (h offset word : ℕ) (p : Denise) → 384 ≤ offset → offset ≤ 446
+    → set_picture h offset word p ≡ record p { palette = slice_set p.palette ((offset - 384) / 2) (word % 4096) }
+unfolding set_picture
+colour_set h offset word p least most = grind (arith, nat_tests)
+
+-- what of a picture state is no register may be any
+if_kept : (b : Bool) (now : Picture) (p q : Denise) → IsPictureOf now p → IsPictureOf now q → IsPictureOf now (if b then p else q)
+if_kept true now p q first second = first
+if_kept false now p q first second = second
+
+pub IsPictureOf-cleared : (now : Picture) (b : Beam) (p : Denise) → IsPictureOf now p → IsPictureOf now (clear_line b p)
+unfolding clear_line
+IsPictureOf-cleared now b p is = if_kept (is_line_start b) now _ p (record {
+  palette = is.palette;
+  con0 = is.con0;
+  con1 = is.con1;
+  con2 = is.con2;
+  diwstrt = is.diwstrt;
+  diwstop = is.diwstop;
+  clxcon = is.clxcon;
+  latches = is.latches;
+  pos = is.pos;
+  ctl = is.ctl;
+  words_a = is.words_a;
+  words_b = is.words_b;
+  armed = is.armed;
+}) is
+
+pub IsPictureOf-stepped : (now : Picture) (p : Denise) → IsPictureOf now p → (step : PictureStep) → IsPictureOf now (after_step step p)
+IsPictureOf-stepped now p is step = record {
+  palette = is.palette;
+  con0 = is.con0;
+  con1 = is.con1;
+  con2 = is.con2;
+  diwstrt = is.diwstrt;
+  diwstop = is.diwstop;
+  clxcon = is.clxcon;
+  latches = is.latches;
+  pos = is.pos;
+  ctl = is.ctl;
+  words_a = is.words_a;
+  words_b = is.words_b;
+  armed = is.armed;
+}

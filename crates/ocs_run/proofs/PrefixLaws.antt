@@ -7,10 +7,10 @@ use Rattle.out_files.specs.Answers.{with_empty, in_order}
 use Rattle.out_files.specs.OutFiles.{OutNames}
 use Rattle.serial_model.specs.declared.trace.TraceLine.{TraceLine}
 use Rattle.serial_model.specs.MemoryText.{memory_text}
-use Rattle.serial_model.specs.Outputs.{framed, frames_text}
+use Rattle.serial_model.specs.Outputs.{with_headings, frames_text}
 use Rattle.serial_model.specs.Serial.{state_at, IsEnd}
 use Rattle.serial_model.specs.TraceText.{line_text, trace_text}
-use Rattle.serial_model.proofs.FramedLaws.{framed-append}
+use Rattle.serial_model.proofs.HeadingLaws.{with_headings-append}
 use Rattle.ocs_run.specs.Prefix.{IsPartOf, LeavesPrefixes}
 use Rattle.ocs_run.specs.Run.{HasRun, HasParts, HasEndParts, Remains}
 use Rattle.ocs_run.proofs.GrowthLaws.{Extends, shown-later, trace-later}
@@ -29,9 +29,9 @@ not_later image script clocks end running is = step (le_or_lt clocks end)
 
 frames-grow : (first more now bytes rest : List ℕ) → now ≡ first ++ more → bytes ++ rest ≡ frames_text first → IsPartOf (frames_text now) (Some bytes)
 frames-grow first more now bytes rest is part = (
-  rest ++ framed (0 + length first) more,
-  sym (append_assoc bytes rest (framed (0 + length first) more)) ∙ ap (λ t. t ++ framed (0 + length first) more) part
-      ∙ sym (framed-append 0 first more) ∙ ap (λ l. frames_text l) (sym is),
+  rest ++ with_headings (0 + length first) more,
+  sym (append_assoc bytes rest (with_headings (0 + length first) more)) ∙ ap (λ t. t ++ with_headings (0 + length first) more) part
+      ∙ sym (with_headings-append 0 first more) ∙ ap (λ l. frames_text l) (sym is),
 )
 
 trace-grow : (first more now : List TraceLine) (bytes rest : List ℕ) → now ≡ first ++ more → bytes ++ rest ≡ trace_text first → IsPartOf (trace_text now) (Some bytes)

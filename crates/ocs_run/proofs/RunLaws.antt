@@ -10,14 +10,16 @@ use Rattle.out_files.specs.OutFiles.{OutNames, OutFilesValue, all_given}
 use Rattle.out_files.specs.Together.{three_files, AreTogether, HoldParts, StayTogether, LeavesParts, Completes, Begins}
 use Rattle.serial_model.specs.Beam.{place_of, first_place}
 use Rattle.serial_model.specs.Built.{is_unbuilt, meets_unbuilt}
-use Rattle.serial_model.specs.Events.{due}
+use Rattle.serial_model.specs.Events.{due_events, do_events}
 use Rattle.serial_model.specs.MemoryText.{memory_text}
 use Rattle.serial_model.specs.Outputs.{frames_text}
 use Rattle.serial_model.specs.Serial.{state_at, IsEnd}
 use Rattle.serial_model.specs.State.{State, reset}
 use Rattle.serial_model.specs.TraceText.{trace_text}
-use Rattle.serial_model.specs.Tick.{started, happened, timed, displayed, accessed, act_of, processed, advanced, tick}
+use Rattle.serial_model.specs.declared.bus.SideAsk.TheVariants as S
+use Rattle.serial_model.specs.Tick.{start_clock, count_timers, show_pixels, made_of, make_access, run_processor, advance_beam, tick}
 use Rattle.ocs_run.proofs.PrefixLaws.{LeavesPrefixes-parts, LeavesPrefixes-end, LeavesPrefixes-all}
+use Rattle.ocs_run.specs.Picture.{IsPictureOf}
 use Rattle.ocs_run.specs.Run.{HasFiles, HasParts, HasEndParts, StopsUnbuilt, Stopped, HasCreated, LeavesAfter}
 use Rattle.ocs_run.specs.Fault.{of_tick, of_write}
 use Rattle.ocs_run.specs.declared.fault.RunFault.{RunFault}
@@ -27,19 +29,19 @@ use Rattle.ocs_run.specs.declared.foreground.TickFault.{TickFault}
 use Rattle.ocs_run.specs.declared.foreground.TickFault.TheVariants.{OutOfMemory as NoRoomToTick, NotBuilt as TickNotBuilt}
 use Rattle.out_files.specs.declared.fault.WriteFault.{WriteFault}
 use Rattle.out_files.specs.declared.fault.WriteFault.TheVariants.{Failed, OutOfMemory as NoRoomToWrite}
-use Rattle.ocs_run.specs.Steps.{Written, Stands, Makes, Any, HasNext, Meets}
+use Rattle.ocs_run.specs.Steps.{Written, Stands, Makes, HasNext, Meets}
 use Rattle.ocs_run.specs.Underway.{IsReset, IsUnderway, IsInStep, Flushes, Runs, IsStoppedBy, StopsFinish, Finishes, IsFresh}
 use Rattle.ocs_run.specs.declared.foreground.Foreground.{Foreground}
 
 -- a tick looks at the events that are due, and at no others
-tick-due : (events left : List At) (s : State) → due s.beam events ≡ due s.beam left → tick Pal events s ≡ tick Pal left s
+tick-due : (events left : List At) (s : State) → due_events s.beam events ≡ due_events s.beam left → tick Pal events s ≡ tick Pal left s
 unfolding tick
-tick-due events left s same = ap (λ acts. advanced (processed (accessed (displayed Pal (timed (happened acts (started s))))))) same
+tick-due events left s same = ap (λ acts. advance_beam (run_processor (make_access S.Nothing (show_pixels Pal (count_timers 0 (do_events acts (start_clock s))))))) same
 
-meets-due : (events left : List At) (s : State) → due s.beam events ≡ due s.beam left → meets_unbuilt Pal events s ≡ meets_unbuilt Pal left s
+meets-due : (events left : List At) (s : State) → due_events s.beam events ≡ due_events s.beam left → meets_unbuilt Pal events s ≡ meets_unbuilt Pal left s
 unfolding meets_unbuilt
 meets-due events left s same =
-    ap (λ acts. is_unbuilt (act_of (displayed Pal (timed (happened acts (started s)))))) same
+    ap (λ acts. is_unbuilt (made_of S.Nothing (show_pixels Pal (count_timers 0 (do_events acts (start_clock s)))))) same
 
 -- nothing was appended
 pub Flushes-none : (fore : Foreground) (files : Option Files) → Flushes fore fore files files
@@ -50,6 +52,7 @@ Flushes-none fore files = record {
   memory = refl;
   chips = refl;
   picture = refl;
+  clx = refl;
   names = refl;
   files = λ base pixels lines so_far. so_far;
 }
@@ -61,9 +64,9 @@ together fore written s base files is held = record {
   frames = written.frames;
   trace = written.trace;
   held = held;
-  pixels_given = is.frames;
-  lines_given = is.trace;
-  place = is.given;
+  pixels_given = is.text.frames;
+  lines_given = is.text.trace;
+  place = is.text.given;
 }
 
 -- the start: the files were created, and the foreground is the machine at reset
@@ -80,26 +83,29 @@ IsUnderway-start image script base files out fore frames trace given begins is =
         beam = sym is.beam;
         memory = sym is.memory;
         chips = sym is.chips;
-        picture = sym is.picture;
-        frames = ap (λ (o : OutFilesValue). so_far.frames ++ o.frames) is.out ∙ so_far.pixels_given;
-        given = ap (λ (o : OutFilesValue). o.given) is.out ∙ so_far.place;
-        trace = ap (λ (o : OutFilesValue). so_far.trace ++ o.trace) is.out ∙ so_far.lines_given;
+        picture = is.picture;
+        clx = sym is.clx;
+        text = record {
+          frames = ap (λ (o : OutFilesValue). so_far.frames ++ o.frames) is.out ∙ so_far.pixels_given;
+          given = ap (λ (o : OutFilesValue). o.given) is.out ∙ so_far.place;
+          trace = ap (λ (o : OutFilesValue). so_far.trace ++ o.trace) is.out ∙ so_far.lines_given;
+        };
       };
       run = record { running = λ n below. absurd (omega arith); built = λ n below. absurd (omega arith) };
     })
 
 -- one clock more
 IsUnderway-more : (image : List ℕ) (script : ScriptValue) (base files : Option Files) (left : List At) (old new : Foreground)
-    → IsUnderway image script base files old → due old.beam script.events ≡ due old.beam left → old.beam.frame < script.frames
-    → Makes Any (tick Pal left) old new → Meets false left old → new.t ≡ old.t + 1 → new.out.names ≡ old.out.names
+    → IsUnderway image script base files old → due_events old.beam script.events ≡ due_events old.beam left → old.beam.frame < script.frames
+    → Makes (tick Pal left) old new → Meets false left old → new.t ≡ old.t + 1 → new.out.names ≡ old.out.names
     → IsUnderway image script base files new
 unfolding state_at
 IsUnderway-more image script base files left old new so same going makes meets count names =
     let s : State = state_at image script old.t in
-    let here : due s.beam script.events ≡ due s.beam left =
-    ap (λ b. due b script.events) so.stands.beam ∙ same ∙ ap (λ b. due b left) (sym so.stands.beam) in
+    let here : due_events s.beam script.events ≡ due_events s.beam left =
+    ap (λ b. due_events b script.events) so.stands.beam ∙ same ∙ ap (λ b. due_events b left) (sym so.stands.beam) in
     let built : meets_unbuilt Pal script.events s ≡ false = meets-due script.events left s here ∙ meets so.written s so.stands in
-    let next : Stands new so.written (tick Pal left s) = makes so.written s tt so.stands in
+    let next : Stands new so.written (tick Pal left s) = makes so.written s so.stands in
     let now : Stands new so.written (tick Pal script.events s) = subst (λ n. Stands new so.written n) (sym (tick-due script.events left s here)) next in
     let one : new.t ≡ suc old.t = count ∙ add-one old.t in
     subst (λ n. IsUnderway image script base files (record new { t = n })) (sym one) (record {
@@ -132,7 +138,7 @@ IsInStep-start script fore good count place =
 
 -- the turn of the loop: one clock more, and the events that are left then
 pub IsUnderway-tick : (image : List ℕ) (script : ScriptValue) (base files : Option Files) (left rest : List At) (old new : Foreground)
-    → IsInStep script left old → old.beam.frame < script.frames → Makes Any (tick Pal left) old new → Meets false left old → HasNext left rest old new
+    → IsInStep script left old → old.beam.frame < script.frames → Makes (tick Pal left) old new → Meets false left old → HasNext left rest old new
     → IsUnderway image script base files old → IsUnderway image script base files new
 IsUnderway-tick image script base files left rest old new step going makes meets next so =
     IsUnderway-more image script base files left old new so (step.same old.beam step.screen (omega arith)) going makes meets next.count next.names
@@ -162,10 +168,9 @@ IsUnderway-flush image script base before after old new flushes so =
       beam = so.stands.beam ∙ sym flushes.beam;
       memory = so.stands.memory ∙ sym flushes.memory;
       chips = so.stands.chips ∙ sym flushes.chips;
-      picture = so.stands.picture ∙ sym flushes.picture;
-      frames = now.pixels_given;
-      given = now.place;
-      trace = now.lines_given;
+      picture = subst (λ p. IsPictureOf p s.picture) (sym flushes.picture) so.stands.picture;
+      clx = so.stands.clx ∙ sym flushes.clx;
+      text = record { frames = now.pixels_given; given = now.place; trace = now.lines_given };
     } in
     subst (λ n. IsUnderway image script base after (record new { t = n })) (sym flushes.t) (record {
       written = record { frames = now.frames; trace = now.trace };
@@ -199,8 +204,8 @@ HasParts-now image script base files fore so = record {
     trace_rest = fore.out.trace;
     bytes_rest = [];
     held = so.held;
-    frames_part = so.stands.frames;
-    trace_part = so.stands.trace;
+    frames_part = so.stands.text.frames;
+    trace_part = so.stands.text.trace;
     bytes_part = refl;
   };
 }
@@ -217,8 +222,8 @@ pub StopsUnbuilt-here : (image : List ℕ) (script : ScriptValue) (base files : 
     → StopsUnbuilt image script fore.out.names base files
 StopsUnbuilt-here image script base files left fore step going meets so =
     let s : State = state_at image script fore.t in
-    let here : due s.beam script.events ≡ due s.beam left =
-    ap (λ b. due b script.events) so.stands.beam ∙ step.same fore.beam step.screen (omega arith) ∙ ap (λ b. due b left) (sym so.stands.beam) in
+    let here : due_events s.beam script.events ≡ due_events s.beam left =
+    ap (λ b. due_events b script.events) so.stands.beam ∙ step.same fore.beam step.screen (omega arith) ∙ ap (λ b. due_events b left) (sym so.stands.beam) in
     record {
       clocks = fore.t;
       so_far = HasParts-now image script base files fore so;

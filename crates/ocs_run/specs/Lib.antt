@@ -1,10 +1,12 @@
 pub mod Asked
 pub mod Command
 pub mod Commanded
+pub mod CopperAct
 pub mod Fault
 pub mod Inputs
 pub mod Order
 pub mod Out
+pub mod Picture
 pub mod Prefix
 pub mod Run
 pub mod Steps

@@ -4,7 +4,7 @@ use Rattle.out_files.specs.OutFiles.{OutFilesValue, with_pixels}
 use Rattle.serial_model.specs.TraceText.{trace_text}
 use Rattle.serial_model.specs.declared.trace.TraceLine.{TraceLine}
 
--- pixel bytes were added, framed from the place where they begin; none leave all as it was
+-- pixel bytes were added, with_headings from the place where they begin; none leave all as it was
 abbrev pub Shows : List ℕ → OutFilesValue → OutFilesValue → Type 0
 Shows piece old new = (new ≡ with_pixels old piece) ⊎ ((piece ≡ []) × (new ≡ old))
 

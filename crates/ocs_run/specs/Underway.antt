@@ -1,5 +1,5 @@
 -- What the clock loop keeps from turn to turn.
-use Rattle.std.specs.Prelude.{◌≡◌, ℕ, ◌≤◌, List, [], Option}
+use Rattle.std.specs.Prelude.{◌≡◌, ℕ, ◌%◌, ◌≤◌, List, [], Option}
 use Rattle.ocs_base.specs.Script.{ScriptValue}
 use Rattle.ocs_base.specs.declared.script.At.{At}
 use Rattle.ocs_io.specs.Place.{Files}
@@ -9,9 +9,10 @@ use Rattle.serial_model.specs.Picture.{reset_picture}
 use Rattle.out_files.specs.OutFiles.{OutFilesValue}
 use Rattle.out_files.specs.Together.{three_files, StayTogether}
 use Rattle.serial_model.specs.Beam.{IsOnScreen, place_of, first_place}
-use Rattle.serial_model.specs.Events.{due}
+use Rattle.serial_model.specs.Events.{due_events}
 use Rattle.serial_model.specs.Serial.{state_at}
 use Rattle.ocs_base.specs.declared.beam.Beam.{Beam}
+use Rattle.ocs_run.specs.Picture.{IsPictureOf}
 use Rattle.ocs_run.specs.Run.{HasRun, HasFiles, Stopped, LeavesAfter}
 use Rattle.ocs_run.specs.declared.fault.RunFault.{RunFault}
 use Rattle.ocs_run.specs.Steps.{Written, Stands, IsLeft}
@@ -23,7 +24,8 @@ pub record IsReset (image : List ℕ) (files : OutFilesValue) (fore : Foreground
   pub beam : fore.beam ≡ first_place
   pub memory : fore.chip.words ≡ memory_of image
   pub chips : fore.chips ≡ reset_chips
-  pub picture : fore.picture ≡ reset_picture
+  pub picture : IsPictureOf fore.picture reset_picture
+  pub clx : fore.clx ≡ 0
   pub out : fore.out ≡ files
 
 -- the foreground stands for the state after as many clocks as it counts, over files that were created
@@ -39,7 +41,7 @@ pub record IsInStep (script : ScriptValue) (left : List At) (fore : Foreground) 
   pub count : fore.t ≤ place_of fore.beam
   pub frame : fore.beam.frame ≤ script.frames
   pub queue : IsLeft (place_of fore.beam) left
-  pub same : (b : Beam) → IsOnScreen b → place_of fore.beam ≤ place_of b → due b script.events ≡ due b left
+  pub same : (b : Beam) → IsOnScreen b → place_of fore.beam ≤ place_of b → due_events b script.events ≡ due_events b left
 
 -- all but the pending text stays, and files and pending text stay together
 pub record Flushes (old new : Foreground) (before after : Option Files) : Type 0 where
@@ -48,8 +50,14 @@ pub record Flushes (old new : Foreground) (before after : Option Files) : Type 0
   pub memory : new.chip.words ≡ old.chip.words
   pub chips : new.chips ≡ old.chips
   pub picture : new.picture ≡ old.picture
+  pub clx : new.clx ≡ old.clx
   pub names : new.out.names ≡ old.out.names
   pub files : StayTogether old.out new.out before after
+
+-- at the first clock of every 32nd line nothing is pending, so that what is pending stays below 70,000 pixel bytes
+abbrev pub HasNothingPending : Foreground → Type 0
+HasNothingPending fore =
+    fore.beam.h ≡ 0 → fore.beam.v % 32 ≡ 0 → (fore.out.frames ≡ []) × (fore.out.trace ≡ [])
 
 -- the loop has run on
 abbrev pub Runs : ScriptValue → Foreground → Foreground → Option Files → Option Files → Type 0

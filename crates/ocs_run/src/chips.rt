@@ -1,10 +1,13 @@
 //! The chips between two colour clocks: the custom registers and the Copper.
 
 ghost use Rattle.std.specs.Prelude.{◌≡◌, false};
+ghost use Rattle.serial_model.specs.declared.bus.SideAsk.{SideAsk};
 ghost use Rattle.serial_model.specs.Registers.{is_interlaced as interlaced, is_danger as danger, blitter_first, effect_of};
-ghost use Rattle.serial_model.specs.Bus.{asked, copper_runs as runs, copper_wish as wish_of, copper_moved_on, act_at};
-ghost use Rattle.serial_model.specs.State.{poked, read_word, restarted};
-ghost use Rattle.serial_model.specs.Tick.{chips_started};
+ghost use Rattle.serial_model.specs.Bus.{ask_at, copper_runs as runs, copper_wish as wish_of, copper_word as word_to_copper, answer_chips};
+ghost use Rattle.serial_model.specs.State.{read_word};
+ghost use Rattle.serial_model.specs.Write.{write_chips, restart_copper};
+ghost use Rattle.serial_model.specs.Tick.{start_chips};
+ghost use Rattle.ocs_run.specs.CopperAct.{act_at};
 
 use beam::at_field_start;
 use bus_slots::{Owner, SlotState, slot_owner};
@@ -13,6 +16,9 @@ use ocs_base::{Addr, Beam, Reg};
 use reg_file::{Effect, Live, Regs};
 use serial_model::{Ask, CopperAct};
 use std::marker::Model;
+
+/// The collision bits.
+const CLXDAT: u16 = 0xe;
 
 /// COPCON and its bit CDANG.
 const COPCON: u16 = 0x2e;
@@ -73,7 +79,7 @@ impl Chips {
 
     /// At a field's first clock the Copper starts at COP1LC.
     pub fn start(&mut self, beam: &Beam)
-        ensures { self.new ≡ chips_started beam.now self.old }
+        ensures { self.new ≡ start_chips beam.now self.old }
     {
         if at_field_start(beam) {
             self.restart(1);
@@ -81,9 +87,9 @@ impl Chips {
     }
 
     /// A write to a custom register. The answer says what it does to others than the chips.
-    #[tactic(auto, unfolding(serial_model::specs::State::poked))]
+    #[tactic(auto, unfolding(serial_model::specs::Write::write_chips))]
     pub fn poke(&mut self, reg: Reg, word: u16) -> Effect
-        ensures chips { self.new ≡ poked reg.offset word self.old }
+        ensures chips { self.new ≡ write_chips reg.offset word self.old }
         ensures effect { result ≡ effect_of false reg.offset word }
     {
         let effect = self.registers.poke(reg, word, false);
@@ -93,11 +99,15 @@ impl Chips {
         effect
     }
 
-    /// What a read of a custom register gives. There is no blitter and no joystick yet.
+    /// What a read of a custom register gives, where these collision bits were gathered. There is no blitter
+    /// and no joystick yet.
     #[tactic(auto, unfolding(serial_model::specs::State::read_word))]
-    pub fn peek(&self, reg: Reg, beam: &Beam) -> u16
-        ensures { result ≡ read_word reg.offset beam.now self.now }
+    pub fn peek(&self, reg: Reg, beam: &Beam, clx: u16) -> u16
+        ensures { result ≡ read_word reg.offset beam.now clx self.now }
     {
+        if reg.offset == CLXDAT {
+            return clx;
+        }
         let live = Live {
             beam: *beam,
             busy: false,
@@ -109,9 +119,9 @@ impl Chips {
     }
 
     /// The access of this clock: what the owner of the slot asks for.
-    #[tactic(auto, unfolding(serial_model::specs::Bus::asked))]
+    #[tactic(auto, unfolding(serial_model::specs::Bus::ask_at))]
     pub fn ask(&self, beam: &Beam) -> Ask
-        ensures { result ≡ asked beam.now self.now }
+        ensures { result ≡ ask_at SideAsk.Nothing beam.now self.now }
     {
         let wish = self.copper_wish(beam);
         let slot = SlotState {
@@ -132,17 +142,19 @@ impl Chips {
         }
     }
 
-    /// The Copper's step of this clock, with the word that it read, and what that makes.
-    #[tactic(auto, unfolding(serial_model::specs::Bus::copper_moved_on, serial_model::specs::Bus::act_at))]
-    pub fn step_copper(&mut self, beam: &Beam, fetched: Option<u16>) -> CopperAct
-        ensures chips { self.new ≡ copper_moved_on beam.now fetched self.old }
-        ensures act { result ≡ act_at beam.now fetched self.old }
+    /// Each chip has the answer of this clock's access, of which the Copper's own word alone reaches the Copper.
+    /// The answer is what the Copper's step makes.
+    #[tactic(auto, unfolding(serial_model::specs::Bus::answer_chips))]
+    pub fn answer(&mut self, beam: &Beam, ask: &Ask, word: u16) -> CopperAct
+        ensures chips { self.new ≡ answer_chips beam.now ask.now word self.old }
+        ensures act { result ≡ act_at beam.now ask.now word self.old }
     {
         if !self.copper_runs(beam) {
             return CopperAct::None;
         }
         let danger = self.is_danger();
-        self.copper.step(fetched, beam, false, danger)
+        self.copper
+            .step(copper_word(ask, word), beam, false, danger)
     }
 
     /// Whether the Copper takes part in this clock: it is even, and the Copper's DMA is on.
@@ -153,21 +165,19 @@ impl Chips {
     }
 
     /// The address of the word that the Copper asks for at this clock.
-    fn copper_wish(&self, beam: &Beam) -> Option<u32>
+    fn copper_wish(&self, beam: &Beam) -> Option<Addr>
         ensures { result ≡ wish_of beam.now self.now }
     {
-        if !self.copper_runs(beam) {
-            return None;
-        }
-        match self.copper.wants() {
-            Some(at) => Some(at.raw()),
-            None => None,
+        if self.copper_runs(beam) {
+            self.copper.wants()
+        } else {
+            None
         }
     }
 
     /// The Copper fetches from its list 1 or 2.
     fn restart(&mut self, list: u8)
-        ensures { self.new ≡ restarted list self.old }
+        ensures { self.new ≡ restart_copper list self.old }
     {
         let at = if list == 1 {
             self.registers.pointer(Reg::masked(COP1LCH))
@@ -189,5 +199,15 @@ impl Chips {
         ensures { result ≡ blitter_first self.now.registers }
     {
         self.registers.word(Reg::masked(DMACON)) & BLTPRI == BLTPRI
+    }
+}
+
+/// The word that the Copper gets: that of its own ask alone.
+fn copper_word(ask: &Ask, word: u16) -> Option<u16>
+    ensures { result ≡ word_to_copper ask.now word }
+{
+    match ask {
+        Ask::Copper { .. } => Some(word),
+        Ask::Free | Ask::Disk { .. } | Ask::Audio { .. } => None,
     }
 }

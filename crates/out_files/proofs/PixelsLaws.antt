@@ -2,40 +2,40 @@
 use Rattle.std.proofs.Common.{◌≡◌, ℕ, ◌+◌, ◌%◌, ◌<◌, ◌≤◌, List, [], ◌∷◌, ◌++◌, length, take, drop, arith, ap, ◌∙◌, sym, append_assoc, length-take-le, ◌==◌, zero, suc, true, false}
 use Rattle.std.proofs.lemmas.List.{take-append-drop, append-nil, take-append-le}
 use borrow.Author.Tests.{eqb-true}
-use Rattle.serial_model.specs.Outputs.{heading_at, framed, frame_bytes}
-use Rattle.serial_model.proofs.FramedLaws.{framed-append, framed-place, framed-within}
+use Rattle.serial_model.specs.Outputs.{heading_at, with_headings, frame_bytes}
+use Rattle.serial_model.proofs.HeadingLaws.{with_headings-append, with_headings-place, with_headings-within}
 
 -- the part that the present frame takes, and the rest of the piece
-pub framed-part : (n count : ℕ) (piece : List ℕ) → 0 < count → count ≤ length piece → n + count ≤ frame_bytes →
-    heading_at n ++ take count piece ++ framed ((n + count) % frame_bytes) (drop count piece) ≡ framed n piece
-framed-part n count piece some within inside =
+pub with_headings-part : (n count : ℕ) (piece : List ℕ) → 0 < count → count ≤ length piece → n + count ≤ frame_bytes →
+    heading_at n ++ take count piece ++ with_headings ((n + count) % frame_bytes) (drop count piece) ≡ with_headings n piece
+with_headings-part n count piece some within inside =
     let size : length (take count piece) ≡ count = length-take-le count piece within in
-    let part : framed n (take count piece) ≡ heading_at n ++ take count piece =
-    framed-within n (take count piece) (omega arith) (omega arith)
+    let part : with_headings n (take count piece) ≡ heading_at n ++ take count piece =
+    with_headings-within n (take count piece) (omega arith) (omega arith)
     in
-    let place : framed ((n + count) % frame_bytes) (drop count piece) ≡ framed (n + length (take count piece)) (drop count piece) =
-    framed-place ((n + count) % frame_bytes) (n + length (take count piece)) (drop count piece) (omega arith)
+    let place : with_headings ((n + count) % frame_bytes) (drop count piece) ≡ with_headings (n + length (take count piece)) (drop count piece) =
+    with_headings-place ((n + count) % frame_bytes) (n + length (take count piece)) (drop count piece) (omega arith)
     in
-    ap (λ (text : List ℕ). text ++ framed ((n + count) % frame_bytes) (drop count piece)) (sym part)
-    ∙ ap (λ (text : List ℕ). framed n (take count piece) ++ text) place
-    ∙ sym (framed-append n (take count piece) (drop count piece))
-    ∙ ap (framed n) (take-append-drop count piece)
+    ap (λ (text : List ℕ). text ++ with_headings ((n + count) % frame_bytes) (drop count piece)) (sym part)
+    ∙ ap (λ (text : List ℕ). with_headings n (take count piece) ++ text) place
+    ∙ sym (with_headings-append n (take count piece) (drop count piece))
+    ∙ ap (with_headings n) (take-append-drop count piece)
 
 -- one part more of a piece: what was appended, and what the rest will append, are together what they were
 pub pixels-turn : (start text rest now left : List ℕ) (n count : ℕ) → 0 < count → count ≤ length rest → n + count ≤ frame_bytes →
-    now ≡ text ++ heading_at n ++ take count rest → left ≡ drop count rest → text ++ framed n rest ≡ start →
-    now ++ framed ((n + count) % frame_bytes) left ≡ start
+    now ≡ text ++ heading_at n ++ take count rest → left ≡ drop count rest → text ++ with_headings n rest ≡ start →
+    now ++ with_headings ((n + count) % frame_bytes) left ≡ start
 pixels-turn start text rest now left n count some within inside grown shorter whole =
-    let after = framed ((n + count) % frame_bytes) (drop count rest) in
-    ap (λ (bytes : List ℕ). now ++ framed ((n + count) % frame_bytes) bytes) shorter
+    let after = with_headings ((n + count) % frame_bytes) (drop count rest) in
+    ap (λ (bytes : List ℕ). now ++ with_headings ((n + count) % frame_bytes) bytes) shorter
     ∙ ap (λ (bytes : List ℕ). bytes ++ after) (grown ∙ append_assoc text (heading_at n) (take count rest))
     ∙ append_assoc text (heading_at n ++ take count rest) after
-    ∙ ap (λ (bytes : List ℕ). text ++ bytes) (framed-part n count rest some within inside)
+    ∙ ap (λ (bytes : List ℕ). text ++ bytes) (with_headings-part n count rest some within inside)
     ∙ whole
 
 -- nothing is left of the piece
-pub pixels-end : (start text rest : List ℕ) (n : ℕ) → length rest ≡ 0 → text ++ framed n rest ≡ start → text ≡ start
-unfolding framed
+pub pixels-end : (start text rest : List ℕ) (n : ℕ) → length rest ≡ 0 → text ++ with_headings n rest ≡ start → text ≡ start
+unfolding with_headings
 pixels-end start text [] n none whole = sym (append-nil text) ∙ whole
 pixels-end start text (byte ∷ bytes) n none whole = absurd (omega arith)
 

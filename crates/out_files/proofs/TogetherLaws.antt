@@ -5,10 +5,10 @@ use Rattle.ocs_io.specs.Place.{Files, Outside, grown}
 use Rattle.ocs_io.specs.Answers.{AppendAnswers}
 use Rattle.ocs_io.specs.declared.place.WriteRefusal.{WriteRefusal}
 use Rattle.ocs_io.specs.declared.place.WriteRefusal.TheVariants.{Failed as Refused, OutOfMemory as NoRoom}
-use Rattle.serial_model.specs.Outputs.{framed, frames_text, frame_bytes}
+use Rattle.serial_model.specs.Outputs.{with_headings, frames_text, frame_bytes}
 use Rattle.serial_model.specs.TraceText.{line_text, trace_text}
 use Rattle.serial_model.specs.declared.trace.TraceLine.{TraceLine}
-use Rattle.serial_model.proofs.FramedLaws.{framed-append, framed-place}
+use Rattle.serial_model.proofs.HeadingLaws.{with_headings-append, with_headings-place}
 use Rattle.out_files.specs.declared.fault.OutFile.TheVariants.{Frames, Trace, Memory}
 use Rattle.out_files.specs.declared.fault.WriteFault.{WriteFault}
 use Rattle.out_files.specs.declared.fault.WriteFault.TheVariants.{Failed, OutOfMemory}
@@ -19,14 +19,14 @@ use Rattle.out_files.proofs.FilesLaws.{grown-frames, grown-trace, grown-memory, 
 
 -- from the creates on
 pub begins : (out : OutFilesValue) (base files : Option Files) → files ≡ with_empty (in_order out.names) base → Begins out base files
-unfolding framed trace_text Begins
+unfolding with_headings trace_text Begins
 begins out base files created frames trace given =
     record { frames = []; trace = []; held = created; pixels_given = frames; lines_given = trace; place = given }
 
 pub adds_pixels : (was now : OutFilesValue) (piece : List ℕ) → now ≡ with_pixels was piece → AddsPixels was now piece
 unfolding AddsPixels
 adds_pixels was now piece added base files pixels lines so_far =
-    let frames : now.frames ≡ was.frames ++ framed was.given piece = ap (λ (o : OutFilesValue). o.frames) added in
+    let frames : now.frames ≡ was.frames ++ with_headings was.given piece = ap (λ (o : OutFilesValue). o.frames) added in
     let place : was.given % frame_bytes ≡ (0 + length pixels) % frame_bytes = omega (arith, so_far.place) in
     let size : length (pixels ++ piece) ≡ length pixels + length piece = length-append pixels piece in
     record {
@@ -35,10 +35,10 @@ adds_pixels was now piece added base files pixels lines so_far =
       held = so_far.held ∙ ap (λ (o : OutFilesValue). three_files o.names base so_far.frames so_far.trace []) (sym added);
       pixels_given =
           ap (λ (bytes : List ℕ). so_far.frames ++ bytes) frames
-          ∙ sym (append_assoc so_far.frames was.frames (framed was.given piece))
-          ∙ ap (λ (bytes : List ℕ). bytes ++ framed was.given piece) so_far.pixels_given
-          ∙ ap (λ (bytes : List ℕ). frames_text pixels ++ bytes) (framed-place was.given (0 + length pixels) piece place)
-          ∙ sym (framed-append 0 pixels piece);
+          ∙ sym (append_assoc so_far.frames was.frames (with_headings was.given piece))
+          ∙ ap (λ (bytes : List ℕ). bytes ++ with_headings was.given piece) so_far.pixels_given
+          ∙ ap (λ (bytes : List ℕ). frames_text pixels ++ bytes) (with_headings-place was.given (0 + length pixels) piece place)
+          ∙ sym (with_headings-append 0 pixels piece);
       lines_given = ap (λ (o : OutFilesValue). so_far.trace ++ o.trace) added ∙ so_far.lines_given;
       place =
           ap (λ (o : OutFilesValue). o.given) added

@@ -1,6 +1,6 @@
 -- The three output files as contracts see them, and what their calls make of them.
 use Rattle.std.specs.Prelude.{ℕ, ◌+◌, ◌%◌, List, [], ◌++◌, length}
-use Rattle.serial_model.specs.Outputs.{framed, frame_bytes}
+use Rattle.serial_model.specs.Outputs.{with_headings, frame_bytes}
 use Rattle.serial_model.specs.TraceText.{line_text}
 use Rattle.serial_model.specs.declared.trace.TraceLine.{TraceLine}
 
@@ -20,7 +20,7 @@ pub record OutFilesValue : Type 0 where
 -- after pixel bytes, each frame's first of them with the heading before it
 abbrev pub with_pixels : OutFilesValue → List ℕ → OutFilesValue
 with_pixels o piece =
-    record o { frames = o.frames ++ framed o.given piece; given = (o.given + length piece) % frame_bytes }
+    record o { frames = o.frames ++ with_headings o.given piece; given = (o.given + length piece) % frame_bytes }
 
 -- after a line of the trace
 abbrev pub with_line : OutFilesValue → TraceLine → OutFilesValue

@@ -1,7 +1,7 @@
 //! Pixel bytes as text of the frames file.
 
 ghost use Rattle.std.specs.Prelude.{◌≡◌, ◌+◌, ◌%◌, ◌<◌, ◌++◌, length, take, OnOk, OnErr, IfOk};
-ghost use Rattle.serial_model.specs.Outputs.{framed, heading_at, frame_bytes};
+ghost use Rattle.serial_model.specs.Outputs.{with_headings, heading_at, frame_bytes};
 
 use ocs_base::OutOfMemory;
 
@@ -15,7 +15,7 @@ const HEADING: &[u8] = b"P6\n720 286\n255\n";
 /// present frame; the answer counts them afterwards. After a refusal a part may have been appended.
 pub fn put_pixels(text: &mut Vec<u8>, given: usize, piece: &[u8]) -> Result<usize, OutOfMemory>
     requires { given < 617760 }
-    ensures text { OnOk result (text.new.items ≡ text.old.items ++ framed given piece.now) }
+    ensures text { OnOk result (text.new.items ≡ text.old.items ++ with_headings given piece.now) }
     ensures given { IfOk result (λ after. after ≡ (given + length piece.now) % frame_bytes) }
     ensures refused { OnErr result (take (length text.old.items) text.new.items ≡ text.old.items) }
 {

@@ -8,7 +8,7 @@ use Rattle.serial_model.specs.declared.registers.Reading.TheVariants as R
 use Rattle.serial_model.specs.declared.registers.Writing.{Writing}
 use Rattle.serial_model.specs.declared.registers.Writing.TheVariants as W
 use Rattle.serial_model.specs.RegisterTable.{rows, row_at, reading_at, writing_at, kept_bits_at, is_pointer_high}
-use Rattle.reg_file.specs.Table.{whole_word_in}
+use Rattle.reg_file.specs.Table.{is_within, is_pointer_word, pointer_writing, whole_word_in}
 
 -- a function's values at all registers
 abbrev pub at_all : {A : Type 0} → (ℕ → A) → List A
@@ -23,9 +23,6 @@ pub law : {A : Type 0} (f g : ℕ → A) → at_all f ≡ at_all g → f 0 ≡ g
 law f g same first n even below =
     sym (from_all f n even below) ∙ ap (λ l. get_or l (n / 2) (f 0)) same ∙ ap (λ d. get_or (at_all g) (n / 2) d) first ∙ from_all g n even below
 
-abbrev pub within : ℕ → ℕ → ℕ → Bool
-within low high n = nat_le low n && nat_le n high
-
 -- what the code finds, in the order of its tests
 abbrev pub reading_found : ℕ → Reading
 reading_found n =
@@ -38,16 +35,17 @@ reading_found n =
 
 abbrev pub writing_found : ℕ → Writing
 writing_found n =
-    if n == 0x02a then W.Field
+    if is_pointer_word n then pointer_writing n
+    else (if n == 0x02a then W.Field
     else (if n == 0x058 then W.Blit
     else (if n == 0x088 then W.Jump 1
     else (if n == 0x08a then W.Jump 2
     else (if n == 0x096 then W.SetOrClear
     else (if n == 0x09a || n == 0x09c then W.Interrupt
-    else (if n == 0x02e || within 0x040 0x056 n || within 0x060 0x066 n || within 0x070 0x074 n || within 0x080 0x086 n then W.Plain
-    else (if within 0x092 0x094 n || within 0x0e0 0x0f6 n || n == 0x108 || n == 0x10a || within 0x120 0x13e n then W.Plain
-    else (if within 0x08e 0x090 n || n == 0x098 || within 0x100 0x104 n || within 0x110 0x11a n then W.Picture
-    else (if within 0x140 0x17e n || within 0x180 0x1be n then W.Picture else W.Ignored)))))))))
+    else (if n == 0x02e || is_within 0x040 0x046 n || is_within 0x060 0x066 n || is_within 0x070 0x074 n then W.Plain
+    else (if is_within 0x092 0x094 n || n == 0x108 || n == 0x10a then W.Plain
+    else (if is_within 0x08e 0x090 n || n == 0x098 || is_within 0x100 0x104 n || is_within 0x110 0x11a n then W.Picture
+    else (if is_within 0x140 0x17e n || is_within 0x180 0x1be n then W.Picture else W.Ignored))))))))))
 
 -- of a pointer's high word or low word
 abbrev pub pointer_bits : ℕ → ℕ
@@ -55,11 +53,10 @@ pointer_bits n = if n % 4 == 0 then 7 else 65534
 
 abbrev pub bits_found : ℕ → ℕ
 bits_found n =
-    if within 0x048 0x050 n || within 0x054 0x056 n || within 0x080 0x086 n then pointer_bits n
-    else (if within 0x0e0 0x0f6 n || within 0x120 0x13e n then pointer_bits n
+    if is_within 0x048 0x050 n || is_within 0x054 0x056 n || is_within 0x080 0x086 n then pointer_bits n
+    else (if is_within 0x0e0 0x0f6 n || is_within 0x120 0x13e n then pointer_bits n
     else (if n == 0x096 then 0x07ff
-    else (if n == 0x09a then 0x7fff
-    else (if n == 0x09c then 0x3fff else (if within 0x180 0x1be n then 0x0fff else whole_word_in (writing_at n))))))
+    else (if is_within 0x180 0x1be n then 0x0fff else whole_word_in (writing_at n))))
 
 pub readings_agree : at_all reading_at ≡ at_all reading_found
 unfolding row_at rows

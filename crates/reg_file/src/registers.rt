@@ -1,7 +1,8 @@
 //! The kept words of the custom registers.
 
 ghost use Rattle.std.specs.Prelude.{◌≡◌, ◌<◌, ◌%◌, true, if◌then◌else◌};
-ghost use Rattle.serial_model.specs.Registers.{no_registers, kept, pointer as address_at, with_pointer, written, effect_of, effect_in, peeked, set_or_cleared, is_closed as closed, bit as worth_of};
+ghost use Rattle.serial_model.specs.Registers.{no_registers, kept_word, pointer_at, with_pointer, words_after, effect_of};
+ghost use Rattle.serial_model.specs.Registers.{effect_in, word_at, set_or_clear as set_or_clear_of, is_closed as closed, bit_worth};
 ghost use Rattle.serial_model.specs.RegisterTable.{is_pointer_high};
 
 use crate::table::{kept_bits, reading, writing};
@@ -37,14 +38,14 @@ impl Regs {
     }
 
     /// A write of a word to a register by the script, the Copper or the processor. The register keeps those
-    /// bits of the word that it has. At DMACON, INTENA and INTREQ bit 15 says whether the word's other 1 bits
-    /// are set or cleared in the kept word (Hardware Reference Manual, DMACON, INTENA, INTREQ). A write to a
-    /// register for reading only changes nothing, nor does one to an offset without a register (profile), or
-    /// to 040 to 074 where `busy` says that the blitter is busy (profile). The answer says what happens
-    /// beside the kept word.
-    #[tactic(auto, unfolding(serial_model::specs::Registers::written, serial_model::specs::Registers::effect_of))]
+    /// bits of the word that it has. At DMACON bit 15 says whether the word's other 1 bits are set or cleared
+    /// in the kept word (Hardware Reference Manual, DMACON). The words of INTENA and INTREQ are not kept here,
+    /// since other chips change them too. A write to a register for reading only changes nothing, nor does one
+    /// to an offset without a register (profile), or to 040 to 074 where `busy` says that the blitter is busy
+    /// (profile). The answer says what happens beside the kept word.
+    #[tactic(auto, unfolding(serial_model::specs::Registers::words_after, serial_model::specs::Registers::effect_of))]
     pub fn poke(&mut self, reg: Reg, word: u16, busy: bool) -> Effect
-        ensures words { self.new ≡ written busy self.old reg.offset word }
+        ensures words { self.new ≡ words_after busy self.old reg.offset word }
         ensures effect { result ≡ effect_of busy reg.offset word }
     {
         if is_closed(reg, busy) {
@@ -53,11 +54,10 @@ impl Regs {
         let place = &mut self.words[reg.offset as usize / 2];
         let way = writing(reg);
         match way {
-            Writing::Ignored => {}
-            Writing::SetOrClear | Writing::Interrupt => {
-                *place = set_or_clear(*place, word, kept_bits(reg));
-            }
+            Writing::Ignored | Writing::Interrupt => {}
+            Writing::SetOrClear => *place = set_or_clear(*place, word, kept_bits(reg)),
             Writing::Plain
+            | Writing::PointerHigh
             | Writing::Jump { .. }
             | Writing::Blit
             | Writing::Picture
@@ -72,9 +72,9 @@ impl Regs {
     /// its high byte and the colour clock, 0 to 226, in its low one. Other chips keep CLXDAT, INTENAR and
     /// INTREQR, which are 0 here. A register for writing only reads as 0, as does an offset without one
     /// (profile).
-    #[tactic(auto, unfolding(serial_model::specs::Registers::peeked))]
+    #[tactic(auto, unfolding(serial_model::specs::Registers::word_at))]
     pub fn peek(&self, reg: Reg, live: &Live) -> u16
-        ensures { result ≡ peeked live.now self.now reg.offset }
+        ensures { result ≡ word_at live.now self.now reg.offset }
     {
         match reading(reg) {
             Reading::Zero | Reading::Elsewhere => 0,
@@ -89,7 +89,7 @@ impl Regs {
 
     /// The kept word of a register, also of one for writing only: what the chips see, and no read of the bus.
     pub fn word(&self, reg: Reg) -> u16
-        ensures { result ≡ kept self.now reg.offset }
+        ensures { result ≡ kept_word self.now reg.offset }
     {
         self.words[reg.offset as usize / 2]
     }
@@ -100,7 +100,7 @@ impl Regs {
     #[tactic(auto, using(crate::proofs::TableLaws::low_follows))]
     pub fn pointer(&self, high: Reg) -> Addr
         requires { is_pointer_high high.offset ≡ true }
-        ensures { result.value ≡ address_at self.now high.offset }
+        ensures { result ≡ pointer_at self.now high.offset }
     {
         let at = high.offset as usize / 2;
         Addr::at(self.words[at] as u32 * 0x1_0000 + self.words[at + 1] as u32)
@@ -126,10 +126,10 @@ fn is_closed(reg: Reg, busy: bool) -> bool
     busy && (0x40..=0x74).contains(&reg.offset)
 }
 
-/// A kept word after a write to a register of the kind of DMACON: bit 15 of the written word says whether
+/// The kept word of DMACON after a write: bit 15 of the written word says whether
 /// its other 1 bits are set or cleared. `bits` are those that the register keeps.
 fn set_or_clear(old: u16, word: u16, bits: u16) -> u16
-    ensures { result ≡ set_or_cleared bits old word }
+    ensures { result ≡ set_or_clear_of bits old word }
 {
     if word >= 0x8000 {
         old | word & bits
@@ -144,7 +144,7 @@ fn effect(writing: Writing, word: u16) -> Effect
 {
     match writing {
         Writing::Ignored => Effect::Nothing,
-        Writing::Plain | Writing::SetOrClear => Effect::Kept,
+        Writing::Plain | Writing::PointerHigh | Writing::SetOrClear => Effect::Kept,
         Writing::Jump { list } => Effect::Jump { list },
         Writing::Blit => Effect::Blit,
         Writing::Picture => Effect::Picture,
@@ -157,7 +157,7 @@ fn effect(writing: Writing, word: u16) -> Effect
 
 /// What a bit of a word adds to it: `worth` where it is set, else 0.
 fn bit(set: bool, worth: u16) -> u16
-    ensures { result ≡ worth_of set worth }
+    ensures { result ≡ bit_worth set worth }
 {
     if set { worth } else { 0 }
 }

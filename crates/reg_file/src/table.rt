@@ -2,7 +2,7 @@
 
 ghost use Rattle.std.specs.Prelude.{◌≡◌, ◌==◌, ◌%◌, unwrap_or, if◌then◌else◌};
 ghost use Rattle.serial_model.specs.RegisterTable.{reading_at, writing_at, kept_bits_at};
-ghost use Rattle.reg_file.specs.Table.{whole_word_in};
+ghost use Rattle.reg_file.specs.Table.{is_pointer_word, pointer_writing as pointer_writing_of, whole_word_in};
 
 use ocs_base::Reg;
 use serial_model::{Reading, Writing};
@@ -28,6 +28,9 @@ pub fn reading(reg: Reg) -> Reading
 pub fn writing(reg: Reg) -> Writing
     ensures { result ≡ writing_at reg.offset }
 {
+    if is_pointer(reg) {
+        return pointer_writing(reg);
+    }
     match reg.offset {
         0x02a => Writing::Field,
         0x058 => Writing::Blit,
@@ -35,11 +38,29 @@ pub fn writing(reg: Reg) -> Writing
         0x08a => Writing::Jump { list: 2 },
         0x096 => Writing::SetOrClear,
         0x09a | 0x09c => Writing::Interrupt,
-        0x02e | 0x040..=0x056 | 0x060..=0x066 | 0x070..=0x074 | 0x080..=0x086 => Writing::Plain,
-        0x092..=0x094 | 0x0e0..=0x0f6 | 0x108 | 0x10a | 0x120..=0x13e => Writing::Plain,
+        0x02e | 0x040..=0x046 | 0x060..=0x066 | 0x070..=0x074 => Writing::Plain,
+        0x092..=0x094 | 0x108 | 0x10a => Writing::Plain,
         0x08e..=0x090 | 0x098 | 0x100..=0x104 | 0x110..=0x11a => Writing::Picture,
         0x140..=0x17e | 0x180..=0x1be => Writing::Picture,
         _ => Writing::Ignored,
+    }
+}
+
+/// Whether this is one word of a pointer: of the blitter, the Copper, a bitplane or a sprite.
+fn is_pointer(reg: Reg) -> bool
+    ensures { result ≡ is_pointer_word reg.offset }
+{
+    matches!(reg.offset, 0x048..=0x056 | 0x080..=0x086 | 0x0e0..=0x0f6 | 0x120..=0x13e)
+}
+
+/// What a write to one word of a pointer does: the high word lies at a multiple of 4.
+fn pointer_writing(reg: Reg) -> Writing
+    ensures { result ≡ pointer_writing_of reg.offset }
+{
+    if reg.offset % 4 == 0 {
+        Writing::PointerHigh
+    } else {
+        Writing::Plain
     }
 }
 
@@ -62,8 +83,6 @@ fn some_bits(reg: Reg) -> Option<u16>
         0x048..=0x050 | 0x054..=0x056 | 0x080..=0x086 => Some(pointer_bits(reg)),
         0x0e0..=0x0f6 | 0x120..=0x13e => Some(pointer_bits(reg)),
         0x096 => Some(0x07ff),
-        0x09a => Some(0x7fff),
-        0x09c => Some(0x3fff),
         0x180..=0x1be => Some(0x0fff),
         _ => None,
     }
@@ -75,8 +94,9 @@ fn whole_word(writing: Writing) -> u16
 {
     match writing {
         Writing::Plain | Writing::Blit | Writing::Picture => 0xffff,
-        Writing::Ignored | Writing::Jump { .. } | Writing::Field => 0,
-        Writing::SetOrClear | Writing::Interrupt => 0,
+        Writing::Jump { .. } | Writing::Field => 0xffff,
+        Writing::Ignored | Writing::Interrupt => 0,
+        Writing::PointerHigh | Writing::SetOrClear => 0,
     }
 }
 

@@ -5,7 +5,7 @@ use Rattle.ocs_base.specs.Limits.{AreFrom, AreInOrder, AreInLimits, time_of}
 use Rattle.ocs_base.specs.declared.beam.Beam.{Beam}
 use Rattle.ocs_base.specs.declared.script.At.{At}
 use Rattle.serial_model.specs.Beam.{place_of, next_place, IsOnScreen}
-use Rattle.serial_model.specs.Events.{is_due, due}
+use Rattle.serial_model.specs.Events.{is_due, due_events}
 
 -- events that are none of them before the place, in order and in the limits of a run
 pub record IsQueue (frames place : ℕ) (events : List At) : Type 0 where
@@ -30,25 +30,25 @@ line_below : (b : Beam) → IsOnScreen b → b.v < 313
 line_below b on = grind (arith, nat_tests, on.line)
 
 -- an event that is due: it is the first of those that are due, and no later place has it
-pub due-more : (b : Beam) (e : At) (events : List At) → is_due b e ≡ true → due b (e ∷ events) ≡ e ∷ due b events
-unfolding due
-due-more b e events is = grind (arith, nat_tests)
+pub due_events-more : (b : Beam) (e : At) (events : List At) → is_due b e ≡ true → due_events b (e ∷ events) ≡ e ∷ due_events b events
+unfolding due_events
+due_events-more b e events is = grind (arith, nat_tests)
 
-pub due-later : (frames place : ℕ) (b next : Beam) (e : At) (events : List At) → IsQueue frames place (e ∷ events) → IsOnScreen b → IsOnScreen next
-    → is_due b e ≡ true → place_of b < place_of next → due next (e ∷ events) ≡ due next events
-unfolding due
-due-later frames place b next e events q on on_next is later =
+pub due_events-later : (frames place : ℕ) (b next : Beam) (e : At) (events : List At) → IsQueue frames place (e ∷ events) → IsOnScreen b → IsOnScreen next
+    → is_due b e ≡ true → place_of b < place_of next → due_events next (e ∷ events) ≡ due_events next events
+unfolding due_events
+due_events-later frames place b next e events q on on_next is later =
     let same : time_of e ≡ place_of b = due_time b e q.limits.0.line q.limits.0.clock (line_below b on) on.clock is in
     let not : is_due next e ≡ false = not_due next e q.limits.0.line q.limits.0.clock (line_below next on_next) on_next.clock (omega arith) in
     grind (arith, nat_tests)
 
 -- an event that is not due at a place that it is not before: none of these is due, and all are later
-pub due-none : (frames : ℕ) (b : Beam) (events : List At) → AreFrom (place_of b + 1) events → AreInLimits frames events → IsOnScreen b → due b events ≡ []
-unfolding due
-due-none frames b [] from limits on = refl
-due-none frames b (e ∷ events) from limits on =
+pub due_events-none : (frames : ℕ) (b : Beam) (events : List At) → AreFrom (place_of b + 1) events → AreInLimits frames events → IsOnScreen b → due_events b events ≡ []
+unfolding due_events
+due_events-none frames b [] from limits on = refl
+due_events-none frames b (e ∷ events) from limits on =
     let not : is_due b e ≡ false = not_due b e limits.0.line limits.0.clock (line_below b on) on.clock (omega (arith, from.0)) in
-    let rest : due b events ≡ [] = due-none frames b events from.1 limits.1 on in
+    let rest : due_events b events ≡ [] = due_events-none frames b events from.1 limits.1 on in
     grind (arith, nat_tests)
 
 pub AreFrom-le : (low high : ℕ) (events : List At) → low ≤ high → AreFrom high events → AreFrom low events

@@ -1,3 +1,6 @@
 pub mod EventLaws
 pub mod BeamLaws
-pub mod FramedLaws
+pub mod HeadingLaws
+pub mod NextLaws
+pub mod EndLaws
+pub mod WriteLaws

@@ -1,5 +1,5 @@
 -- The beam: lines and fields, the order of places, and what of them is visible.
-use Rattle.std.specs.Prelude.{ℕ, ◌+◌, ◌<◌, Bool, true, not, ◌&&◌, ◌==◌, nat_le, nat_lt, if◌then◌else◌}
+use Rattle.std.specs.Prelude.{ℕ, ◌+◌, ◌<◌, Bool, true, not, ◌&&◌, ◌==◌, nat_le, if◌then◌else◌}
 use Rattle.ocs_base.specs.declared.beam.Beam.{Beam}
 use Rattle.ocs_base.specs.Limits.{order_of}
 use Rattle.ocs_base.specs.declared.script.System.{System}
@@ -13,18 +13,22 @@ lines lof = if lof then 313 else 312
 abbrev pub first_place : Beam
 first_place = record { frame = 0; v = 0; h = 0; lof = true }
 
--- the place after a line's last clock, 226: the next line of the field, or the first of the next frame,
--- whose field is of the other kind where LACE is set
-abbrev pub next_line : Bool → Beam → Beam
-next_line lace b =
-    if nat_lt (b.v + 1) (lines b.lof)
-    then record { frame = b.frame; v = b.v + 1; h = 0; lof = b.lof }
-    else record { frame = b.frame + 1; v = 0; h = 0; lof = if lace then not b.lof else b.lof }
+-- whether this is the last clock of a line, and of a field
+abbrev pub is_line_end : Beam → Bool
+is_line_end b = nat_le 226 b.h
 
--- the next place
+abbrev pub is_field_end : Beam → Bool
+is_field_end b = is_line_end b && nat_le (lines b.lof) (b.v + 1)
+
+-- the next place. After a line's last clock, 226, comes the next line of the field, or the first of the next frame, whose
+-- field is of the other kind where LACE is set
 abbrev pub next_place : Bool → Beam → Beam
-next_place lace b =
-    if nat_lt b.h 226 then record { frame = b.frame; v = b.v; h = b.h + 1; lof = b.lof } else next_line lace b
+next_place lace b = record {
+  frame = if is_field_end b then b.frame + 1 else b.frame;
+  v = if is_field_end b then 0 else if is_line_end b then b.v + 1 else b.v;
+  h = if is_line_end b then 0 else b.h + 1;
+  lof = if is_field_end b && lace then not b.lof else b.lof;
+}
 
 -- the first clock of a line, and of a field
 abbrev pub is_line_start : Beam → Bool

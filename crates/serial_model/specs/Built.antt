@@ -2,10 +2,11 @@
 use Rattle.std.specs.Prelude.{ℕ, Bool, false, not, ◌==◌, ◌&&◌, ◌||◌, nat_le, bit_and, List}
 use Rattle.ocs_base.specs.declared.script.At.{At}
 use Rattle.ocs_base.specs.declared.script.System.{System}
-use Rattle.serial_model.specs.declared.copper.CopperAct.{CopperAct}
-use Rattle.serial_model.specs.declared.copper.CopperAct.TheVariants.{None as NoAct, Move}
+use Rattle.serial_model.specs.declared.bus.Made.{Made}
+use Rattle.serial_model.specs.declared.bus.Made.TheVariants as M
+use Rattle.serial_model.specs.declared.bus.SideAsk.TheVariants as S
 use Rattle.serial_model.specs.State.{State}
-use Rattle.serial_model.specs.Tick.{before_access, act_of}
+use Rattle.serial_model.specs.Tick.{before_access, made_of}
 
 -- the writes that are not built: BLTSIZE, INTENA, INTREQ, the data of bitplanes, the sprites, BPLEN and SPREN of DMACON,
 -- and every bit of BPLCON0 but LACE
@@ -21,11 +22,13 @@ is_missing offset word =
 abbrev pub is_unreadable : ℕ → Bool
 is_unreadable offset = (offset == 0x0e) || (offset == 0x1c) || (offset == 0x1e)
 
--- a MOVE whose write is not built
-abbrev pub is_unbuilt : CopperAct → Bool
-is_unbuilt NoAct = false
-is_unbuilt (Move reg word) = is_missing reg.offset word
+-- what is made is not built: a write that is not
+abbrev pub is_unbuilt : Made → Bool
+is_unbuilt M.Nothing = false
+is_unbuilt (M.Wrote reg word by) = is_missing reg.offset word
+is_unbuilt (M.Read reg by) = false
+is_unbuilt (M.Stored at half word) = false
 
 -- whether the colour clock that begins in this state does something unbuilt
 unfoldable pub meets_unbuilt : System → List At → State → Bool
-meets_unbuilt system events s = is_unbuilt (act_of (before_access system events s))
+meets_unbuilt system events s = is_unbuilt (made_of S.Nothing (before_access system events s))

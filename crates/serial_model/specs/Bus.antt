@@ -1,100 +1,132 @@
--- The access of a clock: who asks for the slot, who gets it, and what the answer does.
-use Rattle.std.specs.Prelude.{ℕ, ◌/◌, ◌%◌, Bool, false, ◌==◌, ◌&&◌, if◌then◌else◌, List, [], ◌∷◌, slice_index, Option, Some, None, is_some}
-use Rattle.ocs_base.specs.Addr.{chip_span}
+-- The access of a clock: who asks for the slot, who gets it, what answers it and what it makes.
+use Rattle.std.specs.Prelude.{ℕ, ◌%◌, Bool, true, false, ◌==◌, ◌&&◌, if◌then◌else◌, List, Option, Some, None, is_some}
+use Rattle.ocs_base.specs.declared.addr.Addr.{Addr}
 use Rattle.ocs_base.specs.declared.beam.Beam.{Beam}
 use Rattle.serial_model.specs.declared.bus.Ask.{Ask}
-use Rattle.serial_model.specs.declared.bus.Ask.TheVariants.{Free as NoAccess, Copper as CopperRead}
+use Rattle.serial_model.specs.declared.bus.Ask.TheVariants as A
+use Rattle.serial_model.specs.declared.bus.Half.TheVariants.{Both}
+use Rattle.serial_model.specs.declared.bus.Made.{Made}
+use Rattle.serial_model.specs.declared.bus.Made.TheVariants as M
+use Rattle.serial_model.specs.declared.bus.SideAsk.{SideAsk}
+use Rattle.serial_model.specs.declared.bus.SideAsk.TheVariants as S
 use Rattle.serial_model.specs.declared.copper.CopperAct.{CopperAct}
 use Rattle.serial_model.specs.declared.copper.CopperAct.TheVariants.{None as NoAct, Move}
-use Rattle.serial_model.specs.declared.picture.Touch.{Touch}
-use Rattle.serial_model.specs.declared.picture.Touch.TheVariants.{Set}
+use Rattle.serial_model.specs.declared.copper.CopperState.{CopperState}
 use Rattle.serial_model.specs.declared.slots.Owner.{Owner}
 use Rattle.serial_model.specs.declared.slots.Owner.TheVariants.{Refresh, Disk, Audio, Plane, Sprite, Copper, Blitter, Processor, Free}
 use Rattle.serial_model.specs.declared.slots.SlotState.{SlotState}
 use Rattle.serial_model.specs.declared.trace.Source.TheVariants.{Copper as ByCopper}
-use Rattle.serial_model.specs.declared.trace.TraceLine.{TraceLine}
-use Rattle.serial_model.specs.declared.trace.TraceLine.TheVariants.{Wrote}
-use Rattle.serial_model.specs.Registers.{copper_dma, blitter_first, is_danger, is_picture_write}
-use Rattle.serial_model.specs.Copper.{wanted, copper_stepped, copper_act}
+use Rattle.serial_model.specs.Registers.{copper_dma, blitter_first, is_danger}
+use Rattle.serial_model.specs.Copper.{wish_of, step_copper, copper_act}
+use Rattle.serial_model.specs.Made.{word_of}
 use Rattle.serial_model.specs.Owner.{owner_of}
-use Rattle.serial_model.specs.State.{Chips, is_busy, poked, beam_poked}
+use Rattle.serial_model.specs.State.{Chips, is_busy}
 
 -- the Copper takes part in even clocks while its DMA is on
 abbrev pub copper_runs : Beam → Chips → Bool
 copper_runs b c = (b.h % 2 == 0) && copper_dma c.registers
 
 -- the word that the Copper asks for at this clock
-abbrev pub copper_wish : Beam → Chips → Option ℕ
-copper_wish b c = if copper_runs b c then wanted c.copper else None
+abbrev pub copper_wish : Beam → Chips → Option Addr
+copper_wish b c = if copper_runs b c then wish_of c.copper else None
 
--- who asks for the slot; bitplanes, sprites, blitter and processor do not ask yet
-abbrev pub slot_state : Beam → Chips → SlotState
-slot_state b c = record {
+-- what each asker wishes at a clock; bitplanes, sprites, blitter and processor do not ask yet
+pub record Wishes : Type 0 where
+  pub side : SideAsk
+  pub copper : Option Addr
+
+abbrev pub wishes_of : SideAsk → Beam → Chips → Wishes
+wishes_of side b c = record { side = side; copper = copper_wish b c }
+
+abbrev pub is_disk : SideAsk → Bool
+is_disk S.Nothing = false
+is_disk (S.Disk at word) = true
+is_disk (S.Audio channel at) = false
+
+abbrev pub channel_of : SideAsk → Option ℕ
+channel_of S.Nothing = None
+channel_of (S.Disk at word) = None
+channel_of (S.Audio channel at) = Some channel
+
+-- who asks for the slot
+abbrev pub slot_state : Beam → Chips → Wishes → SlotState
+slot_state b c w = record {
   h = b.h;
-  disk = false;
-  audio = None;
+  disk = is_disk w.side;
+  audio = channel_of w.side;
   plane = None;
   sprite = None;
-  copper = is_some (copper_wish b c);
+  copper = is_some w.copper;
   blitter = false;
   processor = false;
   missed = 0;
   nasty = blitter_first c.registers;
 }
 
--- the access of the owner, by what the Copper asks for
-abbrev pub access_of : Owner → Option ℕ → Ask
-access_of Copper None = NoAccess
-access_of Copper (Some at) = CopperRead at
-access_of Refresh wish = NoAccess
-access_of Disk wish = NoAccess
-access_of (Audio channel) wish = NoAccess
-access_of (Plane plane) wish = NoAccess
-access_of (Sprite sprite) wish = NoAccess
-access_of Blitter wish = NoAccess
-access_of Processor wish = NoAccess
-access_of Free wish = NoAccess
+-- the ask of one asker
+abbrev pub side_ask : SideAsk → Ask
+side_ask S.Nothing = A.Free
+side_ask (S.Disk at word) = A.Disk at word
+side_ask (S.Audio channel at) = A.Audio channel at
 
--- the access of this clock, from the state as it is then
-unfoldable pub asked : Beam → Chips → Ask
-asked b c = access_of (owner_of (slot_state b c)) (copper_wish b c)
+abbrev pub copper_ask : Option Addr → Ask
+copper_ask None = A.Free
+copper_ask (Some at) = A.Copper at
 
--- the word of memory at an address, modulo the span
-abbrev pub word_of : List ℕ → ℕ → ℕ
-word_of memory at = slice_index memory (at % chip_span / 2)
+-- the ask of the slot's owner
+abbrev pub owner_ask : Owner → Wishes → Ask
+owner_ask Refresh w = A.Free
+owner_ask Disk w = side_ask w.side
+owner_ask (Audio channel) w = side_ask w.side
+owner_ask (Plane plane) w = A.Free
+owner_ask (Sprite sprite) w = A.Free
+owner_ask Copper w = copper_ask w.copper
+owner_ask Blitter w = A.Free
+owner_ask Processor w = A.Free
+owner_ask Free w = A.Free
 
--- the word that is read, where one is
-abbrev pub answer_to : Ask → List ℕ → Option ℕ
-answer_to NoAccess memory = None
-answer_to (CopperRead at) memory = Some (word_of memory at)
+-- the ask of this clock, from the state as it is then
+unfoldable pub ask_at : SideAsk → Beam → Chips → Ask
+ask_at side b c = owner_ask (owner_of (slot_state b c (wishes_of side b c))) (wishes_of side b c)
 
--- the Copper's step of this clock, with the word that it read
-unfoldable pub copper_moved_on : Beam → Option ℕ → Chips → Chips
-copper_moved_on b fetched c =
-    if copper_runs b c
-    then record { registers = c.registers; copper = copper_stepped b (is_busy c) (is_danger c.registers) fetched c.copper }
-    else c
+-- whether the access reads chip memory
+abbrev pub is_memory_read : Ask → Bool
+is_memory_read A.Free = false
+is_memory_read (A.Disk at word) = false
+is_memory_read (A.Audio channel at) = true
+is_memory_read (A.Copper at) = true
 
--- and what that step makes
-unfoldable pub act_at : Beam → Option ℕ → Chips → CopperAct
-act_at b fetched c = if copper_runs b c then copper_act (is_danger c.registers) fetched c.copper else NoAct
+-- the word that answers it, 0 where nothing is read
+abbrev pub answer_to : Ask → List ℕ → ℕ
+answer_to A.Free memory = 0
+answer_to (A.Disk at word) memory = 0
+answer_to (A.Audio channel at) memory = word_of memory at.value
+answer_to (A.Copper at) memory = word_of memory at.value
 
--- the chips after a MOVE, which is a write to its register
-abbrev pub carried_out : CopperAct → Chips → Chips
-carried_out NoAct c = c
-carried_out (Move reg word) c = poked reg.offset word c
+-- the word that the Copper gets: that of its own ask alone
+abbrev pub copper_word : Ask → ℕ → Option ℕ
+copper_word A.Free word = None
+copper_word (A.Disk at stored) word = None
+copper_word (A.Audio channel at) word = None
+copper_word (A.Copper at) word = Some word
 
--- and the beam
-abbrev pub beam_carried_out : CopperAct → Beam → Beam
-beam_carried_out NoAct b = b
-beam_carried_out (Move reg word) b = beam_poked reg.offset word b
+-- the Copper's step of this clock
+abbrev pub copper_after : Beam → Option ℕ → Chips → CopperState
+copper_after b fetched c =
+    if copper_runs b c then step_copper b (is_busy c) (is_danger c.registers) fetched c.copper else c.copper
 
--- how it touches the picture: a MOVE to one of Denise's registers sets it
-abbrev pub touch_of : CopperAct → Option Touch
-touch_of NoAct = None
-touch_of (Move reg word) = if is_picture_write reg.offset word then Some (Set reg.offset word) else None
+-- the chips once each has its answer
+unfoldable pub answer_chips : Beam → Ask → ℕ → Chips → Chips
+answer_chips b ask word c = record c { copper = copper_after b (copper_word ask word) c }
 
--- its trace line: a MOVE is a write by the Copper
-abbrev pub act_lines : Beam → CopperAct → List TraceLine
-act_lines b NoAct = []
-act_lines b (Move reg word) = Wrote b reg word ByCopper ∷ []
+-- a MOVE is a write by the Copper
+abbrev pub made_by_copper : CopperAct → Made
+made_by_copper NoAct = M.Nothing
+made_by_copper (Move reg word) = M.Wrote reg word (Some ByCopper)
+
+-- what an access makes, with the word that answers it, of the chips as they were before
+unfoldable pub made_by_ask : Ask → ℕ → Chips → Made
+made_by_ask A.Free word c = M.Nothing
+made_by_ask (A.Disk at stored) word c = M.Stored at Both stored
+made_by_ask (A.Audio channel at) word c = M.Nothing
+made_by_ask (A.Copper at) word c = made_by_copper (copper_act (is_danger c.registers) (Some word) c.copper)

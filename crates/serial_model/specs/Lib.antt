@@ -4,12 +4,15 @@ pub mod Registers
 pub mod Copper
 pub mod Owner
 pub mod Picture
+pub mod State
+pub mod Write
+pub mod Made
 pub mod Bus
 pub mod Events
-pub mod State
 pub mod Tick
 pub mod Serial
 pub mod Outputs
 pub mod Built
 pub mod TraceText
 pub mod MemoryText
+pub mod Laws

@@ -14,10 +14,10 @@ abbrev pub heading_at : ℕ → List ℕ
 heading_at n = if n % frame_bytes == 0 then heading else []
 
 -- pixel bytes, of which the first is number n of the run, with the heading before each frame's first
-unfoldable pub framed : ℕ → List ℕ → List ℕ
-framed n [] = []
-framed n (byte ∷ bytes) = heading_at n ++ byte ∷ framed (n + 1) bytes
+unfoldable pub with_headings : ℕ → List ℕ → List ℕ
+with_headings n [] = []
+with_headings n (byte ∷ bytes) = heading_at n ++ byte ∷ with_headings (n + 1) bytes
 
 -- the frames file of the pixel bytes shown so far: each frame's heading and its pixel bytes
 abbrev pub frames_text : List ℕ → List ℕ
-frames_text shown = framed 0 shown
+frames_text shown = with_headings 0 shown

@@ -1,5 +1,5 @@
 -- The custom registers, by their offset from DFF000: which there are, and what a read and a write do.
-use Rattle.std.specs.Prelude.{ℕ, ◌+◌, ◌-◌, ◌*◌, ◌%◌, Bool, ◌&&◌, ◌==◌, nat_le, nat_lt, if◌then◌else◌, List, [], ◌∷◌, codes}
+use Rattle.std.specs.Prelude.{ℕ, ◌+◌, ◌-◌, ◌*◌, ◌%◌, Bool, true, false, ◌&&◌, ◌==◌, nat_le, nat_lt, if◌then◌else◌, List, [], ◌∷◌, codes}
 use Rattle.serial_model.specs.declared.registers.Reading.{Reading}
 use Rattle.serial_model.specs.declared.registers.Reading.TheVariants as R
 use Rattle.serial_model.specs.declared.registers.Writing.{Writing}
@@ -39,7 +39,8 @@ write_only offset name writing kept_bits = entry offset 1 2 name R.Zero writing 
 abbrev pub group : ℕ → ℕ → ℕ → List ℕ → Writing → ℕ → Row
 group first count apart name writing kept_bits = entry first count apart name R.Zero writing kept_bits
 
--- the table. A pointer keeps bits 2 to 0 of its high word and bits 15 to 1 of its low word; BLTAPTL keeps all, for line mode
+-- the table. A pointer keeps bits 2 to 0 of its high word and bits 15 to 1 of its low word; BLTAPTL keeps all, for line
+-- mode. The words of INTENA and INTREQ are no part of the table: other chips change them too
 unfoldable pub rows : List Row
 rows =
     read_only 0x002 (codes "DMACONR") R.DmaAndBlitter
@@ -50,19 +51,19 @@ rows =
     ∷ read_only 0x00e (codes "CLXDAT") R.Elsewhere
     ∷ read_only 0x01c (codes "INTENAR") R.Elsewhere
     ∷ read_only 0x01e (codes "INTREQR") R.Elsewhere
-    ∷ write_only 0x02a (codes "VPOSW") W.Field 0
+    ∷ write_only 0x02a (codes "VPOSW") W.Field 0xffff
     ∷ write_only 0x02e (codes "COPCON") W.Plain 0xffff
     ∷ write_only 0x040 (codes "BLTCON0") W.Plain 0xffff
     ∷ write_only 0x042 (codes "BLTCON1") W.Plain 0xffff
     ∷ write_only 0x044 (codes "BLTAFWM") W.Plain 0xffff
     ∷ write_only 0x046 (codes "BLTALWM") W.Plain 0xffff
-    ∷ write_only 0x048 (codes "BLTCPTH") W.Plain 0x0007
+    ∷ write_only 0x048 (codes "BLTCPTH") W.PointerHigh 0x0007
     ∷ write_only 0x04a (codes "BLTCPTL") W.Plain 0xfffe
-    ∷ write_only 0x04c (codes "BLTBPTH") W.Plain 0x0007
+    ∷ write_only 0x04c (codes "BLTBPTH") W.PointerHigh 0x0007
     ∷ write_only 0x04e (codes "BLTBPTL") W.Plain 0xfffe
-    ∷ write_only 0x050 (codes "BLTAPTH") W.Plain 0x0007
+    ∷ write_only 0x050 (codes "BLTAPTH") W.PointerHigh 0x0007
     ∷ write_only 0x052 (codes "BLTAPTL") W.Plain 0xffff
-    ∷ write_only 0x054 (codes "BLTDPTH") W.Plain 0x0007
+    ∷ write_only 0x054 (codes "BLTDPTH") W.PointerHigh 0x0007
     ∷ write_only 0x056 (codes "BLTDPTL") W.Plain 0xfffe
     ∷ write_only 0x058 (codes "BLTSIZE") W.Blit 0xffff
     ∷ write_only 0x060 (codes "BLTCMOD") W.Plain 0xffff
@@ -72,21 +73,21 @@ rows =
     ∷ write_only 0x070 (codes "BLTCDAT") W.Plain 0xffff
     ∷ write_only 0x072 (codes "BLTBDAT") W.Plain 0xffff
     ∷ write_only 0x074 (codes "BLTADAT") W.Plain 0xffff
-    ∷ write_only 0x080 (codes "COP1LCH") W.Plain 0x0007
+    ∷ write_only 0x080 (codes "COP1LCH") W.PointerHigh 0x0007
     ∷ write_only 0x082 (codes "COP1LCL") W.Plain 0xfffe
-    ∷ write_only 0x084 (codes "COP2LCH") W.Plain 0x0007
+    ∷ write_only 0x084 (codes "COP2LCH") W.PointerHigh 0x0007
     ∷ write_only 0x086 (codes "COP2LCL") W.Plain 0xfffe
-    ∷ write_only 0x088 (codes "COPJMP1") (W.Jump 1) 0
-    ∷ write_only 0x08a (codes "COPJMP2") (W.Jump 2) 0
+    ∷ write_only 0x088 (codes "COPJMP1") (W.Jump 1) 0xffff
+    ∷ write_only 0x08a (codes "COPJMP2") (W.Jump 2) 0xffff
     ∷ write_only 0x08e (codes "DIWSTRT") W.Picture 0xffff
     ∷ write_only 0x090 (codes "DIWSTOP") W.Picture 0xffff
     ∷ write_only 0x092 (codes "DDFSTRT") W.Plain 0xffff
     ∷ write_only 0x094 (codes "DDFSTOP") W.Plain 0xffff
     ∷ write_only 0x096 (codes "DMACON") W.SetOrClear 0x07ff
     ∷ write_only 0x098 (codes "CLXCON") W.Picture 0xffff
-    ∷ write_only 0x09a (codes "INTENA") W.Interrupt 0x7fff
-    ∷ write_only 0x09c (codes "INTREQ") W.Interrupt 0x3fff
-    ∷ group 0x0e0 6 4 (codes "BPL1PTH to BPL6PTH") W.Plain 0x0007
+    ∷ write_only 0x09a (codes "INTENA") W.Interrupt 0
+    ∷ write_only 0x09c (codes "INTREQ") W.Interrupt 0
+    ∷ group 0x0e0 6 4 (codes "BPL1PTH to BPL6PTH") W.PointerHigh 0x0007
     ∷ group 0x0e2 6 4 (codes "BPL1PTL to BPL6PTL") W.Plain 0xfffe
     ∷ write_only 0x100 (codes "BPLCON0") W.Picture 0xffff
     ∷ write_only 0x102 (codes "BPLCON1") W.Picture 0xffff
@@ -94,7 +95,7 @@ rows =
     ∷ write_only 0x108 (codes "BPL1MOD") W.Plain 0xffff
     ∷ write_only 0x10a (codes "BPL2MOD") W.Plain 0xffff
     ∷ group 0x110 6 2 (codes "BPL1DAT to BPL6DAT") W.Picture 0xffff
-    ∷ group 0x120 8 4 (codes "SPR0PTH to SPR7PTH") W.Plain 0x0007
+    ∷ group 0x120 8 4 (codes "SPR0PTH to SPR7PTH") W.PointerHigh 0x0007
     ∷ group 0x122 8 4 (codes "SPR0PTL to SPR7PTL") W.Plain 0xfffe
     ∷ group 0x140 8 8 (codes "SPR0POS to SPR7POS") W.Picture 0xffff
     ∷ group 0x142 8 8 (codes "SPR0CTL to SPR7CTL") W.Picture 0xffff
@@ -130,6 +131,17 @@ writing_at offset = (row_at offset).writing
 abbrev pub kept_bits_at : ℕ → ℕ
 kept_bits_at offset = (row_at offset).kept_bits
 
--- the high words of pointers are the registers that keep bits 2 to 0
+abbrev pub is_pointer_kind : Writing → Bool
+is_pointer_kind W.Ignored = false
+is_pointer_kind W.Plain = false
+is_pointer_kind W.PointerHigh = true
+is_pointer_kind W.SetOrClear = false
+is_pointer_kind (W.Jump list) = false
+is_pointer_kind W.Blit = false
+is_pointer_kind W.Picture = false
+is_pointer_kind W.Interrupt = false
+is_pointer_kind W.Field = false
+
+-- the high word of a pointer; its low word is the next register's
 abbrev pub is_pointer_high : ℕ → Bool
-is_pointer_high offset = kept_bits_at offset == 7
+is_pointer_high offset = is_pointer_kind (writing_at offset)

@@ -1,33 +1,34 @@
 -- The kept words of the custom registers: what reads, writes and pointers make of them.
 use Rattle.std.specs.Prelude.{ℕ, ◌+◌, ◌-◌, ◌*◌, ◌/◌, ◌%◌, Bool, true, false, ◌&&◌, ◌==◌, nat_le, if◌then◌else◌, List, slice_index, slice_set, replicate, bit_and, bit_or}
-use Rattle.ocs_base.specs.Addr.{even_address, chip_span}
+use Rattle.ocs_base.specs.AddressOf.{addr_at}
+use Rattle.ocs_base.specs.declared.addr.Addr.{Addr}
 use Rattle.serial_model.specs.declared.registers.Effect.{Effect}
 use Rattle.serial_model.specs.declared.registers.Effect.TheVariants as E
 use Rattle.serial_model.specs.declared.registers.Live.{Live}
 use Rattle.serial_model.specs.declared.registers.Reading.{Reading}
 use Rattle.serial_model.specs.declared.registers.Reading.TheVariants.{Zero, DmaAndBlitter, FieldAndLine, LineAndClock, Joystick, Elsewhere}
 use Rattle.serial_model.specs.declared.registers.Writing.{Writing}
-use Rattle.serial_model.specs.declared.registers.Writing.TheVariants.{Ignored, Plain, SetOrClear, Jump, Blit, Picture, Interrupt, Field}
+use Rattle.serial_model.specs.declared.registers.Writing.TheVariants.{Ignored, Plain, PointerHigh, SetOrClear, Jump, Blit, Picture, Interrupt, Field}
 use Rattle.serial_model.specs.RegisterTable.{reading_at, writing_at, kept_bits_at}
 
 -- the kept word of the register at an offset from DFF000
-abbrev pub kept : List ℕ → ℕ → ℕ
-kept registers offset = slice_index registers (offset / 2)
+abbrev pub kept_word : List ℕ → ℕ → ℕ
+kept_word registers offset = slice_index registers (offset / 2)
 
-abbrev pub with_kept : List ℕ → ℕ → ℕ → List ℕ
-with_kept registers offset word = slice_set registers (offset / 2) word
+abbrev pub with_word : List ℕ → ℕ → ℕ → List ℕ
+with_word registers offset word = slice_set registers (offset / 2) word
 
 -- every register is 0 at reset
 unfoldable pub no_registers : List ℕ
 no_registers = replicate 256 0
 
 -- the address in a pointer's high and low word, the high one at the offset: the low 19 bits without bit 0
-abbrev pub pointer : List ℕ → ℕ → ℕ
-pointer registers high = even_address chip_span (65536 * kept registers high + kept registers (high + 2))
+abbrev pub pointer_at : List ℕ → ℕ → Addr
+pointer_at registers high = addr_at (65536 * kept_word registers high + kept_word registers (high + 2))
 
 -- the table in which a pointer holds an address
 abbrev pub with_pointer : List ℕ → ℕ → ℕ → List ℕ
-with_pointer registers high address = with_kept (with_kept registers high (address / 65536)) (high + 2) (address % 65536)
+with_pointer registers high address = with_word (with_word registers high (address / 65536)) (high + 2) (address % 65536)
 
 -- all bits of the mask are set in the word
 abbrev pub has_bits : ℕ → ℕ → Bool
@@ -35,19 +36,19 @@ has_bits word mask = bit_and word mask == mask
 
 -- DMAEN, bit 9, and COPEN, bit 7, of DMACON are both set
 abbrev pub copper_dma : List ℕ → Bool
-copper_dma registers = has_bits (kept registers 0x96) 640
+copper_dma registers = has_bits (kept_word registers 0x96) 640
 
 -- BLTPRI, bit 10 of DMACON
 abbrev pub blitter_first : List ℕ → Bool
-blitter_first registers = has_bits (kept registers 0x96) 1024
+blitter_first registers = has_bits (kept_word registers 0x96) 1024
 
 -- LACE, bit 2 of BPLCON0
 abbrev pub is_interlaced : List ℕ → Bool
-is_interlaced registers = has_bits (kept registers 0x100) 4
+is_interlaced registers = has_bits (kept_word registers 0x100) 4
 
 -- CDANG, bit 1 of COPCON
 abbrev pub is_danger : List ℕ → Bool
-is_danger registers = has_bits (kept registers 0x2e) 2
+is_danger registers = has_bits (kept_word registers 0x2e) 2
 
 -- while the blitter is busy, a write to 040 to 074 changes nothing (profile)
 abbrev pub is_closed : Bool → ℕ → Bool
@@ -57,6 +58,7 @@ is_closed busy offset = busy && nat_le 0x40 offset && nat_le offset 0x74
 abbrev pub effect_in : Writing → ℕ → Effect
 effect_in Ignored word = E.Nothing
 effect_in Plain word = E.Kept
+effect_in PointerHigh word = E.Kept
 effect_in SetOrClear word = E.Kept
 effect_in (Jump list) word = E.Jump list
 effect_in Blit word = E.Blit
@@ -69,50 +71,57 @@ unfoldable pub effect_of : Bool → ℕ → ℕ → Effect
 effect_of busy offset word = if is_closed busy offset then E.Nothing else effect_in (writing_at offset) word
 
 -- a word whose bit 15 says whether its other 1 bits are set or cleared in the kept word, of the bits in the mask
-abbrev pub set_or_cleared : ℕ → ℕ → ℕ → ℕ
-set_or_cleared mask old word = if nat_le 32768 word then bit_or old (bit_and word mask) else bit_and old (65535 - word)
+abbrev pub set_or_clear : ℕ → ℕ → ℕ → ℕ
+set_or_clear mask old word = if nat_le 32768 word then bit_or old (bit_and word mask) else bit_and old (65535 - word)
 
 -- the kept words after a write of a word to a register that is not closed
-abbrev pub written_in : Writing → List ℕ → ℕ → ℕ → List ℕ
-written_in Ignored registers offset word = registers
-written_in Plain registers offset word = with_kept registers offset (bit_and word (kept_bits_at offset))
-written_in SetOrClear registers offset word = with_kept registers offset (set_or_cleared (kept_bits_at offset) (kept registers offset) word)
-written_in (Jump list) registers offset word = with_kept registers offset (bit_and word (kept_bits_at offset))
-written_in Blit registers offset word = with_kept registers offset (bit_and word (kept_bits_at offset))
-written_in Picture registers offset word = with_kept registers offset (bit_and word (kept_bits_at offset))
-written_in Interrupt registers offset word = with_kept registers offset (set_or_cleared (kept_bits_at offset) (kept registers offset) word)
-written_in Field registers offset word = with_kept registers offset (bit_and word (kept_bits_at offset))
+abbrev pub words_in : Writing → List ℕ → ℕ → ℕ → List ℕ
+words_in Ignored registers offset word = registers
+words_in Plain registers offset word = with_word registers offset (bit_and word (kept_bits_at offset))
+words_in PointerHigh registers offset word = with_word registers offset (bit_and word (kept_bits_at offset))
+words_in SetOrClear registers offset word =
+    with_word registers offset (set_or_clear (kept_bits_at offset) (kept_word registers offset) word)
+words_in (Jump list) registers offset word = with_word registers offset (bit_and word (kept_bits_at offset))
+words_in Blit registers offset word = with_word registers offset (bit_and word (kept_bits_at offset))
+words_in Picture registers offset word = with_word registers offset (bit_and word (kept_bits_at offset))
+words_in Interrupt registers offset word = registers
+words_in Field registers offset word = with_word registers offset (bit_and word (kept_bits_at offset))
 
 -- the kept words after a write
-unfoldable pub written : Bool → List ℕ → ℕ → ℕ → List ℕ
-written busy registers offset word = if is_closed busy offset then registers else written_in (writing_at offset) registers offset word
+unfoldable pub words_after : Bool → List ℕ → ℕ → ℕ → List ℕ
+words_after busy registers offset word =
+    if is_closed busy offset then registers else words_in (writing_at offset) registers offset word
 
--- an effect on the picture
-abbrev pub is_picture : Effect → Bool
-is_picture E.Kept = false
-is_picture E.Nothing = false
-is_picture (E.Jump list) = false
-is_picture E.Blit = false
-is_picture E.Picture = true
-is_picture E.Interrupt = false
-is_picture (E.Lof long) = false
+-- a write that reaches Denise
+abbrev pub is_picture_kind : Writing → Bool
+is_picture_kind Ignored = false
+is_picture_kind Plain = false
+is_picture_kind PointerHigh = false
+is_picture_kind SetOrClear = false
+is_picture_kind (Jump list) = false
+is_picture_kind Blit = false
+is_picture_kind Picture = true
+is_picture_kind Interrupt = false
+is_picture_kind Field = false
 
--- a write to one of Denise's registers, which changes the picture state
-unfoldable pub is_picture_write : ℕ → ℕ → Bool
-is_picture_write offset word = is_picture (effect_of false offset word)
+-- one of Denise's registers, whose write changes the picture state
+unfoldable pub is_picture_register : ℕ → Bool
+is_picture_register offset = is_picture_kind (writing_at offset)
 
 -- a bit's worth where it is set
-abbrev pub bit : Bool → ℕ → ℕ
-bit set worth = if set then worth else 0
+abbrev pub bit_worth : Bool → ℕ → ℕ
+bit_worth set worth = if set then worth else 0
 
--- what a read of a register gives: DMACONR has BBUSY in bit 14 and BZERO in bit 13, VPOSR has LOF in bit 15
-abbrev pub read_in : Reading → Live → List ℕ → ℕ
-read_in Zero live registers = 0
-read_in DmaAndBlitter live registers = bit_and (kept registers 0x96) 0x7ff + bit live.zero 8192 + bit live.busy 16384
-read_in FieldAndLine live registers = live.beam.v / 256 % 2 + bit live.beam.lof 32768
-read_in LineAndClock live registers = 256 * (live.beam.v % 256) + live.beam.h % 256
-read_in (Joystick port) live registers = if port == 0 then live.joy0 else live.joy1
-read_in Elsewhere live registers = 0
+-- what a read of a register gives: DMACONR has BBUSY in bit 14 and BZERO in bit 13, VPOSR has LOF in bit 15. CLXDAT and the
+-- interrupt words are kept elsewhere
+abbrev pub word_in : Reading → Live → List ℕ → ℕ
+word_in Zero live registers = 0
+word_in DmaAndBlitter live registers =
+    bit_and (kept_word registers 0x96) 0x7ff + bit_worth live.zero 8192 + bit_worth live.busy 16384
+word_in FieldAndLine live registers = live.beam.v / 256 % 2 + bit_worth live.beam.lof 32768
+word_in LineAndClock live registers = 256 * (live.beam.v % 256) + live.beam.h % 256
+word_in (Joystick port) live registers = if port == 0 then live.joy0 else live.joy1
+word_in Elsewhere live registers = 0
 
-unfoldable pub peeked : Live → List ℕ → ℕ → ℕ
-peeked live registers offset = read_in (reading_at offset) live registers
+unfoldable pub word_at : Live → List ℕ → ℕ → ℕ
+word_at live registers offset = word_in (reading_at offset) live registers

@@ -4,13 +4,14 @@
 
 pub mod bus;
 pub mod copper;
+pub mod laws;
 pub mod picture;
 pub mod registers;
 pub mod slots;
 pub mod trace;
 
-pub use bus::Ask;
-pub use copper::{CopperAct, CopperPhase, CopperState};
+pub use bus::{Ask, Half, Made, SideAsk};
+pub use copper::{CopperAct, CopperInstruction, CopperPhase, CopperState};
 pub use picture::{Denise, Touch};
 pub use registers::{Effect, Live, Reading, Writing};
 pub use slots::{Owner, SlotState};

@@ -1,14 +1,43 @@
 //! The picture state, which Denise keeps between two picture steps, and what may change it.
 
-/// The picture state. A palette word is a colour of twelve bits.
-#[derive(Clone, Copy)]
+use ocs_base::{Colour, Reg};
+use planes::Loads;
+use sprites::Runs;
+
+/// The picture state.
+#[derive(Drop)]
 pub struct Denise {
+    /// COLOR00 to COLOR31, colours of twelve bits.
     pub palette: [u16; 32],
+    /// BPLCON0, BPLCON1 and BPLCON2.
+    pub con0: u16,
+    pub con1: u16,
+    pub con2: u16,
+    /// DIWSTRT and DIWSTOP, the display window.
+    pub diwstrt: u16,
+    pub diwstop: u16,
+    /// CLXCON.
+    pub clxcon: u16,
+    /// The latches BPL1DAT to BPL6DAT.
+    pub latches: [u16; 6],
+    /// The loads of this line.
+    pub loads: Loads,
+    /// The sprites' words that run on this line.
+    pub runs: Runs,
+    /// SPR0POS to SPR7POS, and so for CTL, DATA and DATB.
+    pub pos: [u16; 8],
+    pub ctl: [u16; 8],
+    pub words_a: [u16; 8],
+    pub words_b: [u16; 8],
+    /// Which sprites are armed: bit n is set for sprite n.
+    pub armed: u8,
+    /// The playfields' colour of the pixel before, which hold-and-modify changes.
+    pub held: Colour,
 }
 
 /// What changes the picture state besides the picture step itself: a write to one of Denise's
-/// registers, `reg` being its offset.
-#[derive(Clone, Copy, Debug)]
+/// registers.
+#[derive(Clone, Copy)]
 pub enum Touch {
-    Set { reg: u16, word: u16 },
+    Set { reg: Reg, word: u16 },
 }

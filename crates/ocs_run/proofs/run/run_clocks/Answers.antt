@@ -9,7 +9,7 @@ returns-in_err-left-clause-stopped g c =
     subst (λ n. c.loop-fore.fore.beam.frame < n) c.frames.ensures c.loop-fore-test.true in
     if_err _ _ _ c.from_residual.ensures.1
     (λ fault is. stop-tick c.args.script.now _ _ _ _ c.loop-fore.left.now c.in_err-left.field-0.0 fault c.loop-fore.invariant.step going
-    c.loop-fore.invariant.out c.loop-fore.invariant.runs (λ e. c.in_err-left.ensures.unbuilt (ap (λ f. Err f) e)) is)
+    c.loop-fore.invariant.out c.loop-fore.invariant.runs (λ e. (c.in_err-left.ensures.unbuilt (ap (λ f. Err f) e)).meets) is)
 
 pub returns-in_err-flush_lines-clause-stopped : goal.returns-in_err-flush_lines-clause-stopped
 returns-in_err-flush_lines-clause-stopped g c =

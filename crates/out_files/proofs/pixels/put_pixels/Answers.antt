@@ -1,7 +1,7 @@
 -- A turn gives the part of the piece that the present frame takes.
 use Rattle.std.proofs.Common.{◌≡◌, ◌+◌, ◌-◌, ◌%◌, ◌<◌, ◌≤◌, ◌++◌, length, take, drop, ap, ◌∙◌, arith, append_assoc, length-append, length-drop, min}
 use Rattle.std.proofs.lemmas.List.{take_rest}
-use Rattle.serial_model.specs.Outputs.{framed, heading_at, frame_bytes}
+use Rattle.serial_model.specs.Outputs.{with_headings, heading_at, frame_bytes}
 use Rattle.out_files.proofs.PixelsLaws.{pixels-turn, pixels-end, kept-grown, some_left, none_left}
 use Rattle.out_files.proofs.pixels.put_pixels.Goals as goal
 
@@ -23,7 +23,7 @@ loop-rest-preserved c =
     record {
       within = omega arith;
       text =
-          pixels-turn (c.args.text.now.items ++ framed c.args.given c.args.piece.now) text rest now (take (length rest - count) (drop count rest)) n count
+          pixels-turn (c.args.text.now.items ++ with_headings c.args.given c.args.piece.now) text rest now (take (length rest - count) (drop count rest)) n count
           (omega arith) (omega arith) (omega arith) grown shorter c.loop-rest.invariant.text;
       count = omega arith;
       kept = kept-grown c.args.text.now.items text (heading_at n ++ take count rest) now grows c.loop-rest.invariant.longer c.loop-rest.invariant.kept;
@@ -35,5 +35,5 @@ loop-rest-preserved c =
 
 pub returns-clause-text : goal.returns-clause-text
 returns-clause-text c =
-    pixels-end (c.args.text.now.items ++ framed c.args.given c.args.piece.now) c.loop-rest.text.items c.loop-rest.rest.now c.loop-rest.given
+    pixels-end (c.args.text.now.items ++ with_headings c.args.given c.args.piece.now) c.loop-rest.text.items c.loop-rest.rest.now c.loop-rest.given
     (none_left (length c.loop-rest.rest.now) c.loop-rest-test.ensures) c.loop-rest.invariant.text

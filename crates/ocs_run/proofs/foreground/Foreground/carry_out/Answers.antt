@@ -1,9 +1,5 @@
-use Rattle.ocs_run.proofs.StepLaws.{Carries-write, Carries-none}
+use Rattle.ocs_run.proofs.StepLaws.{does_none}
 use Rattle.ocs_run.proofs.foreground.Foreground.carry_out.Goals as goal
 
-pub returns-in_ok-write-clause-carried : goal.returns-in_ok-write-clause-carried
-returns-in_ok-write-clause-carried c =
-    rw c.in-Move.is (Carries-write c.in-Move.reg c.in-Move.word c.args.self.now _ c.in_ok-write.ensures.writes)
-
-pub returns-in_default-clause-carried : goal.returns-in_default-clause-carried
-returns-in_default-clause-carried c = rw c.in_default.is (Carries-none c.args.self.now)
+pub returns-in_default : goal.returns-in_default
+returns-in_default c = rw c.in_default.is (does_none c.args.self.now)

@@ -1,0 +1,77 @@
+-- Laws of a colour clock and of a run: what the definitions come to.
+use Rattle.std.specs.Prelude.{◌≡◌, ℕ, ◌*◌, ◌≤◌, false, List, ◌++◌, length, bit_or}
+use Rattle.ocs_base.specs.Limits.{IsRunnable}
+use Rattle.ocs_base.specs.Script.{ScriptValue}
+use Rattle.ocs_base.specs.declared.script.At.{At}
+use Rattle.ocs_base.specs.declared.script.System.{System}
+use Rattle.serial_model.specs.declared.bus.Made.{Made}
+use Rattle.serial_model.specs.declared.bus.SideAsk.TheVariants as S
+use Rattle.serial_model.specs.declared.picture.Denise.{Denise}
+use Rattle.serial_model.specs.Beam.{next_place}
+use Rattle.serial_model.specs.Events.{due_events, touches_of, event_lines}
+use Rattle.serial_model.specs.Made.{word_of, memory_after, touch_of, is_clx_read, lines_of}
+use Rattle.serial_model.specs.Outputs.{frame_bytes}
+use Rattle.serial_model.specs.Picture.{touch_if_any, touch_in_order, clear_line, PictureStep, step_of, after_step}
+use Rattle.serial_model.specs.Registers.{is_interlaced}
+use Rattle.serial_model.specs.Serial.{state_at, IsEnd}
+use Rattle.serial_model.specs.State.{State}
+use Rattle.serial_model.specs.Tick.{start_clock, run_script, before_access, made_of, answer_state, make_access, tick}
+
+-- what the access of the clock that begins in this state makes
+abbrev pub made_in : System → List At → State → Made
+made_in system events s = made_of S.Nothing (before_access system events s)
+
+-- the picture state that the picture step of this clock shows: cleared at a line's start, and touched by the script, whose
+-- touches are a function of the script and the place of the beam alone
+abbrev pub picture_before : List At → State → Denise
+picture_before events s =
+    touch_in_order s.beam.h (word_of s.memory) (touches_of (due_events s.beam events)) (clear_line s.beam s.picture)
+
+abbrev pub step_in : System → List At → State → PictureStep
+step_in system events s = step_of system s.beam.v s.beam.h (picture_before events s)
+
+-- memory: what the access stores, and nothing else
+abbrev pub MemoryNext : Type 0
+MemoryNext = (system : System) (events : List At) (s : State) →
+    (tick system events s).memory ≡ memory_after (made_in system events s) s.memory
+
+-- the picture state: the picture step, and then the access's touch
+abbrev pub PictureNext : Type 0
+PictureNext = (system : System) (events : List At) (s : State) →
+    (tick system events s).picture
+    ≡ touch_if_any s.beam.h (word_of s.memory) (touch_of (made_in system events s))
+    (after_step (step_in system events s) (picture_before events s))
+
+-- the pixel bytes: those of the picture step
+abbrev pub ShownNext : Type 0
+ShownNext = (system : System) (events : List At) (s : State) →
+    (tick system events s).shown ≡ s.shown ++ (step_in system events s).bytes
+
+-- the collision bits, where the access does not read them: those after the script's events, and those of the picture step
+abbrev pub ClxNext : Type 0
+ClxNext = (system : System) (events : List At) (s : State) → is_clx_read (made_in system events s) ≡ false →
+    (tick system events s).clx ≡ bit_or (run_script events (start_clock s)).clx (step_in system events s).clx
+
+-- the trace: the lines of the script's events, and then those of the access
+abbrev pub TraceNext : Type 0
+TraceNext = (system : System) (events : List At) (s : State) →
+    (tick system events s).trace
+    ≡ s.trace ++ (event_lines (due_events s.beam events) (start_clock s)
+    ++ (let b = answer_state S.Nothing (before_access system events s) in
+    lines_of b.beam b.clx b.chips (made_in system events s)))
+
+-- the beam: the next place, where LOF is all that the writes of this clock can have changed
+abbrev pub BeamNext : Type 0
+BeamNext = (system : System) (events : List At) (s : State) →
+    (tick system events s).beam
+    ≡ (let b = make_access S.Nothing (before_access system events s) in
+    next_place (is_interlaced b.chips.registers) (record s.beam { lof = b.beam.lof }))
+
+-- a run of a script has an end
+abbrev pub HasEnd : Type 0
+HasEnd = (image : List ℕ) (script : ScriptValue) → IsRunnable script → (clocks : ℕ) × IsEnd image script clocks
+
+-- and has shown whole frames there
+abbrev pub FramesAreWhole : Type 0
+FramesAreWhole = (image : List ℕ) (script : ScriptValue) (clocks : ℕ) → 1 ≤ script.frames → IsEnd image script clocks →
+    length (state_at image script clocks).shown ≡ script.frames * frame_bytes

@@ -1,0 +1,21 @@
+//! Laws of the definitions, each the contract of a function that does nothing.
+
+ghost use Rattle.serial_model.specs.Laws.{MemoryNext, PictureNext, ShownNext, ClxNext, TraceNext, BeamNext, FramesAreWhole, HasEnd};
+
+/// What one colour clock makes of a state, part by part, by the script's touches, the picture step and what the
+/// access makes. Drawing a part of the picture later, from the writes that were noted and the memory of that
+/// time, rests on these.
+pub fn next_state()
+    ensures memory { MemoryNext }
+    ensures picture { PictureNext }
+    ensures shown { ShownNext }
+    ensures clx { ClxNext }
+    ensures trace { TraceNext }
+    ensures beam { BeamNext }
+{}
+
+/// A run has an end, and has then shown all the bytes of its frames.
+pub fn whole_run()
+    ensures ends { HasEnd }
+    ensures frames { FramesAreWhole }
+{}
