@@ -1,0 +1,24 @@
+"""What goes wrong with a file that a tool was given, in words that name the file."""
+from __future__ import annotations
+
+import sys
+from typing import NoReturn
+
+UNUSABLE = 2
+
+
+class BadFile(Exception):
+    """A file that cannot be used: its name, and what is wrong with it."""
+
+    def __init__(self, path: str, wrong: str) -> None:
+        super().__init__(f"{path}: {wrong}")
+
+
+def stop(tool: str, fault: Exception) -> NoReturn:
+    """Ends the tool with the status of unusable files and one line that says why."""
+    if isinstance(fault, OSError):
+        said = f"{fault.filename}: {(fault.strerror or str(fault)).lower()}"
+    else:
+        said = str(fault)
+    print(f"{tool}: {said}", file=sys.stderr)
+    sys.exit(UNUSABLE)
