@@ -6,7 +6,7 @@ import os
 from collections import deque
 from dataclasses import dataclass, field
 
-from faults import BadFile
+from faults import BadFile, plural
 from frames import FIRST_CLOCK, PIXELS_A_CLOCK, ROW_BYTES, Frame, FramesFile, System, colour_word
 from trace import TraceLine, read_lines
 
@@ -186,11 +186,6 @@ def compare_memories(left_path: str, right_path: str) -> MemoryDifference:
         if len(found.rows) < MOST_MEMORY_ROWS:
             found.rows.append((at, rows[0].hex(), rows[1].hex()))
     return found
-
-
-def plural(count: int, word: str) -> str:
-    """A count with its noun."""
-    return f"{count:,} {word}{'' if count == 1 else 's'}"
 
 
 def colour_text(colour: bytes) -> str:

@@ -1,4 +1,4 @@
-"""What goes wrong with a file that a tool was given, in words that name the file."""
+"""What a tool says: what is wrong with a file, in words that name the file."""
 from __future__ import annotations
 
 import sys
@@ -12,6 +12,11 @@ class BadFile(Exception):
 
     def __init__(self, path: str, wrong: str) -> None:
         super().__init__(f"{path}: {wrong}")
+
+
+def plural(count: int, word: str) -> str:
+    """A count with its noun."""
+    return f"{count:,} {word}{'' if count == 1 else 's'}"
 
 
 def stop(tool: str, fault: Exception) -> NoReturn:

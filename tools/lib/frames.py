@@ -4,7 +4,7 @@ from __future__ import annotations
 import os
 from dataclasses import dataclass
 
-from faults import BadFile
+from faults import BadFile, plural
 
 WIDTH = 720
 ROW_BYTES = 3 * WIDTH
@@ -78,7 +78,7 @@ class FramesFile:
             return ""
         rows = self.rows_of_rest
         return (
-            f"is cut short: {self.whole} whole frame{'' if self.whole == 1 else 's'}, then {self.rest:,} of the "
+            f"is cut short: {plural(self.whole, 'whole frame')}, then {self.rest:,} of the "
             f"{self.system.frame_bytes:,} bytes of frame {self.whole} ({rows} of {self.system.height} rows)"
         )
 
@@ -112,26 +112,3 @@ def system_of(path: str, start: bytes) -> System:
 def colour_word(red: int, green: int, blue: int) -> int:
     """The twelve bits of a colour whose components were written as 17 times each."""
     return (red // 17) << 8 | (green // 17) << 4 | blue // 17
-
-
-def parse_range(text: str) -> tuple[int, int]:
-    """The first and last frame of `A-B`, or of `A` alone. ValueError for anything else."""
-    first, dash, last = text.partition("-")
-    if not (first.isascii() and first.isdigit()) or (dash and not (last.isascii() and last.isdigit())):
-        raise ValueError(f"'{text}' is not A-B or A, numbers of frames")
-    pair = int(first), int(last if dash else first)
-    if pair[0] > pair[1]:
-        raise ValueError(f"'{text}' ends before it begins")
-    return pair
-
-
-def frames_in_range(file: FramesFile, wanted: tuple[int, int] | None, most: int | None = None) -> range:
-    """The frames of `file` that are asked for: all, at most `most`, where no range is named."""
-    if file.count == 0:
-        raise BadFile(file.path, file.cut_short)
-    if wanted is None:
-        return range(file.count if most is None else min(most, file.count))
-    first, last = wanted
-    if last >= file.count:
-        raise BadFile(file.path, f"has frames 0 to {file.count - 1}: there is no frame {max(first, file.count)}")
-    return range(first, last + 1)

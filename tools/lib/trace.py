@@ -9,7 +9,8 @@ from faults import BadFile
 
 # frame, line and clock; then a write or a read of a register with its word and who made it, or an interrupt's level
 LINE = re.compile(rb"(\d{1,4}) (\d{1,3}) (\d{1,3}) (?:([WR]) ([0-9a-f]{3}) ([0-9a-f]{4}) ([CMS])|I ([1-7]))")
-LONGEST_LINE = 64
+PART_OF_LINE = re.compile(rb"\d[0-9a-fWRICMS ]{0,26}")
+LONGEST_LINE, QUOTED = 64, 32
 LAST_LINE, LAST_CLOCK = 312, 227
 
 
@@ -38,8 +39,8 @@ class Trace:
 
 def quoted(raw: bytes) -> str:
     """A line of a file of any kind, short and printable."""
-    text = raw[:LONGEST_LINE].decode("latin-1").encode("unicode_escape").decode("ascii")
-    return f"'{text}'" + ("..." if len(raw) > LONGEST_LINE else "")
+    text = raw[:QUOTED].decode("latin-1").encode("unicode_escape").decode("ascii")
+    return f"'{text}'" + (" .." if len(raw) > QUOTED else "")
 
 
 def parse_line(path: str, number: int, raw: bytes) -> TraceLine:
@@ -60,11 +61,11 @@ def read_lines(path: str) -> Iterator[TraceLine | str]:
     before = (0, 0, 0)
     with open(path, "rb") as file:
         number = 0
-        while raw := file.readline(4096):
+        while raw := file.readline(LONGEST_LINE):
             number += 1
             if not raw.endswith(b"\n"):
-                if number == 1 and not LINE.fullmatch(raw) and len(raw) > LONGEST_LINE:
-                    raise BadFile(path, f"is not a trace: line 1 is {quoted(raw)}")
+                if not PART_OF_LINE.fullmatch(raw):
+                    raise BadFile(path, f"is not a trace: line {number} is {quoted(raw)}")
                 yield f"is cut short in line {number}: {quoted(raw)}"
                 return
             line = parse_line(path, number, raw[:-1])

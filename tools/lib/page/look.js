@@ -32,6 +32,7 @@ class Look {
     this.listen();
     byId("notes").textContent = [lacking(), ...data.notes].filter(Boolean).join(" ");
     byId("frame-slider").max = data.frames.length - 1;
+    for (const id of ["frame-slider", "play"]) byId(id).disabled = data.frames.length === 1;
     this.picture.fit();
     this.goToFrame(0);
     this.showDetail(-1);
@@ -188,7 +189,7 @@ class Look {
       dot.style.background = cssColour(trace.word[at]);
       word.append(dot);
     }
-    cells.push(word, element("span", "says", (trace.kind[at] === READ ? "read: " : "") + trace.meaning(at)));
+    cells.push(word, element("span", "says", (trace.kind[at] === READ ? "read: " : "") + trace.meaning(at, true)));
     row.replaceChildren(...cells);
   }
 

@@ -134,12 +134,12 @@ class Trace {
     return `${place} ${kind} ${hex(this.register[at], 3)} ${hex(this.word[at], 4)} ${SOURCE_LETTERS[this.source[at]]}`;
   }
 
-  /** What the word of a line means, in short. */
-  meaning(at) {
+  /** What the word of a line means; `short` for a narrow column. */
+  meaning(at, short) {
     if (this.kind[at] === INTERRUPT) return `level ${this.word[at]} is taken`;
     const row = this.registers[hex(this.register[at], 3)];
     if (!row) return "no register: nothing changes";
-    return meaningOf(row[2], row[3], this.word[at]) || row[1];
+    return meaningOf(row[2], row[3], this.word[at], short) || row[1];
   }
 
   /** What the register of a line is for. */
@@ -161,8 +161,11 @@ function fieldsOf(fields, word) {
 }
 
 /** What a word means by the form of its register; empty where the form says nothing of it. */
-function meaningOf(form, fields, word) {
-  if (form === "colour") return `r ${(word >> 8) & 15}  g ${(word >> 4) & 15}  b ${word & 15}`;
+function meaningOf(form, fields, word, short) {
+  if (form === "colour") {
+    const [red, green, blue] = [(word >> 8) & 15, (word >> 4) & 15, word & 15];
+    return short ? `r ${red}  g ${green}  b ${blue}` : `red ${red}, green ${green}, blue ${blue}`;
+  }
   if (form === "set") return `${word & 0x8000 ? "sets" : "clears"} ${fieldsOf(fields, word) || "nothing"}`;
   if (form === "size") return `${(word >> 6) || 1024} lines of ${(word & 63) || 64} words`;
   if (form === "start") return `from line ${word >> 8}, position ${word & 255}`;
