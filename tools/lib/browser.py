@@ -36,7 +36,7 @@ class Browser:
         to_read, self.to_write = os.pipe()
         self.from_read, from_write = os.pipe()
         words = [find_browser(), "--headless=new", "--remote-debugging-pipe", f"--user-data-dir={self.profile}"]
-        words += [f"--window-size={width},{height}", "--hide-scrollbars", "--disable-gpu", "--no-first-run", "--disable-extensions"]
+        words += [f"--window-size={width},{height}", "--hide-scrollbars", "--disable-gpu", "--no-first-run"]
         if os.geteuid() == 0:
             words.append("--no-sandbox")
         # the protocol wants its pipes to be the descriptors 3 and 4
@@ -100,7 +100,7 @@ class Browser:
         # the same file with another fragment would not load anew
         self.call("Page.navigate", url="about:blank")
         self.call("Page.navigate", url=url)
-        self.wait_for(f"document.readyState === 'complete' && location.href !== 'about:blank'")
+        self.wait_for("document.readyState === 'complete' && location.href !== 'about:blank'")
         return time.monotonic() - begun
 
     def value(self, script: str) -> Any:
@@ -146,7 +146,8 @@ class Browser:
     def faults(self) -> list[str]:
         """The uncaught errors of the page so far."""
         self.value("0")
-        thrown = [event["params"]["exceptionDetails"] for event in self.events if event.get("method") == "Runtime.exceptionThrown"]
+        events = [event["params"] for event in self.events if event.get("method") == "Runtime.exceptionThrown"]
+        thrown = [event["exceptionDetails"] for event in events]
         return [details.get("exception", {}).get("description") or details["text"] for details in thrown]
 
     def screenshot(self, place: str) -> None:

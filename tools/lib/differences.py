@@ -214,7 +214,8 @@ def frames_text(found: FramesDifference) -> str:
 def trace_text(found: TraceDifference) -> str:
     """Where the traces differ, in words."""
     sides = [f"'{lines[0]}'" if lines else "no line" for lines in found.after]
-    return f"trace: first at line {found.line:,}: {sides[0]} and {sides[1]}; {found.counts[0]:,} and {found.counts[1]:,} lines"
+    counts = f"{found.counts[0]:,} and {found.counts[1]:,} lines"
+    return f"trace: first at line {found.line:,}: {sides[0]} and {sides[1]}; {counts}"
 
 
 def memory_text(found: MemoryDifference) -> str:
@@ -223,7 +224,8 @@ def memory_text(found: MemoryDifference) -> str:
     if found.first is not None:
         _, left, right = found.rows[0]
         at = 2 * (found.first % MEMORY_ROW)
-        said.append(f"first at byte {found.first:05x}: {left[at : at + 2]} and {right[at : at + 2]}; {plural(found.bytes, 'byte')}")
+        pair = f"{left[at : at + 2]} and {right[at : at + 2]}"
+        said.append(f"first at byte {found.first:05x}: {pair}; {plural(found.bytes, 'byte')}")
     if found.sizes[0] != found.sizes[1]:
         said.append(f"{found.sizes[0]:,} and {found.sizes[1]:,} bytes")
     return "memory: " + "; ".join(said)

@@ -5,6 +5,7 @@ import sys
 from typing import NoReturn
 
 UNUSABLE = 2
+QUOTED = 32
 
 
 class BadFile(Exception):
@@ -17,6 +18,12 @@ class BadFile(Exception):
 def plural(count: int, word: str) -> str:
     """A count with its noun."""
     return f"{count:,} {word}{'' if count == 1 else 's'}"
+
+
+def quoted(raw: bytes) -> str:
+    """A piece of a file of any kind, short and printable."""
+    text = raw[:QUOTED].decode("latin-1").encode("unicode_escape").decode("ascii")
+    return f"'{text}'" + (" .." if len(raw) > QUOTED else "")
 
 
 def stop(tool: str, fault: Exception) -> NoReturn:

@@ -4,7 +4,7 @@ from __future__ import annotations
 import os
 from dataclasses import dataclass
 
-from faults import BadFile, plural
+from faults import BadFile, plural, quoted
 
 WIDTH = 720
 ROW_BYTES = 3 * WIDTH
@@ -60,6 +60,17 @@ class FramesFile:
         self.system = system_of(path, start)
         self.size = os.path.getsize(path)
         self.whole, self.rest = divmod(self.size, self.system.frame_bytes)
+        self.check_headings()
+
+    def check_headings(self) -> None:
+        """BadFile where a frame after the first does not begin with the heading."""
+        heading = self.system.heading
+        with open(self.path, "rb") as file:
+            for number in range(1, self.whole + 1):
+                file.seek(number * self.system.frame_bytes)
+                start = file.read(len(heading))
+                if not heading.startswith(start):
+                    raise BadFile(self.path, f"is not a frames file: frame {number} begins with {quoted(start)}")
 
     @property
     def rows_of_rest(self) -> int:
@@ -83,13 +94,9 @@ class FramesFile:
         )
 
     def frame(self, number: int) -> Frame:
-        """A frame with its whole rows. The heading of each frame is checked as it is read."""
-        heading = self.system.heading
+        """A frame with its whole rows."""
         with open(self.path, "rb") as file:
-            file.seek(number * self.system.frame_bytes)
-            start = file.read(len(heading))
-            if start != heading:
-                raise BadFile(self.path, f"frame {number} begins with {start!r} in place of {heading!r}")
+            file.seek(number * self.system.frame_bytes + len(self.system.heading))
             pixels = file.read(self.system.pixel_bytes)
         rows = len(pixels) // ROW_BYTES
         return Frame(number, rows, pixels[: rows * ROW_BYTES])
@@ -105,8 +112,7 @@ def system_of(path: str, start: bytes) -> System:
         if system.heading.startswith(start):
             raise BadFile(path, f"is cut short: {len(start)} bytes, no more than a part of a frame's heading")
     heading = PAL.heading.decode().replace("\n", "\\n")
-    shown = start[:15].decode("latin-1").encode("unicode_escape").decode("ascii")
-    raise BadFile(path, f"is not a frames file: it begins with '{shown}', a frame with '{heading}'")
+    raise BadFile(path, f"is not a frames file: it begins with {quoted(start[:15])}, a frame with '{heading}'")
 
 
 def colour_word(red: int, green: int, blue: int) -> int:

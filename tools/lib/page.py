@@ -33,9 +33,11 @@ def json_text(data: object) -> str:
     return json.dumps(data, separators=(",", ":")).replace("<", "\\u003c")
 
 
-def fill(template: str, places: dict[str, str]) -> str:
-    """The template with each {{name}} replaced, once: what is put in is not looked at again."""
-    return re.sub(r"\{\{(\w+)\}\}", lambda match: places[match.group(1)], parts([template]))
+def fill(template: str, styles: Iterable[str], scripts: Iterable[str], places: dict[str, str]) -> str:
+    """A page by its template, with each {{name}} replaced, once: what is put in is not looked at again."""
+    whole = {**places, "styles": parts(styles), "scripts": parts(scripts)}
+    text = parts(["head.html", template, "tail.html"])
+    return re.sub(r"\{\{(\w+)\}\}", lambda match: whole[match.group(1)], text)
 
 
 def frame_data(frame: Frame) -> dict[str, object]:
@@ -57,7 +59,10 @@ def frames_data(file: FramesFile, numbers: Iterable[int]) -> list[dict[str, obje
 
 
 def write_page(wanted: str | None, usual: str, inputs: Iterable[str], text: str) -> str:
-    """Writes a page where `-o` says, or under its usual name if no file has that; gives the name. No input is overwritten."""
+    """Writes a page where `-o` says, else under its usual name if no file has that; gives the name.
+
+    No file of the run is overwritten.
+    """
     place = wanted or usual
     for name in inputs:
         if os.path.exists(place) and os.path.samefile(place, name):

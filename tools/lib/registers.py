@@ -12,7 +12,8 @@ class Register:
     """A register's offset from DFF000, its name, what it is for, and how its word is read.
 
     `form` is `fields`, `set` (bit 15 says whether the other 1 bits are set or cleared), `colour`, `size` (height and
-    width of a blit), `start` and `stop` (line and position of the display window), `strobe` (the word does not matter) or `word`.
+    width of a blit), `start` and `stop` (line and position of the display window), `strobe` (the word does not
+    matter) or `word`.
     """
 
     offset: int
@@ -27,13 +28,14 @@ def flags(first: int, *names: str) -> tuple[Field, ...]:
     return tuple((first - at, first - at, name) for at, name in enumerate(names))
 
 
-DMA = flags(10, "BLTPRI", "DMAEN", "BPLEN", "COPEN", "BLTEN", "SPREN", "DSKEN", "AUD3EN", "AUD2EN", "AUD1EN", "AUD0EN")
-INTERRUPTS = flags(
-    13, "EXTER", "DSKSYN", "RBF", "AUD3", "AUD2", "AUD1", "AUD0", "BLIT", "VERTB", "COPER", "PORTS", "SOFT", "DSKBLK", "TBE"
+DMA = flags(10, "BLTPRI", "DMAEN", "BPLEN", "COPEN", "BLTEN", "SPREN", "DSKEN") + flags(
+    3, "AUD3EN", "AUD2EN", "AUD1EN", "AUD0EN"
 )
-COLLISIONS = ((14, 14, "sprites 4-6"), (13, 13, "sprites 2-6"), (12, 12, "sprites 2-4"), (11, 11, "sprites 0-6")) + (
-    (10, 10, "sprites 0-4"),
-    (9, 9, "sprites 0-2"),
+INTERRUPTS = flags(13, "EXTER", "DSKSYN", "RBF", "AUD3", "AUD2", "AUD1", "AUD0", "BLIT", "VERTB", "COPER") + flags(
+    3, "PORTS", "SOFT", "DSKBLK", "TBE"
+)
+COLLISIONS = (
+    *flags(14, "sprites 4-6", "sprites 2-6", "sprites 2-4", "sprites 0-6", "sprites 0-4", "sprites 0-2"),
     *((8 - n, 8 - n, f"playfield 2-sprite {6 - 2 * n}") for n in range(4)),
     *((4 - n, 4 - n, f"playfield 1-sprite {6 - 2 * n}") for n in range(4)),
     (0, 0, "playfields 1-2"),
@@ -48,9 +50,12 @@ PLANES = (
     (8, 8, "GAUD"),
     *flags(3, "LPEN", "LACE", "ERSY"),
 )
-COLLISION_CONTROL = flags(15, "ENSP7", "ENSP5", "ENSP3", "ENSP1", "ENBP6", "ENBP5", "ENBP4", "ENBP3", "ENBP2", "ENBP1") + (
+COLLISION_CONTROL = (
+    *flags(15, "ENSP7", "ENSP5", "ENSP3", "ENSP1"),
+    *flags(11, "ENBP6", "ENBP5", "ENBP4", "ENBP3", "ENBP2", "ENBP1"),
     (5, 0, "MVBP"),
 )
+PRIORITIES = ((6, 6, "PF2PRI"), (5, 3, "PF2P"), (2, 0, "PF1P"))
 
 READING = (
     Register(0x002, "DMACONR", "DMA control and blitter status", "fields", flags(14, "BBUSY", "BZERO") + DMA),
@@ -78,7 +83,7 @@ CONTROL = (
     Register(0x09C, "INTREQ", "requests interrupts", "set", INTERRUPTS),
     Register(0x100, "BPLCON0", "bitplanes: number and mode", "fields", PLANES),
     Register(0x102, "BPLCON1", "bitplanes: scroll", "fields", ((7, 4, "PF2H"), (3, 0, "PF1H"))),
-    Register(0x104, "BPLCON2", "priorities of playfields", "fields", ((6, 6, "PF2PRI"), (5, 3, "PF2P"), (2, 0, "PF1P"))),
+    Register(0x104, "BPLCON2", "priorities of playfields", "fields", PRIORITIES),
     Register(0x108, "BPL1MOD", "modulo of odd planes"),
     Register(0x10A, "BPL2MOD", "modulo of even planes"),
 )
@@ -101,7 +106,8 @@ def pointer(offset: int, name: str, says: str) -> tuple[Register, Register]:
 
 def pointers() -> list[Register]:
     """Each pointer, high half and low half."""
-    pairs = [pointer(0x048 + 4 * at, f"BLT{name}PT", f"blitter: address of {name}") for at, name in enumerate("CBAD")]
+    blitter = enumerate("CBAD")
+    pairs = [pointer(0x048 + 4 * at, f"BLT{name}PT", f"blitter: address of {name}") for at, name in blitter]
     pairs += [pointer(0x080, "COP1LC", "Copper: first list"), pointer(0x084, "COP2LC", "Copper: second list")]
     pairs += [pointer(0x0E0 + 4 * n, f"BPL{n + 1}PT", f"bitplane {n + 1}: address") for n in range(6)]
     pairs += [pointer(0x120 + 4 * n, f"SPR{n}PT", f"sprite {n}: address") for n in range(8)]
@@ -131,7 +137,4 @@ def all_registers() -> list[Register]:
 
 def register_data() -> dict[str, list]:
     """The table as a page reads it: offset to name, what it is for, form and fields."""
-    return {
-        f"{register.offset:03x}": [register.name, register.says, register.form, [list(part) for part in register.fields]]
-        for register in all_registers()
-    }
+    return {f"{one.offset:03x}": [one.name, one.says, one.form, one.fields] for one in all_registers()}

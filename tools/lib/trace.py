@@ -5,12 +5,12 @@ import re
 from dataclasses import dataclass, field
 from typing import Iterator
 
-from faults import BadFile
+from faults import BadFile, quoted
 
 # frame, line and clock; then a write or a read of a register with its word and who made it, or an interrupt's level
 LINE = re.compile(rb"(\d{1,4}) (\d{1,3}) (\d{1,3}) (?:([WR]) ([0-9a-f]{3}) ([0-9a-f]{4}) ([CMS])|I ([1-7]))")
 PART_OF_LINE = re.compile(rb"\d[0-9a-fWRICMS ]{0,26}")
-LONGEST_LINE, QUOTED = 64, 32
+LONGEST_LINE = 64
 LAST_LINE, LAST_CLOCK = 312, 227
 
 
@@ -35,12 +35,6 @@ class Trace:
     count: int = 0
     last_frame: int = -1
     cut_short: str = ""
-
-
-def quoted(raw: bytes) -> str:
-    """A line of a file of any kind, short and printable."""
-    text = raw[:QUOTED].decode("latin-1").encode("unicode_escape").decode("ascii")
-    return f"'{text}'" + (" .." if len(raw) > QUOTED else "")
 
 
 def parse_line(path: str, number: int, raw: bytes) -> TraceLine:

@@ -1,4 +1,4 @@
-// The page of two runs: the frames that differ side by side, a lens at the pointer, and the first differences of the texts.
+// The page of two runs: the frames that differ, a lens at the pointer, and the first differences of trace and memory.
 
 const LENS_WIDTH = 60, LENS_HEIGHT = 14, LENS_ZOOM = 10;
 const BLINK_MILLISECONDS = 400;
@@ -16,8 +16,11 @@ class Comparison {
     this.showMemory();
     byId("pictures").hidden = !data.frames.length;
     if (!data.frames.length) return;
-    for (const id of SIDES) Object.assign(byId(id), { width: WIDTH, height: data.system.height });
-    for (const id of SIDES) Object.assign(byId(id + "-lens"), { width: LENS_WIDTH * LENS_ZOOM, height: 2 * LENS_HEIGHT * LENS_ZOOM });
+    const lens = { width: LENS_WIDTH * LENS_ZOOM, height: 2 * LENS_HEIGHT * LENS_ZOOM };
+    for (const id of SIDES) {
+      Object.assign(byId(id), { width: WIDTH, height: data.system.height });
+      Object.assign(byId(id + "-lens"), lens);
+    }
     byId("frame-slider").max = data.frames.length - 1;
     this.listen();
     this.goToFrame(0);
@@ -41,7 +44,8 @@ class Comparison {
     before.forEach((text, at) => rows.push(pairRow(line - before.length + at, [text], [text], false)));
     for (let at = 0; at < Math.max(after[0].length, after[1].length); at++) {
       const left = after[0][at] ?? "", right = after[1][at] ?? "";
-      rows.push(pairRow(line + at, marked(left.split(/(?= )/), right.split(/(?= )/)), marked(right.split(/(?= )/), left.split(/(?= )/)), left !== right));
+      const [ours, theirs] = [left, right].map((text) => text.split(/(?= )/));
+      rows.push(pairRow(line + at, marked(ours, theirs), marked(theirs, ours), left !== right));
     }
     byId("trace").append(...rows);
   }
@@ -65,7 +69,8 @@ class Comparison {
     byId("previous").disabled = this.index === 0;
     byId("next").disabled = this.index === last;
     const more = this.data.more && this.index === last ? ` (${this.data.more} more frames differ)` : "";
-    byId("frame-label").textContent = `frame ${frame.number}: ${frame.pixels.toLocaleString("en")} pixel${frame.pixels === 1 ? "" : "s"} differ${frame.pixels === 1 ? "s" : ""}${more}`;
+    const count = frame.pixels === 1 ? "1 pixel differs" : `${counted(frame.pixels)} pixels differ`;
+    byId("frame-label").textContent = `frame ${frame.number}: ${count}${more}`;
     const wanted = this.index;
     const images = await Promise.all(frame.sides.map((side) => pixelsOf(side.png, this.data.system.height)));
     if (wanted !== this.index) return;
@@ -165,7 +170,8 @@ class Comparison {
 
   point(event) {
     const box = event.target.getBoundingClientRect();
-    this.moveTo(((event.clientX - box.left) / box.width) * WIDTH, ((event.clientY - box.top) / box.height) * this.data.system.height);
+    const across = (event.clientX - box.left) / box.width, down = (event.clientY - box.top) / box.height;
+    this.moveTo(across * WIDTH, down * this.data.system.height);
   }
 
   moveTo(column, row) {
@@ -177,8 +183,9 @@ class Comparison {
   press(event) {
     if (event.ctrlKey || event.metaKey || event.altKey) return;
     const arrows = { ArrowLeft: [-1, 0], ArrowRight: [1, 0], ArrowUp: [0, -1], ArrowDown: [0, 1] };
-    const arrow = arrows[event.key], onPicture = event.target.matches("canvas");
-    if (arrow && onPicture) this.moveTo(this.place.column + arrow[0] * (event.shiftKey ? PIXELS_A_CLOCK : 1), this.place.row + arrow[1] * (event.shiftKey ? 8 : 1));
+    const arrow = event.target.matches("canvas") ? arrows[event.key] : null;
+    const leap = event.shiftKey ? [PIXELS_A_CLOCK, 8] : [1, 1];
+    if (arrow) this.moveTo(this.place.column + arrow[0] * leap[0], this.place.row + arrow[1] * leap[1]);
     else if (event.key === "," || event.key === "PageUp") this.goToFrame(this.index - 1);
     else if (event.key === "." || event.key === "PageDown") this.goToFrame(this.index + 1);
     else if (event.key === "n") this.findNext();

@@ -55,7 +55,7 @@ async function pixelsOf(base64, height) {
   return image;
 }
 
-/** The frames of a page, decoded when they are wanted; the last MOST_DECODED are kept. */
+/** The frames of a page, decoded when they are wanted; the MOST_DECODED that were wanted last are kept. */
 class Frames {
   constructor(frames, height, whenReady) {
     this.frames = frames;
@@ -101,6 +101,11 @@ function hex(word, digits) {
   return word.toString(16).padStart(digits, "0");
 }
 
+/** A count, its thousands parted by commas. */
+function counted(number) {
+  return number.toLocaleString("en");
+}
+
 function cssColour(word) {
   return "#" + hex(word & 0xfff, 3);
 }
@@ -112,11 +117,23 @@ function element(tag, className, text) {
   return made;
 }
 
+/** A function that has `draw` called before the page is next drawn, once however often it is called until then. */
+function onceBeforeDrawing(draw) {
+  let asked = 0;
+  return () => {
+    asked ||= requestAnimationFrame(() => {
+      asked = 0;
+      draw();
+    });
+  };
+}
+
 function byId(id) {
   return document.getElementById(id);
 }
 
 /** What is wrong where the browser lacks what the page stands on; empty where nothing does. */
 function lacking() {
-  return typeof DecompressionStream === "undefined" ? "This browser is too old to show the frames: it lacks DecompressionStream." : "";
+  if (typeof DecompressionStream !== "undefined") return "";
+  return "This browser is too old to show the frames: it lacks DecompressionStream.";
 }

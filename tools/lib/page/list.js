@@ -13,7 +13,7 @@ class List {
     this.whenChosen = whenChosen;
     this.items = [];
     this.pool = [];
-    this.asked = 0;
+    this.redraw = onceBeforeDrawing(() => this.draw());
     box.addEventListener("scroll", () => this.redraw());
     box.addEventListener("click", (event) => this.click(event));
     new ResizeObserver(() => this.redraw()).observe(box);
@@ -31,14 +31,6 @@ class List {
     const view = this.box.clientHeight;
     const all = this.items.length * ROW_HEIGHT;
     return all <= TALLEST ? 1 : (all - view) / (TALLEST - view);
-  }
-
-  redraw() {
-    if (this.asked) return;
-    this.asked = requestAnimationFrame(() => {
-      this.asked = 0;
-      this.draw();
-    });
   }
 
   draw() {

@@ -1,7 +1,8 @@
-// The page of a run: what the controls do, and what stands under the pointer.
+// The page of a run: its parts, and what the controls and keys do.
 
-const MOST_HELD = 4;
-const FIRST_WATCHED = 3;
+const AHEAD = 3;
+const ARROWS = { ArrowLeft: [-1, 0], ArrowRight: [1, 0], ArrowUp: [0, -1], ArrowDown: [0, 1] };
+const LINES_A_LEAP = 8;
 
 class Look {
   constructor(data, trace) {
@@ -10,41 +11,46 @@ class Look {
     this.system = data.system;
     this.index = 0;
     this.playing = false;
-    this.groups = GROUPS.map(() => true);
     this.chosen = -1;
     this.markedLine = -1;
-    const style = getComputedStyle(document.documentElement);
-    const colours = GROUPS.map((group) => style.getPropertyValue(group.colour).trim());
     this.frames = new Frames(data.frames, data.system.height, (index) => index === this.index && this.showFrame());
-    const parts = { canvas: byId("picture"), viewport: byId("viewport"), spacer: byId("spacer") };
-    this.picture = new Picture(parts, data.system, trace, colours);
-    this.picture.whenPointed = (place, mark, event) => this.point(place, mark, event);
-    this.picture.whenClicked = (place, mark) => this.clickAt(place, mark);
-    this.picture.whenZoomed = (zoom) => (byId("zoom-label").textContent = zoom + "\u00d7");
-    this.list = new List(byId("list"), byId("list-space"), (row, at) => this.drawRow(row, at), (at) => this.choose(at, true));
-    this.watched = this.registersByCount().slice(0, FIRST_WATCHED);
-    if (!this.watched.includes(0x180)) this.watched.unshift(0x180);
+    this.buildPicture();
+    const choose = (at) => this.choose(at, true);
+    this.list = new List(byId("list"), byId("list-space"), (row, at) => this.drawRow(row, at), choose);
+    this.reading = new Reading(trace, data.system, choose);
+    this.filter = new Filter(data.registers, () => this.applyFilter());
     this.tip = element("div", "tip");
     this.tip.hidden = true;
     document.body.append(this.tip);
-    this.buildSources();
-    this.buildRegisters();
     this.listen();
+    this.begin();
+  }
+
+  buildPicture() {
+    const style = getComputedStyle(document.documentElement);
+    const colours = GROUPS.map((group) => style.getPropertyValue(group.colour).trim());
+    const parts = { canvas: byId("picture"), viewport: byId("viewport"), spacer: byId("spacer") };
+    this.picture = new Picture(parts, this.system, this.trace, colours);
+    this.picture.whenPointed = (place, mark, event) => this.point(mark, event);
+    this.picture.whenClicked = (place, mark) => this.clickAt(place, mark);
+    this.picture.whenZoomed = (zoom) => (byId("zoom-label").textContent = zoom + "\u00d7");
+  }
+
+  begin() {
+    const data = this.data;
     byId("notes").textContent = [lacking(), ...data.notes].filter(Boolean).join(" ");
     byId("frame-slider").max = data.frames.length - 1;
     for (const id of ["frame-slider", "play"]) byId(id).disabled = data.frames.length === 1;
+    for (const row of Object.values(data.registers)) byId("register-names").append(new Option(row[1], row[0]));
     this.picture.fit();
     this.goToFrame(0);
     this.showDetail(-1);
-    this.followHash();
+    this.followAddress();
   }
 
+  /** The number of the frame that is shown, in the frames file. */
   get frame() {
     return this.data.frames[this.index].number;
-  }
-
-  get place() {
-    return this.picture.hover || this.picture.cursor;
   }
 
   // frames
@@ -62,30 +68,31 @@ class Look {
     this.showFrame();
     this.applyFilter();
     this.showCounts();
-    this.updateReading();
   }
 
   showFrame() {
     const image = this.frames.pixels(this.index);
-    for (let ahead = 1; ahead <= 3; ahead++) this.frames.decode(this.index + ahead);
-    if (!image && this.picture.image && this.playing) return;
+    for (let ahead = 1; ahead <= AHEAD; ahead++) this.frames.decode(this.index + ahead);
+    // while it plays, the frame before stands until this one is there
+    if (!image && this.playing && this.picture.image) return;
     this.image = image;
     this.picture.setFrame(image, this.data.frames[this.index].rows);
-    this.updateReading();
+    this.showReading();
   }
 
   setPlaying(playing) {
     this.playing = playing && this.data.frames.length > 1;
-    const button = byId("play");
-    button.textContent = this.playing ? "Stop" : "Play";
+    const button = byId("play"), word = this.playing ? "Stop" : "Play";
+    button.textContent = word;
+    button.setAttribute("aria-label", word);
     button.setAttribute("aria-pressed", String(this.playing));
-    button.setAttribute("aria-label", this.playing ? "Stop" : "Play");
     if (!this.playing) return;
     const begun = performance.now(), from = this.index;
     const step = (now) => {
       if (!this.playing) return;
-      const index = (from + Math.floor(((now - begun) * FRAMES_A_SECOND) / 1000)) % this.data.frames.length;
-      if (index !== this.index && now >= begun) this.goToFrame(index);
+      const passed = Math.max(0, Math.floor(((now - begun) * FRAMES_A_SECOND) / 1000));
+      const index = (from + passed) % this.data.frames.length;
+      if (index !== this.index) this.goToFrame(index);
       requestAnimationFrame(step);
     };
     requestAnimationFrame(step);
@@ -93,118 +100,57 @@ class Look {
 
   // the filter
 
-  buildSources() {
-    this.chips = GROUPS.map((group, at) => {
-      const chip = element("label", "chip");
-      const box = element("input");
-      box.type = "checkbox";
-      box.checked = true;
-      box.addEventListener("change", () => {
-        this.groups[at] = box.checked;
-        this.applyFilter();
-      });
-      const number = element("span", "number");
-      chip.append(box, signOf(at), element("span", "", group.name), number);
-      byId("sources").append(chip);
-      return { box, number };
-    });
-  }
-
-  /** The numbers on the chips: the lines of this frame by what they count as. */
-  showCounts() {
-    const counts = GROUPS.map(() => 0);
-    const [from, to] = this.frameRange();
-    for (let at = from; at < to; at++) counts[this.trace.group(at)]++;
-    this.chips.forEach((chip, group) => (chip.number.textContent = counts[group].toLocaleString("en")));
-  }
-
-  /** The registers that the filter's text names: offsets, names or beginnings of names; null for all. */
-  registersWanted() {
-    const words = byId("filter-register").value.trim().toUpperCase().split(/[\s,]+/).filter(Boolean);
-    if (!words.length) return null;
-    const wanted = new Set();
-    for (const [offset, row] of Object.entries(this.data.registers)) {
-      if (words.some((word) => row[0].startsWith(word) || offset.toUpperCase() === word)) wanted.add(parseInt(offset, 16));
-    }
-    return wanted;
-  }
-
-  /** The first and last line that the filter's text names; null for all. */
-  linesWanted() {
-    const match = /^\s*(\d+)\s*(?:-\s*(\d+)\s*)?$/.exec(byId("filter-line").value);
-    return match ? [Number(match[1]), Number(match[2] ?? match[1])] : null;
-  }
-
-  markInvalid(id, invalid) {
-    byId(id).setAttribute("aria-invalid", String(invalid));
-  }
-
+  /** The indexes of the trace lines of the frame: from the first up to the second. */
   frameRange() {
     return [this.trace.indexOf(this.frame, 0, 0), this.trace.indexOf(this.frame + 1, 0, 0)];
   }
 
-  applyFilter() {
-    const registers = this.registersWanted(), lines = this.linesWanted();
-    this.markInvalid("filter-register", registers !== null && registers.size === 0);
-    this.markInvalid("filter-line", lines === null && byId("filter-line").value.trim() !== "");
-    const passes = (at) =>
-      this.groups[this.trace.group(at)] &&
-      (registers === null || registers.has(this.trace.register[at])) &&
-      (lines === null || (this.trace.line[at] >= lines[0] && this.trace.line[at] <= lines[1]));
+  showCounts() {
+    const counts = GROUPS.map(() => 0);
     const [from, to] = this.frameRange();
-    this.picture.marks = filtered(from, to, passes);
-    const all = !byId("this-frame").checked;
-    byId("trace-panel").classList.toggle("one-frame", !all);
-    const items = all ? filtered(0, this.trace.count, passes) : this.picture.marks;
-    const where = all ? "" : ` in frame ${this.frame}`;
-    const whole = all ? this.trace.count : to - from;
-    byId("shown-count").textContent =
-      `${items.length.toLocaleString("en")}${items.length === whole ? "" : " of " + whole.toLocaleString("en")} lines${where}`;
-    this.list.setItems(items, whole ? "No line passes the filter." : `No line${where}.`);
-    this.picture.redraw();
+    for (let at = from; at < to; at++) counts[this.trace.group(at)]++;
+    this.filter.showCounts(counts);
   }
 
-  clearFilter() {
-    byId("filter-register").value = "";
-    byId("filter-line").value = "";
-    this.groups.fill(true);
-    for (const chip of this.chips) chip.box.checked = true;
-    this.applyFilter();
+  applyFilter() {
+    const passes = this.filter.test(this.trace), one = this.filter.thisFrame;
+    const [from, to] = this.frameRange();
+    this.picture.marks = filtered(from, to, passes);
+    const items = one ? this.picture.marks : filtered(0, this.trace.count, passes);
+    const whole = one ? to - from : this.trace.count, where = one ? ` in frame ${this.frame}` : "";
+    const part = items.length === whole ? "" : ` of ${counted(whole)}`;
+    byId("shown-count").textContent = `${counted(items.length)}${part} lines${where}`;
+    byId("trace-panel").classList.toggle("one-frame", one);
+    this.list.setItems(items, whole ? "No line passes the filter." : `No line${where}.`);
+    this.picture.redraw();
   }
 
   // the list
 
   drawRow(row, at) {
-    const trace = this.trace, group = trace.group(at), interrupt = trace.kind[at] === INTERRUPT;
-    const chosen = at === this.chosen;
+    const trace = this.trace, interrupt = trace.kind[at] === INTERRUPT, chosen = at === this.chosen;
+    const onLine = trace.frame[at] === this.frame && trace.line[at] === this.markedLine;
     row.classList.toggle("chosen", chosen);
-    row.classList.toggle("on-line", !chosen && trace.frame[at] === this.frame && trace.line[at] === this.markedLine);
+    row.classList.toggle("on-line", !chosen && onLine);
     row.setAttribute("aria-selected", String(chosen));
-    const cells = [trace.frame[at], trace.line[at], trace.clock[at]].map((part) => element("span", "", String(part)));
-    cells.push(signOf(group), element("span", "", interrupt ? "interrupt" : SOURCE_NAMES[trace.source[at]]));
-    cells.push(element("span", "", interrupt ? "level " + trace.word[at] : trace.name(trace.register[at])));
+    const numbers = [trace.frame[at], trace.line[at], trace.clock[at]];
     const word = element("span", "", interrupt ? "" : hex(trace.word[at], 4));
-    if (trace.register[at] >= 0x180 && trace.register[at] <= 0x1be) {
-      const dot = element("i", "dot");
-      dot.style.background = cssColour(trace.word[at]);
-      word.append(dot);
-    }
-    cells.push(word, element("span", "says", (trace.kind[at] === READ ? "read: " : "") + trace.meaning(at, true)));
-    row.replaceChildren(...cells);
+    if (isColour(trace.register[at])) word.append(dotOf(trace.word[at]));
+    row.replaceChildren(
+      ...numbers.map((number) => element("span", "", String(number))),
+      signOf(trace.group(at)),
+      element("span", "", interrupt ? "interrupt" : SOURCE_NAMES[trace.source[at]]),
+      element("span", "", interrupt ? "level " + trace.word[at] : trace.name(trace.register[at])),
+      word,
+      element("span", "says", (trace.kind[at] === READ ? "read: " : "") + trace.meaning(at, true)),
+    );
   }
 
-  /** Chooses a trace line: its row, its mark and its words; `go` also shows its place in the picture. */
+  /** Chooses a trace line: its row, its mark and its words; with `go` the picture shows its place too. */
   choose(at, go) {
     this.chosen = at;
     this.picture.chosen = at;
-    const trace = this.trace;
-    if (go && at >= 0) {
-      const index = this.data.frames.findIndex((frame) => frame.number === trace.frame[at]);
-      if (index >= 0 && index !== this.index) this.goToFrame(index);
-      this.picture.cursor = index < 0 ? this.picture.cursor : { x: trace.clock[at] * PIXELS_A_CLOCK, line: trace.line[at] };
-      if (index >= 0) this.picture.reveal(this.picture.cursor.x, this.picture.cursor.line);
-      this.updateReading();
-    }
+    if (go && at >= 0) this.goToLine(at);
     this.showDetail(at);
     const position = at < 0 ? -1 : this.list.positionOf(at);
     if (position >= 0) this.list.reveal(position);
@@ -213,29 +159,45 @@ class Look {
     this.picture.redraw();
   }
 
+  /** Goes to the frame and the place of a trace line, where the page has its frame. */
+  goToLine(at) {
+    const index = this.data.frames.findIndex((frame) => frame.number === this.trace.frame[at]);
+    if (index < 0) return;
+    if (index !== this.index) this.goToFrame(index);
+    const place = { x: this.trace.clock[at] * PIXELS_A_CLOCK, line: this.trace.line[at] };
+    this.picture.cursor = place;
+    this.picture.reveal(place.x, place.line);
+    this.showReading();
+  }
+
   showDetail(at) {
-    const box = byId("detail");
+    const box = byId("detail"), trace = this.trace;
     if (at < 0) {
       box.textContent = "Click a mark, a line of the picture or a line of the list.";
       return;
     }
-    const trace = this.trace;
-    const name = trace.kind[at] === INTERRUPT ? `Interrupt of level ${trace.word[at]}` : trace.name(trace.register[at]);
-    const said = [trace.purpose(at), trace.meaning(at)].filter((part, number, all) => part && all.indexOf(part) === number);
+    const interrupt = trace.kind[at] === INTERRUPT, register = trace.register[at];
+    const name = interrupt ? `Interrupt of level ${trace.word[at]}` : trace.name(register);
+    const said = new Set([trace.purposeOf(register), trace.meaning(at)].filter(Boolean));
+    const number = `line ${counted(trace.number[at])} of the trace: `;
     const raw = element("span", "mono", trace.text(at));
-    box.replaceChildren(element("b", "", name), ` ${said.join(". ")}.`, element("br"), `line ${trace.number[at].toLocaleString("en")} of the trace: `, raw);
+    box.replaceChildren(element("b", "", name), ` ${[...said].join(". ")}.`, element("br"), number, raw);
   }
 
   // the pointer
 
-  /** What is at a place: a mark's line, or the trace of that line of the picture. */
+  showReading() {
+    this.reading.show(this.frame, this.image, this.picture.hover || this.picture.cursor);
+  }
+
+  /** Shows what is at a place: the trace line of a mark, or the trace of that line of the picture. */
   clickAt(place, mark) {
     this.picture.cursor = place;
     this.picture.canvas.focus({ preventScroll: true });
     this.markedLine = place.line;
     if (mark >= 0) this.choose(mark, false);
     else this.showLine(place.line);
-    this.updateReading();
+    this.showReading();
     const column = place.x - FIRST_CLOCK * PIXELS_A_CLOCK;
     history.replaceState(null, "", `#frame=${this.frame}&line=${place.line}&column=${column}`);
   }
@@ -246,269 +208,169 @@ class Look {
     const to = this.list.positionFrom(this.trace.indexOf(this.frame, line + 1, 0));
     this.choose(-1, false);
     this.list.reveal(from, 2, true);
-    byId("detail").textContent = to > from ? `Line ${line}: ${to - from} line${to - from === 1 ? "" : "s"} of the trace.` : `Line ${line}: no line of the trace that is shown.`;
+    const count = to - from;
+    const said = count ? `${count} line${count === 1 ? "" : "s"} of the trace.` : "no line of the trace that is shown.";
+    byId("detail").textContent = `Line ${line}: ${said}`;
   }
 
-  point(place, mark, event) {
-    this.updateReading();
+  point(mark, event) {
+    this.showReading();
     this.tip.hidden = mark < 0;
     if (mark < 0) return;
-    const trace = this.trace;
-    const what = trace.kind[mark] === INTERRUPT ? `the processor takes an interrupt of level ${trace.word[mark]}` : `${SOURCE_NAMES[trace.source[mark]]} ${trace.kind[mark] === WRITE ? "writes" : "reads"} ${trace.name(trace.register[mark])} ${hex(trace.word[mark], 4)}`;
-    this.tip.textContent = `${what} at line ${trace.line[mark]}, clock ${trace.clock[mark]}`;
+    this.tip.textContent = this.trace.sentence(mark);
     this.tip.style.left = Math.min(event.clientX + 14, innerWidth - this.tip.offsetWidth - 8) + "px";
     this.tip.style.top = event.clientY + 18 + "px";
   }
 
-  updateReading() {
-    const place = this.place;
-    if (!place) {
-      for (const id of ["colour", "beam", "column", "held"]) byId(id).textContent = "\u2013";
-      byId("swatch").style.background = "none";
-      this.drawWatched(null);
-      return;
-    }
-    const clock = Math.floor(place.x / PIXELS_A_CLOCK);
-    const column = place.x - FIRST_CLOCK * PIXELS_A_CLOCK, row = place.line - this.system.firstLine;
-    const inside = column >= 0 && column < WIDTH && row >= 0 && row < this.system.height;
-    const colour = inside ? colourAt(this.image, column, row) : null;
-    byId("beam").textContent = `${place.line}, ${clock}`;
-    byId("column").textContent = inside ? `${column}, ${row}` : "off the picture";
-    byId("colour").textContent = colour === null ? (inside ? "not in the file" : "blanked") : `${hex(colour, 3)}  (${colour >> 8}, ${(colour >> 4) & 15}, ${colour & 15})`;
-    byId("swatch").style.background = colour === null ? "none" : cssColour(colour);
-    this.drawHeld(colour, place.line, clock);
-    this.drawWatched([this.frame, place.line, clock]);
-  }
-
-  drawHeld(colour, line, clock) {
-    const box = byId("held");
-    const held = colour === null ? [] : this.trace.holding(colour, this.frame, line, clock);
-    if (!held.length) {
-      box.textContent = colour === null ? "\u2013" : "no colour register here";
-      return;
-    }
-    const links = held.slice(0, MOST_HELD).map((register) => {
-      const link = element("button", "link", this.trace.name(register));
-      link.type = "button";
-      link.title = "The write that made it so";
-      link.addEventListener("click", () => this.chooseWrite(register, line, clock));
-      return link;
-    });
-    box.replaceChildren(...links.flatMap((link, at) => (at ? [" ", link] : [link])), held.length > MOST_HELD ? ` +${held.length - MOST_HELD}` : "");
-  }
-
-  chooseWrite(register, line, clock) {
-    const at = this.trace.lastWrite(register, this.frame, line, clock);
-    if (at >= 0) this.choose(at, true);
-  }
-
-  // the watched registers
-
-  registersByCount() {
-    const writes = [...this.trace.writes];
-    return writes.sort((a, b) => b[1].length - a[1].length || a[0] - b[0]).map(([register]) => register);
-  }
-
-  buildRegisters() {
-    const names = [], known = new Set();
-    for (const [offset, row] of Object.entries(this.data.registers)) {
-      known.add(parseInt(offset, 16));
-      names.push([row[0], parseInt(offset, 16), row[1]]);
-    }
-    for (const register of this.trace.writes.keys()) if (!known.has(register)) names.push([hex(register, 3), register, "no register"]);
-    const select = byId("add-register");
-    select.append(new Option("choose ..", ""));
-    for (const [name, register, says] of names.sort((a, b) => a[0].localeCompare(b[0], "en", { numeric: true }))) {
-      const writes = this.trace.writes.get(register);
-      byId("register-names").append(new Option(says, name));
-      if (writes) select.append(new Option(`${name} (${writes.length.toLocaleString("en")})`, register));
-    }
-    select.addEventListener("change", () => {
-      const register = Number(select.value);
-      if (select.value && !this.watched.includes(register)) this.watched.push(register);
-      select.value = "";
-      this.updateReading();
-    });
-  }
-
-  drawWatched(place) {
-    byId("watched").replaceChildren(...this.watched.map((register) => this.watchedRow(register, place)));
-  }
-
-  watchedRow(register, place) {
-    const trace = this.trace, name = trace.name(register);
-    const at = place ? trace.lastWrite(register, ...place) : -1;
-    const row = element("tr");
-    row.dataset.register = name;
-    const [word, where, by] = [element("td", "", "\u2013"), element("td", "", place ? "never before" : "\u2013"), element("td", "", "\u2013")];
-    if (at >= 0) {
-      word.textContent = hex(trace.word[at], 4);
-      const link = element("button", "link", (trace.frame[at] === this.frame ? "" : `frame ${trace.frame[at]}, `) + `line ${trace.line[at]}, clock ${trace.clock[at]}`);
-      link.type = "button";
-      link.title = "Shows this write";
-      link.addEventListener("click", () => this.choose(at, true));
-      where.replaceChildren(link);
-      by.textContent = SOURCE_NAMES[trace.source[at]];
-      by.style.color = `var(${GROUPS[trace.source[at]].colour})`;
-    }
-    const drop = element("button", "drop", "\u00d7");
-    drop.type = "button";
-    drop.setAttribute("aria-label", `Takes ${name} from the table`);
-    drop.addEventListener("click", () => {
-      this.watched = this.watched.filter((other) => other !== register);
-      this.updateReading();
-    });
-    const last = element("td");
-    last.append(drop);
-    const head = element("td", "", name);
-    head.title = (this.data.registers[hex(register, 3)] || ["", "no register"])[1];
-    row.append(head, word, where, by, last);
-    return row;
-  }
-
-  // keys, controls and the page's address
+  // controls
 
   listen() {
     const click = (id, act) => byId(id).addEventListener("click", act);
+    const change = (id, act) => byId(id).addEventListener("change", (event) => act(event.target.checked));
     click("previous", () => this.goToFrame(this.index - 1));
     click("next", () => this.goToFrame(this.index + 1));
     click("play", () => this.setPlaying(!this.playing));
     click("zoom-in", () => this.picture.zoomTo(this.picture.zoom + 1));
     click("zoom-out", () => this.picture.zoomTo(this.picture.zoom - 1));
-    click("clear-filter", () => this.clearFilter());
     click("help-button", () => byId("help").showModal());
+    change("this-frame", () => this.changeReach());
+    change("marks", (shown) => this.picture.show({ marksShown: shown }));
+    change("blanking", (shown) => this.picture.show({ blanking: shown }));
     byId("frame-slider").addEventListener("input", (event) => this.goToFrame(Number(event.target.value)));
-    for (const id of ["filter-register", "filter-line"]) byId(id).addEventListener("input", () => this.applyFilter());
-    byId("this-frame").addEventListener("change", () => {
-      this.applyFilter();
-      const from = this.trace.indexOf(this.frame, 0, 0);
-      this.list.reveal(this.list.positionFrom(this.chosen >= 0 ? this.chosen : from), 3, true);
-    });
-    byId("marks").addEventListener("change", (event) => {
-      this.picture.marksShown = event.target.checked;
-      this.picture.redraw();
-    });
-    byId("blanking").addEventListener("change", (event) => {
-      this.picture.blanking = event.target.checked;
-      this.picture.resize();
-    });
     document.addEventListener("keydown", (event) => this.press(event));
-    window.addEventListener("hashchange", () => this.followHash());
+    window.addEventListener("hashchange", () => this.followAddress());
   }
+
+  /** After a change between the lines of this frame and all: what was looked at stays in view. */
+  changeReach() {
+    this.applyFilter();
+    const at = this.chosen >= 0 ? this.chosen : this.frameRange()[0];
+    this.list.reveal(this.list.positionFrom(at), 3, true);
+  }
+
+  // keys
 
   press(event) {
     if (event.ctrlKey || event.metaKey || event.altKey || byId("help").open) return;
-    const target = event.target;
-    const typing = target.matches("input[type=search], select");
+    const typing = event.target.matches("input[type=search], select");
     if (event.key === "Escape") this.escape();
     else if (typing) return;
-    else if (!this.pressIn(target, event) && !this.pressAnywhere(target, event.key)) return;
+    else if (!this.pressInPart(event) && !this.pressAnywhere(event.target, event.key)) return;
     event.preventDefault();
   }
 
   escape() {
-    this.clearFilter();
+    this.filter.clear();
     this.picture.cursor = null;
     this.markedLine = -1;
     this.choose(-1, false);
-    this.updateReading();
+    this.showReading();
   }
 
-  /** Keys of the part that has the focus; whether there was one. */
-  pressIn(target, event) {
-    const arrows = { ArrowLeft: [-1, 0], ArrowRight: [1, 0], ArrowUp: [0, -1], ArrowDown: [0, 1] };
-    const arrow = arrows[event.key];
-    if (target === this.picture.canvas) {
-      if (arrow) this.moveCursor(arrow[0] * (event.shiftKey ? PIXELS_A_CLOCK : 1), arrow[1] * (event.shiftKey ? 8 : 1));
-      else if (event.key === "Enter" && this.picture.cursor) this.clickAtCursor();
-      else return false;
-      return true;
-    }
-    if (target !== this.list.box || !this.list.items.length) return false;
-    if (arrow && arrow[1]) this.moveChosen(arrow[1]);
+  /** Keys of the picture or the list, where one has the focus; whether there was one. */
+  pressInPart(event) {
+    if (event.target === this.picture.canvas) return this.pressInPicture(event);
+    if (event.target === this.list.box && this.list.items.length) return this.pressInList(event);
+    return false;
+  }
+
+  pressInPicture(event) {
+    const arrow = ARROWS[event.key];
+    const leap = event.shiftKey ? [PIXELS_A_CLOCK, LINES_A_LEAP] : [1, 1];
+    if (arrow) this.moveCursor(arrow[0] * leap[0], arrow[1] * leap[1]);
+    else if (event.key === "Enter" && this.picture.cursor) this.clickAtCursor();
+    else return false;
+    return true;
+  }
+
+  pressInList(event) {
+    const down = ARROWS[event.key]?.[1];
+    if (down) this.moveChosen(down);
     else if (event.key === "Enter" && this.chosen >= 0) this.choose(this.chosen, true);
     else return false;
     return true;
   }
 
   moveCursor(across, down) {
-    const s = this.system;
-    const from = this.picture.cursor || { x: FIRST_CLOCK * PIXELS_A_CLOCK, line: s.firstLine };
-    const x = Math.min(s.clocks * PIXELS_A_CLOCK - 1, Math.max(0, from.x + across));
-    this.picture.cursor = { x, line: Math.min(s.lines - 1, Math.max(0, from.line + down)) };
+    const system = this.system;
+    const from = this.picture.cursor || { x: FIRST_CLOCK * PIXELS_A_CLOCK, line: system.firstLine };
+    const within = (value, end) => Math.min(end - 1, Math.max(0, value));
+    const place = {
+      x: within(from.x + across, system.clocks * PIXELS_A_CLOCK),
+      line: within(from.line + down, system.lines),
+    };
+    this.picture.cursor = place;
     this.picture.hover = null;
-    this.picture.reveal(x, this.picture.cursor.line);
-    this.updateReading();
+    this.picture.reveal(place.x, place.line);
     this.picture.redraw();
-    byId("spoken").textContent = `line ${this.picture.cursor.line}, clock ${Math.floor(x / PIXELS_A_CLOCK)}, colour ${byId("colour").textContent}`;
+    this.showReading();
+    byId("spoken").textContent = `line and clock ${byId("beam").textContent}, colour ${byId("colour").textContent}`;
   }
 
   clickAtCursor() {
-    const { x, line } = this.picture.cursor;
+    const { x, line } = this.picture.cursor, trace = this.trace;
     const clock = Math.floor(x / PIXELS_A_CLOCK);
-    const mark = this.picture.marks.find((at) => this.trace.line[at] === line && this.trace.clock[at] === clock) ?? -1;
-    this.clickAt(this.picture.cursor, mark);
+    const mark = this.picture.marks.find((at) => trace.line[at] === line && trace.clock[at] === clock);
+    this.clickAt(this.picture.cursor, mark ?? -1);
   }
 
   moveChosen(step) {
-    const position = this.chosen < 0 ? -1 : this.list.positionOf(this.chosen);
+    const items = this.list.items, position = this.chosen < 0 ? -1 : this.list.positionOf(this.chosen);
     const wanted = position < 0 ? this.list.positionFrom(Math.max(0, this.chosen)) : position + step;
-    const at = this.list.items[Math.min(this.list.items.length - 1, Math.max(0, wanted))];
+    const at = items[Math.min(items.length - 1, Math.max(0, wanted))];
     this.choose(at, this.trace.frame[at] === this.frame);
   }
 
   /** Keys that hold everywhere; whether there was one. */
   pressAnywhere(target, key) {
-    const onButton = target.matches("button, input[type=checkbox]");
-    if (target.matches("input[type=range]") && key.startsWith("Arrow")) return false;
-    const toggles = { m: "marks", b: "blanking" };
-    if (key === "," || key === "PageUp" || key === "ArrowLeft") this.goToFrame(this.index - 1);
-    else if (key === "." || key === "PageDown" || key === "ArrowRight") this.goToFrame(this.index + 1);
-    else if (key === "Home") this.goToFrame(0);
-    else if (key === "End") this.goToFrame(this.data.frames.length - 1);
-    else if (key === " " && !onButton) this.setPlaying(!this.playing);
-    else if (key === "+" || key === "=") this.picture.zoomTo(this.picture.zoom + 1);
-    else if (key === "-") this.picture.zoomTo(this.picture.zoom - 1);
-    else if (key in toggles) byId(toggles[key]).click();
-    else if (key === "/") byId("filter-register").focus();
-    else if (key === "?") byId("help").showModal();
-    else return false;
-    return true;
+    if (target.matches("input[type=range]") && key in ARROWS) return false;
+    if (key === " " && target.matches("button, input[type=checkbox]")) return false;
+    const acts = {
+      ",": () => this.goToFrame(this.index - 1),
+      ".": () => this.goToFrame(this.index + 1),
+      Home: () => this.goToFrame(0),
+      End: () => this.goToFrame(this.data.frames.length - 1),
+      " ": () => this.setPlaying(!this.playing),
+      "+": () => this.picture.zoomTo(this.picture.zoom + 1),
+      "-": () => this.picture.zoomTo(this.picture.zoom - 1),
+      m: () => byId("marks").click(),
+      b: () => byId("blanking").click(),
+      "/": () => byId("filter-register").focus(),
+      "?": () => byId("help").showModal(),
+    };
+    const same = { PageUp: ",", ArrowLeft: ",", PageDown: ".", ArrowRight: ".", "=": "+" };
+    const act = acts[same[key] || key];
+    if (act) act();
+    return Boolean(act);
   }
 
-  /** Goes to the place that the page's address names. */
-  followHash() {
+  /** Goes to the place that the page's address names, as a click leaves it there. */
+  followAddress() {
     const wanted = new URLSearchParams(location.hash.slice(1));
-    const index = this.data.frames.findIndex((frame) => frame.number === Number(wanted.get("frame")));
-    if (!wanted.has("frame") || index < 0) return;
+    const [frame, line, column] = ["frame", "line", "column"].map((name) => Number(wanted.get(name) ?? NaN));
+    const index = this.data.frames.findIndex((one) => one.number === frame);
+    if (index < 0) return;
     if (index !== this.index) this.goToFrame(index);
-    if (!wanted.has("line") || !wanted.has("column")) return;
-    const place = { x: Number(wanted.get("column")) + FIRST_CLOCK * PIXELS_A_CLOCK, line: Number(wanted.get("line")) };
-    if (!(place.x >= 0 && place.x < this.system.clocks * PIXELS_A_CLOCK && place.line >= 0 && place.line < this.system.lines)) return;
+    const place = { x: column + FIRST_CLOCK * PIXELS_A_CLOCK, line };
+    const end = this.system.clocks * PIXELS_A_CLOCK;
+    if (!(place.x >= 0 && place.x < end && line >= 0 && line < this.system.lines)) return;
     this.picture.cursor = place;
-    this.markedLine = place.line;
+    this.markedLine = line;
     requestAnimationFrame(() => {
-      this.picture.reveal(place.x, place.line);
-      this.showLine(place.line);
-      this.updateReading();
+      this.picture.reveal(place.x, line);
+      this.showLine(line);
+      this.showReading();
     });
   }
 }
 
-/** The sign of what a line counts as: that of its mark in the picture. */
-function signOf(group) {
-  const sign = element("span", "sign " + GROUPS[group].sign);
-  sign.style.setProperty("--sign", `var(${GROUPS[group].colour})`);
-  return sign;
-}
-
-/** The indexes from `from` up to `to` that pass a test. */
-function filtered(from, to, passes) {
-  const found = new Int32Array(Math.max(0, to - from));
-  let count = 0;
-  for (let at = from; at < to; at++) if (passes(at)) found[count++] = at;
-  return found.subarray(0, count);
+/** A small square of a colour. */
+function dotOf(word) {
+  const dot = element("i", "dot");
+  dot.style.background = cssColour(word);
+  return dot;
 }
 
 const data = JSON.parse(byId("data").textContent);
-const look = new Look(data, new Trace(byId("earlier").textContent, byId("trace").textContent, data.firstLine, data.registers));
+const trace = new Trace(byId("earlier").textContent, byId("trace").textContent, data.firstLine, data.registers);
+const look = new Look(data, trace);

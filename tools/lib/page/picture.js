@@ -29,7 +29,7 @@ class Picture {
     this.hover = null;
     this.cursor = null;
     this.sheet = new OffscreenCanvas(WIDTH, system.height);
-    this.asked = 0;
+    this.redraw = onceBeforeDrawing(() => this.draw());
     new ResizeObserver(() => this.resize()).observe(this.viewport);
     this.viewport.addEventListener("scroll", () => this.redraw());
     this.listen();
@@ -110,19 +110,17 @@ class Picture {
     if (top < RULER_TOP + 20 || top > height - 40) this.viewport.scrollTop += top - height / 2;
   }
 
+  /** Changes what is shown: `marksShown`, `blanking`. */
+  show(choices) {
+    Object.assign(this, choices);
+    this.resize();
+  }
+
   setFrame(image, rows) {
     this.image = image;
     this.rows = rows;
     if (image) this.sheet.getContext("2d").putImageData(image, 0, 0);
     this.redraw();
-  }
-
-  redraw() {
-    if (this.asked) return;
-    this.asked = requestAnimationFrame(() => {
-      this.asked = 0;
-      this.draw();
-    });
   }
 
   draw() {
@@ -173,6 +171,13 @@ class Picture {
     pen.restore();
   }
 
+  /** Whether the clock of a trace line is in the part of the field that is shown. */
+  inRegion(at) {
+    const region = this.region();
+    const x = this.trace.clock[at] * PIXELS_A_CLOCK - region.x, line = this.trace.line[at] - region.line;
+    return x >= 0 && x < region.width && line >= 0 && line < region.height;
+  }
+
   /** The place of a line's mark on the canvas: the four pixels of its clock. */
   markPlace(at) {
     return this.toCanvas(this.trace.clock[at] * PIXELS_A_CLOCK, this.trace.line[at]);
@@ -183,6 +188,7 @@ class Picture {
     const bottom = this.canvas.clientHeight, right = this.canvas.clientWidth;
     const seen = [];
     for (const at of this.marks) {
+      if (!this.inRegion(at)) continue;
       const [x, y] = this.markPlace(at);
       if (x > -width && y > -height && x < right && y < bottom) seen.push([at, x, y]);
     }
@@ -258,7 +264,7 @@ class Picture {
   }
 
   drawRulers(pen) {
-    const width = this.canvas.clientWidth, height = this.canvas.clientHeight;
+    const { clientWidth: width, clientHeight: height } = this.canvas;
     pen.fillStyle = "#0d0f13";
     pen.fillRect(0, 0, width, RULER_TOP);
     pen.fillRect(0, 0, RULER_LEFT, height);
@@ -273,7 +279,8 @@ class Picture {
     pen.textAlign = "center";
     const clocks = stepOf(PIXELS_A_CLOCK * this.zoom, 34);
     const first = region.x / PIXELS_A_CLOCK;
-    for (let clock = Math.ceil(first / clocks) * clocks; clock * PIXELS_A_CLOCK < region.x + region.width; clock += clocks) {
+    const end = first + region.width / PIXELS_A_CLOCK;
+    for (let clock = Math.ceil(first / clocks) * clocks; clock < end; clock += clocks) {
       const middle = this.toCanvas(clock * PIXELS_A_CLOCK, 0)[0] + 2 * this.zoom;
       this.drawTick(pen, String(clock), middle, RULER_TOP / 2, true);
     }
@@ -294,6 +301,10 @@ class Picture {
     const clock = Math.floor(place.x / PIXELS_A_CLOCK);
     const y = this.toCanvas(0, place.line)[1] + this.zoom;
     const x = this.toCanvas(clock * PIXELS_A_CLOCK, 0)[0] + 2 * this.zoom;
+    // what else stands there in the rulers gives way
+    pen.fillStyle = "#0d0f13";
+    if (y > RULER_TOP) pen.fillRect(0, y - 14, RULER_LEFT, 28);
+    if (x > RULER_LEFT) pen.fillRect(x - 28, 0, 56, RULER_TOP);
     pen.fillStyle = "#6cb2ff";
     if (y > RULER_TOP) pen.fillRect(0, y - 8, RULER_LEFT - 2, 16);
     if (x > RULER_LEFT) pen.fillRect(x - 15, 1, 30, RULER_TOP - 3);
@@ -310,6 +321,7 @@ class Picture {
     const width = PIXELS_A_CLOCK * this.zoom, height = TALL * this.zoom;
     let best = -1, least = MARK_REACH + 0.01;
     for (const at of this.marks) {
+      if (!this.inRegion(at)) continue;
       const [x, y] = this.markPlace(at);
       const across = Math.max(x - left, left - x - width, 0), down = Math.max(y - top, top - y - height, 0);
       const far = Math.hypot(across, down);

@@ -3,6 +3,7 @@
 const COPPER = 0, PROCESSOR = 1, SCRIPT = 2;
 const SOURCE_LETTERS = "CMS";
 const SOURCE_NAMES = ["Copper", "processor", "script"];
+const FIRST_COLOUR = 0x180, LAST_COLOUR = 0x1be;
 const WRITE = 0, READ = 1, INTERRUPT = 2;
 
 /** What a line counts as in the filter and in the picture: a write by its source, any read, an interrupt. */
@@ -111,12 +112,15 @@ class Trace {
     return low ? list[low - 1] : -1;
   }
 
-  /** The colour registers that hold a colour at a clock. Those that were never written hold 0; of these COLOR00 alone is given. */
+  /**
+   * The colour registers that hold a colour at a clock. Those that were never written hold 0; of these COLOR00 alone is
+   * given.
+   */
   holding(colour, frame, line, clock) {
     const found = [];
-    for (let register = 0x180; register <= 0x1be; register += 2) {
+    for (let register = FIRST_COLOUR; register <= LAST_COLOUR; register += 2) {
       const at = this.lastWrite(register, frame, line, clock);
-      if (at < 0 ? colour === 0 && register === 0x180 : (this.word[at] & 0xfff) === colour) found.push(register);
+      if (at < 0 ? colour === 0 && register === FIRST_COLOUR : (this.word[at] & 0xfff) === colour) found.push(register);
     }
     return found;
   }
@@ -142,11 +146,22 @@ class Trace {
     return meaningOf(row[2], row[3], this.word[at], short) || row[1];
   }
 
-  /** What the register of a line is for. */
-  purpose(at) {
-    const row = this.kind[at] === INTERRUPT ? null : this.registers[hex(this.register[at], 3)];
-    return row ? row[1] : "";
+  /** What a register is for; empty for an offset without one. */
+  purposeOf(register) {
+    return this.registers[hex(register, 3)]?.[1] ?? "";
   }
+
+  /** What happened at a line, and where. */
+  sentence(at) {
+    const place = `at line ${this.line[at]}, clock ${this.clock[at]}`;
+    if (this.kind[at] === INTERRUPT) return `the processor takes an interrupt of level ${this.word[at]} ${place}`;
+    const act = this.kind[at] === WRITE ? "writes" : "reads";
+    return `${SOURCE_NAMES[this.source[at]]} ${act} ${this.name(this.register[at])} ${hex(this.word[at], 4)} ${place}`;
+  }
+}
+
+function isColour(register) {
+  return register >= FIRST_COLOUR && register <= LAST_COLOUR;
 }
 
 /** The names of the one-bit fields that are set, and the other fields with their numbers. */
