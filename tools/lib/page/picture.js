@@ -287,24 +287,30 @@ class Picture {
     this.drawBeamLabels(pen, this.hover || this.cursor);
   }
 
+  /** A label of a ruler and its stroke; none where the pointer's own label stands. */
   drawTick(pen, text, x, y, across) {
     if (across ? x < RULER_LEFT : y < RULER_TOP) return;
-    pen.fillStyle = "#8b93a1";
-    pen.fillText(text, x, y);
+    const own = this.labelPlace(this.hover || this.cursor);
     pen.fillStyle = "#3a404b";
     if (across) pen.fillRect(x, RULER_TOP - 4, 1, 4);
     else pen.fillRect(RULER_LEFT - 4, y, 4, 1);
+    pen.fillStyle = "#8b93a1";
+    if (own && (across ? Math.abs(x - own[0]) < 27 : Math.abs(y - own[1]) < 14)) return;
+    pen.fillText(text, x, y);
+  }
+
+  /** The middles of the labels of a place, along the upper and the left ruler. */
+  labelPlace(place) {
+    if (!place) return null;
+    const clock = Math.floor(place.x / PIXELS_A_CLOCK);
+    const [x, y] = this.toCanvas(clock * PIXELS_A_CLOCK, place.line);
+    return [x + (PIXELS_A_CLOCK / 2) * this.zoom, y + this.zoom];
   }
 
   drawBeamLabels(pen, place) {
     if (!place) return;
+    const [x, y] = this.labelPlace(place);
     const clock = Math.floor(place.x / PIXELS_A_CLOCK);
-    const y = this.toCanvas(0, place.line)[1] + this.zoom;
-    const x = this.toCanvas(clock * PIXELS_A_CLOCK, 0)[0] + 2 * this.zoom;
-    // what else stands there in the rulers gives way
-    pen.fillStyle = "#0d0f13";
-    if (y > RULER_TOP) pen.fillRect(0, y - 14, RULER_LEFT, 28);
-    if (x > RULER_LEFT) pen.fillRect(x - 28, 0, 56, RULER_TOP);
     pen.fillStyle = "#6cb2ff";
     if (y > RULER_TOP) pen.fillRect(0, y - 8, RULER_LEFT - 2, 16);
     if (x > RULER_LEFT) pen.fillRect(x - 15, 1, 30, RULER_TOP - 3);
