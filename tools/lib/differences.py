@@ -1,6 +1,7 @@
 """Two runs, and where they differ: pixels, trace lines and bytes of memory."""
 from __future__ import annotations
 
+import difflib
 import itertools
 import os
 from collections import deque
@@ -13,7 +14,7 @@ from trace import TraceLine, read_lines
 MEMORY_SIZES = (524288, 1048576)
 # the names that a folder's files may have
 NAMES = {"frames": ("frames.ppm", "frames"), "trace": ("trace.txt", "trace"), "memory": ("memory.bin", "memory")}
-LINES_BEFORE, LINES_AFTER = 4, 12
+LINES_BEFORE, LINES_AFTER = 4, 24
 MEMORY_ROW, MOST_MEMORY_ROWS = 16, 24
 
 
@@ -168,6 +169,23 @@ def compare_traces(left: str, right: str) -> TraceDifference:
         before.append(texts[0] or "")
     found.counts = (counts[0], counts[1])
     return found
+
+
+def aligned_lines(found: TraceDifference) -> list[list[int | str | None]]:
+    """The lines around the first difference, alike ones side by side: number and text on the left, then on the right."""
+    assert found.line is not None
+    left, right = found.after
+    rows: list[list[int | str | None]] = []
+    for at, text in enumerate(found.before, found.line - len(found.before)):
+        rows.append([at, text, at, text])
+    matcher = difflib.SequenceMatcher(None, left, right, autojunk=False)
+    for _, from_left, to_left, from_right, to_right in matcher.get_opcodes():
+        for pair in itertools.zip_longest(range(from_left, to_left), range(from_right, to_right)):
+            row: list[int | str | None] = []
+            for at, lines in zip(pair, found.after):
+                row += [None, ""] if at is None else [found.line + at, lines[at]]
+            rows.append(row)
+    return rows
 
 
 def compare_memories(left_path: str, right_path: str) -> MemoryDifference:

@@ -32,31 +32,27 @@ class Comparison {
     const verdict = byId("verdict"), said = [lacking(), ...this.data.said].filter(Boolean);
     verdict.textContent = this.data.said.length ? "different" : "equal";
     verdict.classList.toggle("equal", !this.data.said.length);
-    if (!this.data.said.length) said.push(this.data.size);
+    if (!this.data.said.length) said.push(`Every pixel, trace line and byte is the same: ${this.data.size}.`);
     byId("said").append(...said.map((text) => element("li", "", text)));
   }
 
   showTrace() {
-    const { line, before, after } = this.data.trace;
-    byId("trace-part").hidden = line === null;
-    if (line === null) return;
-    const rows = [headRow("line", "left", "right")];
-    before.forEach((text, at) => rows.push(pairRow(line - before.length + at, [text], [text], false)));
-    for (let at = 0; at < Math.max(after[0].length, after[1].length); at++) {
-      const left = after[0][at] ?? "", right = after[1][at] ?? "";
+    byId("trace-part").hidden = !this.data.trace.length;
+    const rows = this.data.trace.map(([leftNumber, left, rightNumber, right]) => {
       const [ours, theirs] = [left, right].map((text) => text.split(/(?= )/));
-      rows.push(pairRow(line + at, marked(ours, theirs), marked(theirs, ours), left !== right));
-    }
-    byId("trace").append(...rows);
+      const cells = left && right ? [marked(ours, theirs), marked(theirs, ours)] : [ours, theirs];
+      return pairRow([leftNumber ?? "", rightNumber ?? ""], ...cells, left !== right);
+    });
+    if (rows.length) byId("trace").append(headRow("line", "left", "line", "right"), ...rows);
   }
 
   showMemory() {
     byId("memory-part").hidden = !this.data.memory.length;
     const rows = this.data.memory.map(([at, left, right]) => {
       const [ours, theirs] = [left, right].map((text) => text.match(/.{4}/g).map((word) => word + " "));
-      return pairRow(hex(at, 5), marked(ours, theirs), marked(theirs, ours), true);
+      return pairRow([hex(at, 5), ""], marked(ours, theirs), marked(theirs, ours), true);
     });
-    if (rows.length) byId("memory").append(headRow("byte", "left", "right"), ...rows);
+    if (rows.length) byId("memory").append(headRow("byte", "left", "", "right"), ...rows);
   }
 
   // frames
@@ -218,12 +214,14 @@ function headRow(...names) {
   return row;
 }
 
-function pairRow(place, left, right, differs) {
+/** A row of a table of two sides: each with its place and its pieces. */
+function pairRow(places, left, right, differs) {
   const row = element("tr", differs ? "differ" : "");
-  const cells = [element("td", "place", String(place)), element("td"), element("td")];
-  cells[1].append(...left);
-  cells[2].append(...right);
-  row.append(...cells);
+  [left, right].forEach((pieces, side) => {
+    const cell = element("td");
+    cell.append(...pieces);
+    row.append(element("td", "place", String(places[side])), cell);
+  });
   return row;
 }
 

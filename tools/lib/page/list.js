@@ -26,6 +26,10 @@ class List {
     this.redraw();
   }
 
+  get rowsInView() {
+    return Math.max(1, Math.floor(this.box.clientHeight / ROW_HEIGHT) - 1);
+  }
+
   /** How many pixels of rows one pixel of scrolling moves: 1, but for very long lists. */
   pace() {
     const view = this.box.clientHeight;

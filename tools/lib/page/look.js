@@ -284,7 +284,9 @@ class Look {
   }
 
   pressInList(event) {
-    const down = ARROWS[event.key]?.[1];
+    const page = this.list.rowsInView;
+    const steps = { ArrowUp: -1, ArrowDown: 1, PageUp: -page, PageDown: page, Home: -Infinity, End: Infinity };
+    const down = steps[event.key];
     if (down) this.moveChosen(down);
     else if (event.key === "Enter" && this.chosen >= 0) this.choose(this.chosen, true);
     else return false;
@@ -314,10 +316,11 @@ class Look {
     this.clickAt(this.picture.cursor, mark ?? -1);
   }
 
+  /** Chooses the line `step` rows further; where the chosen one is not in the list, from where it would be. */
   moveChosen(step) {
-    const items = this.list.items, position = this.chosen < 0 ? -1 : this.list.positionOf(this.chosen);
-    const wanted = position < 0 ? this.list.positionFrom(Math.max(0, this.chosen)) : position + step;
-    const at = items[Math.min(items.length - 1, Math.max(0, wanted))];
+    const items = this.list.items, position = this.list.positionOf(this.chosen);
+    const from = position >= 0 ? position : this.list.positionFrom(this.chosen) - (step > 0 ? 1 : 0);
+    const at = items[Math.min(items.length - 1, Math.max(0, from + step))];
     this.choose(at, this.trace.frame[at] === this.frame);
   }
 
