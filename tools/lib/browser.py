@@ -39,9 +39,14 @@ class Browser:
         words += [f"--window-size={width},{height}", "--hide-scrollbars", "--disable-gpu", "--no-first-run"]
         if os.geteuid() == 0:
             words.append("--no-sandbox")
-        # the protocol wants its pipes to be the descriptors 3 and 4
-        shell = ["sh", "-c", f'exec "$@" 3<&{to_read} 4>&{from_write}', "sh", *words]
-        self.process = subprocess.Popen(shell, pass_fds=(to_read, from_write), stderr=subprocess.DEVNULL)
+
+        def take_pipes() -> None:
+            """The protocol wants its pipes to be the descriptors 3 and 4."""
+            os.dup2(to_read, 3)
+            os.dup2(from_write, 4)
+
+        quiet = subprocess.DEVNULL
+        self.process = subprocess.Popen(words, preexec_fn=take_pipes, pass_fds=(3, 4), stdout=quiet, stderr=quiet)
         os.close(to_read)
         os.close(from_write)
         self.pending = b""

@@ -172,7 +172,7 @@ def compare_traces(left: str, right: str) -> TraceDifference:
 
 
 def aligned_lines(found: TraceDifference) -> list[list[int | str | None]]:
-    """The lines around the first difference, alike ones side by side: number and text on the left, then on the right."""
+    """The lines around the first difference, alike ones side by side: number and text left, then right."""
     assert found.line is not None
     left, right = found.after
     rows: list[list[int | str | None]] = []
