@@ -1,0 +1,10 @@
+mod Totals
+mod Faces
+mod Moved
+mod Reviewed
+mod Counted
+mod HandSteps
+mod FrontSteps
+mod Endings
+mod Starts
+mod Seen
