@@ -30,6 +30,11 @@ module _ {W R J D : Type 0} {kind : Ghosts W R J D} where
   abbrev pub IsHandOf : Board W R J D → Hand W R J D kind → Type 0
   IsHandOf board hand = hand.seat.table_id ≡ board.table.shared.table_id
 
+module _ {W R J D : Type 0} {kind : Ghosts W R J D} where
+  -- the hand is one of this board, and holds no band
+  abbrev pub IsFree : Board W R J D → Hand W R J D kind → Type 0
+  IsFree board hand = IsHandOf board hand × ((hand_view hand).claim ≡ None)
+
 -- the word says that a band is offered
 abbrev pub IsOffered : ℕ → Type 0
 IsOffered word = word % 4 ≡ 1
