@@ -3,7 +3,7 @@ use Rattle.std.proofs.Common.{◌≡◌, ◌≢◌, ℕ, zero, suc, ◌+◌, ◌
 use mathlib.Core.Logic.{dite}
 use native.Mathlib.Decide.{ℕ_discrete}
 use Rattle.std.specs.Prelude.{Option, Some, None}
-use Rattle.band_board.specs.BoardRule.{one_if, times, times_joined, joined_as}
+use Rattle.band_board.specs.BoardRule.{one_if, times, times_joined, joined_count}
 
 pub at_most_one : (b : Bool) → one_if b ≤ 1
 at_most_one true = omega arith
@@ -74,7 +74,7 @@ abbrev pub numbers_of : List (ℕ × List ℕ) → List ℕ
 numbers_of [] = []
 numbers_of (x ∷ xs) = x.0 ∷ numbers_of xs
 
-pub joined_times : (k : ℕ) (xs : List (ℕ × List ℕ)) → times k (numbers_of xs) ≡ joined_as k xs
+pub joined_times : (k : ℕ) (xs : List (ℕ × List ℕ)) → times k (numbers_of xs) ≡ joined_count k xs
 joined_times k [] = refl
 joined_times k (x ∷ xs) = let h = joined_times k xs in omega arith
 
@@ -83,7 +83,7 @@ length-numbers_of [] = refl
 length-numbers_of (x ∷ xs) = ap suc (length-numbers_of xs)
 
 -- where each of n numbers is that of at most one joined hand, and n hands were joined, each is that of one
-pub each_joined : (n : ℕ) (xs : List (ℕ × List ℕ)) → ((k : ℕ) → k < n → joined_as k xs ≤ 1) → ((k : ℕ) → n ≤ k → joined_as k xs ≡ 0) → length xs ≡ n → (k : ℕ) → k < n → joined_as k xs ≡ 1
+pub each_joined : (n : ℕ) (xs : List (ℕ × List ℕ)) → ((k : ℕ) → k < n → joined_count k xs ≤ 1) → ((k : ℕ) → n ≤ k → joined_count k xs ≡ 0) → length xs ≡ n → (k : ℕ) → k < n → joined_count k xs ≡ 1
 each_joined n xs most none all k l = sym (joined_times k xs) ∙ sum_full n (λ m. times m (numbers_of xs)) (λ m b. let h = most m b in let e = joined_times m xs in omega arith)
     (length_counted n (numbers_of xs) (λ m le. joined_times m xs ∙ none m le) ∙ length-numbers_of xs ∙ all) k l
 
@@ -91,6 +91,6 @@ pub times_joined_more : (n hand : ℕ) (bands : List ℕ) (xs : List (ℕ × Lis
 times_joined_more n hand bands [] = omega arith
 times_joined_more n hand bands (x ∷ xs) = let h = times_joined_more n hand bands xs in omega arith
 
-pub joined_as_more : (k hand : ℕ) (bands : List ℕ) (xs : List (ℕ × List ℕ)) → joined_as k (xs ++ (hand, bands) ∷ []) ≡ joined_as k xs + one_if (hand == k)
-joined_as_more k hand bands [] = omega arith
-joined_as_more k hand bands (x ∷ xs) = let h = joined_as_more k hand bands xs in omega arith
+pub joined_count_more : (k hand : ℕ) (bands : List ℕ) (xs : List (ℕ × List ℕ)) → joined_count k (xs ++ (hand, bands) ∷ []) ≡ joined_count k xs + one_if (hand == k)
+joined_count_more k hand bands [] = omega arith
+joined_count_more k hand bands (x ∷ xs) = let h = joined_count_more k hand bands xs in omega arith

@@ -5,7 +5,7 @@ use native.Mathlib.Decide.{dec_le}
 use Rattle.atomic_table.specs.Table.{State}
 use Rattle.atomic_table.proofs.Lists.{one_turn}
 use Rattle.band_board.specs.declared.view.View.{View}
-use Rattle.band_board.specs.BoardRule.{Phase, vacant, offered, claimed, drawn, Cell, face, Slot, InPhase, Ruled}
+use Rattle.band_board.specs.BoardRule.{Phase, vacant, offered, claimed, drawn, Cell, word_of, Slot, InPhase, Ruled}
 use Rattle.band_board.specs.Steps.{OffersAt}
 
 -- two numbers of one window of n, with one remainder, are one number
@@ -19,17 +19,17 @@ tag offered = 1
 tag (claimed hand seat) = 2
 tag (drawn hand) = 3
 
-pub offered_face : (n word : ℕ) (ph : Phase) → word ≡ face n ph → word % 4 ≡ 1 → ph ≡ offered
-offered_face n word vacant e m = absurd (omega arith)
-offered_face n word offered e m = refl
-offered_face n word (claimed hand seat) e m = absurd (omega arith)
-offered_face n word (drawn hand) e m = absurd (omega arith)
+pub offered_word : (n word : ℕ) (ph : Phase) → word ≡ word_of n ph → word % 4 ≡ 1 → ph ≡ offered
+offered_word n word vacant e m = absurd (omega arith)
+offered_word n word offered e m = refl
+offered_word n word (claimed hand seat) e m = absurd (omega arith)
+offered_word n word (drawn hand) e m = absurd (omega arith)
 
-pub drawn_face : (n word : ℕ) (ph : Phase) → word ≡ face n ph → word % 4 ≡ 3 → (hand : ℕ) × (ph ≡ drawn hand)
-drawn_face n word vacant e m = absurd (omega arith)
-drawn_face n word offered e m = absurd (omega arith)
-drawn_face n word (claimed hand seat) e m = absurd (omega arith)
-drawn_face n word (drawn hand) e m = (hand, refl)
+pub drawn_word : (n word : ℕ) (ph : Phase) → word ≡ word_of n ph → word % 4 ≡ 3 → (hand : ℕ) × (ph ≡ drawn hand)
+drawn_word n word vacant e m = absurd (omega arith)
+drawn_word n word offered e m = absurd (omega arith)
+drawn_word n word (claimed hand seat) e m = absurd (omega arith)
+drawn_word n word (drawn hand) e m = (hand, refl)
 
 module _ {R J D : Type 0} (jr : R → ℕ → J → Type 0) (dr : R → ℕ → D → Type 0) (run : R) where
   module _ (f : View R) (s : State (Slot J D) (View R)) (r : Ruled jr dr run f s) where
@@ -37,10 +37,10 @@ module _ {R J D : Type 0} (jr : R → ℕ → J → Type 0) (dr : R → ℕ → 
     pub offers_at : (i word : ℕ) → i < 16 → word ≡ get_or s.words i 0 → word % 4 ≡ 1 → OffersAt i word
     offers_at i word near e m = let ok = r.each_cell i near in go (r.cells i) (e ∙ ok.shows) ok.lies ok.phase
       where
-        go : (c : Cell) → word ≡ face c.0 c.1 → c.0 % 16 ≡ i → InPhase jr dr run f s.homes s.views i c.0 c.1 → OffersAt i word
-        go c shows lies k = let is = offered_face c.0 word c.1 shows m in into c.0 c.1 shows lies k is
+        go : (c : Cell) → word ≡ word_of c.0 c.1 → c.0 % 16 ≡ i → InPhase jr dr run f s.homes s.views i c.0 c.1 → OffersAt i word
+        go c shows lies k = let is = offered_word c.0 word c.1 shows m in into c.0 c.1 shows lies k is
           where
-            into : (n : ℕ) (ph : Phase) → word ≡ face n ph → n % 16 ≡ i → InPhase jr dr run f s.homes s.views i n ph → ph ≡ offered → OffersAt i word
+            into : (n : ℕ) (ph : Phase) → word ≡ word_of n ph → n % 16 ≡ i → InPhase jr dr run f s.homes s.views i n ph → ph ≡ offered → OffersAt i word
             into n vacant shows lies k is = absurd (omega arith)
             into n offered shows lies k is = let small = r.small in let below = k.0.1 in (n, shows, lies, omega arith)
             into n (claimed hand seat) shows lies k is = absurd (omega arith)

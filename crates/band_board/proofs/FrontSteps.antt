@@ -9,13 +9,13 @@ use Rattle.atomic_table.proofs.Lists.{set_here, set_else}
 use Rattle.band_board.specs.declared.view.View.{View}
 use Rattle.band_board.specs.declared.view.Role.TheVariants.{Front}
 use Rattle.band_board.specs.declared.view.Parcel.TheVariants.{Job, Drawn}
-use Rattle.band_board.specs.View.{opening_one, watching, offering, collecting, closing}
-use Rattle.band_board.specs.BoardRule.{Phase, vacant, offered, claimed, drawn, Cell, face, Slot, one_if, Own, Knows, InPhase, CellOk, Ruled, BoardRule}
-use Rattle.band_board.specs.Steps.{RightFor, Seated, open_told, watch_told, offer_told, collect_told, close_told}
+use Rattle.band_board.specs.View.{after_opening, after_watch, after_offer, after_collection, after_close}
+use Rattle.band_board.specs.BoardRule.{Phase, vacant, offered, claimed, drawn, Cell, word_of, Slot, one_if, KeepsToRole, Knows, InPhase, CellOk, Ruled, BoardRule}
+use Rattle.band_board.specs.Steps.{RightFor, Seated, TellsOpening, TellsWatch, TellsOffer, TellsCollection, TellsClose}
 use Rattle.band_board.proofs.Counted.{none_no_some}
 use Rattle.band_board.proofs.Totals.{set_at, tally_same}
-use Rattle.band_board.proofs.Faces.{one_number, drawn_face, outstanding_here, vacant_here}
-use Rattle.band_board.proofs.Moved.{put, at_put, holder, moved}
+use Rattle.band_board.proofs.Faces.{one_number, drawn_word, outstanding_here, vacant_here}
+use Rattle.band_board.proofs.Moved.{cells_with, at_cells_with, holder, moved}
 use Rattle.band_board.proofs.Reviewed.{Goes, as_front, front_no_spent, reseated, unmoved}
 
 or_true : (a b : Bool) → (a || b) ≡ true → (a ≡ true) ⊎ (b ≡ true)
@@ -32,29 +32,29 @@ module _ {R J D : Type 0} (jr : R → ℕ → J → Type 0) (dr : R → ℕ → 
 
   -- what is known of the front, whatever the cells are
   front_knows : (cells cells' : ℕ → Cell) (id : ℕ) (v w : View R) → v.role ≡ Front → w.role ≡ v.role → w.run ≡ v.run → w.claim ≡ v.claim → w.done ≡ v.done → Knows run cells id v → Knows run cells' id w
-  front_knows cells cells' id v w role role' run' claim' done' k = let own = subst (λ p. Own p v) role k.own in record {
+  front_knows cells cells' id v w role role' run' claim' done' k = let own = subst (λ p. KeepsToRole p v) role k.own in record {
     one_run = λ ne. run' ∙ k.one_run (λ e. ne (role' ∙ e));
     first_is_front = λ e. k.first_is_front role;
-    own = subst (λ p. Own p w) (sym (role' ∙ role)) (claim' ∙ own.0, done' ∙ own.1);
+    own = subst (λ p. KeepsToRole p w) (sym (role' ∙ role)) (claim' ∙ own.0, done' ∙ own.1);
     claim_shows = λ n e. absurd (none_no_some n (sym (claim' ∙ own.0) ∙ e));
   }
 
   front_claims : (cells : ℕ → Cell) (id : ℕ) (v : View R) → v.role ≡ Front → Knows run cells id v → (n q : ℕ) → v.claim ≡ Some q → q ≡ n
-  front_claims cells id v role k n q e = let own = subst (λ p. Own p v) role k.own in absurd (none_no_some q (sym own.0 ∙ e))
+  front_claims cells id v role k n q e = let own = subst (λ p. KeepsToRole p v) role k.own in absurd (none_no_some q (sym own.0 ∙ e))
 
   -- the front's new view is that at seat 0
   leads : (s : St) (id : ℕ) (v w : View R) → id ≡ 0 → get_elem? s.views id ≡ some v → get_elem? (set s.views id w) 0 ≡ some w
   leads s id v w zero_is at = ap (get_elem? (set s.views id w)) (sym zero_is) ∙ set_at s.views id v w at
 
   opens_goes : (s : St) (id : ℕ) (v : View R) (r : Ruled jr dr run v s) (slots j : ℕ) (cs : List (ℕ × Slot J D)) → id ≡ 0 → get_elem? s.views id ≡ some v → v.opened ≡ j → v.published ≡ 0 → (near : j < 16)
-      → Goes jr dr run s j id (v, cs) (open_told (step slots j 0 0 none) (v, cs)) (get_or s.words j 0)
+      → Goes jr dr run s j id (v, cs) (TellsOpening (step slots j 0 0 none) (v, cs)) (get_or s.words j 0)
   opens_goes s id v r slots j cs zero_is at opened none_yet near = let ok = r.each_cell j near in go (r.cells j).0 (r.cells j).1 refl ok.shows ok.lies ok.phase
     where
-      go : (n : ℕ) (ph : Phase) → r.cells j ≡ (n, ph) → get_or s.words j 0 ≡ face n ph → n % 16 ≡ j → InPhase jr dr run v s.homes s.views j n ph → Goes jr dr run s j id (v, cs) (open_told (step slots j 0 0 none) (v, cs)) (get_or s.words j 0)
+      go : (n : ℕ) (ph : Phase) → r.cells j ≡ (n, ph) → get_or s.words j 0 ≡ word_of n ph → n % 16 ≡ j → InPhase jr dr run v s.homes s.views j n ph → Goes jr dr run s j id (v, cs) (TellsOpening (step slots j 0 0 none) (v, cs)) (get_or s.words j 0)
       go n offered is shows lies k = let h = k.0.1 in absurd (omega arith)
       go n (claimed hand seat) is shows lies k = let h = k.0.1 in absurd (omega arith)
       go n (drawn hand) is shows lies k = let h = k.0.1 in absurd (omega arith)
-      go n vacant is shows lies k = let w : View R = opening_one v in let behind = r.behind in let c' : Cell = (n, vacant) in let kn = r.each_seat id v at in let wide = r.wide in let low = k.0 in (
+      go n vacant is shows lies k = let w : View R = after_opening v in let behind = r.behind in let c' : Cell = (n, vacant) in let kn = r.each_seat id v at in let wide = r.wide in let low = k.0 in (
         w,
         takes j None,
         k.2 (omega arith),
@@ -87,7 +87,7 @@ module _ {R J D : Type 0} (jr : R → ℕ → J → Type 0) (dr : R → ℕ → 
             };
             own_claim = front_claims r.cells id v r.role kn n;
             loose = λ i other e. suc-ne-zero i (sym e ∙ ap (λ (c : Cell). holder c.1) is);
-            knows' = front_knows r.cells (put r.cells j c') id v w r.role refl refl refl refl kn;
+            knows' = front_knows r.cells (cells_with r.cells j c') id v w r.role refl refl refl refl kn;
             bears_same = λ _. refl;
             lists_same = λ _ _. refl;
             claims_same = λ _ _. refl;
@@ -99,19 +99,19 @@ module _ {R J D : Type 0} (jr : R → ℕ → J → Type 0) (dr : R → ℕ → 
       )
 
   pub opens : (slots id : ℕ) (me : Seated R J D) (j : ℕ) → me.0.role ≡ Front → me.0.opened ≡ j → me.0.published ≡ 0 → j < 16
-      → Allows (BoardRule jr dr run) slots id me j (λ x. x) (open_told (step slots j 0 0 none) me)
+      → Allows (BoardRule jr dr run) slots id me j (λ x. x) (TellsOpening (step slots j 0 0 none) me)
   opens slots id me j role opened none_yet near s b deep at _ = let r = as_front jr dr run s id me.0 b at role in opens_goes s id me.0 r.1 slots j me.1 r.0 at opened none_yet near
 
   pub watches : (slots id : ℕ) (me : Seated R J D) (place : ℕ) → me.0.role ≡ Front → place ≡ me.0.collected % 16 → me.0.collected < me.0.published
-      → Allows (BoardRule jr dr run) slots id me place (λ x. x) (watch_told (step slots place 0 0 none) me)
-  watches slots id me place role lies some_out s b deep at _ = let first = as_front jr dr run s id me.0 b at role in let r = first.1 in let v : View R = me.0 in let word : ℕ = get_or s.words place 0 in let w : View R = watching v word in (
+      → Allows (BoardRule jr dr run) slots id me place (λ x. x) (TellsWatch (step slots place 0 0 none) me)
+  watches slots id me place role lies some_out s b deep at _ = let first = as_front jr dr run s id me.0 b at role in let r = first.1 in let v : View R = me.0 in let word : ℕ = get_or s.words place 0 in let w : View R = after_watch v word in (
     w,
     keeps,
     tt,
     unmoved jr dr run v s r place id me.1 v w w at (leads s id v w first.0 at) r.role refl refl refl refl refl
         (λ e. ⊎_elim (λ (old : v.noted ≡ true). r.seen_drawn old)
         (λ (new : eqb (word % 4) 3 ≡ true). let c : ℕ = v.collected in let ok = r.each_cell (c % 16) (mod-lt c (omega arith)) in
-        let is = drawn_face (r.cells (c % 16)).0 word (r.cells (c % 16)).1 (ap (λ (z : ℕ). get_or s.words z 0) lies ∙ ok.shows) (eqb-true (word % 4) 3 new) in
+        let is = drawn_word (r.cells (c % 16)).0 word (r.cells (c % 16)).1 (ap (λ (z : ℕ). get_or s.words z 0) lies ∙ ok.shows) (eqb-true (word % 4) 3 new) in
         let here = outstanding_here jr dr run v s r c (le_refl c) some_out in (some_out, (is.0, λ i. (here i, is.1 i))))
         (or_true v.noted (eqb (word % 4) 3) e))
         record { role_same = refl; hand_same = refl; claim_same = refl; done_same = refl; joined_same = refl }
@@ -121,9 +121,9 @@ module _ {R J D : Type 0} (jr : R → ℕ → J → Type 0) (dr : R → ℕ → 
 
   offers_goes : (s : St) (id : ℕ) (v : View R) (r : Ruled jr dr run v s) (slots place new : ℕ) (job : J) (more : List (ℕ × Slot J D)) → id ≡ 0 → get_elem? s.views id ≡ some v → v.opened ≡ 16
       → v.published < v.collected + 16 → place ≡ v.published % 16 → new ≡ 256 * v.published + 1 → v.published < 2 ^ 32 → jr run v.published job
-      → Goes jr dr run s place id (v, (place, Some (Job job)) ∷ more) (λ _. offer_told (step slots place new 0 none) (v, (place, Some (Job job)) ∷ more) new) new
+      → Goes jr dr run s place id (v, (place, Some (Job job)) ∷ more) (λ _. TellsOffer (step slots place new 0 none) (v, (place, Some (Job job)) ∷ more) new) new
   offers_goes s id v r slots place new job more zero_is at opened room lies next small right =
-      let n : ℕ = v.published in let near : place < 16 = subst (λ (z : ℕ). z < 16) (sym lies) (mod-lt n (omega arith)) in let w : View R = offering v in let c' : Cell = (n, offered) in let home : Slot J D = Some (Job job) in
+      let n : ℕ = v.published in let near : place < 16 = subst (λ (z : ℕ). z < 16) (sym lies) (mod-lt n (omega arith)) in let w : View R = after_offer v in let c' : Cell = (n, offered) in let home : Slot J D = Some (Job job) in
       let kn = r.each_seat id v at in let wide = r.wide in let behind = r.behind in let is = (vacant_here jr dr run v s r room).1 in let t = tally_same n 0 0 s.views id v w at refl refl (r.coming n (le_refl n)) in (
         w,
         gives,
@@ -153,7 +153,7 @@ module _ {R J D : Type 0} (jr : R → ℕ → J → Type 0) (dr : R → ℕ → 
               omega arith,
               (
                 d.1.0,
-                at_put r.cells place c' (λ z c. z ≡ v.collected % 16 → c ≡ (v.collected, drawn d.1.0)) (v.collected % 16)
+                at_cells_with r.cells place c' (λ z c. z ≡ v.collected % 16 → c ≡ (v.collected, drawn d.1.0)) (v.collected % 16)
                     (λ here. let same : v.collected ≡ n = one_number v.collected v.collected n 16 (le_refl _) (omega arith) behind room (sym here ∙ lies) in absurd (omega arith)) (λ _ _. d.1.1) refl,
               ),
             );
@@ -164,7 +164,7 @@ module _ {R J D : Type 0} (jr : R → ℕ → J → Type 0) (dr : R → ℕ → 
             };
             own_claim = front_claims r.cells id v r.role kn n;
             loose = λ i other e. suc-ne-zero i (sym e ∙ ap holder (ap (λ (z : ℕ). (r.cells z).1) lies ∙ is));
-            knows' = front_knows r.cells (put r.cells place c') id v w r.role refl refl refl refl kn;
+            knows' = front_knows r.cells (cells_with r.cells place c') id v w r.role refl refl refl refl kn;
             bears_same = λ _. refl;
             lists_same = λ _ _. refl;
             claims_same = λ _ _. refl;
@@ -181,18 +181,18 @@ module _ {R J D : Type 0} (jr : R → ℕ → J → Type 0) (dr : R → ℕ → 
 
   pub offers : (slots id : ℕ) (me : Seated R J D) (place n new : ℕ) (job : J) (more : List (ℕ × Slot J D)) → me.0.role ≡ Front → me.0.opened ≡ 16 → me.0.published ≡ n → n < me.0.collected + 16
       → place ≡ n % 16 → new ≡ 256 * n + 1 → n < 2 ^ 32 → RightFor jr me.0.run n job → me.1 ≡ (place, Some (Job job)) ∷ more
-      → Allows (BoardRule jr dr run) slots id me place (λ _. new) (λ _. offer_told (step slots place new 0 none) me new)
+      → Allows (BoardRule jr dr run) slots id me place (λ _. new) (λ _. TellsOffer (step slots place new 0 none) me new)
   offers slots id me place n new job more role opened number room lies next small right out s b deep at _ = let first = as_front jr dr run s id me.0 b at role in let v : View R = me.0 in
       let same = run_is first.1.cells id v role (first.1.each_seat id v at) right.0 right.1 in
-      subst (λ c. Goes jr dr run s place id (v, c) (λ _. offer_told (step slots place new 0 none) (v, c) new) new) (sym out)
+      subst (λ c. Goes jr dr run s place id (v, c) (λ _. TellsOffer (step slots place new 0 none) (v, c) new) new) (sym out)
       (offers_goes s id v first.1 slots place new job more first.0 at opened (omega arith) (lies ∙ ap (λ (z : ℕ). z % 16) (sym number)) (omega arith) (omega arith)
       (subst (λ (z : R × ℕ). jr z.0 z.1 job) (λ i. (same i, sym number i)) right.2))
 
   collects_goes : (s : St) (id : ℕ) (v : View R) (r : Ruled jr dr run v s) (slots place new : ℕ) (cs : List (ℕ × Slot J D)) → id ≡ 0 → get_elem? s.views id ≡ some v → v.opened ≡ 16
       → v.noted ≡ true → place ≡ v.collected % 16 → new ≡ 256 * (v.collected + 16)
-      → Goes jr dr run s place id (v, cs) (λ _. collect_told dr (step slots place new 0 none) (v, cs) new) new
+      → Goes jr dr run s place id (v, cs) (λ _. TellsCollection dr (step slots place new 0 none) (v, cs) new) new
   collects_goes s id v r slots place new cs zero_is at opened noted lies next =
-      let n : ℕ = v.collected in let near : place < 16 = subst (λ (z : ℕ). z < 16) (sym lies) (mod-lt n (omega arith)) in let w : View R = collecting v in let c' : Cell = (n + 16, vacant) in
+      let n : ℕ = v.collected in let near : place < 16 = subst (λ (z : ℕ). z < 16) (sym lies) (mod-lt n (omega arith)) in let w : View R = after_collection v in let c' : Cell = (n + 16, vacant) in
       let d = r.seen_drawn noted in let some_out = d.0 in let cell : r.cells place ≡ (n, drawn d.1.0) = ap r.cells lies ∙ d.1.1 in
       let ok = subst (CellOk jr dr run v s.words s.homes s.views place) cell (r.each_cell place near) in let k = ok.phase in let band : D = k.1.0 in
       let kn = r.each_seat id v at in let wide = r.wide in let within = r.within in let t = tally_same n 1 0 s.views id v w at refl refl k.2 in (
@@ -228,7 +228,7 @@ module _ {R J D : Type 0} (jr : R → ℕ → J → Type 0) (dr : R → ℕ → 
             };
             own_claim = front_claims r.cells id v r.role kn n;
             loose = λ i other e. suc-ne-zero i (sym e ∙ ap (λ (c : Cell). holder c.1) cell);
-            knows' = front_knows r.cells (put r.cells place c') id v w r.role refl refl refl refl kn;
+            knows' = front_knows r.cells (cells_with r.cells place c') id v w r.role refl refl refl refl kn;
             bears_same = λ _. refl;
             lists_same = λ _ _. refl;
             claims_same = λ _ _. refl;
@@ -240,12 +240,12 @@ module _ {R J D : Type 0} (jr : R → ℕ → J → Type 0) (dr : R → ℕ → 
       )
 
   pub collects : (slots id : ℕ) (me : Seated R J D) (place n new : ℕ) → me.0.role ≡ Front → me.0.opened ≡ 16 → me.0.noted ≡ true → me.0.collected ≡ n → place ≡ n % 16 → new ≡ 256 * (n + 16)
-      → Allows (BoardRule jr dr run) slots id me place (λ _. new) (λ _. collect_told dr (step slots place new 0 none) me new)
+      → Allows (BoardRule jr dr run) slots id me place (λ _. new) (λ _. TellsCollection dr (step slots place new 0 none) me new)
   collects slots id me place n new role opened noted number lies next s b deep at _ = let first = as_front jr dr run s id me.0 b at role in
       collects_goes s id me.0 first.1 slots place new me.1 first.0 at opened noted (lies ∙ ap (λ (z : ℕ). z % 16) (sym number)) (omega arith)
 
-  pub closes : (slots id : ℕ) (me : Seated R J D) → me.0.role ≡ Front → Allows (BoardRule jr dr run) slots id me 16 (λ _. 1) (λ _. close_told (step slots 16 1 0 none) me 1)
-  closes slots id me role s b deep at _ = let first = as_front jr dr run s id me.0 b at role in let r = first.1 in let v : View R = me.0 in let w : View R = closing v in let wide = r.wide in let kn = r.each_seat id v at in (
+  pub closes : (slots id : ℕ) (me : Seated R J D) → me.0.role ≡ Front → Allows (BoardRule jr dr run) slots id me 16 (λ _. 1) (λ _. TellsClose (step slots 16 1 0 none) me 1)
+  closes slots id me role s b deep at _ = let first = as_front jr dr run s id me.0 b at role in let r = first.1 in let v : View R = me.0 in let w : View R = after_close v in let wide = r.wide in let kn = r.each_seat id v at in (
     w,
     keeps,
     tt,

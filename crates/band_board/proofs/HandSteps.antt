@@ -11,13 +11,13 @@ use Rattle.atomic_table.proofs.Lists.{set_here, set_else, exchanged}
 use Rattle.band_board.specs.declared.view.View.{View}
 use Rattle.band_board.specs.declared.view.Role.TheVariants.{Hand}
 use Rattle.band_board.specs.declared.view.Parcel.TheVariants.{Job, Drawn}
-use Rattle.band_board.specs.View.{looking, claiming, delivering}
-use Rattle.band_board.specs.BoardRule.{Phase, vacant, offered, claimed, drawn, Cell, face, Slot, lives_as, bears, lists, claims, claims_of, total, Tally, Own, Knows, InPhase, CellOk, Ruled, BoardRule}
-use Rattle.band_board.specs.Steps.{RightFor, Seated, look_told, try_told, deliver_told}
+use Rattle.band_board.specs.View.{after_look, after_claim, after_delivery}
+use Rattle.band_board.specs.BoardRule.{Phase, vacant, offered, claimed, drawn, Cell, word_of, Slot, live_count, hand_count, list_count, claim_count, claims_in, total, Tally, KeepsToRole, Knows, InPhase, CellOk, Ruled, BoardRule}
+use Rattle.band_board.specs.Steps.{RightFor, Seated, TellsLook, TellsTry, TellsDelivery}
 use Rattle.band_board.proofs.Counted.{at_most_one, one_if_same, one_if_other, some_is, none_no_some, times_more, length_below}
 use Rattle.band_board.proofs.Totals.{set_at, total_set, total_same, total_at}
-use Rattle.band_board.proofs.Faces.{tag, offered_face, offers_at, outstanding_here}
-use Rattle.band_board.proofs.Moved.{put, at_put, put_here, holder, moved}
+use Rattle.band_board.proofs.Faces.{tag, offered_word, offers_at, outstanding_here}
+use Rattle.band_board.proofs.Moved.{cells_with, at_cells_with, cells_with_here, holder, moved}
 use Rattle.band_board.proofs.Reviewed.{Goes, not_front, hand_no_front, hand_no_spent, unmoved}
 
 module _ {R J D : Type 0} (jr : R → ℕ → J → Type 0) (dr : R → ℕ → D → Type 0) (run : R) where
@@ -29,14 +29,14 @@ module _ {R J D : Type 0} (jr : R → ℕ → J → Type 0) (dr : R → ℕ → 
   hand_knows cells id v w role role' run' hand' claim' joined' k = record {
     one_run = λ ne. run' ∙ k.one_run (λ e. ne (role' ∙ e));
     first_is_front = λ e. absurd (hand_no_front (sym role ∙ sym role' ∙ e));
-    own = subst (λ p. Own p w) (sym (role' ∙ role)) (joined' ∙ subst (λ p. Own p v) role k.own);
+    own = subst (λ p. KeepsToRole p w) (sym (role' ∙ role)) (joined' ∙ subst (λ p. KeepsToRole p v) role k.own);
     claim_shows = λ n e. let known = k.claim_shows n (sym claim' ∙ e) in (role' ∙ known.0, known.1 ∙ ap (λ (h : ℕ). (n, claimed h id)) (sym hand'));
   }
 
   -- a look at any place
   looks_goes : (s : St) (id : ℕ) (me : Seated R J D) (slots place word : ℕ) → BoardRule jr dr run s → get_elem? s.views id ≡ some me.0 → me.0.role ≡ Hand → word ≡ get_or s.words place 0
-      → (then : ℕ → Seated R J D → Type 0) → then (get_or s.words place 0) (looking me.0 place (get_or s.words place 0), me.1) → Goes jr dr run s place id me then (get_or s.words place 0)
-  looks_goes s id me slots place word b at role is then told = let f = b.0 in let r = b.1 in let w = looking me.0 place (get_or s.words place 0) in (
+      → (then : ℕ → Seated R J D → Type 0) → then (get_or s.words place 0) (after_look me.0 place (get_or s.words place 0), me.1) → Goes jr dr run s place id me then (get_or s.words place 0)
+  looks_goes s id me slots place word b at role is then told = let f = b.0 in let r = b.1 in let w = after_look me.0 place (get_or s.words place 0) in (
     w,
     keeps,
     tt,
@@ -46,25 +46,25 @@ module _ {R J D : Type 0} (jr : R → ℕ → J → Type 0) (dr : R → ℕ → 
     told,
   )
 
-  pub looks : (slots id : ℕ) (me : Seated R J D) (place : ℕ) → me.0.role ≡ Hand → Allows (BoardRule jr dr run) slots id me place (λ x. x) (look_told (step slots place 0 0 none) me)
+  pub looks : (slots id : ℕ) (me : Seated R J D) (place : ℕ) → me.0.role ≡ Hand → Allows (BoardRule jr dr run) slots id me place (λ x. x) (TellsLook (step slots place 0 0 none) me)
   looks slots id me place role s b deep at _ = let r = b.1 in let word : ℕ = get_or s.words place 0 in
-      looks_goes s id me slots place word b at role refl (look_told (step slots place 0 0 none) me) (refl, (λ near m. offers_at jr dr run b.0 s r place word near refl m), λ e. subst (λ (z : ℕ). get_or s.words z 0 ≤ 1) (sym e) (subst (λ (z : ℕ). z ≤ 1) (sym r.flag) (at_most_one b.0.closed)))
+      looks_goes s id me slots place word b at role refl (TellsLook (step slots place 0 0 none) me) (refl, (λ near m. offers_at jr dr run b.0 s r place word near refl m), λ e. subst (λ (z : ℕ). get_or s.words z 0 ≤ 1) (sym e) (subst (λ (z : ℕ). z ≤ 1) (sym r.flag) (at_most_one b.0.closed)))
 
   -- the number of a live hand is below the number made
   hand_below : (f : View R) (s : St) (r : Ruled jr dr run f s) (id : ℕ) (v : View R) → get_elem? s.views id ≡ some v → v.role ≡ Hand → v.hand < f.hands
-  hand_below f s r id v at role = lt_of_not-le (λ le. let none_there = r.no_others v.hand le in let one = total_at (bears v.hand) s.views id v at in
-      let is : lives_as v.hand v.role v.hand ≡ 1 = ap (λ p. lives_as v.hand p v.hand) role ∙ one_if_same v.hand v.hand refl in absurd (omega arith))
+  hand_below f s r id v at role = lt_of_not-le (λ le. let none_there = r.no_others v.hand le in let one = total_at (hand_count v.hand) s.views id v at in
+      let is : live_count v.hand v.role v.hand ≡ 1 = ap (λ p. live_count v.hand p v.hand) role ∙ one_if_same v.hand v.hand refl in absurd (omega arith))
 
   claim_goes : (f : View R) (s : St) (r : Ruled jr dr run f s) (slots id : ℕ) (me : Seated R J D) (place n old new : ℕ) → get_elem? s.views id ≡ some me.0 → me.0.role ≡ Hand → me.0.claim ≡ None → (near : place < 16)
-      → old ≡ 256 * n + 1 → n % 16 ≡ place → new ≡ 256 * n + 4 * me.0.hand + 2 → get_or s.words place 0 ≡ old → Goes jr dr run s place id me (try_told jr (step slots place old new none) me) new
+      → old ≡ 256 * n + 1 → n % 16 ≡ place → new ≡ 256 * n + 4 * me.0.hand + 2 → get_or s.words place 0 ≡ old → Goes jr dr run s place id me (TellsTry jr (step slots place old new none) me) new
   claim_goes f s r slots id me place n old new at role free near was lies more hit =
-      let v : View R = me.0 in let ok = r.each_cell place near in let q : ℕ = (r.cells place).0 in let shown : old ≡ face q (r.cells place).1 = sym hit ∙ ok.shows in
-      let is = offered_face q old (r.cells place).1 shown (omega arith) in let word : old ≡ 256 * q + 1 = shown ∙ ap (face q) is in let same : q ≡ n = omega arith in
-      let k = subst (InPhase jr dr run f s.homes s.views place q) is ok.phase in let job : J = k.1.0 in let kn = r.each_seat id v at in let w : View R = claiming v n in let c' : Cell = (n, claimed v.hand id) in
+      let v : View R = me.0 in let ok = r.each_cell place near in let q : ℕ = (r.cells place).0 in let shown : old ≡ word_of q (r.cells place).1 = sym hit ∙ ok.shows in
+      let is = offered_word q old (r.cells place).1 shown (omega arith) in let word : old ≡ 256 * q + 1 = shown ∙ ap (word_of q) is in let same : q ≡ n = omega arith in
+      let k = subst (InPhase jr dr run f s.homes s.views place q) is ok.phase in let job : J = k.1.0 in let kn = r.each_seat id v at in let w : View R = after_claim v n in let c' : Cell = (n, claimed v.hand id) in
       let low : f.collected ≤ n = subst (λ (z : ℕ). f.collected ≤ z) same k.0.0 in let high : n < f.published = subst (λ (z : ℕ). z < f.published) same k.0.1 in
       let t : Tally s.views n 0 0 = subst (λ (z : ℕ). Tally s.views z 0 0) same k.2 in let wide = r.wide in let few = r.few in let below = hand_below f s r id v at role in
-      let unclaimed : claims n v ≡ 0 = ap (claims_of n) free in let claiming_it : claims n w ≡ 1 = one_if_same n n refl in
-      let sums = total_set (claims n) s.views id v w at in let before = t.claims_are in (
+      let unclaimed : claim_count n v ≡ 0 = ap (claims_in n) free in let claiming_it : claim_count n w ≡ 1 = one_if_same n n refl in
+      let sums = total_set (claim_count n) s.views id v w at in let before = t.claims_are in (
         w,
         takes place (Some (Job job)),
         k.1.2,
@@ -93,7 +93,7 @@ module _ {R J D : Type 0} (jr : R → ℕ → J → Type 0) (dr : R → ℕ → 
               d.0,
               (
                 d.1.0,
-                at_put r.cells place c' (λ z c. z ≡ f.collected % 16 → c ≡ (f.collected, drawn d.1.0)) (f.collected % 16)
+                at_cells_with r.cells place c' (λ z c. z ≡ f.collected % 16 → c ≡ (f.collected, drawn d.1.0)) (f.collected % 16)
                     (λ here. let clash : ◌≡◌ {A = ℕ} 1 3 = sym (ap tag is) ∙ ap (λ (c : Cell). tag c.1) (ap r.cells here ∙ d.1.1) in absurd (omega arith)) (λ _ _. d.1.1) refl,
               ),
             );
@@ -104,7 +104,7 @@ module _ {R J D : Type 0} (jr : R → ℕ → J → Type 0) (dr : R → ℕ → 
                 (low, high),
                 set_here s.homes place none (subst (λ (z : ℕ). place < z) (sym r.deep) near),
                 (w, set_at s.views id v w at, role, refl, refl),
-                record { lists_are = total_same (lists n) s.views id v w at refl ∙ t.lists_are; claims_are = omega arith },
+                record { lists_are = total_same (list_count n) s.views id v w at refl ∙ t.lists_are; claims_are = omega arith },
                 omega arith,
               );
             };
@@ -113,12 +113,12 @@ module _ {R J D : Type 0} (jr : R → ℕ → J → Type 0) (dr : R → ℕ → 
             knows' = record {
               one_run = kn.one_run;
               first_is_front = λ e. absurd (hand_no_front (sym role ∙ e));
-              own = subst (λ p. Own p w) (sym role) (subst (λ p. Own p v) role kn.own);
-              claim_shows = λ z e. (role, subst (λ (y : ℕ). put r.cells place c' (y % 16) ≡ (y, claimed v.hand id)) (some_is n z e) (put_here r.cells place (n % 16) c' lies));
+              own = subst (λ p. KeepsToRole p w) (sym role) (subst (λ p. KeepsToRole p v) role kn.own);
+              claim_shows = λ z e. (role, subst (λ (y : ℕ). cells_with r.cells place c' (y % 16) ≡ (y, claimed v.hand id)) (some_is n z e) (cells_with_here r.cells place (n % 16) c' lies));
             };
             bears_same = λ _. refl;
             lists_same = λ _ _. refl;
-            claims_same = λ z other. one_if_other n z (λ e. other (sym e)) ∙ sym (ap (claims_of z) free);
+            claims_same = λ z other. one_if_other n z (λ e. other (sym e)) ∙ sym (ap (claims_in z) free);
             gone' = λ lt. absurd (omega arith);
             coming' = λ le. absurd (omega arith);
           },
@@ -127,41 +127,41 @@ module _ {R J D : Type 0} (jr : R → ℕ → J → Type 0) (dr : R → ℕ → 
       )
 
   pub tries : (slots id : ℕ) (me : Seated R J D) (place n old new : ℕ) → me.0.role ≡ Hand → me.0.claim ≡ None → place < 16 → old ≡ 256 * n + 1 → n % 16 ≡ place → new ≡ 256 * n + 4 * me.0.hand + 2
-      → Allows (BoardRule jr dr run) slots id me place (λ y. either (eqb y old) new y) (try_told jr (step slots place old new none) me)
+      → Allows (BoardRule jr dr run) slots id me place (λ y. either (eqb y old) new y) (TellsTry jr (step slots place old new none) me)
   tries slots id me place n old new role free near was lies more s b deep at _ = let y : ℕ = get_or s.words place 0 in
-      let told = try_told jr (step slots place old new none) me in exchanged y old new (Goes jr dr run s place id me told)
+      let told = TellsTry jr (step slots place old new none) me in exchanged y old new (Goes jr dr run s place id me told)
       (λ hit. claim_goes b.0 s b.1 slots id me place n old new at role free near was lies more hit)
       (λ miss. looks_goes s id me slots place y b at role refl told ((λ hit. absurd (miss hit)), λ _. refl))
 
   -- a number stands at most once in all lists, and not at all from `published` on
-  stands_once : (f : View R) (s : St) (r : Ruled jr dr run f s) (m : ℕ) → total (lists m) s.views ≤ 1
+  stands_once : (f : View R) (s : St) (r : Ruled jr dr run f s) (m : ℕ) → total (list_count m) s.views ≤ 1
   stands_once f s r m = dite (dec_le f.published m) (λ le. let t = (r.coming m le).lists_are in omega arith)
       (λ no. let lt = lt_of_not-le no in dite (dec_le f.collected m) (λ le. let ok = r.each_cell (m % 16) (mod-lt m (omega arith)) in let is = outstanding_here jr dr run f s r m le lt in
       go (r.cells (m % 16)).0 (r.cells (m % 16)).1 is ok.phase)
       (λ no'. let t = (r.gone m (lt_of_not-le no')).lists_are in omega arith))
     where
-      go : (q : ℕ) (ph : Phase) → q ≡ m → InPhase jr dr run f s.homes s.views (m % 16) q ph → total (lists m) s.views ≤ 1
-      go q vacant is k = let a = k.0 in let t : total (lists m) s.views ≡ 0 = subst (λ (z : ℕ). total (lists z) s.views ≡ 0) is (r.coming q a).lists_are in omega arith
-      go q offered is k = let t : total (lists m) s.views ≡ 0 = subst (λ (z : ℕ). total (lists z) s.views ≡ 0) is k.2.lists_are in omega arith
-      go q (claimed hand seat) is k = let t : total (lists m) s.views ≡ 0 = subst (λ (z : ℕ). total (lists z) s.views ≡ 0) is k.3.lists_are in omega arith
-      go q (drawn hand) is k = let t : total (lists m) s.views ≡ 1 = subst (λ (z : ℕ). total (lists z) s.views ≡ 1) is k.2.lists_are in omega arith
+      go : (q : ℕ) (ph : Phase) → q ≡ m → InPhase jr dr run f s.homes s.views (m % 16) q ph → total (list_count m) s.views ≤ 1
+      go q vacant is k = let a = k.0 in let t : total (list_count m) s.views ≡ 0 = subst (λ (z : ℕ). total (list_count z) s.views ≡ 0) is (r.coming q a).lists_are in omega arith
+      go q offered is k = let t : total (list_count m) s.views ≡ 0 = subst (λ (z : ℕ). total (list_count z) s.views ≡ 0) is k.2.lists_are in omega arith
+      go q (claimed hand seat) is k = let t : total (list_count m) s.views ≡ 0 = subst (λ (z : ℕ). total (list_count z) s.views ≡ 0) is k.3.lists_are in omega arith
+      go q (drawn hand) is k = let t : total (list_count m) s.views ≡ 1 = subst (λ (z : ℕ). total (list_count z) s.views ≡ 1) is k.2.lists_are in omega arith
 
   -- so no list is longer than 2^32
   list_short : (f : View R) (s : St) (r : Ruled jr dr run f s) (id : ℕ) (v : View R) → get_elem? s.views id ≡ some v → length v.done ≤ 2 ^ 32
   list_short f s r id v at = let most = length_below f.published v.done
-      (λ m. let one = stands_once f s r m in let here = total_at (lists m) s.views id v at in omega arith)
-      (λ m le. let none_there = (r.coming m le).lists_are in let here = total_at (lists m) s.views id v at in omega arith) in let small = r.small in omega arith
+      (λ m. let one = stands_once f s r m in let here = total_at (list_count m) s.views id v at in omega arith)
+      (λ m le. let none_there = (r.coming m le).lists_are in let here = total_at (list_count m) s.views id v at in omega arith) in let small = r.small in omega arith
 
   delivers_goes : (f : View R) (s : St) (r : Ruled jr dr run f s) (slots id : ℕ) (v : View R) (place n new : ℕ) (band : D) (more : List (ℕ × Slot J D)) → get_elem? s.views id ≡ some v → v.role ≡ Hand
       → v.claim ≡ Some n → place ≡ n % 16 → new ≡ 256 * n + 4 * v.hand + 3 → dr run n band
-      → Goes jr dr run s place id (v, (place, Some (Drawn band)) ∷ more) (λ _. deliver_told (step slots place new 0 none) (v, (place, Some (Drawn band)) ∷ more) new) new
+      → Goes jr dr run s place id (v, (place, Some (Drawn band)) ∷ more) (λ _. TellsDelivery (step slots place new 0 none) (v, (place, Some (Drawn band)) ∷ more) new) new
   delivers_goes f s r slots id v place n new band more at role has lies next right =
       let near : place < 16 = subst (λ (z : ℕ). z < 16) (sym lies) (mod-lt n (omega arith)) in
       let kn = r.each_seat id v at in let cell : r.cells place ≡ (n, claimed v.hand id) = ap r.cells lies ∙ (kn.claim_shows n has).1 in
-      let ok = subst (CellOk jr dr run f s.words s.homes s.views place) cell (r.each_cell place near) in let k = ok.phase in let w : View R = delivering v n in let c' : Cell = (n, drawn v.hand) in
+      let ok = subst (CellOk jr dr run f s.words s.homes s.views place) cell (r.each_cell place near) in let k = ok.phase in let w : View R = after_delivery v n in let c' : Cell = (n, drawn v.hand) in
       let homes' = set s.homes place (some (Some (Drawn band))) in let t : Tally s.views n 0 1 = k.3 in let wide = r.wide in let low = k.0.0 in let high = k.0.1 in
-      let was_claimed : claims n v ≡ 1 = ap (claims_of n) has ∙ one_if_same n n refl in let sums = total_set (claims n) s.views id v w at in let before = t.claims_are in
-      let sums' = total_set (lists n) s.views id v w at in let before' = t.lists_are in let added = times_more n n v.done in let one = one_if_same n n refl in
+      let was_claimed : claim_count n v ≡ 1 = ap (claims_in n) has ∙ one_if_same n n refl in let sums = total_set (claim_count n) s.views id v w at in let before = t.claims_are in
+      let sums' = total_set (list_count n) s.views id v w at in let before' = t.lists_are in let added = times_more n n v.done in let one = one_if_same n n refl in
       let r' = moved jr dr run f s r place n id v w f new c' homes' record {
         near = near;
         place = sym lies;
@@ -185,7 +185,7 @@ module _ {R J D : Type 0} (jr : R → ℕ → J → Type 0) (dr : R → ℕ → 
           d.0,
           (
             d.1.0,
-            at_put r.cells place c' (λ z c. z ≡ f.collected % 16 → c ≡ (f.collected, drawn d.1.0)) (f.collected % 16)
+            at_cells_with r.cells place c' (λ z c. z ≡ f.collected % 16 → c ≡ (f.collected, drawn d.1.0)) (f.collected % 16)
                 (λ here. let clash : ◌≡◌ {A = ℕ} 2 3 = sym (ap (λ (c : Cell). tag c.1) cell) ∙ ap (λ (c : Cell). tag c.1) (ap r.cells here ∙ d.1.1) in absurd (omega arith)) (λ _ _. d.1.1) refl,
           ),
         );
@@ -199,19 +199,19 @@ module _ {R J D : Type 0} (jr : R → ℕ → J → Type 0) (dr : R → ℕ → 
         knows' = record {
           one_run = kn.one_run;
           first_is_front = λ e. absurd (hand_no_front (sym role ∙ e));
-          own = subst (λ p. Own p w) (sym role) (subst (λ p. Own p v) role kn.own);
+          own = subst (λ p. KeepsToRole p w) (sym role) (subst (λ p. KeepsToRole p v) role kn.own);
           claim_shows = λ z e. absurd (none_no_some z e);
         };
         bears_same = λ _. refl;
         lists_same = λ z other. let a = times_more z n v.done in let b = one_if_other n z (λ e. other (sym e)) in omega arith;
-        claims_same = λ z other. sym (ap (claims_of z) has ∙ one_if_other n z (λ e. other (sym e)));
+        claims_same = λ z other. sym (ap (claims_in z) has ∙ one_if_other n z (λ e. other (sym e)));
         gone' = λ lt. absurd (omega arith);
         coming' = λ le. absurd (omega arith);
-      } in (w, gives, tt, (f, r'), ((λ z e. ap (λ (y : ℕ). (delivering v y, more)) (some_is n z (sym has ∙ e))), list_short f _ r' id w (set_at s.views id v w at)))
+      } in (w, gives, tt, (f, r'), ((λ z e. ap (λ (y : ℕ). (after_delivery v y, more)) (some_is n z (sym has ∙ e))), list_short f _ r' id w (set_at s.views id v w at)))
 
   pub delivers : (slots id : ℕ) (me : Seated R J D) (place n new : ℕ) (band : D) (more : List (ℕ × Slot J D)) → me.0.role ≡ Hand → me.0.claim ≡ Some n → place ≡ n % 16 → new ≡ 256 * n + 4 * me.0.hand + 3
-      → me.1 ≡ (place, Some (Drawn band)) ∷ more → RightFor dr me.0.run n band → Allows (BoardRule jr dr run) slots id me place (λ _. new) (λ _. deliver_told (step slots place new 0 none) me new)
+      → me.1 ≡ (place, Some (Drawn band)) ∷ more → RightFor dr me.0.run n band → Allows (BoardRule jr dr run) slots id me place (λ _. new) (λ _. TellsDelivery (step slots place new 0 none) me new)
   delivers slots id me place n new band more role has lies next out right s b deep at _ = let kn = b.1.each_seat id me.0 at in
       let same : right.0 ≡ run = ap (λ o. unwrap_or o run) (sym right.1 ∙ kn.one_run (λ e. hand_no_spent (sym role ∙ e))) in
-      subst (λ c. Goes jr dr run s place id (me.0, c) (λ _. deliver_told (step slots place new 0 none) (me.0, c) new) new) (sym out)
+      subst (λ c. Goes jr dr run s place id (me.0, c) (λ _. TellsDelivery (step slots place new 0 none) (me.0, c) new) new) (sym out)
       (delivers_goes b.0 s b.1 slots id me.0 place n new band more at role has lies next (subst (λ (z : R). dr z n band) same right.2))

@@ -10,27 +10,27 @@ use Rattle.atomic_table.specs.Table.{State}
 use Rattle.atomic_table.proofs.Lists.{at_set, set_else}
 use Rattle.band_board.specs.declared.view.View.{View}
 use Rattle.band_board.specs.declared.view.Role.TheVariants.{Front}
-use Rattle.band_board.specs.BoardRule.{Phase, vacant, offered, claimed, drawn, Cell, Slot, one_if, Homes, bears, lists, claims, Tally, Knows, HasClaimed, HasDrawn, InPhase, CellOk, Ruled}
+use Rattle.band_board.specs.BoardRule.{Phase, vacant, offered, claimed, drawn, Cell, Slot, one_if, Homes, hand_count, list_count, claim_count, Tally, Knows, HasClaimed, HasDrawn, InPhase, CellOk, Ruled}
 use Rattle.band_board.proofs.Totals.{total_same, tally_same}
 
 abbrev pick : {P : Type 0} → Dec P → Cell → Cell → Cell
 pick (yes _) a b = a
 pick (no _) a b = b
 
-pub put : (ℕ → Cell) → ℕ → Cell → ℕ → Cell
-put cells i c j = pick (ℕ_discrete j i) c (cells j)
+pub cells_with : (ℕ → Cell) → ℕ → Cell → ℕ → Cell
+cells_with cells i c j = pick (ℕ_discrete j i) c (cells j)
 
 -- what holds of the new cell at i, and of each other cell, holds after
-pub at_put : (cells : ℕ → Cell) (i : ℕ) (c : Cell) (F : ℕ → Cell → Type 0) (j : ℕ) → F i c → (j ≢ i → F j (cells j)) → F j (put cells i c j)
-unfolding put
-at_put cells i c F j here other = go (ℕ_discrete j i)
+pub at_cells_with : (cells : ℕ → Cell) (i : ℕ) (c : Cell) (F : ℕ → Cell → Type 0) (j : ℕ) → F i c → (j ≢ i → F j (cells j)) → F j (cells_with cells i c j)
+unfolding cells_with
+at_cells_with cells i c F j here other = go (ℕ_discrete j i)
   where
     go : (d : Dec (j ≡ i)) → F j (pick d c (cells j))
     go (yes e) = subst (λ (k : ℕ). F k c) (sym e) here
     go (no n) = other n
 
-pub put_here : (cells : ℕ → Cell) (i j : ℕ) (c : Cell) → j ≡ i → Path Cell (put cells i c j) c
-put_here cells i j c e = at_put cells i c (λ q x. q ≡ i → Path Cell x c) j (λ _. refl) (λ n. absurd (n e)) e
+pub cells_with_here : (cells : ℕ → Cell) (i j : ℕ) (c : Cell) → j ≡ i → Path Cell (cells_with cells i c j) c
+cells_with_here cells i j c e = at_cells_with cells i c (λ q x. q ≡ i → Path Cell x c) j (λ _. refl) (λ n. absurd (n e)) e
 
 -- who holds a cell, if anyone: 0, or the seat's number and 1
 abbrev pub holder : Phase → ℕ
@@ -63,14 +63,14 @@ module _ {R J D : Type 0} (jr : R → ℕ → J → Type 0) (dr : R → ℕ → 
     pub behind' : f'.collected ≤ f'.published
     pub within' : f'.published ≤ f'.collected + 16
     pub small' : f'.published ≤ 2 ^ 32
-    pub seen' : f'.noted ≡ true → HasDrawn (put cells i c') f'
+    pub seen' : f'.noted ≡ true → HasDrawn (cells_with cells i c') f'
     pub cell' : CellOk jr dr run f' (set s.words i x) homes' (set s.views id w) i c'
     pub own_claim : (q : ℕ) → v.claim ≡ Some q → q ≡ n
     pub loose : (j : ℕ) → j ≢ id → holder (cells i).1 ≢ suc j
-    pub knows' : Knows run (put cells i c') id w
-    pub bears_same : (k : ℕ) → bears k w ≡ bears k v
-    pub lists_same : (q : ℕ) → q ≢ n → lists q w ≡ lists q v
-    pub claims_same : (q : ℕ) → q ≢ n → claims q w ≡ claims q v
+    pub knows' : Knows run (cells_with cells i c') id w
+    pub bears_same : (k : ℕ) → hand_count k w ≡ hand_count k v
+    pub lists_same : (q : ℕ) → q ≢ n → list_count q w ≡ list_count q v
+    pub claims_same : (q : ℕ) → q ≢ n → claim_count q w ≡ claim_count q v
     pub gone' : n < f'.collected → Tally (set s.views id w) n 1 0
     pub coming' : f'.published ≤ n → Tally (set s.views id w) n 0 0
 
@@ -103,21 +103,21 @@ module _ {R J D : Type 0} (jr : R → ℕ → J → Type 0) (dr : R → ℕ → 
     cell_stays j far c k = record { shows = get_or-set_other s.words i j x 0 (λ e. far (omega arith)) ∙ k.shows; lies = k.lies; phase = phase_stays j c.0 k.lies far c.1 k.phase }
 
     -- what another seat knows of a cell that it does not hold
-    knows_stays : (j : ℕ) (u : View R) → j ≢ id → Knows run r.cells j u → Knows run (put r.cells i c') j u
+    knows_stays : (j : ℕ) (u : View R) → j ≢ id → Knows run r.cells j u → Knows run (cells_with r.cells i c') j u
     knows_stays j u other k = record {
       one_run = k.one_run;
       first_is_front = k.first_is_front;
       own = k.own;
       claim_shows = λ q e. let known = k.claim_shows q e in (
         known.0,
-        at_put r.cells i c' (λ z c. z ≡ q % 16 → c ≡ (q, claimed u.hand j)) (q % 16)
+        at_cells_with r.cells i c' (λ z c. z ≡ q % 16 → c ≡ (q, claimed u.hand j)) (q % 16)
             (λ is. absurd (m.loose j other (ap (λ (c : Cell). holder c.1) (ap r.cells is ∙ known.1)))) (λ _ _. known.1) refl,
       );
     }
 
     pub moved : Ruled jr dr run f' record { words = set s.words i x; homes = homes'; views = set s.views id w }
     moved = let near = m.near in record {
-      cells = put r.cells i c';
+      cells = cells_with r.cells i c';
       wide = length-set s.words i x ∙ r.wide;
       deep = m.deep';
       flag = get_or-set_other s.words i 16 x 0 (λ e. omega arith) ∙ r.flag ∙ ap one_if (sym m.closed');
@@ -128,11 +128,11 @@ module _ {R J D : Type 0} (jr : R → ℕ → J → Type 0) (dr : R → ℕ → 
       small = m.small';
       few = subst (λ (z : ℕ). z ≤ 33) (sym m.hands') r.few;
       seen_drawn = m.seen';
-      each_cell = λ j l. at_put r.cells i c' (CellOk jr dr run f' (set s.words i x) homes' (set s.views id w)) j m.cell' (λ far. cell_stays j far (r.cells j) (r.each_cell j l));
-      each_seat = λ j u e. ⊎_elim (λ (h : (j ≡ id) × (w ≡ u)). subst (λ (y : ℕ × View R). Knows run (put r.cells i c') y.0 y.1) (λ k. (sym h.0 k, h.1 k)) m.knows')
+      each_cell = λ j l. at_cells_with r.cells i c' (CellOk jr dr run f' (set s.words i x) homes' (set s.views id w)) j m.cell' (λ far. cell_stays j far (r.cells j) (r.each_cell j l));
+      each_seat = λ j u e. ⊎_elim (λ (h : (j ≡ id) × (w ≡ u)). subst (λ (y : ℕ × View R). Knows run (cells_with r.cells i c') y.0 y.1) (λ k. (sym h.0 k, h.1 k)) m.knows')
           (λ (h : (j ≢ id) × (get_elem? s.views j ≡ some u)). knows_stays j u h.0 (r.each_seat j u h.1)) (at_set s.views id j w u e);
-      numbers = λ k l. total_same (bears k) s.views id v w m.at (m.bears_same k) ∙ r.numbers k (subst (λ (z : ℕ). k < z) m.hands' l);
-      no_others = λ k l. total_same (bears k) s.views id v w m.at (m.bears_same k) ∙ r.no_others k (subst (λ (z : ℕ). z ≤ k) m.hands' l);
+      numbers = λ k l. total_same (hand_count k) s.views id v w m.at (m.bears_same k) ∙ r.numbers k (subst (λ (z : ℕ). k < z) m.hands' l);
+      no_others = λ k l. total_same (hand_count k) s.views id v w m.at (m.bears_same k) ∙ r.no_others k (subst (λ (z : ℕ). z ≤ k) m.hands' l);
       gone = λ q l. dite (ℕ_discrete q n) (λ e. subst (λ (z : ℕ). z < f'.collected → Tally (set s.views id w) z 1 0) (sym e) m.gone' l)
           (λ other. tally_stays q 1 0 other (r.gone q (lt_of_not-le (λ le. let h = m.collected_at q other le in absurd (omega arith)))));
       coming = λ q l. dite (ℕ_discrete q n) (λ e. subst (λ (z : ℕ). f'.published ≤ z → Tally (set s.views id w) z 0 0) (sym e) m.coming' l)

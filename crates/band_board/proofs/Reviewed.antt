@@ -10,7 +10,7 @@ use Rattle.atomic_table.proofs.Lists.{at_set, set_else}
 use Rattle.band_board.specs.declared.view.View.{View}
 use Rattle.band_board.specs.declared.view.Role.{Role}
 use Rattle.band_board.specs.declared.view.Role.TheVariants.{Front, Hand, Spent}
-use Rattle.band_board.specs.BoardRule.{Phase, vacant, offered, claimed, drawn, Cell, Slot, one_if, times, times_joined, joined_as, claims_of, lives_as, bears, lists, claims, total, Tally, Knows, HasClaimed, HasDrawn, InPhase, Ruled, BoardRule}
+use Rattle.band_board.specs.BoardRule.{Phase, vacant, offered, claimed, drawn, Cell, Slot, one_if, times, times_joined, joined_count, claims_in, live_count, hand_count, list_count, claim_count, total, Tally, Knows, HasClaimed, HasDrawn, InPhase, Ruled, BoardRule}
 use Rattle.band_board.specs.Steps.{Seated}
 use Rattle.band_board.proofs.Totals.{total_same, set_at}
 
@@ -58,10 +58,10 @@ module _ {R J D : Type 0} (jr : R → ℕ → J → Type 0) (dr : R → ℕ → 
     pub seen' : f'.noted ≡ true → HasDrawn cells f'
     pub claim_stays : (seat hand q : ℕ) → HasClaimed s.views seat hand q → HasClaimed views' seat hand q
     pub knows' : (j : ℕ) (u : View R) → get_elem? views' j ≡ some u → Knows run cells j u
-    pub lists_same : (q : ℕ) → total (lists q) views' ≡ total (lists q) s.views
-    pub claims_same : (q : ℕ) → total (claims q) views' ≡ total (claims q) s.views
-    pub numbers' : (k : ℕ) → k < f'.hands → total (bears k) views' ≡ 1
-    pub no_others' : (k : ℕ) → f'.hands ≤ k → total (bears k) views' ≡ 0
+    pub lists_same : (q : ℕ) → total (list_count q) views' ≡ total (list_count q) s.views
+    pub claims_same : (q : ℕ) → total (claim_count q) views' ≡ total (claim_count q) s.views
+    pub numbers' : (k : ℕ) → k < f'.hands → total (hand_count k) views' ≡ 1
+    pub no_others' : (k : ℕ) → f'.hands ≤ k → total (hand_count k) views' ≡ 0
 
   module _ (f : View R) (s : St) (r : Ruled jr dr run f s) (words' : List ℕ) (views' : List (View R)) (f' : View R) (m : Review f s r.cells words' views' f') where
     tally_stays : (q a b : ℕ) → Tally s.views q a b → Tally views' q a b
@@ -127,10 +127,10 @@ module _ {R J D : Type 0} (jr : R → ℕ → J → Type 0) (dr : R → ℕ → 
             (λ ne. (h.0, set_else s.views id seat w ne ∙ h.1, h.2, h.3, h.4));
         knows' = λ j u e. ⊎_elim (λ (h : (j ≡ id) × (w ≡ u)). subst (λ (y : ℕ × View R). Knows run r.cells y.0 y.1) (λ k. (sym h.0 k, h.1 k)) knows')
             (λ (h : (j ≢ id) × (get_elem? s.views j ≡ some u)). r.each_seat j u h.1) (at_set s.views id j w u e);
-        lists_same = λ q. total_same (lists q) s.views id v w at (λ k. times q (same.done_same k) + times_joined q (same.joined_same k));
-        claims_same = λ q. total_same (claims q) s.views id v w at (λ k. claims_of q (same.claim_same k));
-        numbers' = λ k l. total_same (bears k) s.views id v w at (λ j. lives_as k (same.role_same j) (same.hand_same j) + joined_as k (same.joined_same j)) ∙ r.numbers k (subst (λ (z : ℕ). k < z) hands' l);
-        no_others' = λ k l. total_same (bears k) s.views id v w at (λ j. lives_as k (same.role_same j) (same.hand_same j) + joined_as k (same.joined_same j)) ∙ r.no_others k (subst (λ (z : ℕ). z ≤ k) hands' l);
+        lists_same = λ q. total_same (list_count q) s.views id v w at (λ k. times q (same.done_same k) + times_joined q (same.joined_same k));
+        claims_same = λ q. total_same (claim_count q) s.views id v w at (λ k. claims_in q (same.claim_same k));
+        numbers' = λ k l. total_same (hand_count k) s.views id v w at (λ j. live_count k (same.role_same j) (same.hand_same j) + joined_count k (same.joined_same j)) ∙ r.numbers k (subst (λ (z : ℕ). k < z) hands' l);
+        no_others' = λ k l. total_same (hand_count k) s.views id v w at (λ j. live_count k (same.role_same j) (same.hand_same j) + joined_count k (same.joined_same j)) ∙ r.no_others k (subst (λ (z : ℕ). z ≤ k) hands' l);
       }
 
   -- a load of any word

@@ -5,7 +5,7 @@ use Rattle.std.proofs.lemmas.List.Elements.{All-append}
 use Rattle.std.proofs.Math.Seq.{take-suc-set}
 use Rattle.band_board.specs.declared.view.View.{View}
 use Rattle.band_board.specs.declared.hand.Look.{Look}
-use Rattle.band_board.specs.View.{looking}
+use Rattle.band_board.specs.View.{after_look}
 use Rattle.band_board.specs.Answers.{IsRefused, looks_at, looks_from, after_looks}
 
 looks_from_more : (p : ℕ) (looks : List Look) (look : Look) → looks_from p (looks ++ look ∷ []) ≡ looks_from p looks ++ looks_at (p + length looks) look
@@ -32,5 +32,5 @@ module _ {R : Type 0} where
   pub after_more : (v : View R) (l m : List (ℕ × ℕ)) → after_looks (after_looks v l) m ≡ after_looks v (l ++ m)
   after_more v l m i = record v { looks = append_assoc v.looks l m i }
 
-  pub look_more : (v : View R) (l : List (ℕ × ℕ)) (p q w : ℕ) → q ≡ p → looking (after_looks v l) p w ≡ after_looks v (l ++ (q, w) ∷ [])
+  pub look_more : (v : View R) (l : List (ℕ × ℕ)) (p q w : ℕ) → q ≡ p → after_look (after_looks v l) p w ≡ after_looks v (l ++ (q, w) ∷ [])
   look_more v l p q w e i = record v { looks = (append_assoc v.looks l ((p, w) ∷ []) ∙ ap (λ (z : ℕ). v.looks ++ (l ++ (z, w) ∷ [])) (sym e)) i }

@@ -3,7 +3,7 @@ use Rattle.std.proofs.Common.{◌≡◌, ◌≢◌, ℕ, zero, suc, ◌+◌, ◌
 use mathlib.Core.Option.{some, some-injective, some-ne-none}
 use lib.ListN.{get_elem?}
 use Rattle.band_board.specs.declared.view.View.{View}
-use Rattle.band_board.specs.BoardRule.{total, lists, claims, Tally}
+use Rattle.band_board.specs.BoardRule.{total, list_count, claim_count, Tally}
 
 module _ {A : Type 0} where
   pub set_at : (l : List A) (i : ℕ) (a b : A) → get_elem? l i ≡ some a → get_elem? (set l i b) i ≡ some b
@@ -30,8 +30,8 @@ module _ {R : Type 0} where
   total_more f (x ∷ xs) b = let h = total_more f xs b in omega arith
 
   -- a band of which a step does not speak is told of as before
-  pub tally_same : (n p q : ℕ) (l : List (View R)) (i : ℕ) (a b : View R) → get_elem? l i ≡ some a → lists n b ≡ lists n a → claims n b ≡ claims n a → Tally l n p q → Tally (set l i b) n p q
-  tally_same n p q l i a b e x y t = record { lists_are = total_same (lists n) l i a b e x ∙ t.lists_are; claims_are = total_same (claims n) l i a b e y ∙ t.claims_are }
+  pub tally_same : (n p q : ℕ) (l : List (View R)) (i : ℕ) (a b : View R) → get_elem? l i ≡ some a → list_count n b ≡ list_count n a → claim_count n b ≡ claim_count n a → Tally l n p q → Tally (set l i b) n p q
+  tally_same n p q l i a b e x y t = record { lists_are = total_same (list_count n) l i a b e x ∙ t.lists_are; claims_are = total_same (claim_count n) l i a b e y ∙ t.claims_are }
 
   pub total_two : (f : View R → ℕ) (l : List (View R)) (i j : ℕ) (a b : View R) → i ≢ j → get_elem? l i ≡ some a → get_elem? l j ≡ some b → f a + f b ≤ total f l
   total_two f [] i j a b ne e d = absurd (some-ne-none a (sym e))

@@ -10,7 +10,7 @@ use Rattle.band_board.specs.declared.hand.Hand.{Hand}
 use Rattle.band_board.specs.declared.hand.Look.{Look}
 use Rattle.band_board.specs.declared.hand.Claim.{Claim}
 use Rattle.band_board.specs.declared.hand.Claim.TheVariants.{Got, Nothing}
-use Rattle.band_board.specs.View.{looking, watching, claiming, collecting}
+use Rattle.band_board.specs.View.{after_look, after_watch, after_claim, after_collection}
 use Rattle.band_board.specs.Steps.{RightFor}
 
 module _ {W R J D : Type 0} {kind : Ghosts W R J D} where
@@ -63,7 +63,7 @@ module _ {R : Type 0} where
   module _ {J : Type 0} (right_job : R → ℕ → J → Type 0) (old new : View R) where
     -- the band that was offered at the place is claimed, and the job is right for the hand's own run
     abbrev pub ClaimsAt : ℕ → ℕ → J → Type 0
-    ClaimsAt place number job = (number % 16 ≡ place) × RightFor right_job old.run number job × (new ≡ claiming (looking old place (256 * number + 1)) number)
+    ClaimsAt place number job = (number % 16 ≡ place) × RightFor right_job old.run number job × (new ≡ after_claim (after_look old place (256 * number + 1)) number)
 
     -- a try to claim at a place
     abbrev pub TriesAt : ℕ → Result (ℕ × J) Look → Type 0
@@ -72,10 +72,10 @@ module _ {R : Type 0} where
     -- A claim tries the places in order. It gives the first band that it gets, with a job that is right for the hand's own run. Nothing comes only with a refused look at each of the sixteen places. It looks at nothing else
     abbrev pub Claims : {W D : Type 0} → Claim W R J D → Type 0
     Claims (Got number job) = (before : List Look) × (length before ≡ number % 16) × All IsRefused before × RightFor right_job old.run number job
-        × (new ≡ claiming (after_looks old (looks_from 0 before ++ (number % 16, 256 * number + 1) ∷ [])) number)
+        × (new ≡ after_claim (after_looks old (looks_from 0 before ++ (number % 16, 256 * number + 1) ∷ [])) number)
     Claims (Nothing seen) = (length seen ≡ 16) × All IsRefused seen × (new ≡ after_looks old (looks_from 0 seen))
 
   -- A try to collect looks once, at the first outstanding band. It gives that band where the look found phase 3, and else hands the word back
   abbrev pub CollectsFirst : {W J D : Type 0} → (R → ℕ → D → Type 0) → View R → View R → Collected W R J D → Type 0
-  CollectsFirst right_drawn old new (GotDrawn number drawn) = (number ≡ old.collected) × RightFor right_drawn old.run number drawn × ((word : ℕ) × (word % 4 ≡ 3) × (new ≡ collecting (watching old word)))
-  CollectsFirst right_drawn old new (NotYet word) = (word % 4 ≢ 3) × (new ≡ watching old word)
+  CollectsFirst right_drawn old new (GotDrawn number drawn) = (number ≡ old.collected) × RightFor right_drawn old.run number drawn × ((word : ℕ) × (word % 4 ≡ 3) × (new ≡ after_collection (after_watch old word)))
+  CollectsFirst right_drawn old new (NotYet word) = (word % 4 ≢ 3) × (new ≡ after_watch old word)

@@ -25,11 +25,11 @@ abbrev pub Cell : Type 0
 Cell = ℕ × Phase
 
 -- the word of a place
-abbrev pub face : ℕ → Phase → ℕ
-face n vacant = 256 * n
-face n offered = 256 * n + 1
-face n (claimed hand seat) = 256 * n + 4 * hand + 2
-face n (drawn hand) = 256 * n + 4 * hand + 3
+abbrev pub word_of : ℕ → Phase → ℕ
+word_of n vacant = 256 * n
+word_of n offered = 256 * n + 1
+word_of n (claimed hand seat) = 256 * n + 4 * hand + 2
+word_of n (drawn hand) = 256 * n + 4 * hand + 3
 
 abbrev pub one_if : Bool → ℕ
 one_if b = if b then 1 else 0
@@ -45,19 +45,19 @@ times_joined n [] = 0
 times_joined n (x ∷ xs) = times n x.1 + times_joined n xs
 
 -- how many joined hands have the number k
-abbrev pub joined_as : ℕ → List (ℕ × List ℕ) → ℕ
-joined_as k [] = 0
-joined_as k (x ∷ xs) = one_if (x.0 == k) + joined_as k xs
+abbrev pub joined_count : ℕ → List (ℕ × List ℕ) → ℕ
+joined_count k [] = 0
+joined_count k (x ∷ xs) = one_if (x.0 == k) + joined_count k xs
 
-abbrev pub claims_of : ℕ → Option ℕ → ℕ
-claims_of n None = 0
-claims_of n (Some m) = one_if (m == n)
+abbrev pub claims_in : ℕ → Option ℕ → ℕ
+claims_in n None = 0
+claims_in n (Some m) = one_if (m == n)
 
 -- 1 where a live hand has the number k
-abbrev pub lives_as : ℕ → Role → ℕ → ℕ
-lives_as k Front hand = 0
-lives_as k Hand hand = one_if (hand == k)
-lives_as k Spent hand = 0
+abbrev pub live_count : ℕ → Role → ℕ → ℕ
+live_count k Front hand = 0
+live_count k Hand hand = one_if (hand == k)
+live_count k Spent hand = 0
 
 module _ {R : Type 0} where
   -- the sum of f over the views
@@ -66,20 +66,20 @@ module _ {R : Type 0} where
   total f (v ∷ vs) = f v + total f vs
 
   -- how many hands with the number k a view tells of, live or joined
-  abbrev pub bears : ℕ → View R → ℕ
-  bears k v = lives_as k v.role v.hand + joined_as k v.joined
+  abbrev pub hand_count : ℕ → View R → ℕ
+  hand_count k v = live_count k v.role v.hand + joined_count k v.joined
 
   -- how often n stands in the lists of a view
-  abbrev pub lists : ℕ → View R → ℕ
-  lists n v = times n v.done + times_joined n v.joined
+  abbrev pub list_count : ℕ → View R → ℕ
+  list_count n v = times n v.done + times_joined n v.joined
 
-  abbrev pub claims : ℕ → View R → ℕ
-  claims n v = claims_of n v.claim
+  abbrev pub claim_count : ℕ → View R → ℕ
+  claim_count n v = claims_in n v.claim
 
-  -- n stands so often in the lists of all hands, and so many hands have it claimed
-  pub record Tally (views : List (View R)) (n standing claiming : ℕ) : Type 0 where
-    pub lists_are : total (lists n) views ≡ standing
-    pub claims_are : total (claims n) views ≡ claiming
+  -- n stands so often in the lists of all hands, and so many hands say that they claimed it
+  pub record Tally (views : List (View R)) (n listings claimants : ℕ) : Type 0 where
+    pub lists_are : total (list_count n) views ≡ listings
+    pub claims_are : total (claim_count n) views ≡ claimants
 
   abbrev pub IsOutstanding : View R → ℕ → Type 0
   IsOutstanding front n = (front.collected ≤ n) × (n < front.published)
@@ -92,17 +92,17 @@ module _ {R : Type 0} where
   abbrev pub HasDrawn : (ℕ → Cell) → View R → Type 0
   HasDrawn cells front = (front.collected < front.published) × ((hand : ℕ) × (cells (front.collected % 16) ≡ (front.collected, drawn hand)))
 
-  -- what is not of a role has stayed as it began
-  abbrev pub Own : Role → View R → Type 0
-  Own Front v = (v.claim ≡ None) × (v.done ≡ [])
-  Own Hand v = v.joined ≡ []
-  Own Spent v = v ≡ spent_view
+  -- what belongs to the other role has stayed as it began
+  abbrev pub KeepsToRole : Role → View R → Type 0
+  KeepsToRole Front v = (v.claim ≡ None) × (v.done ≡ [])
+  KeepsToRole Hand v = v.joined ≡ []
+  KeepsToRole Spent v = v ≡ spent_view
 
   -- what the rule says of the view of the seat id
   pub record Knows (run : R) (cells : ℕ → Cell) (id : ℕ) (v : View R) : Type 0 where
     pub one_run : v.role ≢ Spent → v.run ≡ Some run
     pub first_is_front : v.role ≡ Front → id ≡ 0
-    pub own : Own v.role v
+    pub own : KeepsToRole v.role v
     pub claim_shows : (n : ℕ) → v.claim ≡ Some n → (v.role ≡ Hand) × (cells (n % 16) ≡ (n, claimed v.hand id))
 
 -- what a slot of the board holds
@@ -130,7 +130,7 @@ module _ {R J D : Type 0} (right_job : R → ℕ → J → Type 0) (right_drawn 
 
   -- the word of the place i shows its cell, and the cell is as its phase says
   pub record CellOk (run : R) (front : View R) (words : List ℕ) (homes : Homes J D) (views : List (View R)) (i : ℕ) (c : Cell) : Type 0 where
-    pub shows : slice_index words i ≡ face c.0 c.1
+    pub shows : slice_index words i ≡ word_of c.0 c.1
     pub lies : c.0 % 16 ≡ i
     pub phase : InPhase run front homes views i c.0 c.1
 
@@ -150,8 +150,8 @@ module _ {R J D : Type 0} (right_job : R → ℕ → J → Type 0) (right_drawn 
     pub each_cell : (i : ℕ) → i < 16 → CellOk run front s.words s.homes s.views i (cells i)
     pub each_seat : (id : ℕ) (v : View R) → get_elem? s.views id ≡ some v → Knows run cells id v
     -- hand numbers are distinct and below the number made
-    pub numbers : (k : ℕ) → k < front.hands → total (bears k) s.views ≡ 1
-    pub no_others : (k : ℕ) → front.hands ≤ k → total (bears k) s.views ≡ 0
+    pub numbers : (k : ℕ) → k < front.hands → total (hand_count k) s.views ≡ 1
+    pub no_others : (k : ℕ) → front.hands ≤ k → total (hand_count k) s.views ≡ 0
     -- a collected band stands once in one list, and one that is not published nowhere
     pub gone : (n : ℕ) → n < front.collected → Tally s.views n 1 0
     pub coming : (n : ℕ) → front.published ≤ n → Tally s.views n 0 0

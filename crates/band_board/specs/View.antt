@@ -22,45 +22,45 @@ module _ {R : Type 0} where
   spent_view = blank_view Spent None 0
 
   -- the front takes a slot out
-  abbrev pub opening_one : View R → View R
-  opening_one v = record v { opened = v.opened + 1 }
+  abbrev pub after_opening : View R → View R
+  after_opening v = record v { opened = v.opened + 1 }
 
   -- a word was found at a place
-  abbrev pub looking : View R → ℕ → ℕ → View R
-  looking v place word = record v { looks = v.looks ++ (place, word) ∷ [] }
+  abbrev pub after_look : View R → ℕ → ℕ → View R
+  after_look v place word = record v { looks = v.looks ++ (place, word) ∷ [] }
 
   -- the front found a word at the place of the first outstanding band; it notes phase 3, drawn
-  abbrev pub watching : View R → ℕ → View R
-  watching v word = record v { looks = v.looks ++ (v.collected % 16, word) ∷ []; noted = v.noted || (word % 4 == 3) }
+  abbrev pub after_watch : View R → ℕ → View R
+  after_watch v word = record v { looks = v.looks ++ (v.collected % 16, word) ∷ []; noted = v.noted || (word % 4 == 3) }
 
   -- the front offers the next band
-  abbrev pub offering : View R → View R
-  offering v = record v { published = v.published + 1 }
+  abbrev pub after_offer : View R → View R
+  after_offer v = record v { published = v.published + 1 }
 
   -- a hand claims the band n
-  abbrev pub claiming : View R → ℕ → View R
-  claiming v n = record v { claim = Some n }
+  abbrev pub after_claim : View R → ℕ → View R
+  after_claim v n = record v { claim = Some n }
 
   -- a hand delivers the band n
-  abbrev pub delivering : View R → ℕ → View R
-  delivering v n = record v { claim = None; done = v.done ++ n ∷ [] }
+  abbrev pub after_delivery : View R → ℕ → View R
+  after_delivery v n = record v { claim = None; done = v.done ++ n ∷ [] }
 
   -- the front collects the first outstanding band
-  abbrev pub collecting : View R → View R
-  collecting v = record v { collected = v.collected + 1; noted = false }
+  abbrev pub after_collection : View R → View R
+  after_collection v = record v { collected = v.collected + 1; noted = false }
 
   -- the front closes the board
-  abbrev pub closing : View R → View R
-  closing v = record v { closed = true }
+  abbrev pub after_close : View R → View R
+  after_close v = record v { closed = true }
 
   -- the front makes a hand
-  abbrev pub splitting : View R → View R
-  splitting v = record v { hands = v.hands + 1 }
+  abbrev pub after_split : View R → View R
+  after_split v = record v { hands = v.hands + 1 }
 
   -- the hand that it makes: of the same run, with the next number
   abbrev pub next_hand : View R → View R
   next_hand v = blank_view Hand v.run v.hands
 
   -- the front takes in the list of a hand
-  abbrev pub joining : View R → View R → View R
-  joining v w = record v { joined = v.joined ++ (w.hand, w.done) ∷ [] }
+  abbrev pub after_join : View R → View R → View R
+  after_join v w = record v { joined = v.joined ++ (w.hand, w.done) ∷ [] }

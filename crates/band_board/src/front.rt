@@ -31,7 +31,7 @@ pub enum Collected<W: Work> {
 
 impl<W: Work> Front<W> {
     ghost use Rattle.band_board.specs.Answers.{front_view, hand_view, IsFrontOf, IsHandOf, CollectsFirst};
-    ghost use Rattle.band_board.specs.View.{first_view, new_front, offering, closing, splitting, next_hand, joining};
+    ghost use Rattle.band_board.specs.View.{first_view, new_front, after_offer, after_close, after_split, next_hand, after_join};
     ghost use Rattle.band_board.specs.Steps.{RightFor, IsAllIn, HoldsEachOnce};
     ghost use Rattle.band_board.specs.Seats.{vacancies};
     ghost use Rattle.std.specs.Prelude.{Option, Some, None};
@@ -79,7 +79,7 @@ impl<W: Work> Front<W> {
         requires room { number < (front_view self.old).collected + 16 }
         requires right { RightFor W.right_job (front_view self.old).run number job }
         ensures board { IsFrontOf board.now self.new }
-        ensures view { front_view self.new ≡ offering (front_view self.old) }
+        ensures view { front_view self.new ≡ after_offer (front_view self.old) }
     {
         let shared = &board.table.shared;
         let place = (number % 16) as usize;
@@ -118,7 +118,7 @@ impl<W: Work> Front<W> {
         requires few { (front_view self.old).hands < 33 }
         ensures board { IsFrontOf board.now self.new }
         ensures hand_board { IsHandOf board.now result }
-        ensures view { front_view self.new ≡ splitting (front_view self.old) }
+        ensures view { front_view self.new ≡ after_split (front_view self.old) }
         ensures hand { hand_view result ≡ next_hand (front_view self.old) }
     {
         let number = self.hands;
@@ -134,7 +134,7 @@ impl<W: Work> Front<W> {
         requires hand_board { IsHandOf board.now hand }
         requires free { (hand_view hand).claim ≡ None }
         ensures board { IsFrontOf board.now self.new }
-        ensures view { front_view self.new ≡ joining (front_view self.old) (hand_view hand) }
+        ensures view { front_view self.new ≡ after_join (front_view self.old) (hand_view hand) }
         ensures all { IsAllIn (front_view self.new)
             → HoldsEachOnce (front_view self.new).published (front_view self.new).joined }
     {
@@ -148,7 +148,7 @@ impl<W: Work> Front<W> {
     pub fn close(&mut self, board: &Board<W>)
         requires board { IsFrontOf board.now self.old }
         ensures board { IsFrontOf board.now self.new }
-        ensures view { front_view self.new ≡ closing (front_view self.old) }
+        ensures view { front_view self.new ≡ after_close (front_view self.old) }
     {
         board
             .table

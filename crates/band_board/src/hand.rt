@@ -40,7 +40,7 @@ pub enum Claim<W: Work> {
 impl<W: Work> Hand<W> {
     ghost use Rattle.band_board.specs.declared.view.Role.TheVariants as role;
     ghost use Rattle.band_board.specs.Answers.{hand_view, IsHandOf, TriesAt, Claims};
-    ghost use Rattle.band_board.specs.View.{blank_view, looking, delivering};
+    ghost use Rattle.band_board.specs.View.{blank_view, after_look, after_delivery};
     ghost use Rattle.band_board.specs.Steps.{RightFor};
 
     // A new hand, whose seat was just made.
@@ -130,7 +130,7 @@ impl<W: Work> Hand<W> {
         ensures board { IsHandOf board.now self.new }
         ensures free { (hand_view self.new).claim ≡ None }
         ensures list { (n : ℕ) → (hand_view self.old).claim ≡ Some n
-            → hand_view self.new ≡ delivering (hand_view self.old) n }
+            → hand_view self.new ≡ after_delivery (hand_view self.old) n }
     {
         let Some(number) = self.band else {
             unreachable!()
@@ -148,7 +148,7 @@ impl<W: Work> Hand<W> {
         requires board { IsHandOf board.now self.old }
         ensures board { IsHandOf board.now self.new }
         ensures look { hand_view self.new
-            ≡ looking (hand_view self.old) 16 (if result then 1 else 0) }
+            ≡ after_look (hand_view self.old) 16 (if result then 1 else 0) }
     {
         board.table.shared.load::<Looks>(&mut self.seat, CLOSED) == 1
     }

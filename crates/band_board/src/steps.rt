@@ -1,7 +1,7 @@
 //! What each step on the board's table tells the seat that makes it. These types are for the proofs alone.
 
-ghost use Rattle.band_board.specs.Steps.{open_told, look_told, watch_told, offer_told, try_told, deliver_told, collect_told, close_told, learn_told};
-ghost use Rattle.band_board.specs.View.{splitting, next_hand, joining, spent_view};
+ghost use Rattle.band_board.specs.Steps.{TellsOpening, TellsLook, TellsWatch, TellsOffer, TellsTry, TellsDelivery, TellsCollection, TellsClose, TellsLists};
+ghost use Rattle.band_board.specs.View.{after_split, next_hand, after_join, spent_view};
 
 use crate::view::{Parcel, View};
 use crate::work::Work;
@@ -12,27 +12,27 @@ use std::marker::PhantomData;
 pub(crate) struct Opens;
 
 impl<R, J, D> Play<Option<Parcel<J, D>>, View<R>> for Opens {
-    ghost then = { open_told };
+    ghost then = { TellsOpening };
 }
 
 /// A hand looks at a word.
 pub(crate) struct Looks;
 
 impl<R, J, D> Play<Option<Parcel<J, D>>, View<R>> for Looks {
-    ghost then = { look_told };
+    ghost then = { TellsLook };
 }
 
 /// The front looks at the word of the first outstanding band.
 pub(crate) struct Watches;
 
 impl<R, J, D> Play<Option<Parcel<J, D>>, View<R>> for Watches {
-    ghost then = { watch_told };
+    ghost then = { TellsWatch };
 }
 
 pub(crate) struct Offers;
 
 impl<R, J, D> Play<Option<Parcel<J, D>>, View<R>> for Offers {
-    ghost then = { offer_told };
+    ghost then = { TellsOffer };
 }
 
 /// A hand tries to claim an offered band.
@@ -41,13 +41,13 @@ pub(crate) struct Tries<W> {
 }
 
 impl<W: Work> Play<Option<Parcel<W::Job, W::Drawn>>, View<W::Run>> for Tries<W> {
-    ghost then = { try_told W.right_job };
+    ghost then = { TellsTry W.right_job };
 }
 
 pub(crate) struct Delivers;
 
 impl<R, J, D> Play<Option<Parcel<J, D>>, View<R>> for Delivers {
-    ghost then = { deliver_told };
+    ghost then = { TellsDelivery };
 }
 
 pub(crate) struct Collects<W> {
@@ -55,27 +55,27 @@ pub(crate) struct Collects<W> {
 }
 
 impl<W: Work> Play<Option<Parcel<W::Job, W::Drawn>>, View<W::Run>> for Collects<W> {
-    ghost then = { collect_told W.right_drawn };
+    ghost then = { TellsCollection W.right_drawn };
 }
 
 pub(crate) struct Closes;
 
 impl<R, J, D> Play<Option<Parcel<J, D>>, View<R>> for Closes {
-    ghost then = { close_told };
+    ghost then = { TellsClose };
 }
 
 /// The front learns of the joined lists.
 pub(crate) struct Learns;
 
 impl<R, J, D> Play<Option<Parcel<J, D>>, View<R>> for Learns {
-    ghost then = { learn_told };
+    ghost then = { TellsLists };
 }
 
 /// The front makes a hand.
 pub(crate) struct Splits;
 
 impl<R> Split<View<R>> for Splits {
-    ghost left = { splitting };
+    ghost left = { after_split };
 
     ghost right = { next_hand };
 }
@@ -84,7 +84,7 @@ impl<R> Split<View<R>> for Splits {
 pub(crate) struct Joins;
 
 impl<R> Join<View<R>> for Joins {
-    ghost both = { joining };
+    ghost both = { after_join };
 
     ghost spent = { spent_view };
 }

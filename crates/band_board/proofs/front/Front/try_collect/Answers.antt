@@ -1,7 +1,7 @@
 use Rattle.std.proofs.Common.{rules, ◌+◌, ◌%◌, [], ◌∷◌, ◌++◌, Some, None, sym, refl, ap, ◌∙◌, eq-eqb, arith}
 use Rattle.atomic_table.specs.Table.{rest, turned}
 use Rattle.band_board.specs.declared.view.Parcel.TheVariants.{Drawn}
-use Rattle.band_board.specs.View.{collecting}
+use Rattle.band_board.specs.View.{after_collection}
 use Rattle.band_board.proofs.FrontSteps.{or_right, watches, collects}
 use Rattle.band_board.proofs.Starts.{vacancies_back}
 use Rattle.band_board.proofs.front.Front.try_collect.Goals as goal
@@ -24,7 +24,7 @@ exchange-parcel-requires g c = let told = c.store.ensures.2 in let has = ap (λ 
 
 pub invariant_of-self-2 : goal.invariant_of-self-2
 invariant_of-self-2 g c = let f = c.args.self.now.is_front in let watched = c.load-word.ensures.2 in let stored = c.store.ensures.2.2 in let swapped = c.exchange-parcel.ensures.3 in let turn = c.turn.ensures.2 in
-    let view = ap (λ m. m.0) turn ∙ ap (λ m. m.0) swapped ∙ ap (λ m. m.0) stored ∙ ap (λ m. collecting m.0) watched in
+    let view = ap (λ m. m.0) turn ∙ ap (λ m. m.0) swapped ∙ ap (λ m. m.0) stored ∙ ap (λ m. after_collection m.0) watched in
     let some_out = c.requires.some in let p = f.published_is in let q = f.collected_is in let w = f.within in record {
       is_front = record {
         role = ap (λ v. v.role) view ∙ f.role;

@@ -1,6 +1,6 @@
 use Rattle.std.proofs.Common.{◌<◌, ◌+◌, ◌*◌, ◌%◌, length, take, sym, ap, ◌∙◌, length-set, arith}
 use Rattle.std.proofs.lemmas.List.{length-take-le}
-use Rattle.band_board.specs.View.{looking, claiming}
+use Rattle.band_board.specs.View.{after_look, after_claim}
 use Rattle.band_board.specs.Answers.{looks_at, looks_from, after_looks}
 use Rattle.band_board.proofs.Seen.{refused_more, looks_more, after_more, look_more}
 use Rattle.band_board.proofs.hand.Hand.claim.Goals as goal
@@ -12,7 +12,7 @@ returns-in-Ok-clause-claim g c = let i = c.loop-place.invariant in let t = c.in-
       length-take-le c.loop-place.place c.loop-place.seen (omega arith) ∙ sym t.0,
       i.refused,
       (t.1.0, ap (λ u. u.run) (sym i.view) ∙ t.1.1, t.1.2),
-      t.2 ∙ ap (λ u. claiming (looking u c.loop-place.place (256 * n + 1)) n) i.view ∙ ap (λ u. claiming u n) (look_more v (looks_from 0 before) c.loop-place.place (n % 16) (256 * n + 1) t.0),
+      t.2 ∙ ap (λ u. after_claim (after_look u c.loop-place.place (256 * n + 1)) n) i.view ∙ ap (λ u. after_claim u n) (look_more v (looks_from 0 before) c.loop-place.place (n % 16) (256 * n + 1) t.0),
     )
 
 pub loop-place-preserved : goal.loop-place-preserved
