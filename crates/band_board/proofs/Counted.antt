@@ -83,14 +83,17 @@ length-numbers_of [] = refl
 length-numbers_of (x ∷ xs) = ap suc (length-numbers_of xs)
 
 -- where each of n numbers is that of at most one joined hand, and n hands were joined, each is that of one
-pub each_joined : (n : ℕ) (xs : List (ℕ × List ℕ)) → ((k : ℕ) → k < n → joined_count k xs ≤ 1) → ((k : ℕ) → n ≤ k → joined_count k xs ≡ 0) → length xs ≡ n → (k : ℕ) → k < n → joined_count k xs ≡ 1
-each_joined n xs most none all k l = sym (joined_times k xs) ∙ sum_full n (λ m. times m (numbers_of xs)) (λ m b. let h = most m b in let e = joined_times m xs in omega arith)
+pub each_joined : (n : ℕ) (xs : List (ℕ × List ℕ)) → ((k : ℕ) → k < n → joined_count k xs ≤ 1) → ((k : ℕ) → n ≤ k → joined_count k xs ≡ 0)
+    → length xs ≡ n → (k : ℕ) → k < n → joined_count k xs ≡ 1
+each_joined n xs most none all k l = sym (joined_times k xs) ∙ sum_full n (λ m. times m (numbers_of xs)) (λ m b. let h = most m b in
+    let e = joined_times m xs in omega arith)
     (length_counted n (numbers_of xs) (λ m le. joined_times m xs ∙ none m le) ∙ length-numbers_of xs ∙ all) k l
 
 pub times_joined_more : (n hand : ℕ) (bands : List ℕ) (xs : List (ℕ × List ℕ)) → times_joined n (xs ++ (hand, bands) ∷ []) ≡ times_joined n xs + times n bands
 times_joined_more n hand bands [] = omega arith
 times_joined_more n hand bands (x ∷ xs) = let h = times_joined_more n hand bands xs in omega arith
 
-pub joined_count_more : (k hand : ℕ) (bands : List ℕ) (xs : List (ℕ × List ℕ)) → joined_count k (xs ++ (hand, bands) ∷ []) ≡ joined_count k xs + one_if (hand == k)
+pub joined_count_more : (k hand : ℕ) (bands : List ℕ) (xs : List (ℕ × List ℕ))
+    → joined_count k (xs ++ (hand, bands) ∷ []) ≡ joined_count k xs + one_if (hand == k)
 joined_count_more k hand bands [] = omega arith
 joined_count_more k hand bands (x ∷ xs) = let h = joined_count_more k hand bands xs in omega arith

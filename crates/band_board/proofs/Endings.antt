@@ -29,7 +29,8 @@ module _ {R J D : Type 0} (jr : R → ℕ → J → Type 0) (dr : R → ℕ → 
   front_own cells id v role k = subst (λ p. KeepsToRole p v) role k.own
 
   -- the front with another count of hands or another list of joined ones
-  front_stays : (cells : ℕ → Cell) (id : ℕ) (v w : View R) → v.role ≡ Front → w.role ≡ v.role → w.run ≡ v.run → w.claim ≡ v.claim → w.done ≡ v.done → Knows run cells id v → Knows run cells id w
+  front_stays : (cells : ℕ → Cell) (id : ℕ) (v w : View R) → v.role ≡ Front → w.role ≡ v.role → w.run ≡ v.run → w.claim ≡ v.claim → w.done ≡ v.done
+      → Knows run cells id v → Knows run cells id w
   front_stays cells id v w role role' run' claim' done' k = let own = front_own cells id v role k in record {
     one_run = λ ne. run' ∙ k.one_run (λ e. ne (role' ∙ e));
     first_is_front = λ e. k.first_is_front role;
@@ -38,7 +39,8 @@ module _ {R J D : Type 0} (jr : R → ℕ → J → Type 0) (dr : R → ℕ → 
   }
 
   pub splits : (id : ℕ) (v : View R) → v.role ≡ Front → v.hands < 33 → Splits (BoardRule jr dr run) id v (after_split v) (next_hand v)
-  splits id v role room s b at = let first = as_front jr dr run s id v b at role in let r = first.1 in let w : View R = after_split v in let h : View R = next_hand v in let l : List (View R) = set s.views id w in
+  splits id v role room s b at = let first = as_front jr dr run s id v b at role in let r = first.1 in let w : View R = after_split v in
+      let h : View R = next_hand v in let l : List (View R) = set s.views id w in
       let kn = r.each_seat id v at in (
         w,
         reviewed jr dr run v s r s.words (l ++ h ∷ []) w record {
@@ -52,9 +54,17 @@ module _ {R J D : Type 0} (jr : R → ℕ → J → Type 0) (dr : R → ℕ → 
           collected' = refl;
           few' = omega arith;
           seen' = r.seen_drawn;
-          claim_stays = λ seat hand q c. (c.0, at_longer l (h ∷ []) seat c.0 (set_else s.views id seat w (elsewhere s id seat v c.0 at c.1 (λ e. hand_no_front (sym c.2 ∙ sym e ∙ role))) ∙ c.1), c.2, c.3, c.4);
+          claim_stays = λ seat hand q c. (
+            c.0,
+            at_longer l (h ∷ []) seat c.0 (set_else s.views id seat w (elsewhere s id seat v c.0 at c.1
+                (λ e. hand_no_front (sym c.2 ∙ sym e ∙ role))) ∙ c.1),
+            c.2,
+            c.3,
+            c.4,
+          );
           knows' = λ j u e. ⊎_elim
-              (λ (old : get_elem? l j ≡ some u). ⊎_elim (λ (x : (j ≡ id) × (w ≡ u)). subst (λ (y : ℕ × View R). Knows run r.cells y.0 y.1) (λ k. (sym x.0 k, x.1 k)) (front_stays r.cells id v w role refl refl refl refl kn))
+              (λ (old : get_elem? l j ≡ some u). ⊎_elim (λ (x : (j ≡ id) × (w ≡ u)). subst (λ (y : ℕ
+              × View R). Knows run r.cells y.0 y.1) (λ k. (sym x.0 k, x.1 k)) (front_stays r.cells id v w role refl refl refl refl kn))
               (λ (x : (j ≢ id) × (get_elem? s.views j ≡ some u)). r.each_seat j u x.1) (at_set s.views id j w u old))
               (λ (is : h ≡ u). subst (Knows run r.cells j) is record {
                 one_run = λ _. kn.one_run (λ e. front_no_spent (sym role ∙ e));
@@ -73,13 +83,18 @@ module _ {R J D : Type 0} (jr : R → ℕ → J → Type 0) (dr : R → ℕ → 
         },
       )
 
-  pub joins : (id : ℕ) (v : View R) (other : ℕ) (w : View R) → v.role ≡ Front → w.role ≡ Hand → w.claim ≡ None → Joins (BoardRule jr dr run) id v other w (after_join v w) spent_view
-  joins id v other w role hand_role free s b at apart there = let first = as_front jr dr run s id v b at role in let r = first.1 in let both : View R = after_join v w in let l : List (View R) = set s.views id both in
-      let l' : List (View R) = set l other spent_view in let kn = r.each_seat id v at in let old : get_elem? s.views other ≡ some w = sym (set_else s.views id other both apart) ∙ there in
+  pub joins : (id : ℕ) (v : View R) (other : ℕ) (w : View R) → v.role ≡ Front → w.role ≡ Hand → w.claim ≡ None
+      → Joins (BoardRule jr dr run) id v other w (after_join v w) spent_view
+  joins id v other w role hand_role free s b at apart there = let first = as_front jr dr run s id v b at role in let r = first.1 in
+      let both : View R = after_join v w in let l : List (View R) = set s.views id both in
+      let l' : List (View R) = set l other spent_view in let kn = r.each_seat id v at in
+      let old : get_elem? s.views other ≡ some w = sym (set_else s.views id other both apart) ∙ there in
       let plain : w.joined ≡ [] = subst (λ p. KeepsToRole p w) hand_role (r.each_seat other w old).own in
       let bears_sum : (k : ℕ) → total (hand_count k) l' ≡ total (hand_count k) s.views = λ k.
-      let a = total_set (hand_count k) s.views id v both at in let c = total_set (hand_count k) l other w spent_view there in let more = joined_count_more k w.hand w.done v.joined in
-      let lives : live_count k w.role w.hand ≡ one_if (w.hand == k) = ap (λ p. live_count k p w.hand) hand_role in let none_joined : joined_count k w.joined ≡ 0 = ap (joined_count k) plain in omega arith in (
+      let a = total_set (hand_count k) s.views id v both at in let c = total_set (hand_count k) l other w spent_view there in
+      let more = joined_count_more k w.hand w.done v.joined in
+      let lives : live_count k w.role w.hand ≡ one_if (w.hand == k) = ap (λ p. live_count k p w.hand) hand_role in
+      let none_joined : joined_count k w.joined ≡ 0 = ap (joined_count k) plain in omega arith in (
         both,
         reviewed jr dr run v s r s.words l' both record {
           wide' = r.wide;
@@ -94,7 +109,8 @@ module _ {R J D : Type 0} (jr : R → ℕ → J → Type 0) (dr : R → ℕ → 
           seen' = r.seen_drawn;
           claim_stays = λ seat hand q c. (
             c.0,
-            set_else l other seat spent_view (λ e. none_no_some q (sym free ∙ ap (λ (x : View R). x.claim) (some-injective w c.0 (sym old ∙ ap (get_elem? s.views) (sym e) ∙ c.1)) ∙ c.4))
+            set_else l other seat spent_view (λ e. none_no_some q (sym free ∙ ap (λ (x : View R). x.claim) (some-injective w c.0 (sym old
+                ∙ ap (get_elem? s.views) (sym e) ∙ c.1)) ∙ c.4))
                 ∙ set_else s.views id seat both (elsewhere s id seat v c.0 at c.1 (λ e. hand_no_front (sym c.2 ∙ sym e ∙ role))) ∙ c.1,
             c.2,
             c.3,
@@ -108,27 +124,36 @@ module _ {R J D : Type 0} (jr : R → ℕ → J → Type 0) (dr : R → ℕ → 
                 claim_shows = λ n d. absurd (none_no_some n d);
               })
               (λ (x : (j ≢ other) × (get_elem? l j ≡ some u)). ⊎_elim
-              (λ (y : (j ≡ id) × (both ≡ u)). subst (λ (z : ℕ × View R). Knows run r.cells z.0 z.1) (λ k. (sym y.0 k, y.1 k)) (front_stays r.cells id v both role refl refl refl refl kn))
+              (λ (y : (j ≡ id) × (both ≡ u)). subst (λ (z : ℕ
+              × View R). Knows run r.cells z.0 z.1) (λ k. (sym y.0 k, y.1 k)) (front_stays r.cells id v both role refl refl refl refl kn))
               (λ (y : (j ≢ id) × (get_elem? s.views j ≡ some u)). r.each_seat j u y.1) (at_set s.views id j both u x.1))
               (at_set l other j spent_view u e);
-          lists_same = λ q. let a = total_set (list_count q) s.views id v both at in let c = total_set (list_count q) l other w spent_view there in let more = times_joined_more q w.hand w.done v.joined in
+          lists_same = λ q. let a = total_set (list_count q) s.views id v both at in let c = total_set (list_count q) l other w spent_view there in
+              let more = times_joined_more q w.hand w.done v.joined in
               let none_joined : times_joined q w.joined ≡ 0 = ap (times_joined q) plain in omega arith;
-          claims_same = λ q. let a = total_set (claim_count q) s.views id v both at in let c = total_set (claim_count q) l other w spent_view there in let none_claimed : claim_count q w ≡ 0 = ap (claims_in q) free in omega arith;
+          claims_same = λ q. let a = total_set (claim_count q) s.views id v both at in
+              let c = total_set (claim_count q) l other w spent_view there in
+              let none_claimed : claim_count q w ≡ 0 = ap (claims_in q) free in omega arith;
           numbers' = λ k lt. bears_sum k ∙ r.numbers k lt;
           no_others' = λ k le. bears_sum k ∙ r.no_others k le;
         },
       )
 
   -- once every hand was joined, no live hand is left
-  no_hand_left : (s : St) (id : ℕ) (v : View R) (r : Ruled jr dr run v s) → id ≡ 0 → get_elem? s.views id ≡ some v → length v.joined ≡ v.hands → (j : ℕ) (u : View R) → j ≢ id → get_elem? s.views j ≡ some u → u.role ≡ Hand → ⊥
+  no_hand_left : (s : St) (id : ℕ) (v : View R) (r : Ruled jr dr run v s) → id ≡ 0 → get_elem? s.views id ≡ some v → length v.joined ≡ v.hands
+      → (j : ℕ) (u : View R) → j ≢ id → get_elem? s.views j ≡ some u → u.role ≡ Hand → ⊥
   no_hand_left s id v r zero_is at all j u ne there hand_role = let k : ℕ = u.hand in
-      let lives : live_count k u.role k ≡ 1 = ap (λ p. live_count k p k) hand_role ∙ one_if_same k k refl in let two = total_two (hand_count k) s.views id j v u (λ e. ne (sym e)) at there in
-      let most : (m : ℕ) → m < v.hands → joined_count m v.joined ≤ 1 = λ m lt. let t = r.numbers m lt in let a = total_at (hand_count m) s.views id v at in omega arith in
-      let none_more : (m : ℕ) → v.hands ≤ m → joined_count m v.joined ≡ 0 = λ m le. let t = r.no_others m le in let a = total_at (hand_count m) s.views id v at in omega arith in
+      let lives : live_count k u.role k ≡ 1 = ap (λ p. live_count k p k) hand_role ∙ one_if_same k k refl in
+      let two = total_two (hand_count k) s.views id j v u (λ e. ne (sym e)) at there in
+      let most : (m : ℕ) → m < v.hands → joined_count m v.joined ≤ 1 = λ m lt. let t = r.numbers m lt in
+      let a = total_at (hand_count m) s.views id v at in omega arith in
+      let none_more : (m : ℕ) → v.hands ≤ m → joined_count m v.joined ≡ 0 = λ m le. let t = r.no_others m le in
+      let a = total_at (hand_count m) s.views id v at in omega arith in
       dite (dec_le v.hands k) (λ le. let t = r.no_others k le in absurd (omega arith))
       (λ no. let lt = lt_of_not-le no in let joined = each_joined v.hands v.joined most none_more all k lt in let t = r.numbers k lt in absurd (omega arith))
 
-  others_empty : (s : St) (id : ℕ) (v : View R) (r : Ruled jr dr run v s) → id ≡ 0 → get_elem? s.views id ≡ some v → length v.joined ≡ v.hands → (m j : ℕ) (u : View R) → j ≢ id → get_elem? s.views j ≡ some u → list_count m u ≡ 0
+  others_empty : (s : St) (id : ℕ) (v : View R) (r : Ruled jr dr run v s) → id ≡ 0 → get_elem? s.views id ≡ some v → length v.joined ≡ v.hands
+      → (m j : ℕ) (u : View R) → j ≢ id → get_elem? s.views j ≡ some u → list_count m u ≡ 0
   others_empty s id v r zero_is at all m j u ne there = let k = r.each_seat j u there in go u.role refl k.own
     where
       go : (p : Role) → u.role ≡ p → KeepsToRole p u → list_count m u ≡ 0
@@ -136,17 +161,21 @@ module _ {R J D : Type 0} (jr : R → ℕ → J → Type 0) (dr : R → ℕ → 
       go Hand e own = absurd (no_hand_left s id v r zero_is at all j u ne there e)
       go Spent e own = ap (list_count m) own
 
-  pub learns : (slots id : ℕ) (me : Seated R J D) → me.0.role ≡ Front → Allows (BoardRule jr dr run) slots id me 0 (λ x. x) (TellsLists (step slots 0 0 0 none) me)
-  learns slots id me role s b deep at _ = let first = as_front jr dr run s id me.0 b at role in let r = first.1 in let v : View R = me.0 in let kn = r.each_seat id v at in (
-    v,
-    keeps,
-    tt,
-    unmoved jr dr run v s r 0 id me.1 v v v at (ap (get_elem? (set s.views id v)) (sym first.0) ∙ set_at s.views id v v at) role refl refl refl refl refl r.seen_drawn
-        record { role_same = refl; hand_same = refl; claim_same = refl; done_same = refl; joined_same = refl } kn,
-    (
-      refl,
-      λ all_in. let own = front_own r.cells id v role kn in let sums : (m : ℕ) → total (list_count m) s.views ≡ times_joined m v.joined = λ m.
-          total_only (list_count m) s.views id v at (others_empty s id v r first.0 at all_in.0 m) ∙ (let no_done : times m v.done ≡ 0 = ap (times m) own.1 in omega arith) in
-          let same = all_in.1 in ((λ m lt. sym (sums m) ∙ (r.gone m (omega arith)).lists_are), λ m le. sym (sums m) ∙ (r.coming m le).lists_are),
-    ),
-  )
+  pub learns : (slots id : ℕ) (me : Seated R J D) → me.0.role ≡ Front
+      → Allows (BoardRule jr dr run) slots id me 0 (λ x. x) (TellsLists (step slots 0 0 0 none) me)
+  learns slots id me role s b deep at _ = let first = as_front jr dr run s id me.0 b at role in let r = first.1 in let v : View R = me.0 in
+      let kn = r.each_seat id v at in (
+        v,
+        keeps,
+        tt,
+        unmoved jr dr run v s r 0 id me.1 v v v at (ap (get_elem? (set s.views id v)) (sym first.0)
+            ∙ set_at s.views id v v at) role refl refl refl refl refl r.seen_drawn
+            record { role_same = refl; hand_same = refl; claim_same = refl; done_same = refl; joined_same = refl } kn,
+        (
+          refl,
+          λ all_in. let own = front_own r.cells id v role kn in let sums : (m : ℕ) → total (list_count m) s.views ≡ times_joined m v.joined = λ m.
+              total_only (list_count m) s.views id v at (others_empty s id v r first.0 at all_in.0 m)
+              ∙ (let no_done : times m v.done ≡ 0 = ap (times m) own.1 in omega arith) in
+              let same = all_in.1 in ((λ m lt. sym (sums m) ∙ (r.gone m (omega arith)).lists_are), λ m le. sym (sums m) ∙ (r.coming m le).lists_are),
+        ),
+      )

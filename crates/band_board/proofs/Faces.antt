@@ -10,7 +10,8 @@ use Rattle.band_board.specs.Steps.{OffersAt}
 
 -- two numbers of one window of n, with one remainder, are one number
 pub one_number : (low a b n : ℕ) → low ≤ a → a < low + n → low ≤ b → b < low + n → a % n ≡ b % n → a ≡ b
-one_number low a b n la ha lb hb e = dite (dec_le a b) (λ le. one_turn a b n le (omega arith) e) (λ no. let lt = lt_of_not-le no in sym (one_turn b a n (omega arith) (omega arith) (sym e)))
+one_number low a b n la ha lb hb e = dite (dec_le a b) (λ le. one_turn a b n le (omega arith) e) (λ no. let lt = lt_of_not-le no in sym
+    (one_turn b a n (omega arith) (omega arith) (sym e)))
 
 -- the phase as a number, by which phases differ
 abbrev pub tag : Phase → ℕ
@@ -53,15 +54,18 @@ module _ {R J D : Type 0} (jr : R → ℕ → J → Type 0) (dr : R → ℕ → 
         go : (q : ℕ) (ph : Phase) → q % 16 ≡ n % 16 → InPhase jr dr run f s.homes s.views (n % 16) q ph → q ≡ n
         go q vacant lies k = let a = k.0 in let b = k.1 in one_number n q n 16 (omega arith) (omega arith) (omega arith) (omega arith) lies
         go q offered lies k = let a = k.0.0 in let b = k.0.1 in let w = r.within in one_number f.collected q n 16 a (omega arith) low (omega arith) lies
-        go q (claimed hand seat) lies k = let a = k.0.0 in let b = k.0.1 in let w = r.within in one_number f.collected q n 16 a (omega arith) low (omega arith) lies
+        go q (claimed hand seat) lies k = let a = k.0.0 in let b = k.0.1 in
+            let w = r.within in one_number f.collected q n 16 a (omega arith) low (omega arith) lies
         go q (drawn hand) lies k = let a = k.0.0 in let b = k.0.1 in let w = r.within in one_number f.collected q n 16 a (omega arith) low (omega arith) lies
 
     -- the place of the next band is vacant, and has its number
     pub vacant_here : f.published < f.collected + 16 → ((r.cells (f.published % 16)).0 ≡ f.published) × ((r.cells (f.published % 16)).1 ≡ vacant)
-    vacant_here room = let ok = r.each_cell (f.published % 16) (mod-lt f.published (omega arith)) in go (r.cells (f.published % 16)).0 (r.cells (f.published % 16)).1 ok.lies ok.phase
+    vacant_here room = let ok = r.each_cell (f.published % 16) (mod-lt f.published (omega arith)) in go (r.cells (f.published % 16)).0 (r.cells
+        (f.published % 16)).1 ok.lies ok.phase
       where
         go : (q : ℕ) (ph : Phase) → q % 16 ≡ f.published % 16 → InPhase jr dr run f s.homes s.views (f.published % 16) q ph → (q ≡ f.published) × (ph ≡ vacant)
-        go q vacant lies k = let a = k.0 in let b = k.1 in let h = r.behind in (one_number f.published q f.published 16 a (omega arith) (omega arith) (omega arith) lies, refl)
+        go q vacant lies k = let a = k.0 in let b = k.1 in
+            let h = r.behind in (one_number f.published q f.published 16 a (omega arith) (omega arith) (omega arith) lies, refl)
         go q offered lies k = let a = k.0.0 in let b = k.0.1 in let h = r.behind in
             let e : q ≡ f.published = one_number f.collected q f.published 16 a (omega arith) h room lies in absurd (omega arith)
         go q (claimed hand seat) lies k = let a = k.0.0 in let b = k.0.1 in let h = r.behind in

@@ -74,7 +74,8 @@ module _ {R J D : Type 0} (jr : R → ℕ → J → Type 0) (dr : R → ℕ → 
     pub gone' : n < f'.collected → Tally (set s.views id w) n 1 0
     pub coming' : f'.published ≤ n → Tally (set s.views id w) n 0 0
 
-  module _ (f : View R) (s : St) (r : Ruled jr dr run f s) (i n id : ℕ) (v w f' : View R) (x : ℕ) (c' : Cell) (homes' : Homes J D) (m : Move f s r.cells i n id v w f' x c' homes') where
+  module _ (f : View R) (s : St) (r : Ruled jr dr run f s) (i n id : ℕ) (v w f' : View R) (x : ℕ) (c' : Cell) (homes' : Homes J D)
+      (m : Move f s r.cells i n id v w f' x c' homes') where
     tally_stays : (q a b : ℕ) → q ≢ n → Tally s.views q a b → Tally (set s.views id w) q a b
     tally_stays q a b other t = tally_same q a b s.views id v w m.at (m.lists_same q other) (m.claims_same q other) t
 
@@ -82,25 +83,42 @@ module _ {R J D : Type 0} (jr : R → ℕ → J → Type 0) (dr : R → ℕ → 
     claim_stays seat hand q other h = (
       h.0,
       dite (ℕ_discrete seat id)
-          (λ e. let same : v ≡ h.0 = some-injective v h.0 (sym m.at ∙ ap (λ (k : ℕ). get_elem? s.views k) (sym e) ∙ h.1) in absurd (other (m.own_claim q (ap (λ (u : View R). u.claim) same ∙ h.4))))
+          (λ e. let same : v ≡ h.0 = some-injective v h.0 (sym m.at ∙ ap (λ (k : ℕ). get_elem? s.views k) (sym e)
+          ∙ h.1) in absurd (other (m.own_claim q (ap (λ (u : View R). u.claim) same ∙ h.4))))
           (λ ne. set_else s.views id seat w ne ∙ h.1),
       h.2,
       h.3,
       h.4,
     )
 
-    phase_stays : (j q : ℕ) → q % 16 ≡ j → j ≢ i → (ph : Phase) → InPhase jr dr run f s.homes s.views j q ph → InPhase jr dr run f' homes' (set s.views id w) j q ph
-    phase_stays j q lies far vacant k = let other : q ≢ n = λ e. far (sym lies ∙ ap (λ (z : ℕ). z % 16) e ∙ m.place) in let up = m.collected_up in let below = k.1 in
-        (m.published_at q other k.0, omega arith, (λ le. m.homes_stay j far ∙ k.2 (m.opened_up j far le)), λ lt. m.homes_stay j far ∙ k.3 (m.opened_down j far lt))
-    phase_stays j q lies far offered k = let other : q ≢ n = λ e. far (sym lies ∙ ap (λ (z : ℕ). z % 16) e ∙ m.place) in let up = m.published_up in let below = k.0.1 in
+    phase_stays : (j q : ℕ) → q % 16 ≡ j → j ≢ i → (ph : Phase) → InPhase jr dr run f s.homes s.views j q ph
+        → InPhase jr dr run f' homes' (set s.views id w) j q ph
+    phase_stays j q lies far vacant k = let other : q ≢ n = λ e. far (sym lies ∙ ap (λ (z : ℕ). z % 16) e ∙ m.place) in let up = m.collected_up in
+        let below = k.1 in (
+          m.published_at q other k.0,
+          omega arith,
+          (λ le. m.homes_stay j far ∙ k.2 (m.opened_up j far le)),
+          λ lt. m.homes_stay j far
+              ∙ k.3 (m.opened_down j far lt),
+        )
+    phase_stays j q lies far offered k = let other : q ≢ n = λ e. far (sym lies ∙ ap (λ (z : ℕ). z % 16) e ∙ m.place) in let up = m.published_up in
+        let below = k.0.1 in
         ((m.collected_at q other k.0.0, omega arith), (k.1.0, k.1.1, m.homes_stay j far ∙ k.1.2), tally_stays q 0 0 other k.2)
-    phase_stays j q lies far (claimed hand seat) k = let other : q ≢ n = λ e. far (sym lies ∙ ap (λ (z : ℕ). z % 16) e ∙ m.place) in let up = m.published_up in let below = k.0.1 in
+    phase_stays j q lies far (claimed hand seat) k = let other : q ≢ n = λ e. far (sym lies ∙ ap (λ (z : ℕ). z % 16) e ∙ m.place) in
+        let up = m.published_up in let below = k.0.1 in
         ((m.collected_at q other k.0.0, omega arith), m.homes_stay j far ∙ k.1, claim_stays seat hand q other k.2, tally_stays q 0 1 other k.3, k.4)
-    phase_stays j q lies far (drawn hand) k = let other : q ≢ n = λ e. far (sym lies ∙ ap (λ (z : ℕ). z % 16) e ∙ m.place) in let up = m.published_up in let below = k.0.1 in
+    phase_stays j q lies far (drawn hand) k = let other : q ≢ n = λ e. far (sym lies ∙ ap (λ (z : ℕ). z % 16) e ∙ m.place) in
+        let up = m.published_up in let below = k.0.1 in
         ((m.collected_at q other k.0.0, omega arith), (k.1.0, k.1.1, m.homes_stay j far ∙ k.1.2), tally_stays q 1 0 other k.2, k.3)
 
-    cell_stays : (j : ℕ) → j ≢ i → (c : Cell) → CellOk jr dr run f s.words s.homes s.views j c → CellOk jr dr run f' (set s.words i x) homes' (set s.views id w) j c
-    cell_stays j far c k = record { shows = get_or-set_other s.words i j x 0 (λ e. far (omega arith)) ∙ k.shows; lies = k.lies; phase = phase_stays j c.0 k.lies far c.1 k.phase }
+    cell_stays : (j : ℕ) → j ≢ i → (c : Cell) → CellOk jr dr run f s.words s.homes s.views j c
+        → CellOk jr dr run f' (set s.words i x) homes' (set s.views id w) j c
+    cell_stays j far c k = record {
+      shows = get_or-set_other s.words i j x 0 (λ e. far (omega arith))
+          ∙ k.shows;
+      lies = k.lies;
+      phase = phase_stays j c.0 k.lies far c.1 k.phase;
+    }
 
     -- what another seat knows of a cell that it does not hold
     knows_stays : (j : ℕ) (u : View R) → j ≢ id → Knows run r.cells j u → Knows run (cells_with r.cells i c') j u
@@ -128,8 +146,10 @@ module _ {R J D : Type 0} (jr : R → ℕ → J → Type 0) (dr : R → ℕ → 
       small = m.small';
       few = subst (λ (z : ℕ). z ≤ 33) (sym m.hands') r.few;
       seen_drawn = m.seen';
-      each_cell = λ j l. at_cells_with r.cells i c' (CellOk jr dr run f' (set s.words i x) homes' (set s.views id w)) j m.cell' (λ far. cell_stays j far (r.cells j) (r.each_cell j l));
-      each_seat = λ j u e. ⊎_elim (λ (h : (j ≡ id) × (w ≡ u)). subst (λ (y : ℕ × View R). Knows run (cells_with r.cells i c') y.0 y.1) (λ k. (sym h.0 k, h.1 k)) m.knows')
+      each_cell = λ j l. at_cells_with r.cells i c' (CellOk jr dr run f' (set s.words i x) homes' (set s.views id w)) j m.cell'
+          (λ far. cell_stays j far (r.cells j) (r.each_cell j l));
+      each_seat = λ j u e. ⊎_elim (λ (h : (j ≡ id) × (w ≡ u)). subst (λ (y : ℕ
+          × View R). Knows run (cells_with r.cells i c') y.0 y.1) (λ k. (sym h.0 k, h.1 k)) m.knows')
           (λ (h : (j ≢ id) × (get_elem? s.views j ≡ some u)). knows_stays j u h.0 (r.each_seat j u h.1)) (at_set s.views id j w u e);
       numbers = λ k l. total_same (hand_count k) s.views id v w m.at (m.bears_same k) ∙ r.numbers k (subst (λ (z : ℕ). k < z) m.hands' l);
       no_others = λ k l. total_same (hand_count k) s.views id v w m.at (m.bears_same k) ∙ r.no_others k (subst (λ (z : ℕ). z ≤ k) m.hands' l);

@@ -43,6 +43,7 @@ IsOffered word = word % 4 ≡ 1
 abbrev pub IsRefused : Look → Type 0
 IsRefused look = MatchOption look.found (IsOffered look.word → ⊥) (λ word. IsOffered look.word × (word ≢ look.word))
 
+-- the look that a failed try adds
 abbrev pub try_at : ℕ → Option ℕ → List (ℕ × ℕ)
 try_at place None = []
 try_at place (Some word) = (place, word) ∷ []
@@ -57,19 +58,22 @@ looks_from place [] = []
 looks_from place (look ∷ looks) = looks_at place look ++ looks_from (suc place) looks
 
 module _ {R : Type 0} where
+  -- more looks were added, and nothing else changed
   abbrev pub after_looks : View R → List (ℕ × ℕ) → View R
   after_looks v looks = record v { looks = v.looks ++ looks }
 
   module _ {J : Type 0} (right_job : R → ℕ → J → Type 0) (old new : View R) where
     -- the band that was offered at the place is claimed, and the job is right for the hand's own run
     abbrev pub ClaimsAt : ℕ → ℕ → J → Type 0
-    ClaimsAt place number job = (number % 16 ≡ place) × RightFor right_job old.run number job × (new ≡ after_claim (after_look old place (256 * number + 1)) number)
+    ClaimsAt place number job = (number % 16 ≡ place) × RightFor right_job old.run number job
+        × (new ≡ after_claim (after_look old place (256 * number + 1)) number)
 
     -- a try to claim at a place
     abbrev pub TriesAt : ℕ → Result (ℕ × J) Look → Type 0
     TriesAt place tried = MatchResult tried (λ got. ClaimsAt place got.0 got.1) (λ look. IsRefused look × (new ≡ after_looks old (looks_at place look)))
 
-    -- A claim tries the places in order. It gives the first band that it gets, with a job that is right for the hand's own run. Nothing comes only with a refused look at each of the sixteen places. It looks at nothing else
+    -- A claim tries the places in order. It gives the first band that it gets, with a job that is right for the hand's own run.
+    -- Nothing comes only with a refused look at each of the sixteen places. It looks at nothing else
     abbrev pub Claims : {W D : Type 0} → Claim W R J D → Type 0
     Claims (Got number job) = (before : List Look) × (length before ≡ number % 16) × All IsRefused before × RightFor right_job old.run number job
         × (new ≡ after_claim (after_looks old (looks_from 0 before ++ (number % 16, 256 * number + 1) ∷ [])) number)
@@ -77,5 +81,6 @@ module _ {R : Type 0} where
 
   -- A try to collect looks once, at the first outstanding band. It gives that band where the look found phase 3, and else hands the word back
   abbrev pub CollectsFirst : {W J D : Type 0} → (R → ℕ → D → Type 0) → View R → View R → Collected W R J D → Type 0
-  CollectsFirst right_drawn old new (GotDrawn number drawn) = (number ≡ old.collected) × RightFor right_drawn old.run number drawn × ((word : ℕ) × (word % 4 ≡ 3) × (new ≡ after_collection (after_watch old word)))
+  CollectsFirst right_drawn old new (GotDrawn number drawn) = (number ≡ old.collected) × RightFor right_drawn old.run number drawn × ((word : ℕ)
+      × (word % 4 ≡ 3) × (new ≡ after_collection (after_watch old word)))
   CollectsFirst right_drawn old new (NotYet word) = (word % 4 ≢ 3) × (new ≡ after_watch old word)

@@ -1,5 +1,6 @@
 -- The rule of the board, which holds between any two steps.
--- Word j of the first sixteen is 256 n + 4 hand + phase, where n is a number with n % 16 = j, and the phase is 0 vacant, 1 offered, 2 claimed or 3 drawn. Word 16 is 0, and 1 once the board is closed.
+-- Word j of the first sixteen is 256 n + 4 hand + phase, where n is a number with n % 16 = j, and the phase is
+-- 0 vacant, 1 offered, 2 claimed or 3 drawn. Word 16 is 0, and 1 once the board is closed.
 -- Each place has a slot. A slot is at home, where anybody's step may take it, or out with one seat.
 use Rattle.std.specs.Prelude.{◌≡◌, ◌≢◌, ℕ, ◌+◌, ◌*◌, ◌^◌, ◌%◌, ◌<◌, ◌≤◌, ◌==◌, Bool, true, if◌then◌else◌, List, [], ◌∷◌, length, Option, Some, None, slice_index}
 use mathlib.Core.Option.{some, none}
@@ -31,6 +32,7 @@ word_of n offered = 256 * n + 1
 word_of n (claimed hand seat) = 256 * n + 4 * hand + 2
 word_of n (drawn hand) = 256 * n + 4 * hand + 3
 
+-- 1 where b is true
 abbrev pub one_if : Bool → ℕ
 one_if b = if b then 1 else 0
 
@@ -49,6 +51,7 @@ abbrev pub joined_count : ℕ → List (ℕ × List ℕ) → ℕ
 joined_count k [] = 0
 joined_count k (x ∷ xs) = one_if (x.0 == k) + joined_count k xs
 
+-- 1 where the claimed band is n
 abbrev pub claims_in : ℕ → Option ℕ → ℕ
 claims_in n None = 0
 claims_in n (Some m) = one_if (m == n)
@@ -73,6 +76,7 @@ module _ {R : Type 0} where
   abbrev pub list_count : ℕ → View R → ℕ
   list_count n v = times n v.done + times_joined n v.joined
 
+  -- 1 where a view claims n
   abbrev pub claim_count : ℕ → View R → ℕ
   claim_count n v = claims_in n v.claim
 
@@ -81,6 +85,7 @@ module _ {R : Type 0} where
     pub lists_are : total (list_count n) views ≡ listings
     pub claims_are : total (claim_count n) views ≡ claimants
 
+  -- n is published and not collected
   abbrev pub IsOutstanding : View R → ℕ → Type 0
   IsOutstanding front n = (front.collected ≤ n) × (n < front.published)
 
@@ -114,19 +119,24 @@ abbrev pub Homes : Type 0 → Type 0 → Type 0
 Homes J D = List (maybe.Option (Slot J D))
 
 module _ {J D : Type 0} where
+  -- the slot is out with a seat: with the hand that claimed its band, or with the front
   abbrev pub IsOut : Homes J D → ℕ → Type 0
   IsOut homes i = get_elem? homes i ≡ some none
 
+  -- the slot is at home and holds this
   abbrev pub HasHome : Homes J D → ℕ → Slot J D → Type 0
   HasHome homes i slot = get_elem? homes i ≡ some (some slot)
 
 module _ {R J D : Type 0} (right_job : R → ℕ → J → Type 0) (right_drawn : R → ℕ → D → Type 0) where
-  -- What is so of the place i while it has the number n and a phase. The upper bound makes a vacant number the least of its place that is not below `published`
+  -- What is so of the place i while it has the number n and a phase. The slot of a vacant place is out with the front, once it was opened.
+  -- The upper bound makes a vacant number the least of its place that is not below `published`
   abbrev pub InPhase : R → View R → Homes J D → List (View R) → ℕ → ℕ → Phase → Type 0
-  InPhase run front homes views i n vacant = (front.published ≤ n) × (n < front.collected + 16) × (front.opened ≤ i → HasHome homes i None) × (i < front.opened → IsOut homes i)
+  InPhase run front homes views i n vacant = (front.published ≤ n) × (n < front.collected + 16) × (front.opened ≤ i → HasHome homes i None)
+      × (i < front.opened → IsOut homes i)
   InPhase run front homes views i n offered = IsOutstanding front n × ((job : J) × right_job run n job × HasHome homes i (Some (Job job))) × Tally views n 0 0
   InPhase run front homes views i n (claimed hand seat) = IsOutstanding front n × IsOut homes i × HasClaimed views seat hand n × Tally views n 0 1 × (hand < 33)
-  InPhase run front homes views i n (drawn hand) = IsOutstanding front n × ((band : D) × right_drawn run n band × HasHome homes i (Some (Drawn band))) × Tally views n 1 0 × (hand < 33)
+  InPhase run front homes views i n (drawn hand) = IsOutstanding front n × ((band : D) × right_drawn run n band × HasHome homes i (Some (Drawn band)))
+      × Tally views n 1 0 × (hand < 33)
 
   -- the word of the place i shows its cell, and the cell is as its phase says
   pub record CellOk (run : R) (front : View R) (words : List ℕ) (homes : Homes J D) (views : List (View R)) (i : ℕ) (c : Cell) : Type 0 where

@@ -46,7 +46,8 @@ module _ {R J D : Type 0} where
 
   -- The try finds the offered word, claims the band and takes out the slot with a job that is right for the hand's own run. Or it is one more look at the place
   abbrev pub TellsTry : (R → ℕ → J → Type 0) → Step (Slot J D) → Seated R J D → ℕ → Seated R J D → Type 0
-  TellsTry right st m r m' = (r ≡ st.first → (n : ℕ) × (st.first ≡ 256 * n + 1) × ((job : J) × RightFor right m.0.run n job × (m' ≡ (after_claim m.0 n, (st.word, Some (Job job)) ∷ m.1))))
+  TellsTry right st m r m' = (r ≡ st.first → (n : ℕ) × (st.first ≡ 256 * n + 1) × ((job : J) × RightFor right m.0.run n job
+      × (m' ≡ (after_claim m.0 n, (st.word, Some (Job job)) ∷ m.1))))
       × (r ≢ st.first → m' ≡ (after_look m.0 st.word r, m.1))
 
   -- The hand gives the slot back, with the drawn band. Its list has no number twice, and none from 2^32 on

@@ -7,7 +7,21 @@ use Rattle.band_board.specs.declared.view.Role.TheVariants.{Front, Hand, Spent}
 module _ {R : Type 0} where
   -- a view of a role with a run and a hand number, which has seen and done nothing
   abbrev pub blank_view : Role → Option R → ℕ → View R
-  blank_view role run hand = record { role = role; run = run; looks = []; opened = 0; published = 0; collected = 0; noted = false; hands = 0; closed = false; joined = []; hand = hand; claim = None; done = [] }
+  blank_view role run hand = record {
+    role = role;
+    run = run;
+    looks = [];
+    opened = 0;
+    published = 0;
+    collected = 0;
+    noted = false;
+    hands = 0;
+    closed = false;
+    joined = [];
+    hand = hand;
+    claim = None;
+    done = [];
+  }
 
   -- the front's view while the board is made
   abbrev pub first_view : R → View R

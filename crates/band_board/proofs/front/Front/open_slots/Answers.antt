@@ -13,8 +13,9 @@ load-requires g c = let i = c.loop-place.invariant in (
 )
 
 pub loop-place-preserved : goal.loop-place-preserved
-loop-place-preserved g c = let i = c.loop-place.invariant in let place = c.loop-place.place in let opened = c.load.ensures.2 in let turn = c.turn.ensures.2 in record {
-  table = c.turn.ensures.0 ∙ c.load.ensures.0 ∙ i.table;
-  view = ap (λ m. m.0) turn ∙ ap (λ m. m.0) opened ∙ ap after_opening i.view;
-  slots = ap (λ m. m.1) turn ∙ ap (λ m. turned m.1) opened ∙ ap (λ l. l ++ (place, None) ∷ []) i.slots ∙ opened_more place c.loop-place-test.true;
-}
+loop-place-preserved g c = let i = c.loop-place.invariant in let place = c.loop-place.place in let opened = c.load.ensures.2 in
+    let turn = c.turn.ensures.2 in record {
+      table = c.turn.ensures.0 ∙ c.load.ensures.0 ∙ i.table;
+      view = ap (λ m. m.0) turn ∙ ap (λ m. m.0) opened ∙ ap after_opening i.view;
+      slots = ap (λ m. m.1) turn ∙ ap (λ m. turned m.1) opened ∙ ap (λ l. l ++ (place, None) ∷ []) i.slots ∙ opened_more place c.loop-place-test.true;
+    }

@@ -23,7 +23,8 @@ exchange-parcel-requires g c = let told = c.store.ensures.2 in let has = ap (λ 
     (search rules, (Some (Drawn told.0), has ∙ (λ i. (c.args.self.now.collected % 16, Some (Drawn told.0)) ∷ sym (ap rest has) i)))
 
 pub invariant_of-self-2 : goal.invariant_of-self-2
-invariant_of-self-2 g c = let f = c.args.self.now.is_front in let watched = c.load-word.ensures.2 in let stored = c.store.ensures.2.2 in let swapped = c.exchange-parcel.ensures.3 in let turn = c.turn.ensures.2 in
+invariant_of-self-2 g c = let f = c.args.self.now.is_front in let watched = c.load-word.ensures.2 in let stored = c.store.ensures.2.2 in
+    let swapped = c.exchange-parcel.ensures.3 in let turn = c.turn.ensures.2 in
     let view = ap (λ m. m.0) turn ∙ ap (λ m. m.0) swapped ∙ ap (λ m. m.0) stored ∙ ap (λ m. after_collection m.0) watched in
     let some_out = c.requires.some in let p = f.published_is in let q = f.collected_is in let w = f.within in record {
       is_front = record {

@@ -18,7 +18,8 @@ store-requires g c = let h = c.args.self.now.is_hand in let now = c.exchange.ens
 pub invariant_of-self : goal.invariant_of-self
 invariant_of-self g c = let h = c.args.self.now.is_hand in let now = c.exchange.ensures.3 in let n = c.in-Some.number in let claim = h.band_is ∙ c.in-Some.is in
     let told = c.store.ensures.2.0 n (ap (λ m. m.0.claim) now ∙ claim) in
-    let count : length c.store.new.seat.me.0.done ≡ c.args.self.now.count + 1 = ap (λ m. length m.0.done) told ∙ length-append c.exchange.new.seat.me.0.done (n ∷ []) ∙ ap (λ m. length m.0.done + 1) now ∙ ap (λ k. k + 1) h.count_is in
+    let count : length c.store.new.seat.me.0.done ≡ c.args.self.now.count + 1 = ap (λ m. length m.0.done) told
+    ∙ length-append c.exchange.new.seat.me.0.done (n ∷ []) ∙ ap (λ m. length m.0.done + 1) now ∙ ap (λ k. k + 1) h.count_is in
     let most = c.store.ensures.2.1 in record {
       is_hand = record {
         role = ap (λ m. m.0.role) told ∙ ap (λ m. m.0.role) now ∙ h.role;
