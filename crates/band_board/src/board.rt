@@ -55,8 +55,8 @@ impl<W: Work> Board<W> {
     ghost use Rattle.band_board.specs.Answers.{front_view, IsFrontOf};
     ghost use Rattle.band_board.specs.View.{new_front};
 
-    /// A board for a run, and its front, which has nothing published. The rule alone reads the run: the
-    /// board does not keep it.
+    /// A board for a run, and its front, which has nothing published. The rule alone reads the run:
+    /// the board does not keep it.
     pub fn new(alloc: Global, run: Arc<W::Run>) -> Result<(Board<W>, Front<W>), OutOfMemory>
         ensures front { IfOk result (λ made. IsFrontOf made.0 made.1) }
         ensures view { IfOk result (λ made. front_view made.1 ≡ new_front (arc_value run)) }

@@ -93,7 +93,8 @@ impl<W: Work> Front<W> {
         requires board { IsFrontOf board.now self.old }
         requires some { (front_view self.old).collected < (front_view self.old).published }
         ensures board { IsFrontOf board.now self.new }
-        ensures band { CollectsFirst W.right_drawn (front_view self.old) (front_view self.new) result }
+        ensures band { CollectsFirst W.right_drawn (front_view self.old) (front_view self.new)
+            result }
     {
         let shared = &board.table.shared;
         let number = self.collected;
@@ -127,8 +128,8 @@ impl<W: Work> Front<W> {
         Hand::of(seat, number)
     }
 
-    /// Takes a hand back, with the list of the bands that it delivered. Once every hand was joined and
-    /// nothing is outstanding, the lists together hold each published number once.
+    /// Takes a hand back, with the list of the bands that it delivered. Once every hand was joined
+    /// and nothing is outstanding, the lists together hold each published number once.
     pub fn join(&mut self, board: &Board<W>, hand: Hand<W>)
         requires board { IsFrontOf board.now self.old }
         requires hand_board { IsHandOf board.now hand }

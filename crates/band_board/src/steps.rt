@@ -1,4 +1,5 @@
-//! What each step on the board's table tells the seat that makes it. These types are for the proofs alone.
+//! What each step on the board's table tells the seat that makes it. These types are for the
+//! proofs alone.
 
 ghost use Rattle.band_board.specs.Steps.{TellsOpening, TellsLook, TellsWatch, TellsOffer, TellsTry, TellsDelivery, TellsCollection, TellsClose, TellsLists};
 ghost use Rattle.band_board.specs.View.{after_split, next_hand, after_join, spent_view};

@@ -1,4 +1,5 @@
-//! A small kind of work on the board: a job is its run and its number added, and drawing doubles it.
+//! A small kind of work on the board: a job is its run and its number added, and drawing doubles
+//! it.
 
 ghost use Rattle.std.specs.Prelude.{◌≡◌, ◌+◌, ◌*◌, ◌^◌, ◌<◌, Some};
 ghost use Rattle.band_board.specs.Answers.{front_view, IsFrontOf, IsFree};
@@ -65,8 +66,8 @@ fn a_band_goes_from_offer_to_collect(rt: HostRuntime) -> Result<(), Fail> {
     Ok(())
 }
 
-/// Claims, draws and delivers until the board is closed and nothing is there to claim. Returns whether
-/// it ended so, or gave up.
+/// Claims, draws and delivers until the board is closed and nothing is there to claim. Returns
+/// whether it ended so, or gave up.
 fn draw_all(board: &Board<Doubles>, mut hand: Hand<Doubles>) -> (Hand<Doubles>, bool)
     requires { IsFree board.now hand }
     ensures { IsFree board.now result.0 }
@@ -82,8 +83,8 @@ fn draw_all(board: &Board<Doubles>, mut hand: Hand<Doubles>) -> (Hand<Doubles>, 
     (hand, false)
 }
 
-/// Offers so many bands of a run, collects them and closes the board. Returns how many came in order
-/// and right.
+/// Offers so many bands of a run, collects them and closes the board. Returns how many came in
+/// order and right.
 fn feed(
     board: &Board<Doubles>,
     mut front: Front<Doubles>,

@@ -9,14 +9,15 @@ pub enum Role {
     Spent,
 }
 
-/// What the front or a hand knows of the board. No value of it is made: contracts alone speak of it.
+/// What the front or a hand knows of the board. No value of it is made: contracts alone speak of
+/// it.
 /// The fields of the other role stay as they began.
 pub struct View<R> {
     pub role: Role,
     /// The run of the board; a spent view names none.
     pub run: Option<R>,
-    /// The places that were looked at, each with the word that was found there. Place 16 is the mark
-    /// of the close.
+    /// The places that were looked at, each with the word that was found there. Place 16 is the
+    /// mark of the close.
     pub looks: LinkedList<(u64, u64)>,
     /// The front: how many slots it has taken out.
     pub opened: u64,

@@ -3,7 +3,8 @@
 ghost use Rattle.std.specs.Prelude.{ℕ, ◌^◌, ◌<◌};
 
 /// A kind of work in bands: a run that all of them belong to, the job that a band is before it is
-/// drawn, and what it is afterwards. A band is known by its number, from 0 on. No value of it is made.
+/// drawn, and what it is afterwards. A band is known by its number, from 0 on. No value of a kind of
+/// work is made.
 pub trait Work {
     type Run: Drop + Send + Sync;
 
