@@ -3,6 +3,7 @@ use Rattle.std.proofs.Common.{◌≡◌, ◌≢◌, ℕ, zero, suc, ◌+◌, ◌
 use mathlib.Core.Logic.{dite}
 use native.Mathlib.Decide.{ℕ_discrete}
 use Rattle.std.specs.Prelude.{Option, Some, None}
+use Rattle.band_board.specs.Steps.{band_count, HoldsEachOnce}
 use Rattle.band_board.specs.BoardRule.{one_if, times, times_joined, joined_count}
 
 pub at_most_one : (b : Bool) → one_if b ≤ 1
@@ -97,3 +98,18 @@ pub joined_count_more : (k hand : ℕ) (bands : List ℕ) (xs : List (ℕ × Lis
     → joined_count k (xs ++ (hand, bands) ∷ []) ≡ joined_count k xs + one_if (hand == k)
 joined_count_more k hand bands [] = omega arith
 joined_count_more k hand bands (x ∷ xs) = let h = joined_count_more k hand bands xs in omega arith
+
+sum_below_ones : (n : ℕ) (f : ℕ → ℕ) → ((m : ℕ) → m < n → f m ≡ 1) → sum_below n f ≡ n
+sum_below_ones zero f one = refl
+sum_below_ones (suc n) f one = let h = sum_below_ones n f (λ m l. one m (omega arith)) in let k = one n (omega arith) in omega arith
+
+joined_counted : (n : ℕ) (joined : List (ℕ × List ℕ)) → ((m : ℕ) → n ≤ m → times_joined m joined ≡ 0)
+    → sum_below n (λ m. times_joined m joined) ≡ band_count joined
+joined_counted n [] none = sum_below_none n (λ m. 0) (λ m l. refl)
+joined_counted n (x ∷ xs) none = let first = length_counted n x.1 (λ m le. let h = none m le in omega arith) in
+    let rest = joined_counted n xs (λ m le. let h = none m le in omega arith) in
+    let both = sum_below_plus n (λ m. times m x.1) (λ m. times_joined m xs) in omega arith
+
+-- lists that hold each number below n once hold n numbers in all
+pub band_count-each_once : (n : ℕ) (joined : List (ℕ × List ℕ)) → HoldsEachOnce n joined → band_count joined ≡ n
+band_count-each_once n joined each = sym (joined_counted n joined each.1) ∙ sum_below_ones n (λ m. times_joined m joined) each.0

@@ -2,7 +2,8 @@ mod Totals
 mod Faces
 mod Moved
 mod Reviewed
-mod Counted
+-- the number of bands in all lists, for a crate that counts them
+pub mod Counted
 mod HandSteps
 mod FrontSteps
 mod Endings

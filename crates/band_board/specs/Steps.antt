@@ -1,5 +1,5 @@
 -- What each step on the board tells the seat that makes it: of the step, the seat before, the word found (at a store, the word stored) and the seat after.
-use Rattle.std.specs.Prelude.{◌≡◌, ◌≢◌, ℕ, ◌+◌, ◌*◌, ◌%◌, ◌^◌, ◌<◌, ◌≤◌, List, ◌∷◌, length, Option, Some, None}
+use Rattle.std.specs.Prelude.{◌≡◌, ◌≢◌, ℕ, ◌+◌, ◌*◌, ◌%◌, ◌^◌, ◌<◌, ◌≤◌, List, [], ◌∷◌, length, Option, Some, None}
 use Rattle.atomic_table.specs.Table.{Me, Step, rest}
 use Rattle.band_board.specs.declared.view.View.{View}
 use Rattle.band_board.specs.declared.view.Parcel.TheVariants.{Job, Drawn}
@@ -13,6 +13,11 @@ OffersAt place word = (n : ℕ) × (word ≡ 256 * n + 1) × (n % 16 ≡ place) 
 -- each number below n stands once in the lists, and no other does
 abbrev pub HoldsEachOnce : ℕ → List (ℕ × List ℕ) → Type 0
 HoldsEachOnce n joined = ((m : ℕ) → m < n → times_joined m joined ≡ 1) × ((m : ℕ) → n ≤ m → times_joined m joined ≡ 0)
+
+-- how many bands stand in the lists
+abbrev pub band_count : List (ℕ × List ℕ) → ℕ
+band_count [] = 0
+band_count (x ∷ xs) = length x.1 + band_count xs
 
 module _ {R : Type 0} where
   -- every hand was joined, and nothing is outstanding
