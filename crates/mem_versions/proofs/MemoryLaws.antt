@@ -148,12 +148,14 @@ changed-all base words writes count present all = present ∙ ap (changed base) 
 
 -- what a cut gives
 pub IsViewOf-made : (chip : ChipValue) (now : ℕ) (view : ViewValue) → view.from ≡ chip.last → view.to ≡ now → view.base ≡ chip.base →
-    ((place : ℕ) → writes_to place view.writes ≡ writes_to place (writes_below now chip.writes)) → IsViewOf chip now view
-IsViewOf-made chip now view from to base writes =
+    ((place : ℕ) → writes_to place view.writes ≡ writes_to place (writes_below now chip.writes)) →
+    length view.writes ≡ length (writes_below now chip.writes) → IsViewOf chip now view
+IsViewOf-made chip now view from to base writes count =
     record {
       from = from;
       to = to;
       base = base;
       writes = writes;
+      count = count;
       memory = λ clock early. ap (λ (words : List ℕ). memory_at clock words view.writes) base ∙ memory_at-same now clock view.writes chip.writes chip.base early writes;
     }

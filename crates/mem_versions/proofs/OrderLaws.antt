@@ -46,9 +46,10 @@ pub IsInOrder-sorted : (writes list : List Write) → IsNonDecreasingBy (λ w. w
     IsStableByKey (λ (w : Write). w.place) nat_cmp writes list → IsInOrder list
 IsInOrder-sorted writes list rising sorted stable i j d order within =
     far list
-    (λ k e next.
-    (IsNonDecreasingBy-from_sort (λ (w : Write). w.place) list sorted k (k + 1) e (omega arith) next,
-    λ same. ties_still_rise (λ (w : Write). w.clock) (λ (w : Write). w.place) writes list (IsSortedByKey-from_clocks writes rising) stable k e next same))
+    (λ k e next. (
+      IsNonDecreasingBy-from_sort (λ (w : Write). w.place) list sorted k (k + 1) e (omega arith) next,
+      λ same. ties_still_rise (λ (w : Write). w.clock) (λ (w : Write). w.place) writes list (IsSortedByKey-from_clocks writes rising) stable k e next same,
+    ))
     i (j - i) j d (omega arith) within
 
 -- it keeps the writes to each place in their order
@@ -87,8 +88,10 @@ page-writes writes page start end begin stop order =
   where
     apart : (page place : ℕ) → place < 256 * page → (place / 256 == page) ≡ false
     apart page place low = let ne : place / 256 ≢ page = omega arith in grind (arith, nat_tests)
+
     on : (page place : ℕ) → 256 * page ≤ place → place < 256 * (page + 1) → (place / 256 == page) ≡ true
     on page place least most = let is : place / 256 ≡ page = omega arith in grind (arith, nat_tests)
+
     beyond : (page place : ℕ) → 256 * (page + 1) ≤ place → (place / 256 == page) ≡ false
     beyond page place high = let ne : place / 256 ≢ page = omega arith in grind (arith, nat_tests)
 
@@ -119,5 +122,6 @@ same-page place clock w counts = from_place (first (w.place == place) (nat_lt w.
     first : (a b : Bool) → (a && b) ≡ true → a ≡ true
     first true b both = refl
     first false b both = both
+
     from_place : (w.place == place) ≡ true → (w.place / 256 == place / 256) ≡ true
     from_place here = let is : w.place ≡ place = grind (arith, nat_tests) in let page : w.place / 256 ≡ place / 256 = ap (λ k. k / 256) is in grind (arith, nat_tests)

@@ -1,5 +1,5 @@
 -- A view of the memory as contracts see it.
-use Rattle.std.specs.Prelude.{◌≡◌, ◌≤◌, ℕ, List, slice_index}
+use Rattle.std.specs.Prelude.{◌≡◌, ◌≤◌, ℕ, List, length, slice_index}
 use Rattle.ocs_base.specs.declared.addr.Addr.{Addr}
 use Rattle.mem_versions.specs.declared.write.Write.{Write}
 use Rattle.mem_versions.specs.Chip.{ChipValue, word_index}
@@ -30,5 +30,6 @@ pub record IsViewOf (chip : ChipValue) (now : ℕ) (view : ViewValue) : Type 0 w
   pub base : view.base ≡ chip.base
   -- to each place the writes are those of clocks below the cut, in the order in which they happened
   pub writes : (place : ℕ) → writes_to place view.writes ≡ writes_to place (writes_below now chip.writes)
+  pub count : length view.writes ≡ length (writes_below now chip.writes)
   -- up to the cut the memory at each clock is the chip's
   pub memory : (clock : ℕ) → clock ≤ now → memory_at clock view.base view.writes ≡ memory_at clock chip.base chip.writes

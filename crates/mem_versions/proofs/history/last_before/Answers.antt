@@ -56,8 +56,10 @@ loop-low-preserved g c =
     let d : Write = record { clock = 0; place = 0; word = 0 } in
     let within : middle < length writes = omega arith in
     let late : IsLate c.args.place c.args.clock (get_or writes middle d) =
-    elim c.else-write-place.branch [ else-write-place-via-then-write-place+else-write-clock w ↦ λ here. w.if-write-clock.false
-    | else-write-place-via-else-write-place w ↦ λ here. absurd (w.if-write-place.false here) ]
+    elim c.else-write-place.branch [
+      | else-write-place-via-then-write-place+else-write-clock w ↦ λ here. w.if-write-clock.false
+      | else-write-place-via-else-write-place w ↦ λ here. absurd (w.if-write-place.false here)
+    ]
     in
     record {
       order = omega arith;

@@ -1,5 +1,5 @@
 -- The view has the writes before the cut, and the new base is the memory at the cut.
-use Rattle.std.proofs.Common.{◌≡◌, ℕ, ◌≤◌, List, take, ap, sym, ◌∙◌, arith}
+use Rattle.std.proofs.Common.{◌≡◌, ℕ, ◌≤◌, List, length, take, ap, sym, ◌∙◌, arith}
 use Rattle.mem_versions.specs.declared.write.Write.{Write}
 use Rattle.mem_versions.specs.MemoryAt.{changed, writes_to, writes_below}
 use Rattle.mem_versions.specs.Chip.{ChipValue}
@@ -30,9 +30,16 @@ returns-clause-view c =
     (ap (λ (v : ViewValue). v.base) c.new-view.ensures ∙ c.replace-base.ensures.value ∙ ap (λ (v : ChipValue). v.base) is)
     (λ place.
     ap (λ (v : ViewValue). writes_to place v.writes) c.new-view.ensures
-    ∙ c.in_ok-history.ensures place
+    ∙ c.in_ok-history.ensures.same place
     ∙ ap (λ (ws : List Write). writes_to place (take count ws)) c.deref-2.ensures.value
     ∙ ap (λ (ws : List Write). writes_to place (take count ws)) (sym c.deref.ensures.value)
     ∙ ap (writes_to place) c.count_below-count.ensures.below
     ∙ ap (λ (ws : List Write). writes_to place (writes_below now ws)) c.deref.ensures.value
     ∙ ap (λ (v : ChipValue). writes_to place (writes_below now v.writes)) is)
+    (ap (λ (v : ViewValue). length v.writes) c.new-view.ensures
+    ∙ c.in_ok-history.ensures.count
+    ∙ ap (λ (ws : List Write). length (take count ws)) c.deref-2.ensures.value
+    ∙ ap (λ (ws : List Write). length (take count ws)) (sym c.deref.ensures.value)
+    ∙ ap length c.count_below-count.ensures.below
+    ∙ ap (λ (ws : List Write). length (writes_below now ws)) c.deref.ensures.value
+    ∙ ap (λ (v : ChipValue). length (writes_below now v.writes)) is)
