@@ -1,37 +1,37 @@
 -- Laws of the memory at a clock.
-use Rattle.std.proofs.Common.{◌≡◌, ℕ, ◌+◌, ◌-◌, ◌*◌, ◌/◌, ◌<◌, ◌≤◌, ◌≢◌, Bool, true, false, cond, ◌==◌, ◌&&◌, nat_lt, List, [], ◌∷◌, ◌++◌, length, All, take, drop, get_or, refl, sym, ap, subst, ◌∙◌, arith, get_or-set_other, length-set, length-append}
+use Rattle.std.proofs.Common.{◌≡◌, ℕ, ◌+◌, ◌-◌, ◌<◌, ◌≤◌, ◌≢◌, Bool, true, false, cond, ◌==◌, ◌&&◌, nat_lt, List, [], ◌∷◌, ◌++◌, length, take, drop, get_or, refl, sym, ap, subst, ◌∙◌, arith, get_or-set_other, length-set}
 use Rattle.std.proofs.Math.ListN.{set}
 use Rattle.std.specs.List.{filter}
 use Rattle.std.proofs.lemmas.Bool.Decides.{nat_tests}
 use Rattle.std.proofs.lemmas.Grind.{same_number_lists, get_or-set_at}
-use Rattle.std.proofs.lemmas.List.{take-append-drop, take_all, take_more}
-use Rattle.std.proofs.lemmas.List.Elements.{All-drop, All-push, All-weaker, All-get_or}
+use Rattle.std.proofs.lemmas.List.{take-append-drop, take_more}
+use Rattle.std.proofs.lemmas.List.Elements.{All-drop, All-push, All-weaker}
 use Rattle.std.proofs.lemmas.List.Sorted.{IsNonDecreasingBy-drop, IsNonDecreasingBy-push}
 use Rattle.mem_versions.specs.declared.write.Write.{Write}
-use Rattle.mem_versions.specs.MemoryAt.{changed, memory_at, writes_below, writes_from, writes_to}
+use Rattle.mem_versions.specs.MemoryAt.{words_after, memory_at, writes_below, writes_to}
 use Rattle.mem_versions.specs.Chip.{ChipValue}
 use Rattle.mem_versions.specs.MemView.{ViewValue, IsViewOf}
 use Rattle.mem_versions.specs.History.{word_before}
 use Rattle.mem_versions.specs.Sound.{IsSound}
 
-pub length-changed : (words : List ℕ) (writes : List Write) → length (changed words writes) ≡ length words
-length-changed words [] = refl
-length-changed words (w ∷ ws) = length-changed (set words w.place w.word) ws ∙ length-set words w.place w.word
+pub length-words_after : (words : List ℕ) (writes : List Write) → length (words_after words writes) ≡ length words
+length-words_after words [] = refl
+length-words_after words (w ∷ ws) = length-words_after (set words w.place w.word) ws ∙ length-set words w.place w.word
 
-pub changed-append : (words : List ℕ) (writes later : List Write) → changed words (writes ++ later) ≡ changed (changed words writes) later
-changed-append words [] later = refl
-changed-append words (w ∷ ws) later = changed-append (set words w.place w.word) ws later
+pub words_after-append : (words : List ℕ) (writes later : List Write) → words_after words (writes ++ later) ≡ words_after (words_after words writes) later
+words_after-append words [] later = refl
+words_after-append words (w ∷ ws) later = words_after-append (set words w.place w.word) ws later
 
 -- one write more
-pub changed-more : (words : List ℕ) (writes : List Write) (i : ℕ) (d : Write) → i < length writes →
-    changed words (take (i + 1) writes) ≡ set (changed words (take i writes)) (get_or writes i d).place (get_or writes i d).word
-changed-more words writes i d within =
-    ap (changed words) (take_more writes i d within) ∙ changed-append words (take i writes) (get_or writes i d ∷ [])
+pub words_after-more : (words : List ℕ) (writes : List Write) (i : ℕ) (d : Write) → i < length writes →
+    words_after words (take (i + 1) writes) ≡ set (words_after words (take i writes)) (get_or writes i d).place (get_or writes i d).word
+words_after-more words writes i d within =
+    ap (words_after words) (take_more writes i d within) ∙ words_after-append words (take i writes) (get_or writes i d ∷ [])
 
 -- what one write does to the word at a place
 one-change : (made here : Bool) (w : Write) (place clock : ℕ) (rest all : List Write) (words : List ℕ) → place < length words → here ≡ (w.place == place) →
-    ((now : List ℕ) → place < length now → get_or (changed now rest) place 0 ≡ word_before place clock all (get_or now place 0)) →
-    get_or (changed words (cond made (w ∷ rest) rest)) place 0 ≡ word_before place clock all (cond (here && made) w.word (get_or words place 0))
+    ((now : List ℕ) → place < length now → get_or (words_after now rest) place 0 ≡ word_before place clock all (get_or now place 0)) →
+    get_or (words_after words (cond made (w ∷ rest) rest)) place 0 ≡ word_before place clock all (cond (here && made) w.word (get_or words place 0))
 one-change false false w place clock rest all words within is same = same words within
 one-change false true w place clock rest all words within is same = same words within
 one-change true false w place clock rest all words within is same =
@@ -85,9 +85,9 @@ pub memory_at-same : (now clock : ℕ) (kept writes : List Write) (words : List 
     memory_at clock words kept ≡ memory_at clock words writes
 memory_at-same now clock kept writes words early same =
     same_number_lists (memory_at clock words kept) (memory_at clock words writes)
-    (length-changed words (writes_below clock kept) ∙ sym (length-changed words (writes_below clock writes)))
+    (length-words_after words (writes_below clock kept) ∙ sym (length-words_after words (writes_below clock writes)))
     (λ place within.
-    let inside : place < length words = omega (arith, length-changed words (writes_below clock kept)) in
+    let inside : place < length words = omega (arith, length-words_after words (writes_below clock kept)) in
     let word = get_or words place 0 in
     get_or-memory_at clock place kept words inside
     ∙ sym (word_before-filter (λ w. w.place == place) place clock kept word (λ w both. and-first (w.place == place) (nat_lt w.clock clock) both))
@@ -118,7 +118,7 @@ IsSound-write base words after writes grown newest w sound later inside made mor
     let P : List Write → Type 0 = λ ws. IsSound base after ws w.clock in
     subst P is (record {
       size = sound.size;
-      present = made ∙ ap (λ (now : List ℕ). set now w.place w.word) sound.present ∙ sym (changed-append base writes (w ∷ []));
+      present = made ∙ ap (λ (now : List ℕ). set now w.place w.word) sound.present ∙ sym (words_after-append base writes (w ∷ []));
       places = All-push (λ w. w.place < 262144) writes w sound.places inside;
       stamped =
           IsNonDecreasingBy-push (λ w. w.clock) writes w sound.stamped
@@ -128,23 +128,19 @@ IsSound-write base words after writes grown newest w sound later inside made mor
 
 -- after a cut behind so many writes
 pub IsSound-cut : (base words after : List ℕ) (writes left : List Write) (newest now count : ℕ) → IsSound base words writes newest → newest ≤ now →
-    after ≡ changed base (take count writes) → left ≡ drop count writes → IsSound after words left now
+    after ≡ words_after base (take count writes) → left ≡ drop count writes → IsSound after words left now
 IsSound-cut base words after writes left newest now count sound later made rest =
     let is : drop count writes ≡ left = sym rest in
     let P : List Write → Type 0 = λ ws. IsSound after words ws now in
     subst P is (record {
-      size = ap length made ∙ length-changed base (take count writes) ∙ sound.size;
+      size = ap length made ∙ length-words_after base (take count writes) ∙ sound.size;
       present =
-          sound.present ∙ ap (changed base) (sym (take-append-drop count writes)) ∙ changed-append base (take count writes) (drop count writes)
-          ∙ ap (λ (words : List ℕ). changed words (drop count writes)) (sym made);
+          sound.present ∙ ap (words_after base) (sym (take-append-drop count writes)) ∙ words_after-append base (take count writes) (drop count writes)
+          ∙ ap (λ (words : List ℕ). words_after words (drop count writes)) (sym made);
       places = All-drop (λ w. w.place < 262144) count writes sound.places;
       stamped = IsNonDecreasingBy-drop (λ w. w.clock) count writes sound.stamped;
       until = All-drop (λ w. w.clock ≤ now) count writes (All-weaker (λ w. w.clock ≤ newest) (λ w. w.clock ≤ now) (λ w old. omega arith) writes sound.until);
     })
-
--- where all writes are counted, the words after them are the present ones
-pub changed-all : (base words : List ℕ) (writes : List Write) (count : ℕ) → words ≡ changed base writes → count ≡ length writes → words ≡ changed base (take count writes)
-changed-all base words writes count present all = present ∙ ap (changed base) (sym (take_all count writes (omega arith)))
 
 -- what a cut gives
 pub IsViewOf-made : (chip : ChipValue) (now : ℕ) (view : ViewValue) → view.from ≡ chip.last → view.to ≡ now → view.base ≡ chip.base →

@@ -1,19 +1,18 @@
 -- Laws of writes in order of place and then of happening.
-use Rattle.std.proofs.Common.{◌≡◌, ℕ, ◌+◌, ◌-◌, ◌*◌, ◌/◌, ◌^◌, ◌<◌, ◌≤◌, ◌≢◌, Bool, true, false, cond, ◌==◌, ◌&&◌, not, nat_lt, List, [], ◌∷◌, ◌++◌, length, All, take, drop, get_or, zero, suc, refl, sym, ap, subst, ◌∙◌, arith, length-take, length-drop, ◌⊎◌, inl, inr}
+use Rattle.std.proofs.Common.{◌≡◌, ℕ, ◌+◌, ◌-◌, ◌*◌, ◌/◌, ◌<◌, ◌≤◌, ◌≢◌, Bool, true, false, ◌==◌, ◌&&◌, not, nat_lt, List, length, take, drop, get_or, zero, suc, refl, sym, ap, subst, ◌∙◌, arith, length-take, length-drop, ◌⊎◌, inl, inr}
 use Rattle.std.specs.List.{filter}
 use Rattle.std.specs.Ordering.{is_lt, nat_cmp}
 use Rattle.std.specs.List.Sorted.{IsNonDecreasingBy, IsSortedByKey, IsStableByKey, ties}
 use Rattle.std.proofs.lemmas.Bool.Decides.{nat_tests}
 use Rattle.std.proofs.lemmas.Bool.{cases_lt}
 use Rattle.std.proofs.lemmas.Grind.{get_or_default_zero}
-use Rattle.std.proofs.lemmas.List.{take-append-drop, take_all, take_more, get_or-take, get_or-drop}
-use Rattle.std.proofs.lemmas.List.Elements.{filter_agree, All-head, All-tail}
+use Rattle.std.proofs.lemmas.List.{get_or-take, get_or-drop}
+use Rattle.std.proofs.lemmas.List.Elements.{filter_agree}
 use Rattle.std.proofs.lemmas.List.Sorted.{IsNonDecreasingBy-from_sort, ties_still_rise}
 use Rattle.mem_versions.specs.declared.write.Write.{Write}
 use Rattle.mem_versions.specs.MemoryAt.{writes_to}
-use Rattle.mem_versions.specs.History.{word_before, IsInOrder, IsStart, AreStarts}
-use Rattle.mem_versions.proofs.FilterLaws.{All-front, All-back, filter-middle}
-use Rattle.mem_versions.proofs.MemoryLaws.{word_before-append}
+use Rattle.mem_versions.specs.History.{IsInOrder, IsStart, AreStarts}
+use Rattle.mem_versions.proofs.FilterLaws.{filter-middle}
 
 -- one write may stand before another
 abbrev pub Precedes : Write → Write → Type 0

@@ -1,9 +1,9 @@
 -- Laws of words in pages of 256.
-use Rattle.std.proofs.Common.{take-add, ◌≡◌, ℕ, ◌+◌, ◌-◌, ◌*◌, ◌/◌, ◌%◌, ◌<◌, ◌≤◌, List, [], ◌∷◌, ◌++◌, length, All, take, drop, get_or, zero, suc, refl, sym, ap, ◌∙◌, subst, arith, length-append, Result, Ok, Err, OnErr}
+use Rattle.std.proofs.Common.{take-add, ◌≡◌, ℕ, ◌+◌, ◌-◌, ◌*◌, ◌<◌, List, [], ◌∷◌, ◌++◌, length, All, take, drop, get_or, zero, suc, refl, sym, ap, ◌∙◌, arith, length-append, Result, Ok, Err, OnErr}
 use Rattle.std.proofs.Math.ListN.{set}
 use Rattle.std.proofs.Math.Seq.{drop-append-add}
 use Rattle.std.specs.List.{flat_map, AllZip}
-use Rattle.std.proofs.lemmas.List.{get_or_append_left as get_or-append, take_all, take-append-le, set-append_left, set-append_right, get_or-append_right, take_more, flat_map_more, append-nil}
+use Rattle.std.proofs.lemmas.List.{get_or_append_left as get_or-append, take_all, take-append-le, set-append_left, set-append_right, get_or-append_right, flat_map_more}
 use Rattle.std.proofs.lemmas.List.Elements.{All-head, All-tail, All-cons}
 
 -- every page has 256 words

@@ -1,5 +1,5 @@
 -- The writes of a view, in order of place and then of happening.
-use Rattle.std.specs.Prelude.{◌≡◌, ◌+◌, ◌*◌, ◌≤◌, ◌<◌, ℕ, Bool, ◌==◌, ◌&&◌, nat_lt, if◌then◌else◌, List, [], ◌∷◌, length, All, slice_index, slice_index_or}
+use Rattle.std.specs.Prelude.{◌≡◌, ◌*◌, ◌≤◌, ◌<◌, ℕ, ◌==◌, ◌&&◌, nat_lt, if◌then◌else◌, List, [], ◌∷◌, length, slice_index, slice_index_or}
 use Rattle.mem_versions.specs.declared.write.Write.{Write}
 
 -- the word of the last write to a place of a clock below one, or a word where there is none

@@ -5,7 +5,7 @@ ghost use Rattle.std.specs.Borrow.{sem};
 ghost use Rattle.std.specs.List.Sorted.{IsNonDecreasingBy};
 ghost use Rattle.ocs_base.specs.Memory.{words, memory_of};
 ghost use Rattle.mem_versions.specs.declared.write.Write.{Write as WriteValue};
-ghost use Rattle.mem_versions.specs.MemoryAt.{changed, writes_below, writes_from};
+ghost use Rattle.mem_versions.specs.MemoryAt.{words_after, writes_below, writes_from};
 
 use crate::history::History;
 use crate::pages::{PAGE, PAGES, Pages};
@@ -154,7 +154,7 @@ impl Chip {
     {
         let count = count_below(&self.writes, now.0);
         let history = History::new(self.alloc, &self.writes[..count])?;
-        let words = words_after(&self.base, &self.words, &self.writes, count)?;
+        let words = pages_after(&self.base, &self.words, &self.writes, count)?;
         let base = mem::replace(&mut self.base, words);
         let view = MemView::new(self.last, now.0, base, history);
         remove_first(&mut self.writes, count);
@@ -169,7 +169,8 @@ impl Chip {
         ensures word { result ≡ word_then view.now c.0 a }
         ensures reads { self.new ≡ after_reads self.old 1 }
     {
-        self.reads = self.reads.saturating_add(1);
+        let reads = self.reads.saturating_add(1);
+        self.reads = reads;
         view.at(c, a)
     }
 }
@@ -185,16 +186,16 @@ fn count_below(writes: &[Write], clock: u64) -> usize
 }
 
 /// The words after the first writes. Where these are all, they are the present words.
-fn words_after(
+fn pages_after(
     base: &Pages,
     words: &Pages,
     writes: &[Write],
     count: usize,
 ) -> Result<Pages, OutOfMemory>
     requires within { count ≤ length writes.now }
-    requires present { words.now ≡ changed base.now writes.now }
+    requires present { words.now ≡ words_after base.now writes.now }
     requires places { All (λ (write : WriteValue). write.place < 262144) writes.now }
-    ensures { IfOk result (λ after. after ≡ changed base.now (take count writes.now)) }
+    ensures { IfOk result (λ after. after ≡ words_after base.now (take count writes.now)) }
 {
     if count == writes.len() {
         return words.share();

@@ -41,7 +41,7 @@ impl History {
         ensures same { IfOk result (λ history. (place : ℕ) → writes_to place history ≡ writes_to place writes.now) }
         ensures count { IfOk result (λ history. length history ≡ length writes.now) }
     {
-        let writes = in_order(alloc, writes)?;
+        let writes = sorted_writes(alloc, writes)?;
         let starts = page_starts(alloc, &writes)?;
         Ok(History { writes, starts })
     }
@@ -83,7 +83,7 @@ fn part(writes: &[Write], start: usize, end: usize) -> &[Write]
 }
 
 /// The writes in order of place; those to one place stay in order.
-fn in_order(alloc: Global, writes: &[Write]) -> Result<Vec<Write>, OutOfMemory>
+fn sorted_writes(alloc: Global, writes: &[Write]) -> Result<Vec<Write>, OutOfMemory>
     requires { IsNonDecreasingBy (λ (write : WriteValue). write.clock) writes.now }
     ensures order { IfOk result (λ list. IsInOrder list.items) }
     ensures same { IfOk result (λ list. (place : ℕ) → writes_to place list.items ≡ writes_to place writes.now) }

@@ -134,8 +134,23 @@ fn write_word(
         words[index] = word;
         return Ok(());
     }
-    let mut copy = **page;
-    copy[index] = word;
-    *page = Arc::new(alloc, copy)?;
+    *page = changed_copy(alloc, page, index, word)?;
     Ok(())
+}
+
+/// A copy of a page with a word written. It stands apart, so that a write in place pays for no copy.
+#[cold]
+#[inline(never)]
+fn changed_copy(
+    alloc: Global,
+    page: &Page,
+    index: usize,
+    word: u16,
+) -> Result<Arc<Page>, OutOfMemory>
+    requires { index < 256 }
+    ensures { IfOk result (λ copy. arc_value copy ≡ slice_set page.now index word) }
+{
+    let mut copy = *page;
+    copy[index] = word;
+    Ok(Arc::new(alloc, copy)?)
 }

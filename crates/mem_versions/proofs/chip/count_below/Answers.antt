@@ -1,5 +1,5 @@
 -- Clocks do not fall, so the writes below one come first.
-use Rattle.std.proofs.Common.{◌≡◌, ◌≤◌, not, nat_lt, true, false, ap, arith, rules}
+use Rattle.std.proofs.Common.{not, nat_lt, ap, arith, rules}
 use Rattle.std.proofs.lemmas.List.Sorted.{IsPartitionPoint-from_clause, IsPartitionedBy-ltb}
 use Rattle.mem_versions.proofs.FilterLaws.{filter-front, filter-back}
 use Rattle.mem_versions.proofs.chip.count_below.Goals as goal

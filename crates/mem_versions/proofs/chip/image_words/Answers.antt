@@ -1,6 +1,6 @@
 -- The words of the image, filled up with zeros, are its memory.
 use Rattle.std.proofs.Common.{◌≡◌, ℕ, ◌-◌, List, ◌++◌, length, take, replicate, ap, ◌∙◌}
-use Rattle.ocs_base.specs.Memory.{words, memory_of}
+use Rattle.ocs_base.specs.Memory.{words}
 use Rattle.mem_versions.proofs.WordsLaws.{memory_of-filled}
 use Rattle.mem_versions.proofs.chip.image_words.Goals as goal
 

@@ -1,5 +1,5 @@
 -- A look halves the writes that are left.
-use Rattle.std.proofs.Common.{◌≡◌, ℕ, ◌+◌, ◌-◌, ◌*◌, ◌/◌, ◌<◌, ◌≤◌, List, length, get_or, arith}
+use Rattle.std.proofs.Common.{◌+◌, ◌-◌, ◌/◌, ◌<◌, length, get_or, arith}
 use Rattle.mem_versions.specs.declared.write.Write.{Write}
 use Rattle.mem_versions.proofs.SearchLaws.{IsLate, word_before-last, word_before-lower, late-from, word_before-end, halves-next, cost-next}
 use Rattle.mem_versions.proofs.history.last_before.Goals as goal

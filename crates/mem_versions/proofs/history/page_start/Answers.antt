@@ -1,5 +1,5 @@
 -- Places do not fall, so the writes to lower pages come first.
-use Rattle.std.proofs.Common.{◌≡◌, ◌*◌, ◌<◌, ◌≤◌, nat_lt, true, false, get_or, arith, rules}
+use Rattle.std.proofs.Common.{◌*◌, ◌<◌, ◌≤◌, nat_lt, get_or, arith, rules}
 use Rattle.std.proofs.lemmas.Bool.{ltb-true, ltb-false}
 use Rattle.std.proofs.lemmas.List.Sorted.{IsPartitionPoint-from_clause, IsPartitionedBy-ltb}
 use Rattle.mem_versions.proofs.history.page_start.Goals as goal

@@ -1,7 +1,7 @@
 -- The view has the writes before the cut, and the new base is the memory at the cut.
-use Rattle.std.proofs.Common.{◌≡◌, ℕ, ◌≤◌, List, length, take, ap, sym, ◌∙◌, arith}
+use Rattle.std.proofs.Common.{◌≤◌, List, length, take, ap, sym, ◌∙◌, arith}
 use Rattle.mem_versions.specs.declared.write.Write.{Write}
-use Rattle.mem_versions.specs.MemoryAt.{changed, writes_to, writes_below}
+use Rattle.mem_versions.specs.MemoryAt.{words_after, writes_to, writes_below}
 use Rattle.mem_versions.specs.Chip.{ChipValue}
 use Rattle.mem_versions.specs.MemView.{ViewValue}
 use Rattle.mem_versions.proofs.MemoryLaws.{IsSound-cut, IsViewOf-made}
@@ -15,7 +15,7 @@ invariant_of-self c =
     let later : c.self.inside.newest ≤ c.args.now.0 = omega (arith, ap (λ (v : ChipValue). v.newest) c.self.view_is) in
     IsSound-cut base c.self.inside.words c.replace-base.new.dest writes c.remove_first.new.writes.items c.self.inside.newest c.args.now.0 count
     c.self.invariant later
-    (c.replace-base.ensures.after ∙ c.in_ok-words.ensures ∙ ap (λ (ws : List Write). changed base (take count ws)) c.deref-3.ensures.value)
+    (c.replace-base.ensures.after ∙ c.in_ok-words.ensures ∙ ap (λ (ws : List Write). words_after base (take count ws)) c.deref-3.ensures.value)
     c.remove_first.ensures
 
 pub returns-clause-view : goal.returns-clause-view

@@ -1,5 +1,5 @@
 -- The memory of an image is whole, and nothing is written yet.
-use Rattle.std.proofs.Common.{◌≡◌, length, ap, sym, ◌∙◌}
+use Rattle.std.proofs.Common.{length, ap, sym, ◌∙◌}
 use Rattle.mem_versions.proofs.WordsLaws.{length-memory_of}
 use Rattle.mem_versions.proofs.MemoryLaws.{IsSound-new}
 use Rattle.mem_versions.proofs.chip.Chip.new.Goals as goal

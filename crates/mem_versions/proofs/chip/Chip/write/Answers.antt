@@ -1,5 +1,5 @@
 -- A write keeps the present words those at the last cut, changed by the writes since.
-use Rattle.std.proofs.Common.{◌≡◌, ◌/◌, ◌<◌, ◌≤◌, ap, arith}
+use Rattle.std.proofs.Common.{◌/◌, ◌<◌, ◌≤◌, ap, arith}
 use Rattle.mem_versions.specs.declared.write.Write.{Write}
 use Rattle.mem_versions.proofs.MemoryLaws.{IsSound-write}
 use Rattle.mem_versions.proofs.chip.Chip.write.Goals as goal

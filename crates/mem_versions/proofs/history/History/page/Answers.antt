@@ -1,6 +1,6 @@
 -- A page's writes stand from its start to that of the next.
 use Rattle.std.specs.List.{filter}
-use Rattle.std.proofs.Common.{◌≡◌, ◌==◌, ◌+◌, ◌-◌, ◌/◌, ◌<◌, ◌≤◌, List, take, drop, ap, sym, subst, ◌∙◌, arith}
+use Rattle.std.proofs.Common.{◌≡◌, ◌==◌, ◌+◌, ◌-◌, ◌/◌, List, take, drop, ap, sym, subst, ◌∙◌, arith}
 use Rattle.mem_versions.specs.declared.write.Write.{Write}
 use Rattle.mem_versions.specs.History.{IsStart, IsInOrder}
 use Rattle.mem_versions.proofs.OrderLaws.{starts-rise, page-writes, IsInOrder-part, start-at}

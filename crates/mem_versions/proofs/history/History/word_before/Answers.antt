@@ -1,5 +1,5 @@
 -- Only the writes to the page count.
-use Rattle.std.proofs.Common.{◌≡◌, ◌==◌, ◌&&◌, ◌/◌, nat_lt, true, List, length, ap, ◌∙◌, arith}
+use Rattle.std.proofs.Common.{◌==◌, ◌/◌, List, length, ap, ◌∙◌, arith}
 use Rattle.std.proofs.lemmas.List.Sums.{length-filter}
 use Rattle.mem_versions.specs.declared.write.Write.{Write}
 use Rattle.mem_versions.specs.History.{word_before}

@@ -1,5 +1,5 @@
 -- The words of the page stand from its first place on.
-use Rattle.std.proofs.Common.{◌≡◌, ℕ, ◌*◌, ◌<◌, List, length, take, drop, ap, ◌∙◌, arith, refl}
+use Rattle.std.proofs.Common.{ℕ, ◌*◌, ◌<◌, List, length, take, drop, ap, ◌∙◌, arith, refl}
 use Rattle.std.specs.Arc.{arc_value}
 use Rattle.mem_versions.proofs.PagesLaws.{joined-page}
 use Rattle.mem_versions.proofs.pages.Pages.page.Goals as goal

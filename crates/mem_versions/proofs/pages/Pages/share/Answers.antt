@@ -1,5 +1,5 @@
 -- Shared pages have the same words.
-use Rattle.std.proofs.Common.{◌≡◌, length, sym, ◌∙◌}
+use Rattle.std.proofs.Common.{◌≡◌, sym, ◌∙◌}
 use Rattle.std.specs.Arc.{arc_value}
 use Rattle.std.proofs.lemmas.List.Elements.{length_all_zip}
 use Rattle.mem_versions.proofs.PagesLaws.{joined-shared, ArePages-shared}

@@ -1,5 +1,5 @@
 -- The word is the one of its page.
-use Rattle.std.proofs.Common.{◌≡◌, ℕ, ◌/◌, ◌%◌, ◌<◌, List, length, get_or, ap, sym, ◌∙◌, arith}
+use Rattle.std.proofs.Common.{ℕ, ◌/◌, ◌%◌, ◌<◌, List, length, get_or, ap, sym, ◌∙◌, arith}
 use Rattle.std.specs.Arc.{arc_value}
 use Rattle.mem_versions.proofs.PagesLaws.{get_or-joined}
 use Rattle.mem_versions.proofs.pages.Pages.word.Goals as goal

@@ -1,5 +1,5 @@
 -- The word is that of the last write before the clock, or the one at the cut before.
-use Rattle.std.proofs.Common.{◌≡◌, ◌/◌, ◌<◌, ℕ, List, length, get_or, ap, sym, ◌∙◌, arith}
+use Rattle.std.proofs.Common.{◌/◌, ◌<◌, length, get_or, ap, sym, ◌∙◌, arith}
 use Rattle.mem_versions.specs.MemoryAt.{memory_at}
 use Rattle.mem_versions.specs.MemView.{ViewValue}
 use Rattle.mem_versions.specs.History.{word_before}

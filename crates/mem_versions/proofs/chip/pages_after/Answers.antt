@@ -1,10 +1,10 @@
 -- One write more.
-use Rattle.std.proofs.Common.{◌≡◌, ℕ, ◌<◌, List, length, take, get_or, ap, sym, ◌∙◌, arith, length-take}
+use Rattle.std.proofs.Common.{ℕ, ◌<◌, List, length, get_or, ap, sym, ◌∙◌, arith, length-take}
 use Rattle.std.proofs.Math.ListN.{set}
 use Rattle.std.proofs.lemmas.List.{get_or-take}
 use Rattle.mem_versions.specs.declared.write.Write.{Write}
-use Rattle.mem_versions.proofs.MemoryLaws.{changed-more}
-use Rattle.mem_versions.proofs.chip.words_after.Goals as goal
+use Rattle.mem_versions.proofs.MemoryLaws.{words_after-more}
+use Rattle.mem_versions.proofs.chip.pages_after.Goals as goal
 
 pub loop-write-preserved : goal.loop-write-preserved
 loop-write-preserved c =
@@ -18,4 +18,4 @@ loop-write-preserved c =
     c.in_ok-set_word.ensures.ok
     ∙ ap (λ (v : Write). set c.loop-write.after v.place v.word) (get_or-take count writes i d first)
     ∙ ap (λ (words : List ℕ). set words w.place w.word) c.loop-write.invariant
-    ∙ sym (changed-more c.args.base.now writes i d within)
+    ∙ sym (words_after-more c.args.base.now writes i d within)

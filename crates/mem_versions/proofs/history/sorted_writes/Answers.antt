@@ -1,12 +1,11 @@
 -- A stable sort by place of writes whose clocks do not fall.
-use Rattle.std.proofs.Common.{◌≡◌, List, ap, ◌∙◌, rules, subst, sym}
-use Rattle.std.specs.List.Sorted.{IsNonDecreasingBy, IsSortedByKey, IsStableByKey}
-use Rattle.std.specs.Ordering.{nat_cmp}
+use Rattle.std.proofs.Common.{ap, ◌∙◌, rules}
+use Rattle.std.specs.List.Sorted.{IsNonDecreasingBy}
 use Rattle.std.proofs.lemmas.List.Sorted.{answers_always}
 use Rattle.mem_versions.specs.declared.write.Write.{Write}
 use Rattle.mem_versions.specs.MemoryAt.{writes_to}
 use Rattle.mem_versions.proofs.OrderLaws.{IsInOrder-sorted, writes_to-sorted}
-use Rattle.mem_versions.proofs.history.in_order.Goals as goal
+use Rattle.mem_versions.proofs.history.sorted_writes.Goals as goal
 
 pub returns-clause-order : goal.returns-clause-order
 returns-clause-order c =
