@@ -144,8 +144,9 @@ impl Chip {
     }
 
     /// Begins a new version at a clock, not below that of the newest write or cut, and gives a view of
-    /// the clocks from the last cut to this one. The pages are shared, and no word is copied but on
-    /// pages that have a write of this very clock. After a refusal all is as before.
+    /// the clocks from the last cut to this one. The pages are shared and no word is copied, but where a
+    /// write of this very clock was made the writes before it are made again. After a refusal all is as
+    /// before.
     pub fn cut(&mut self, now: Clock) -> Result<MemView, OutOfMemory>
         requires { self.old.newest ≤ now.0 }
         ensures view { IfOk result (IsViewOf self.old now.0) }
