@@ -3,8 +3,8 @@ use Rattle.std.proofs.Common.{◌≡◌, ℕ, ◌+◌, ◌-◌, ◌*◌, ◌/◌
 use Rattle.std.proofs.lemmas.Nat.{shl_whole, shl-shr, pow_pos, mul-le}
 use Rattle.std.proofs.lemmas.Bool.{cases_lt, cases_eq}
 use Rattle.std.proofs.lemmas.Int.{ints}
-use Rattle.m68k_decode.specs.declared.operand.Size.{Size}
-use Rattle.m68k_decode.specs.declared.operand.Size.TheVariants.{Byte, Word, Long}
+use Rattle.m68k_opcodes.specs.declared.operand.Size.{Size}
+use Rattle.m68k_opcodes.specs.declared.operand.Size.TheVariants.{Byte, Word, Long}
 use Rattle.m68k_decode.specs.Results.{span, half}
 use Rattle.m68k_decode.specs.ResultsShifts.{shifted_left, top_bit_changes}
 

@@ -4,8 +4,8 @@ use Rattle.std.specs.Prelude.{IsTrue}
 use Rattle.std.proofs.Math.Nat.{pow-suc, mul-le-mul_left}
 use Rattle.std.proofs.Math.Pow.{pow_mono}
 use Rattle.std.proofs.lemmas.Bool.{cases_lt, lt-leb, leb-true, leb-false, ltb-true, ltb-false}
-use Rattle.m68k_decode.specs.declared.operand.Size.{Size}
-use Rattle.m68k_decode.specs.declared.operand.Size.TheVariants.{Byte, Word, Long}
+use Rattle.m68k_opcodes.specs.declared.operand.Size.{Size}
+use Rattle.m68k_opcodes.specs.declared.operand.Size.TheVariants.{Byte, Word, Long}
 use Rattle.m68k_decode.specs.Results.{low, span, half, is_negative}
 use Rattle.m68k_decode.specs.ResultsShifts.{shifted_left, top_bit_changes, ChangesAtSomeStep}
 use Rattle.m68k_alu.proofs.Shifting.{positive_top, negative_top}

@@ -1,15 +1,6 @@
-pub mod Text
-pub mod Modes
-pub mod Clocks
-pub mod Letters
-pub mod Row
-pub mod Table
-pub mod Lines
-pub mod Parts
-pub mod Timing
 pub mod Frames
-pub mod Places
 pub mod Registers
+pub mod Places
 pub mod Results
 pub mod ResultsSums
 pub mod ResultsDecimal

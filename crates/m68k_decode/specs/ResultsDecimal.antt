@@ -1,7 +1,7 @@
 -- The outcomes of the decimal operations, on bytes of two decimal digits at any size.
 use Rattle.std.specs.Prelude.{ℕ, ◌+◌, ◌-◌, ◌%◌, Bool, ◌&&◌, if◌then◌else◌, ◌==◌, nat_lt}
-use Rattle.m68k_decode.specs.declared.operand.Size.{Size}
-use Rattle.m68k_decode.specs.declared.operand.Size.TheVariants.{Byte}
+use Rattle.m68k_opcodes.specs.declared.operand.Size.{Size}
+use Rattle.m68k_opcodes.specs.declared.operand.Size.TheVariants.{Byte}
 use Rattle.m68k_decode.specs.declared.outcome.Flags.{Flags}
 use Rattle.m68k_decode.specs.declared.outcome.Outcome.{Outcome}
 use Rattle.m68k_decode.specs.Results.{low, one_if, outcome}

@@ -1,11 +1,11 @@
 //! How many clocks an instruction takes.
 
 ghost use Rattle.std.specs.Prelude.{◌≡◌, ℕ, ◌+◌, ◌*◌, ◌<◌, ◌≤◌, slice_index};
-ghost use Rattle.m68k_decode.specs.Clocks.{number, in_dn, to_register};
-ghost use Rattle.m68k_decode.specs.Modes.{sized, ea, move_dest, listed, control, control_or_post, control_alterable_or_pre};
-ghost use Rattle.m68k_decode.specs.Table.{decode_of, clocks_at};
-ghost use Rattle.m68k_decode.specs.Timing as T;
-ghost use Rattle.m68k_decode.specs.declared.operand.Size.TheVariants as S;
+ghost use Rattle.m68k_opcodes.specs.Clocks.{number, in_dn, to_register};
+ghost use Rattle.m68k_opcodes.specs.Modes.{sized, ea, move_dest, listed, control, control_or_post, control_alterable_or_pre};
+ghost use Rattle.m68k_opcodes.specs.Table.{decode_of, clocks_at};
+ghost use Rattle.m68k_opcodes.specs.Timing as T;
+ghost use Rattle.m68k_opcodes.specs.declared.operand.Size.TheVariants as S;
 
 use crate::instr::Instr;
 use crate::operand::{Mode, Size};
@@ -21,6 +21,17 @@ pub fn clocks(i: &Instr, extra: u32) -> u32
     ensures { (opcode : ℕ) → opcode < 65536 → decode_of opcode ≡ i.now → result ≡ number (clocks_at opcode) extra }
 {
     clocks_of(i, extra)
+}
+
+/// The clocks that an operand of a mode adds, by the table of address modes.
+pub fn ea(mode: &Mode, size: Size) -> u32
+    ensures value { result ≡ ea size mode.now }
+    ensures small { result ≤ 16 }
+{
+    match size {
+        Size::Long => ea_long(*mode),
+        _ => ea_short(*mode),
+    }
 }
 
 /// The clocks of immediate operations, bit operations and moves; the others' follow.
@@ -211,7 +222,7 @@ fn with_ea(size: Size, mode: Mode, short: u32, long: u32) -> u32
 fn ea_short(mode: Mode) -> u32
     ensures byte { result ≡ ea S.Byte mode }
     ensures word { result ≡ ea S.Word mode }
-    ensures small { result ≤ 20 }
+    ensures small { result ≤ 16 }
 {
     match mode {
         Mode::Dn { .. } | Mode::An { .. } => 0,
@@ -226,7 +237,7 @@ fn ea_short(mode: Mode) -> u32
 /// The clocks of a mode for a long.
 fn ea_long(mode: Mode) -> u32
     ensures long { result ≡ ea S.Long mode }
-    ensures small { result ≤ 20 }
+    ensures small { result ≤ 16 }
 {
     match mode {
         Mode::Dn { .. } | Mode::An { .. } => 0,

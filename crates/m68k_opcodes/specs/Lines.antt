@@ -1,13 +1,13 @@
 -- How the code takes opcodes apart, by their first four bits. (Only private functions speak of these words; that they
 -- agree with the table of instructions is proved.)
 use Rattle.std.specs.Prelude.{ℕ, Bool, true, false, Option, Some, None, ◌==◌, ◌+◌, ◌/◌, ◌%◌, ◌&&◌, ◌||◌, not, if◌then◌else◌, min, nat_le, nat_lt}
-use Rattle.m68k_decode.specs.declared.operand.Size.{Size}
-use Rattle.m68k_decode.specs.declared.operand.Size.TheVariants as S
-use Rattle.m68k_decode.specs.declared.operand.Mode.{Mode}
-use Rattle.m68k_decode.specs.declared.class.Class.TheVariants as K
-use Rattle.m68k_decode.specs.declared.instr.Instr.{Instr}
-use Rattle.m68k_decode.specs.declared.instr.Instr.TheVariants as I
-use Rattle.m68k_decode.specs.Parts.{size_in, mode_in, operand_in, admits, any_of, alterable_of, word_or_long}
+use Rattle.m68k_opcodes.specs.declared.operand.Size.{Size}
+use Rattle.m68k_opcodes.specs.declared.operand.Size.TheVariants as S
+use Rattle.m68k_opcodes.specs.declared.operand.Mode.{Mode}
+use Rattle.m68k_opcodes.specs.declared.class.Class.TheVariants as K
+use Rattle.m68k_opcodes.specs.declared.instr.Instr.{Instr}
+use Rattle.m68k_opcodes.specs.declared.instr.Instr.TheVariants as I
+use Rattle.m68k_opcodes.specs.Parts.{size_in, mode_in, operand_in, admits, any_of, alterable_of, word_or_long}
 
 abbrev pub low : ℕ → ℕ
 low n = n % 8

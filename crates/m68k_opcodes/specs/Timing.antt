@@ -1,13 +1,13 @@
 -- How the code finds an instruction's clocks. (Only private functions speak of these words; that they agree with the
 -- table of instructions is proved.)
 use Rattle.std.specs.Prelude.{ℕ, List, [], ◌∷◌, ◌==◌, ◌+◌, ◌||◌, if◌then◌else◌, slice_index}
-use Rattle.m68k_decode.specs.declared.operand.Size.{Size}
-use Rattle.m68k_decode.specs.declared.operand.Size.TheVariants as S
-use Rattle.m68k_decode.specs.declared.operand.Mode.{Mode}
-use Rattle.m68k_decode.specs.declared.instr.Instr.{Instr}
-use Rattle.m68k_decode.specs.declared.instr.Instr.TheVariants as I
-use Rattle.m68k_decode.specs.Modes.{code, sized, ea, move_dest, listed, control, control_or_post, control_alterable_or_pre}
-use Rattle.m68k_decode.specs.Clocks.{Clocks, Always, Counted, Outcomes, Exception, in_dn, to_register}
+use Rattle.m68k_opcodes.specs.declared.operand.Size.{Size}
+use Rattle.m68k_opcodes.specs.declared.operand.Size.TheVariants as S
+use Rattle.m68k_opcodes.specs.declared.operand.Mode.{Mode}
+use Rattle.m68k_opcodes.specs.declared.instr.Instr.{Instr}
+use Rattle.m68k_opcodes.specs.declared.instr.Instr.TheVariants as I
+use Rattle.m68k_opcodes.specs.Modes.{code, sized, ea, move_dest, listed, control, control_or_post, control_alterable_or_pre}
+use Rattle.m68k_opcodes.specs.Clocks.{Clocks, Always, Counted, Outcomes, Exception, in_dn, to_register}
 
 abbrev pub bit_dynamic : ℕ → Mode → ℕ
 bit_dynamic which m =

@@ -1,8 +1,8 @@
 //! From an opcode to its instruction.
 
 ghost use Rattle.std.specs.Prelude.{◌≡◌, ◌≤◌};
-ghost use Rattle.m68k_decode.specs.Table.{decode_of, rows_at};
-ghost use Rattle.m68k_decode.specs.Lines as L;
+ghost use Rattle.m68k_opcodes.specs.Table.{decode_of, rows_at};
+ghost use Rattle.m68k_opcodes.specs.Lines as L;
 
 use crate::class::Class;
 use crate::fields::{

@@ -1,10 +1,10 @@
 -- The fields of an opcode by their letters. A row gives f, which gives the number under the letter with a code.
 use Rattle.std.specs.Prelude.{ℕ, ◌==◌, ◌/◌, ◌%◌, if◌then◌else◌}
-use Rattle.m68k_decode.specs.declared.operand.Size.{Size}
-use Rattle.m68k_decode.specs.declared.operand.Size.TheVariants as S
-use Rattle.m68k_decode.specs.declared.operand.Mode.{Mode}
-use Rattle.m68k_decode.specs.Text.{letter_s, letter_z, letter_e, letter_M, letter_R}
-use Rattle.m68k_decode.specs.Modes.{code_at, mode_with}
+use Rattle.m68k_opcodes.specs.declared.operand.Size.{Size}
+use Rattle.m68k_opcodes.specs.declared.operand.Size.TheVariants as S
+use Rattle.m68k_opcodes.specs.declared.operand.Mode.{Mode}
+use Rattle.m68k_opcodes.specs.Text.{letter_s, letter_z, letter_e, letter_M, letter_R}
+use Rattle.m68k_opcodes.specs.Modes.{code_at, mode_with}
 
 abbrev pub a : (ℕ → ℕ) → ℕ
 a f = f 97

@@ -1,4 +1,4 @@
-//! What an instruction works on: sizes, address modes and the places of operands.
+//! What an instruction works on: sizes and address modes.
 
 /// The size of an operation: 8, 16 or 32 bits.
 #[derive(Clone, Copy, PartialEq, Eq, Debug)]
@@ -35,17 +35,4 @@ pub enum Mode {
     PcIndex,
     /// #imm.
     Imm,
-}
-
-/// Where an operand is. An address keeps its 32 bits.
-#[derive(Clone, Copy)]
-pub enum Place68 {
-    /// In data register `reg`.
-    Data { reg: u8 },
-    /// In address register `reg`, 7 being the active stack pointer.
-    Address { reg: u8 },
-    /// In memory from `at` on.
-    Memory { at: u32 },
-    /// In the instruction itself.
-    Value { value: u32 },
 }

@@ -1,9 +1,9 @@
 -- The address modes: their codes, their classes and their clocks.
 use Rattle.std.specs.Prelude.{ℕ, Bool, false, List, [], ◌∷◌, ◌++◌, ◌==◌, ◌+◌, ◌||◌, if◌then◌else◌, slice_index}
-use Rattle.m68k_decode.specs.declared.operand.Size.{Size}
-use Rattle.m68k_decode.specs.declared.operand.Size.TheVariants as S
-use Rattle.m68k_decode.specs.declared.operand.Mode.{Mode}
-use Rattle.m68k_decode.specs.declared.operand.Mode.TheVariants as M
+use Rattle.m68k_opcodes.specs.declared.operand.Size.{Size}
+use Rattle.m68k_opcodes.specs.declared.operand.Size.TheVariants as S
+use Rattle.m68k_opcodes.specs.declared.operand.Mode.{Mode}
+use Rattle.m68k_opcodes.specs.declared.operand.Mode.TheVariants as M
 
 -- the code of a mode; the modes that the register's bits tell apart, 7.0 to 7.4, are 7 to 11
 abbrev pub code : Mode → ℕ

@@ -1,8 +1,11 @@
 -- Each line's way of taking an opcode apart gives the table's instruction.
 use Rattle.std.proofs.Common.{◌∙◌, arith}
-use Rattle.m68k_decode.proofs.Single.{single_at}
-use Rattle.m68k_decode.proofs.Table.{at_0, at_1, at_2, at_3, at_4, at_5, at_6, at_7, at_8, at_9, at_A, at_B, at_C, at_D, at_E, at_F}
-use Rattle.m68k_decode.proofs.opcode.decode.Goals as goal
+use Rattle.m68k_opcodes.proofs.Whole.{single_at}
+use Rattle.m68k_opcodes.proofs.Line0.{at_0}
+use Rattle.m68k_opcodes.proofs.Line4.{at_4}
+use Rattle.m68k_opcodes.proofs.Lines1to9.{at_1, at_2, at_3, at_5, at_6, at_7, at_8, at_9}
+use Rattle.m68k_opcodes.proofs.LinesAtoF.{at_A, at_B, at_C, at_D, at_E, at_F}
+use Rattle.m68k_opcodes.proofs.opcode.decode.Goals as goal
 
 pub returns-in-0 : goal.returns-in-0
 returns-in-0 c = record { instruction = c.immediates_and_bits.ensures ∙ (at_0 _ c.in-0.is).instr; one_row = single_at _ (omega arith) }

@@ -1,8 +1,8 @@
 -- The numbers of clocks of a row of the instruction table.
 use Rattle.std.specs.Prelude.{ℕ, List, [], ◌∷◌, ◌==◌, ◌+◌, ◌*◌, if◌then◌else◌, slice_index}
-use Rattle.m68k_decode.specs.declared.operand.Size.{Size}
-use Rattle.m68k_decode.specs.declared.operand.Mode.{Mode}
-use Rattle.m68k_decode.specs.Modes.{code, ea, sized, among}
+use Rattle.m68k_opcodes.specs.declared.operand.Size.{Size}
+use Rattle.m68k_opcodes.specs.declared.operand.Mode.{Mode}
+use Rattle.m68k_opcodes.specs.Modes.{code, ea, sized, among}
 
 pub data Clocks : Type 0 where
   -- a number

@@ -1,10 +1,10 @@
 -- What a row of the table of instructions says, and which opcodes it takes.
 use Rattle.std.specs.Prelude.{ℕ, Bool, true, List, [], ◌∷◌, ◌==◌, ◌+◌, ◌/◌, ◌%◌, ◌&&◌, ◌||◌, not, if◌then◌else◌, nat_lt}
-use Rattle.m68k_decode.specs.declared.instr.Instr.{Instr}
-use Rattle.m68k_decode.specs.declared.instr.Instr.TheVariants as I
-use Rattle.m68k_decode.specs.Text.{fits, field, places, letter_s, letter_z, letter_e, letter_M, letter_R}
-use Rattle.m68k_decode.specs.Modes.{code_at, among, data_alterable}
-use Rattle.m68k_decode.specs.Clocks.{Clocks, Exception}
+use Rattle.m68k_opcodes.specs.declared.instr.Instr.{Instr}
+use Rattle.m68k_opcodes.specs.declared.instr.Instr.TheVariants as I
+use Rattle.m68k_opcodes.specs.Text.{fits, field, places, letter_s, letter_z, letter_e, letter_M, letter_R}
+use Rattle.m68k_opcodes.specs.Modes.{code_at, among, data_alterable}
+use Rattle.m68k_opcodes.specs.Clocks.{Clocks, Exception}
 
 pub record Row : Type 0 where
   pub text : List ℕ

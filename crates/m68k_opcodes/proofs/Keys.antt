@@ -1,12 +1,12 @@
 -- An instruction as a list of numbers, which tells instructions apart.
 use Rattle.std.proofs.Common.{◌≡◌, ℕ, Bool, true, false, List, [], ◌∷◌, ◌==◌, if◌then◌else◌, refl, ap, ◌∙◌, sym, get_or, eqb-true}
-use Rattle.m68k_decode.specs.declared.operand.Size.{Size}
-use Rattle.m68k_decode.specs.declared.operand.Size.TheVariants as S
-use Rattle.m68k_decode.specs.declared.operand.Mode.{Mode}
-use Rattle.m68k_decode.specs.declared.operand.Mode.TheVariants as M
-use Rattle.m68k_decode.specs.declared.instr.Instr.{Instr}
-use Rattle.m68k_decode.specs.declared.instr.Instr.TheVariants as I
-use Rattle.m68k_decode.specs.Modes.{code, mode_with}
+use Rattle.m68k_opcodes.specs.declared.operand.Size.{Size}
+use Rattle.m68k_opcodes.specs.declared.operand.Size.TheVariants as S
+use Rattle.m68k_opcodes.specs.declared.operand.Mode.{Mode}
+use Rattle.m68k_opcodes.specs.declared.operand.Mode.TheVariants as M
+use Rattle.m68k_opcodes.specs.declared.instr.Instr.{Instr}
+use Rattle.m68k_opcodes.specs.declared.instr.Instr.TheVariants as I
+use Rattle.m68k_opcodes.specs.Modes.{code, mode_with}
 
 abbrev pub size_key : Size → ℕ
 size_key S.Byte = 0

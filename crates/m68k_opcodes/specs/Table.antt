@@ -1,12 +1,12 @@
 -- The table of instructions: each row's pattern, the class of its modes, its instruction and its clocks.
 use Rattle.std.specs.Prelude.{ℕ, List, [], ◌∷◌, ◌==◌, ◌+◌, ◌/◌, ◌||◌, if◌then◌else◌, min, codes}
-use Rattle.m68k_decode.specs.declared.operand.Size.TheVariants as S
-use Rattle.m68k_decode.specs.declared.instr.Instr.{Instr}
-use Rattle.m68k_decode.specs.declared.instr.Instr.TheVariants as I
-use Rattle.m68k_decode.specs.Modes.{code, all_modes, data_modes, data_but_immediate, memory_alterable, data_alterable, alterable, control, control_or_post, control_alterable_or_pre, listed, sized, ea, move_dest}
-use Rattle.m68k_decode.specs.Clocks.{Clocks, Always, Counted, Outcomes, Exception, in_dn, to_register}
-use Rattle.m68k_decode.specs.Row.{Row, row, first, made, taken, rows_taking}
-use Rattle.m68k_decode.specs.Letters.{a, c, d, i, m, o, q, r, t, v, x, y, rr, ss, s, zz, z, e, dest}
+use Rattle.m68k_opcodes.specs.declared.operand.Size.TheVariants as S
+use Rattle.m68k_opcodes.specs.declared.instr.Instr.{Instr}
+use Rattle.m68k_opcodes.specs.declared.instr.Instr.TheVariants as I
+use Rattle.m68k_opcodes.specs.Modes.{code, all_modes, data_modes, data_but_immediate, memory_alterable, data_alterable, alterable, control, control_or_post, control_alterable_or_pre, listed, sized, ea, move_dest}
+use Rattle.m68k_opcodes.specs.Clocks.{Clocks, Always, Counted, Outcomes, Exception, in_dn, to_register}
+use Rattle.m68k_opcodes.specs.Row.{Row, row, first, made, taken, rows_taking}
+use Rattle.m68k_opcodes.specs.Letters.{a, c, d, i, m, o, q, r, t, v, x, y, rr, ss, s, zz, z, e, dest}
 
 abbrev pub rows_0 : List Row
 rows_0 =

@@ -1,11 +1,11 @@
 -- The fields of an opcode as the code takes them apart. (Only private functions speak of these words.)
 use Rattle.std.specs.Prelude.{ℕ, Bool, true, false, Option, Some, None, ◌==◌, ◌/◌, ◌%◌, if◌then◌else◌, ◌||◌, ◌&&◌, not}
-use Rattle.m68k_decode.specs.declared.operand.Size.{Size}
-use Rattle.m68k_decode.specs.declared.operand.Size.TheVariants as S
-use Rattle.m68k_decode.specs.declared.operand.Mode.{Mode}
-use Rattle.m68k_decode.specs.declared.operand.Mode.TheVariants as M
-use Rattle.m68k_decode.specs.declared.class.Class.{Class}
-use Rattle.m68k_decode.specs.declared.class.Class.TheVariants as K
+use Rattle.m68k_opcodes.specs.declared.operand.Size.{Size}
+use Rattle.m68k_opcodes.specs.declared.operand.Size.TheVariants as S
+use Rattle.m68k_opcodes.specs.declared.operand.Mode.{Mode}
+use Rattle.m68k_opcodes.specs.declared.operand.Mode.TheVariants as M
+use Rattle.m68k_opcodes.specs.declared.class.Class.{Class}
+use Rattle.m68k_opcodes.specs.declared.class.Class.TheVariants as K
 
 abbrev pub size_in : ℕ → Option Size
 size_in bits =
