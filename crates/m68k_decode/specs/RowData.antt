@@ -1,6 +1,6 @@
 -- The rows with a source, a destination and a result: what each of them says of these.
 -- (The source of an instruction that names two operands is the first; `old` is what stands at the destination.)
-use Rattle.std.specs.Prelude.{ℕ, zero, suc, Bool, true, false, not, ◌&&◌, ◌||◌, ◌==◌, ◌+◌, ◌*◌, ◌/◌, ◌%◌, if◌then◌else◌, Option, Some, None, int_lt, nat_lt, pos, bit_and, bit_or, bit_xor}
+use Rattle.std.specs.Prelude.{ℕ, zero, suc, Bool, true, false, not, ◌&&◌, ◌||◌, ◌==◌, ◌+◌, ◌*◌, ◌/◌, ◌%◌, if◌then◌else◌, Option, Some, None, ℤ, int_lt, nat_lt, pos, bit_and, bit_or, bit_xor}
 use Rattle.m68k_opcodes.specs.declared.operand.Size.{Size}
 use Rattle.m68k_opcodes.specs.declared.operand.Size.TheVariants as S
 use Rattle.m68k_opcodes.specs.declared.operand.Mode.{Mode}
@@ -205,7 +205,7 @@ target i p = if writes i then p else P.Value 0
 -- a word with its sign as a long; a long as it is
 abbrev pub extended : Size → ℕ → ℕ
 extended S.Byte n = n
-extended S.Word n = extended_word n
+extended S.Word n = extended_word (low S.Word n)
 extended S.Long n = n
 
 -- a value with the flags as they are
@@ -273,13 +273,35 @@ shift_result d t z a b f = if d == 1 then left_shift t z a b f else right_shift 
 -- a division by 0 clears C and changes nothing else
 abbrev pub division : ℕ → ℕ → ℕ → Flags → Outcome
 division w a b f =
-    if b == 0 then unflagged a (record f { c = false })
+    if low S.Word b == 0 then unflagged a (record f { c = false })
     else (if w == 0 then divu_of S.Long a b f else divs_of S.Long a b f)
+
+-- the result and the flags of sums, differences, comparisons, products and shifts
+unfoldable pub arithmetic_of : Instr → ℕ → ℕ → Flags → Outcome
+arithmetic_of (I.Cmpi z m) value old f = cmp_of z old value f
+arithmetic_of (I.Quick w q z m) value old f = quick_result (w == 0) m z old value f
+arithmetic_of (I.OrAndToDn w r z m) value old f = logical w z old value f
+arithmetic_of (I.SubAddToDn w r z m) value old f = sum_or_difference (w == 1) z old value f
+arithmetic_of (I.ToMemory w r z m) value old f = memory_result w z old value f
+arithmetic_of (I.Cmp r z m) value old f = cmp_of z old value f
+arithmetic_of (I.Eor r z m) value old f = eor_of z old value f
+arithmetic_of (I.Cmpm x z y) value old f = cmp_of z old value f
+arithmetic_of (I.SubaAdda w r z m) value old f =
+    unflagged (sum_or_difference (w == 1) S.Long old (extended z value) f).value f
+arithmetic_of (I.Cmpa r z m) value old f = cmp_of S.Long old (extended z value) f
+arithmetic_of (I.SubxAddx w x z m y) value old f = if w == 1 then addx_of z old value f else subx_of z old value f
+arithmetic_of (I.SbcdAbcd w x m y) value old f =
+    if w == 1 then abcd_of S.Byte old value f else sbcd_of S.Byte old value f
+arithmetic_of (I.MuluMuls w r m) value old f =
+    if w == 0 then mulu_of S.Long old value f else muls_of S.Long old value f
+arithmetic_of (I.DivuDivs w r m) value old f = division w old value f
+arithmetic_of (I.ShiftRegister c d z i t r) value old f = shift_result d t z old value f
+arithmetic_of (I.ShiftMemory t d m) value old f = shift_result d t S.Word old value f
+arithmetic_of _ value old f = unflagged 0 f
 
 -- the result and the flags, from the source, the old value and the status register
 unfoldable pub result_of : Instr → ℕ → ℕ → ℕ → Outcome
 result_of (I.Immediate w o z m) value old sr = immediate_result w z old value (flags_of sr)
-result_of (I.Cmpi z m) value old sr = cmp_of z old value (flags_of sr)
 result_of (I.BitDynamic w r t m) value old sr = bit_result w (bit_size m) old value (flags_of sr)
 result_of (I.BitStatic w t m) value old sr = bit_result w (bit_size m) old value (flags_of sr)
 result_of (I.Move z d m) value old sr = move_of z value 0 (flags_of sr)
@@ -292,28 +314,9 @@ result_of (I.Ext z r) value old sr = ext_of z old 0 (flags_of sr)
 result_of (I.Tst z m) value old sr = tst_of z old 0 (flags_of sr)
 result_of (I.Tas m) value old sr = tas_of S.Byte old 0 (flags_of sr)
 result_of (I.Chk r m) value old sr = chk_of S.Word old value (flags_of sr)
-result_of (I.Quick w q z m) value old sr = quick_result (w == 0) m z old value (flags_of sr)
 result_of (I.Scc c m) value old sr = unflagged (if condition c (flags_of sr) then 255 else 0) (flags_of sr)
 result_of (I.Moveq r d) value old sr = move_of S.Long value 0 (flags_of sr)
-result_of (I.OrAndToDn w r z m) value old sr = logical w z old value (flags_of sr)
-result_of (I.SubAddToDn w r z m) value old sr = sum_or_difference (w == 1) z old value (flags_of sr)
-result_of (I.ToMemory w r z m) value old sr = memory_result w z old value (flags_of sr)
-result_of (I.Cmp r z m) value old sr = cmp_of z old value (flags_of sr)
-result_of (I.Eor r z m) value old sr = eor_of z old value (flags_of sr)
-result_of (I.Cmpm x z y) value old sr = cmp_of z old value (flags_of sr)
-result_of (I.SubaAdda w r z m) value old sr =
-    unflagged (sum_or_difference (w == 1) S.Long old (extended z value) (flags_of sr)).value (flags_of sr)
-result_of (I.Cmpa r z m) value old sr = cmp_of S.Long old (extended z value) (flags_of sr)
-result_of (I.SubxAddx w x z m y) value old sr =
-    if w == 1 then addx_of z old value (flags_of sr) else subx_of z old value (flags_of sr)
-result_of (I.SbcdAbcd w x m y) value old sr =
-    if w == 1 then abcd_of S.Byte old value (flags_of sr) else sbcd_of S.Byte old value (flags_of sr)
-result_of (I.MuluMuls w r m) value old sr =
-    if w == 0 then mulu_of S.Long old value (flags_of sr) else muls_of S.Long old value (flags_of sr)
-result_of (I.DivuDivs w r m) value old sr = division w old value (flags_of sr)
-result_of (I.ShiftRegister c d z i t r) value old sr = shift_result d t z old value (flags_of sr)
-result_of (I.ShiftMemory t d m) value old sr = shift_result d t S.Word old value (flags_of sr)
-result_of _ value old sr = unflagged 0 (flags_of sr)
+result_of i value old sr = arithmetic_of i value old (flags_of sr)
 
 -- OR, AND and EOR of a status register and a word
 abbrev pub status_logical : ℕ → ℕ → ℕ → ℕ
@@ -322,8 +325,8 @@ status_logical w sr value = if w % 3 == 0 then bit_or sr value else (if w % 3 ==
 -- the status register afterwards; the operations on it and the moves to it change it by themselves
 unfoldable pub status_after : Instr → ℕ → Flags → ℕ → ℕ
 status_after (I.ImmediateToStatus w) value f sr =
-    if nat_lt w 3 then with_code sr (status_logical w sr value) else kept_status (status_logical w sr value)
-status_after (I.MoveToStatus w m) value f sr = if w == 0 then with_code sr value else kept_status value
+    if nat_lt w 3 then with_code sr (status_logical w sr (low S.Word value)) else kept_status (status_logical w sr (low S.Word value))
+status_after (I.MoveToStatus w m) value f sr = if w == 0 then with_code sr (low S.Word value) else kept_status (low S.Word value)
 status_after _ value f sr = with_flags sr f
 
 -- ---- clocks and traps
@@ -346,13 +349,17 @@ count_of (I.ShiftRegister c d z i t r) value sr = value % 64
 count_of (I.Scc c m) value sr = one_if (condition c (flags_of sr))
 count_of _ value sr = 0
 
+-- the low word, with its sign
+abbrev pub word_of : ℕ → ℤ
+word_of n = signed S.Word (low S.Word n)
+
 -- CHK traps below 0 and above the bound
 abbrev pub is_outside : ℕ → ℕ → Bool
-is_outside bound n = int_lt (signed S.Word n) (pos 0) || int_lt (signed S.Word bound) (signed S.Word n)
+is_outside bound n = int_lt (word_of n) (pos 0) || int_lt (word_of bound) (word_of n)
 
 -- the exception that the operands make
 unfoldable pub trap_of : Instr → ℕ → ℕ → Option Trap
-trap_of (I.DivuDivs w r m) value old = if value == 0 then Some T.ZeroDivide else None
+trap_of (I.DivuDivs w r m) value old = if low S.Word value == 0 then Some T.ZeroDivide else None
 trap_of (I.Chk r m) value old = if is_outside value old then Some T.Chk else None
 trap_of _ value old = None
 

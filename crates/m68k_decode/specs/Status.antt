@@ -70,7 +70,7 @@ abbrev pub supervised : ℕ → ℕ
 supervised sr = if has_supervisor sr then sr else sr + 8192
 
 unfoldable pub with_mask : ℕ → ℕ → ℕ
-with_mask sr level = sr / 2048 * 2048 + level * 256 + sr % 256
+with_mask sr level = sr / 2048 * 2048 + level % 8 * 256 + sr % 256
 
 unfoldable pub entered_status : Trap → ℕ → ℕ
 entered_status (T.Interrupt level) sr = with_mask (supervised (untraced sr)) level

@@ -5,8 +5,16 @@
 //! state between two accesses, and does constant work for each.
 #![tactic(auto)]
 
+mod access;
 mod ask;
 mod cpu;
+mod fetched;
+mod general;
+mod lists;
+mod operation;
+mod row_data;
+mod state;
+mod status;
 
 pub use ask::Ask;
 pub use cpu::Cpu;
