@@ -8,6 +8,7 @@ use Rattle.m68k_opcodes.specs.declared.instr.Instr.TheVariants as I
 use Rattle.m68k_decode.specs.declared.outcome.Flags.{Flags}
 use Rattle.m68k_decode.specs.declared.place.Place68.{Place68}
 use Rattle.m68k_decode.specs.declared.place.Place68.TheVariants as P
+use Rattle.m68k_decode.specs.declared.regs.CpuRegs.{CpuRegs}
 use Rattle.m68k_decode.specs.declared.trap.Trap.{Trap}
 use Rattle.m68k_decode.specs.declared.trap.Trap.TheVariants as T
 use Rattle.m68k_decode.specs.declared.under.Under.TheVariants as U
@@ -20,9 +21,12 @@ use Rattle.m68k_decode.specs.Lists.{several, spread}
 
 -- ---- addresses: JSR, JMP, LEA, PEA
 
--- the run with a long's room more on the stack
+-- the registers with a long's room more on the stack
+abbrev pub lowered_stack : CpuRegs → CpuRegs
+lowered_stack regs = with_address regs 7 (address_before S.Long (address_of regs 7))
+
 abbrev pub lowered : Run → Run
-lowered s = with_stack s (address_before S.Long (stack_of s))
+lowered s = with_regs s (lowered_stack s.regs)
 
 -- a long at the top of the stack; p is what follows
 abbrev pub written_on_stack : Run → ℕ → Prog → Prog
@@ -56,38 +60,38 @@ control i s = place s S.Long (control_mode i) (λ p t. addressed i p t)
 
 -- ---- branches, which count from the opcode's address + 2
 
-abbrev pub branch_target : ℕ → Run → ℕ
-branch_target displacement s = word32 (s.start.pc + 2 + displacement)
+abbrev pub branch_target : ℕ → ℕ → ℕ
+branch_target opcode_address displacement = word32 (opcode_address + 2 + displacement)
 
 -- the displacement is known; `miss` is the place of the outcome of a branch that is not taken
 unfoldable pub branched : ℕ → ℕ → ℕ → ℕ → Run → Prog
 branched which c displacement miss s =
-    if which == 1 then call (branch_target displacement s) s
-    else (if condition c (flags_of s.regs.sr) then finish 0 (jumped (branch_target displacement s) s)
+    if which == 1 then call (branch_target s.start.pc displacement) s
+    else (if condition c (flags_of s.regs.sr) then finish 0 (jumped (branch_target s.start.pc displacement) s)
     else finish miss s)
 
 -- DBcc, with its displacement: the low word of Dr less 1, and a branch unless it became FFFF
-abbrev pub counted_down : ℕ → Run → Run
-counted_down r s =
-    with_regs s (with_data s.regs r (merged S.Word (data_of s.regs r) (data_of s.regs r % 65536 + 65535)))
+abbrev pub counted_down : ℕ → CpuRegs → CpuRegs
+counted_down r regs = with_data regs r (merged S.Word (data_of regs r) (data_of regs r % 65536 + 65535))
 
 unfoldable pub counted : ℕ → ℕ → ℕ → Run → Prog
 counted c r displacement s =
     if condition c (flags_of s.regs.sr) then finish 0 s
-    else (if data_of s.regs r % 65536 == 0 then finish 2 (counted_down r s)
-    else finish 1 (jumped (branch_target (extended_word displacement) s) (counted_down r s)))
+    else (if data_of s.regs r % 65536 == 0 then finish 2 (with_regs s (counted_down r s.regs))
+    else finish 1 (jumped (branch_target s.start.pc (extended_word displacement)) (with_regs s (counted_down r s.regs))))
 
 -- ---- LINK and UNLK
 
 -- LINK, with its displacement: the lowered stack pointer is there before Ar is stored
-abbrev pub linked : ℕ → ℕ → Run → Run
-linked r displacement s =
-    let t = with_regs s (with_address s.regs r (stack_of s)) in
-    with_stack t (word32 (stack_of t + extended_word displacement))
+abbrev pub linked : ℕ → ℕ → CpuRegs → CpuRegs
+linked r displacement regs =
+    let pointing = with_address regs r (address_of regs 7) in
+    with_address pointing 7 (word32 (address_of pointing 7 + extended_word displacement))
 
 unfoldable pub link : ℕ → ℕ → Run → Prog
 link r displacement s =
-    written_on_stack (lowered s) (address_of (lowered s).regs r) (finish 0 (linked r displacement (lowered s)))
+    let t = with_regs s (linked r displacement (lowered_stack s.regs)) in
+    write t S.Long (stack_of (lowered s)) (address_of (lowered_stack s.regs) r) (finish 0 t)
 
 -- UNLK, with the long where Ar points: Ar takes it after the stack pointer was set
 unfoldable pub unlinked : Instr → ℕ → Run → Prog
@@ -101,21 +105,24 @@ unlink i r s = read s S.Long false (address_of s.regs r) (λ value. unlinked i v
 
 -- ---- returns
 
--- the run with so many bytes less on the stack
-abbrev pub raised : ℕ → Run → Run
-raised bytes s = with_stack s (word32 (stack_of s + bytes))
+-- the registers with so many bytes less on the stack
+abbrev pub raised : ℕ → CpuRegs → CpuRegs
+raised bytes regs = with_address regs 7 (word32 (address_of regs 7 + bytes))
 
 unfoldable pub returned : ℕ → Run → Prog
-returned pc s = finish 0 (jumped pc (raised 4 s))
+returned pc s = finish 0 (jumped pc (with_regs s (raised 4 s.regs)))
+
+abbrev pub resumed_with : ℕ → ℕ → Run → Prog
+resumed_with sr pc s = finish 0 (jumped pc (with_status (with_regs s (raised 6 s.regs)) sr))
 
 -- the word for SR or CCR and the PC are read: SR of RTE, and CCR of RTR
 unfoldable pub resumed : Instr → ℕ → ℕ → Run → Prog
-resumed (I.ResetNopStopRte which) word pc s = finish 0 (jumped pc (with_status (raised 6 s) (kept_status word)))
-resumed _ word pc s = finish 0 (jumped pc (with_status (raised 6 s) (with_code s.regs.sr word)))
+resumed (I.ResetNopStopRte which) word pc s = resumed_with (kept_status word) pc s
+resumed _ word pc s = resumed_with (with_code s.regs.sr word) pc s
 
 -- the word for SR or CCR is read
 unfoldable pub resuming : Instr → ℕ → Run → Prog
-resuming i word s = read s S.Long false (address_after S.Word (stack_of s)) (λ pc. resumed i word pc s)
+resuming i word s = read s S.Long false (address_after S.Word (stack_of s)) (λ pc. resumed i (word % 65536) pc s)
 
 unfoldable pub resume : Instr → Run → Prog
 resume i s = read s S.Word false (stack_of s) (λ word. resuming i word s)
@@ -155,17 +162,15 @@ returning i which s =
     else finish 0 s))
 
 -- MOVE USP: d 0 is to USP
-unfoldable pub usp_moved : ℕ → ℕ → Run → Run
-usp_moved d r s =
-    with_regs s (if d == 0 then record s.regs { usp = address_of s.regs r } else with_address s.regs r s.regs.usp)
+unfoldable pub usp_moved : ℕ → ℕ → CpuRegs → CpuRegs
+usp_moved d r regs = if d == 0 then record regs { usp = address_of regs r } else with_address regs r regs.usp
 
 -- EXG: o 8 Dx and Dy, 9 Ax and Ay, 17 Dx and Ay
-unfoldable pub exchanged : ℕ → ℕ → ℕ → Run → Run
-exchanged x o y s =
-    with_regs s
-    (if o == 8 then with_data (with_data s.regs x (data_of s.regs y)) y (data_of s.regs x)
-    else (if o == 9 then with_address (with_address s.regs x (address_of s.regs y)) y (address_of s.regs x)
-    else with_address (with_data s.regs x (address_of s.regs y)) y (data_of s.regs x)))
+unfoldable pub exchanged : ℕ → ℕ → ℕ → CpuRegs → CpuRegs
+exchanged x o y regs =
+    if o == 8 then with_data (with_data regs x (data_of regs y)) y (data_of regs x)
+    else (if o == 9 then with_address (with_address regs x (address_of regs y)) y (address_of regs x)
+    else with_address (with_data regs x (address_of regs y)) y (data_of regs x))
 
 -- a displacement of 0 in the opcode says that a word follows
 unfoldable pub branch : Instr → ℕ → ℕ → ℕ → Run → Prog

@@ -12,7 +12,7 @@ use Rattle.m68k_decode.specs.declared.under.Under.TheVariants as U
 use Rattle.m68k_decode.specs.Registers.{has_supervisor}
 use Rattle.m68k_decode.specs.Status.{needs_supervisor, has_trace, mask_of, entered_status}
 use Rattle.m68k_decode.specs.Access.{Prog, Ask, End, Enter, Halt, Next, after, next_of, idle_clocks}
-use Rattle.m68k_decode.specs.Run.{Run, finish, fetch}
+use Rattle.m68k_decode.specs.Run.{Run, with_regs, finish, fetch}
 use Rattle.m68k_decode.specs.General.{general}
 use Rattle.m68k_decode.specs.Flow.{control, own_word, unlink, system, returning, usp_moved, exchanged, branch}
 use Rattle.m68k_decode.specs.Entries.{is_instruction, entry, reset}
@@ -32,14 +32,14 @@ permitted (I.MovemToRegisters z m) s = own_word (I.MovemToRegisters z m) s
 permitted (I.Trap v) s = Enter s.regs (U.Entry (T.Number v) 0 false)
 permitted (I.LinkUnlk which r) s =
     if which == 0 then own_word (I.LinkUnlk which r) s else unlink (I.LinkUnlk which r) r s
-permitted (I.MoveUsp d r) s = finish 0 (usp_moved d r s)
+permitted (I.MoveUsp d r) s = finish 0 (with_regs s (usp_moved d r s.regs))
 permitted (I.ResetNopStopRte which) s = system (I.ResetNopStopRte which) which s
 permitted (I.RtsTrapvRtr which) s = returning (I.RtsTrapvRtr which) which s
 permitted (I.JsrJmp which m) s = control (I.JsrJmp which m) s
 permitted (I.Lea r m) s = control (I.Lea r m) s
 permitted (I.Dbcc c r) s = own_word (I.Dbcc c r) s
 permitted (I.Branch which c d) s = branch (I.Branch which c d) which c d s
-permitted (I.Exg x o y) s = finish 0 (exchanged x o y s)
+permitted (I.Exg x o y) s = finish 0 (with_regs s (exchanged x o y s.regs))
 permitted I.Illegal s = refused T.Illegal s
 permitted I.LineA s = refused T.LineA s
 permitted I.LineF s = refused T.LineF s

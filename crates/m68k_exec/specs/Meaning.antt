@@ -123,3 +123,17 @@ rest T.Halted i s = Halt
 -- what is left of the walk
 abbrev pub meaning : Context → Machine → Prog
 meaning c m = rest m.step c.fetched.instr (run_of c m)
+
+-- whether a step waits for an access
+abbrev pub asks : Step → Bool
+asks (T.Ended clocks under) = false
+asks (T.Broken under) = false
+asks T.Halted = false
+asks _ = true
+
+-- what follows a word
+abbrev pub follow : Prog → ℕ → Prog
+follow (Ask a k) w = k w
+follow (End t r u) w = End t r u
+follow (Enter r u) w = Enter r u
+follow Halt w = Halt

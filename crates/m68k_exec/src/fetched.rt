@@ -7,6 +7,7 @@ ghost use Rattle.m68k_opcodes.specs.Clocks.{number};
 use m68k_decode::{Instr, Mode, Size, clocks, decode};
 
 /// An opcode, decoded once.
+#[derive(Drop)]
 pub struct Fetched {
     pub opcode: u16,
     pub instr: Instr,

@@ -8,7 +8,10 @@
 mod access;
 mod ask;
 mod cpu;
+mod dispatch;
+mod entries;
 mod fetched;
+mod flow;
 mod general;
 mod lists;
 mod operation;
@@ -17,5 +20,5 @@ mod state;
 mod status;
 
 pub use ask::Ask;
-pub use cpu::Cpu;
+pub use state::Cpu;
 pub use m68k_decode::CpuRegs;

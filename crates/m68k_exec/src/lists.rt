@@ -127,16 +127,15 @@ fn left_of(mask: u16) -> Left
 }
 
 /// Takes the next register out of a list.
-#[tactic(auto, using(crate::proofs::Counting::numbers_none, crate::proofs::Counting::numbers_one, crate::proofs::Counting::numbers_zero))]
 fn take(left: &mut Left) -> Option<u8>
     ensures mask { left.new.mask ≡ left.old.mask }
     ensures numbers { numbers_left left.old ≡ taken result (numbers_left left.new) }
 {
     while left.bits > 0 {
-        let set = left.rest & 1 == 1;
-        left.rest >>= 1;
+        let lowest = left.rest % 2;
+        left.rest /= 2;
         left.bits -= 1;
-        if set {
+        if lowest == 1 {
             return Some(15u8.saturating_sub(left.bits));
         }
     }

@@ -101,6 +101,7 @@ pub enum Step {
 }
 
 /// What stays the same while an instruction, an entry or the reset goes on.
+#[derive(Drop)]
 pub struct Context {
     /// The registers with which it began.
     pub start: CpuRegs,
@@ -113,7 +114,19 @@ pub struct Context {
 }
 
 /// What changes from access to access.
+#[derive(Drop)]
 pub struct Machine {
     pub regs: CpuRegs,
     pub step: Step,
+}
+
+/// The processor between two accesses.
+#[derive(Drop)]
+pub struct Cpu {
+    pub(crate) context: Context,
+    pub(crate) machine: Machine,
+    /// The accesses made since what is under way began.
+    pub(crate) done: u32,
+    /// Whether a trace follows it.
+    pub(crate) traced: bool,
 }
