@@ -21,11 +21,11 @@ pub data Prog : Type 0 where
 
 -- what follows these answers
 abbrev pub after : Prog → List ℕ → Prog
-after p [] = p
+after (End t r u) ws = End t r u
+after (Enter r u) ws = Enter r u
+after Halt ws = Halt
+after (Ask a k) [] = Ask a k
 after (Ask a k) (w ∷ ws) = after (k w) ws
-after (End t r u) (w ∷ ws) = End t r u
-after (Enter r u) (w ∷ ws) = Enter r u
-after Halt (w ∷ ws) = Halt
 
 -- what the processor does next
 pub data Next : Type 0 where

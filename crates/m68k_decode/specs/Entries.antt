@@ -1,7 +1,6 @@
 -- Reset, and the entries of exceptions.
-use Rattle.std.specs.Prelude.{ℕ, Bool, true, false, List, [], ◌∷◌, ◌==◌, ◌+◌, ◌-◌, ◌*◌, ◌/◌, if◌then◌else◌}
+use Rattle.std.specs.Prelude.{ℕ, Bool, true, false, List, [], ◌∷◌, ◌+◌, ◌-◌, ◌*◌, ◌/◌}
 use Rattle.m68k_opcodes.specs.declared.operand.Size.TheVariants as S
-use Rattle.m68k_decode.specs.declared.regs.CpuRegs.{CpuRegs}
 use Rattle.m68k_decode.specs.declared.trap.Trap.{Trap}
 use Rattle.m68k_decode.specs.declared.trap.Trap.TheVariants as T
 use Rattle.m68k_decode.specs.declared.under.Under.TheVariants as U

@@ -1,15 +1,13 @@
 -- The rows that take an address, use the stack, branch, or change the processor's state by themselves.
-use Rattle.std.specs.Prelude.{ℕ, Bool, true, false, ◌==◌, ◌+◌, ◌*◌, ◌/◌, ◌%◌, if◌then◌else◌}
+use Rattle.std.specs.Prelude.{ℕ, false, ◌==◌, ◌+◌, ◌%◌, if◌then◌else◌}
 use Rattle.m68k_opcodes.specs.declared.operand.Size.TheVariants as S
 use Rattle.m68k_opcodes.specs.declared.operand.Mode.{Mode}
 use Rattle.m68k_opcodes.specs.declared.operand.Mode.TheVariants as M
 use Rattle.m68k_opcodes.specs.declared.instr.Instr.{Instr}
 use Rattle.m68k_opcodes.specs.declared.instr.Instr.TheVariants as I
-use Rattle.m68k_decode.specs.declared.outcome.Flags.{Flags}
 use Rattle.m68k_decode.specs.declared.place.Place68.{Place68}
 use Rattle.m68k_decode.specs.declared.place.Place68.TheVariants as P
 use Rattle.m68k_decode.specs.declared.regs.CpuRegs.{CpuRegs}
-use Rattle.m68k_decode.specs.declared.trap.Trap.{Trap}
 use Rattle.m68k_decode.specs.declared.trap.Trap.TheVariants as T
 use Rattle.m68k_decode.specs.declared.under.Under.TheVariants as U
 use Rattle.m68k_decode.specs.Registers.{word32, extended_word, extended_byte, data_of, address_of, with_data, with_address}

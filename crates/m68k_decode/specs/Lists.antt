@@ -1,5 +1,5 @@
 -- The rows that make a list of accesses: MOVEM and MOVEP.
-use Rattle.std.specs.Prelude.{ℕ, zero, suc, Bool, true, false, List, [], ◌∷◌, ◌==◌, ◌+◌, ◌-◌, ◌*◌, ◌/◌, ◌%◌, if◌then◌else◌, nat_lt, nat_le}
+use Rattle.std.specs.Prelude.{ℕ, zero, suc, Bool, true, false, List, [], ◌∷◌, ◌==◌, ◌+◌, ◌-◌, ◌*◌, ◌/◌, ◌%◌, if◌then◌else◌, nat_lt}
 use Rattle.m68k_opcodes.specs.declared.operand.Size.{Size}
 use Rattle.m68k_opcodes.specs.declared.operand.Size.TheVariants as S
 use Rattle.m68k_opcodes.specs.declared.operand.Mode.{Mode}

@@ -1,6 +1,6 @@
 -- The rows with a source, a destination and a result: what each of them says of these.
 -- (The source of an instruction that names two operands is the first; `old` is what stands at the destination.)
-use Rattle.std.specs.Prelude.{ℕ, zero, suc, Bool, true, false, not, ◌&&◌, ◌||◌, ◌==◌, ◌+◌, ◌*◌, ◌/◌, ◌%◌, if◌then◌else◌, Option, Some, None, ℤ, int_lt, nat_lt, pos, bit_and, bit_or, bit_xor}
+use Rattle.std.specs.Prelude.{ℕ, zero, suc, Bool, true, false, not, ◌||◌, ◌==◌, ◌+◌, ◌*◌, ◌/◌, ◌%◌, if◌then◌else◌, Option, Some, None, ℤ, int_lt, nat_lt, pos, bit_and, bit_or, bit_xor}
 use Rattle.m68k_opcodes.specs.declared.operand.Size.{Size}
 use Rattle.m68k_opcodes.specs.declared.operand.Size.TheVariants as S
 use Rattle.m68k_opcodes.specs.declared.operand.Mode.{Mode}

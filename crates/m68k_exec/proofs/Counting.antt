@@ -1,9 +1,8 @@
 -- Counting bits, place by place.
-use Rattle.std.proofs.Common.{◌≡◌, ◌≢◌, ℕ, zero, suc, ◌+◌, ◌-◌, ◌*◌, ◌/◌, ◌%◌, ◌==◌, List, [], ◌∷◌, if◌then◌else◌, false, refl, ap, arith, ◌<◌}
+use Rattle.std.proofs.Common.{◌≡◌, ◌≢◌, ℕ, zero, suc, ◌+◌, ◌-◌, ◌*◌, ◌/◌, ◌%◌, ◌==◌, [], ◌∷◌, if◌then◌else◌, false, refl, arith, ◌<◌}
 use Rattle.m68k_opcodes.specs.declared.operand.Size.TheVariants as S
 use Rattle.m68k_opcodes.specs.declared.instr.Instr.{Instr}
 use Rattle.m68k_decode.specs.Registers.{word32}
-use Rattle.m68k_decode.specs.Access.{Prog}
 use Rattle.m68k_decode.specs.Run.{Run, finish, read, write}
 use Rattle.m68k_decode.specs.RowData.{ones, turns}
 use Rattle.m68k_decode.specs.Lists.{numbers, scatter, gather, gathered}

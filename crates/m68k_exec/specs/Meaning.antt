@@ -1,12 +1,11 @@
 -- What a state between two accesses stands for: what is left of the walk.
-use Rattle.std.specs.Prelude.{ℕ, Bool, true, false, List, [], ◌∷◌, ◌+◌, ◌*◌, ◌/◌, if◌then◌else◌, drop, Option, Some, None}
+use Rattle.std.specs.Prelude.{ℕ, Bool, true, false, List, [], ◌∷◌, ◌+◌, ◌*◌, drop, Option, Some, None}
 use Rattle.m68k_opcodes.specs.declared.operand.Size.{Size}
 use Rattle.m68k_opcodes.specs.declared.operand.Size.TheVariants as S
 use Rattle.m68k_opcodes.specs.declared.operand.Mode.{Mode}
 use Rattle.m68k_opcodes.specs.declared.instr.Instr.{Instr}
 use Rattle.m68k_decode.specs.declared.place.Place68.{Place68}
 use Rattle.m68k_decode.specs.declared.place.Place68.TheVariants as P
-use Rattle.m68k_decode.specs.declared.regs.CpuRegs.{CpuRegs}
 use Rattle.m68k_decode.specs.Registers.{word32}
 use Rattle.m68k_decode.specs.Frames.{frame_of}
 use Rattle.m68k_decode.specs.Access.{Prog, Ask, End, Enter, Halt, Read, Write}
@@ -123,13 +122,6 @@ rest T.Halted i s = Halt
 -- what is left of the walk
 abbrev pub meaning : Context → Machine → Prog
 meaning c m = rest m.step c.fetched.instr (run_of c m)
-
--- whether a step waits for an access
-abbrev pub asks : Step → Bool
-asks (T.Ended clocks under) = false
-asks (T.Broken under) = false
-asks T.Halted = false
-asks _ = true
 
 -- what follows a word
 abbrev pub follow : Prog → ℕ → Prog

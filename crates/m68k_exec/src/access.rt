@@ -91,7 +91,14 @@ pub fn read(context: &Context, machine: &mut Machine, size: Size, program: bool,
 
 /// Asks for the low word of a long.
 #[tactic(auto, unfolding(m68k_decode::specs::Run::read_word))]
-pub fn read_low(context: &Context, machine: &mut Machine, program: bool, at: u32, high: u16, into: Use)
+pub fn read_low(
+    context: &Context,
+    machine: &mut Machine,
+    program: bool,
+    at: u32,
+    high: u16,
+    into: Use,
+)
     ensures { meaning context.now machine.new ≡ read_word (run_of context.now machine.old) program at (λ l. valued into context.now.fetched.instr (run_of context.now machine.old) (high * 65536 + l)) }
 {
     if at & 1 == 1 {
@@ -206,7 +213,14 @@ fn width(size: Size) -> u32
 
 /// Stores a result, and ends.
 #[tactic(auto, unfolding(m68k_decode::specs::Run::store))]
-pub fn store(context: &Context, machine: &mut Machine, size: Size, place: Place68, value: u32, clocks: u32)
+pub fn store(
+    context: &Context,
+    machine: &mut Machine,
+    size: Size,
+    place: Place68,
+    value: u32,
+    clocks: u32,
+)
     ensures { meaning context.now machine.new ≡ store (run_of context.now machine.old) size place value clocks }
 {
     match place {

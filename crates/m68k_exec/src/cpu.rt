@@ -6,7 +6,8 @@ ghost use Rattle.m68k_decode.specs.declared.under.Under.{Under};
 ghost use Rattle.m68k_decode.specs.declared.under.Under.TheVariants as U;
 ghost use Rattle.m68k_decode.specs.Access.{after, next_of, idle_clocks};
 ghost use Rattle.m68k_decode.specs.Walk.{next, program, advance, settled, boundary, is_traced, taking_of, regs_at_reset};
-ghost use Rattle.m68k_exec.specs.Meaning.{meaning, asks};
+ghost use Rattle.m68k_exec.specs.declared.ask.Ask.TheVariants as A;
+ghost use Rattle.m68k_exec.specs.Meaning.{meaning};
 ghost use Rattle.m68k_exec.specs.Stands.{Stands, Reaches, wanted, is_halted};
 
 use crate::access::fetch;
@@ -19,7 +20,7 @@ use crate::status::{entered_status, has_trace, mask};
 use m68k_decode::{CpuRegs, Trap, Under};
 
 /// Begins what is under way.
-#[tactic(auto, unfolding(m68k_decode::specs::Walk::program, m68k_decode::specs::Walk::instruction))]
+#[tactic(auto, unfolding(m68k_decode::specs::Walk::program, m68k_decode::specs::Walk::instruction, m68k_decode::specs::Walk::taking_of))]
 fn begin(context: &mut Context, machine: &mut Machine, under: Under)
     ensures start { context.new.start ≡ machine.old.regs }
     ensures walk { meaning context.new machine.new ≡ program machine.old.regs under }
@@ -104,9 +105,10 @@ impl Cpu {
     }
 
     /// What it does next: an access, or idle clocks, or nothing any more. A read of a byte asks for its whole word.
+    #[tactic(auto, unfolding(m68k_decode::specs::Walk::next))]
     pub fn ask(&self) -> Ask
         ensures next { (r : CpuRegs) (u : Under) (ws : List ℕ) → Stands self.now r u ws → result ≡ wanted (next r u ws) }
-        ensures halted { is_halted self.now ≡ true → result ≡ Halted }
+        ensures halted { is_halted self.now ≡ true → result ≡ A.Halted }
     {
         match self.machine.step {
             Step::Fetch { .. } => Ask::Read {
@@ -114,13 +116,16 @@ impl Cpu {
                 byte: false,
             },
             Step::ReadByte { at, .. } => Ask::Read { at, byte: true },
-            Step::ReadWord { at, .. } | Step::ReadHigh { at, .. } | Step::ReadLow { at, .. } => Ask::Read { at, byte: false },
+            Step::ReadWord { at, .. } | Step::ReadHigh { at, .. } | Step::ReadLow { at, .. } =>
+                Ask::Read { at, byte: false },
             Step::WriteByte { at, byte, .. } => Ask::Write {
                 at,
                 byte: true,
                 word: byte,
             },
-            Step::WriteWord { at, word, .. } | Step::WriteHigh { at, high: word, .. } | Step::Push { at, word, .. } => {
+            Step::WriteWord { at, word, .. }
+            | Step::WriteHigh { at, high: word, .. }
+            | Step::Push { at, word, .. } => {
                 Ask::Write {
                     at,
                     byte: false,
@@ -161,7 +166,6 @@ impl Cpu {
 
     /// Goes on with the word of an access.
     fn complete(&mut self, word: u16)
-        requires { asks self.old.machine.step ≡ true }
         ensures { (r : CpuRegs) (u : Under) (ws : List ℕ) → Stands self.old r u ws → Stands self.new r u (ws ++ word ∷ []) }
     {
         self.done = self.done.saturating_add(1);
@@ -173,7 +177,12 @@ impl Cpu {
         ensures { (r : CpuRegs) (u : Under) (ws : List ℕ) → Stands self.old r u ws → Reaches self.new result (settled (after (program r u) ws) r u ws level) }
     {
         match self.machine.step {
-            Step::Ended { clocks, under } if idle(clocks, self.done) == 0 => self.end(under, level),
+            Step::Ended { clocks, under } => {
+                if idle(clocks, self.done) == 0 {
+                    return self.end(under, level);
+                }
+                None
+            }
             Step::Broken { under } => {
                 self.begin(under);
                 None

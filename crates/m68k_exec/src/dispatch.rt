@@ -1,15 +1,18 @@
 //! What follows an access.
 
-ghost use Rattle.std.specs.Prelude.{◌≡◌, ◌≤◌, ◌<◌, ◌+◌, ◌*◌, ◌/◌, ◌%◌, true};
+ghost use Rattle.std.specs.Prelude.{◌≡◌, ◌≤◌, ◌<◌, ◌+◌, ◌*◌, ◌/◌, ◌%◌};
 ghost use Rattle.m68k_decode.specs.Access.{Prog};
 ghost use Rattle.m68k_decode.specs.Run.{at_place, moved};
 ghost use Rattle.m68k_decode.specs.Walk.{refused, permitted, execute, opcode_read};
-ghost use Rattle.m68k_exec.specs.Meaning.{meaning, run_of, rest, fetched, valued, written, placed, role_mode, role_size, asks, follow};
+ghost use Rattle.m68k_exec.specs.Meaning.{meaning, run_of, rest, fetched, valued, written, placed, role_mode, role_size, follow};
 
 use crate::access::{end, fetch, finish, read_low, write_word};
 use crate::entries::{end_reset, handle, push, take_stack};
 use crate::fetched::Fetched;
-use crate::flow::{branch, control, exchange, jump, move_usp, own, own_word, resolve_control, resumed, resuming, returned, returning, system, trap, unlink, unlinked};
+use crate::flow::{
+    branch, control, exchange, jump, move_usp, own, own_word, resolve_control, resumed, resuming,
+    returned, returning, system, trap, unlink, unlinked,
+};
 use crate::general::{compute, dest, general, resolve_dest, resolve_source};
 use crate::lists::{gather, loaded, resolve_list, scatter, store_next};
 use crate::state::{Context, Machine, Part, Role, Step, Then, Use};
@@ -101,7 +104,15 @@ fn take_word(context: &mut Context, machine: &mut Machine, part: Part, pc: u32, 
         Part::Opcode => begin_row(context, machine, word),
         Part::Own => own(context, machine, word),
         Part::One { role } => resolve(context, machine, role, pc, word, 0),
-        Part::High { role } => fetch(context, machine, Part::Low { role, pc, high: word }),
+        Part::High { role } => fetch(
+            context,
+            machine,
+            Part::Low {
+                role,
+                pc,
+                high: word,
+            },
+        ),
         Part::Low { role, pc, high } => resolve(context, machine, role, pc, high, word),
     }
 }
@@ -112,12 +123,19 @@ fn take_value(context: &Context, machine: &mut Machine, into: Use, value: u32)
 {
     match into {
         Use::Source => dest(context, machine, value),
-        Use::Old { value: source, place } => compute(context, machine, source, place, value),
+        Use::Old {
+            value: source,
+            place,
+        } => compute(context, machine, source, place, value),
         Use::Return => returned(context, machine, value),
         Use::Status => resuming(context, machine, value),
         Use::Resume { status } => resumed(context, machine, status, value),
         Use::Unlink => unlinked(context, machine, value),
-        Use::Gather { at, left, value: before } => {
+        Use::Gather {
+            at,
+            left,
+            value: before,
+        } => {
             let joined = before.wrapping_mul(0x100).wrapping_add(value);
             gather(context, machine, at, left, joined);
         }
@@ -142,7 +160,6 @@ fn go_on(context: &Context, machine: &mut Machine, then: Then)
 
 /// Goes on with the word of an access.
 pub fn resume(context: &mut Context, machine: &mut Machine, word: u16)
-    requires { asks machine.old.step ≡ true }
     ensures start { context.new.start ≡ context.old.start }
     ensures walk { meaning context.new machine.new ≡ follow (meaning context.old machine.old) word }
 {
@@ -157,11 +174,37 @@ pub fn resume(context: &mut Context, machine: &mut Machine, word: u16)
             take_value(context, machine, into, u32::from(value));
         }
         Step::ReadWord { into, .. } => take_value(context, machine, into, u32::from(word)),
-        Step::ReadHigh { at, program, into } => read_low(context, machine, program, at.wrapping_add(2), word, into),
-        Step::ReadLow { high, into, .. } => take_value(context, machine, into, u32::from(high) * 0x1_0000 + u32::from(word)),
-        Step::WriteByte { then, .. } | Step::WriteWord { then, .. } => go_on(context, machine, then),
-        Step::WriteHigh { at, low, then, .. } => write_word(context, machine, at.wrapping_add(2), low, then),
-        Step::Push { at, next, kind, ea, .. } => push(context, machine, kind, ea, at, next),
+        Step::ReadHigh { at, program, into } => read_low(
+            context,
+            machine,
+            program,
+            at.wrapping_add(2),
+            word,
+            into,
+        ),
+        Step::ReadLow { high, into, .. } => take_value(
+            context,
+            machine,
+            into,
+            u32::from(high) * 0x1_0000 + u32::from(word),
+        ),
+        Step::WriteByte { then, .. } | Step::WriteWord { then, .. } => go_on(
+            context, machine, then,
+        ),
+        Step::WriteHigh { at, low, then, .. } => write_word(
+            context,
+            machine,
+            at.wrapping_add(2),
+            low,
+            then,
+        ),
+        Step::Push {
+            at,
+            next,
+            kind,
+            ea,
+            ..
+        } => push(context, machine, kind, ea, at, next),
         Step::Ended { .. } | Step::Broken { .. } | Step::Halted => {}
     }
 }

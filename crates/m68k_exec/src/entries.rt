@@ -81,7 +81,14 @@ fn read_vector(context: &Context, machine: &mut Machine, kind: Trap, ea: u8, at:
 {
     machine.regs.set_address(7, at);
     let clocks = entry_clocks(&kind, ea);
-    read(context, machine, Size::Long, false, 4 * vector(&kind), Use::Handler { clocks });
+    read(
+        context,
+        machine,
+        Size::Long,
+        false,
+        4 * vector(&kind),
+        Use::Handler { clocks },
+    );
 }
 
 /// A word of a frame by its place, from 0.
@@ -101,7 +108,15 @@ fn frame_word(kind: &Trap, regs: &CpuRegs, next: u8) -> Option<u16>
 
 /// Asks to write a word of a frame; `next` of its words are written with this one.
 #[tactic(auto, unfolding(m68k_decode::specs::Run::write_word))]
-fn write_frame_word(context: &Context, machine: &mut Machine, kind: Trap, ea: u8, at: u32, word: u16, next: u8)
+fn write_frame_word(
+    context: &Context,
+    machine: &mut Machine,
+    kind: Trap,
+    ea: u8,
+    at: u32,
+    word: u16,
+    next: u8,
+)
     ensures { meaning context.now machine.new ≡ write_word (run_of context.now machine.old) at word (pushes kind ea at (drop next (frame_of kind context.now.start)) (run_of context.now machine.old)) }
 {
     if at & 1 == 1 {

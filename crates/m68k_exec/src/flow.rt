@@ -123,8 +123,20 @@ pub fn control(context: &Context, machine: &mut Machine)
             let pc = machine.regs.pc;
             resolve_control(context, machine, pc, 0, 0);
         }
-        1 => fetch(context, machine, Part::One { role: Role::Control }),
-        _ => fetch(context, machine, Part::High { role: Role::Control }),
+        1 => fetch(
+            context,
+            machine,
+            Part::One {
+                role: Role::Control,
+            },
+        ),
+        _ => fetch(
+            context,
+            machine,
+            Part::High {
+                role: Role::Control,
+            },
+        ),
     }
 }
 
@@ -132,14 +144,19 @@ pub fn control(context: &Context, machine: &mut Machine)
 fn branch_target(opcode_address: u32, displacement: u32) -> u32
     ensures { result ≡ branch_target opcode_address displacement }
 {
-    opcode_address
-        .wrapping_add(2)
-        .wrapping_add(displacement)
+    opcode_address.wrapping_add(2).wrapping_add(displacement)
 }
 
 /// The displacement of a branch is known.
 #[tactic(auto, unfolding(m68k_decode::specs::Flow::branched))]
-fn take_branch(context: &Context, machine: &mut Machine, which: u8, c: u8, displacement: u32, miss: u32)
+fn take_branch(
+    context: &Context,
+    machine: &mut Machine,
+    which: u8,
+    c: u8,
+    displacement: u32,
+    miss: u32,
+)
     requires { miss ≤ 63 }
     ensures { meaning context.now machine.new ≡ branched which c displacement miss (run_of context.now machine.old) }
 {
@@ -201,7 +218,14 @@ fn link(context: &Context, machine: &mut Machine, r: u8, displacement: u16)
     let top = machine.regs.address(7);
     point(&mut machine.regs, r, displacement);
     let clocks = context.fetched.clocks(0);
-    write(context, machine, Size::Long, top, value, Then::End { clocks });
+    write(
+        context,
+        machine,
+        Size::Long,
+        top,
+        value,
+        Then::End { clocks },
+    );
 }
 
 /// The long where UNLK's register points is read.
@@ -264,7 +288,14 @@ pub fn resuming(context: &Context, machine: &mut Machine, word: u32)
 {
     let status = (word % 0x1_0000) as u16;
     let at = address_after(Size::Word, machine.regs.address(7));
-    read(context, machine, Size::Long, false, at, Use::Resume { status });
+    read(
+        context,
+        machine,
+        Size::Long,
+        false,
+        at,
+        Use::Resume { status },
+    );
 }
 
 /// RTE and RTR, after the opcode.
@@ -295,11 +326,20 @@ pub fn own(context: &Context, machine: &mut Machine, word: u16)
 {
     match context.fetched.instr {
         Instr::Movep { .. } => spread(context, machine, word),
-        Instr::MovemToMemory { .. } | Instr::MovemToRegisters { .. } => several(context, machine, word),
+        Instr::MovemToMemory { .. } | Instr::MovemToRegisters { .. } => several(
+            context, machine, word,
+        ),
         Instr::LinkUnlk { r, .. } => link(context, machine, r, word),
         Instr::ResetNopStopRte { .. } => stop(context, machine, word),
         Instr::Dbcc { c, r } => count(context, machine, c, r, word),
-        Instr::Branch { which, c, .. } => take_branch(context, machine, which, c, extended_word(word), 2),
+        Instr::Branch { which, c, .. } => take_branch(
+            context,
+            machine,
+            which,
+            c,
+            extended_word(word),
+            2,
+        ),
         _ => finish(context, machine, 0),
     }
 }

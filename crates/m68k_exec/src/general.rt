@@ -8,14 +8,24 @@ ghost use Rattle.m68k_exec.specs.Meaning.{meaning, run_of};
 
 use crate::access::{fetch, held, read, store};
 use crate::operation::{operation, status_after, trap, trap_ea};
-use crate::row_data::{constant, count, dest_mode, dest_size, has_dest, has_source, is_program, source_mode, source_size, takes_old, target};
+use crate::row_data::{
+    constant, count, dest_mode, dest_size, has_dest, has_source, is_program, source_mode,
+    source_size, takes_old, target,
+};
 use crate::state::{Context, Machine, Part, Role, Step, Use};
 use m68k_decode::{Place68, Trap, Under};
 use m68k_ea::{extension_words, resolve};
 
 /// The result is known: it is stored, or an exception begins.
 #[tactic(auto, unfolding(m68k_decode::specs::General::completed))]
-fn complete(context: &Context, machine: &mut Machine, trap: Option<Trap>, place: Place68, value: u32, clocks: u32)
+fn complete(
+    context: &Context,
+    machine: &mut Machine,
+    trap: Option<Trap>,
+    place: Place68,
+    value: u32,
+    clocks: u32,
+)
     ensures { meaning context.now machine.new ≡ completed trap context.now.fetched.instr place value clocks (run_of context.now machine.old) }
 {
     let instr = context.fetched.instr;
@@ -29,7 +39,14 @@ fn complete(context: &Context, machine: &mut Machine, trap: Option<Trap>, place:
         };
         return;
     }
-    store(context, machine, dest_size(&instr), target(&instr, place), value, clocks);
+    store(
+        context,
+        machine,
+        dest_size(&instr),
+        target(&instr, place),
+        value,
+        clocks,
+    );
 }
 
 /// Source and old value are known.
@@ -42,7 +59,14 @@ pub fn compute(context: &Context, machine: &mut Machine, value: u32, place: Plac
     let outcome = operation(&instr, value, old, sr);
     let clocks = context.fetched.clocks(count(&instr, value, sr));
     machine.regs.sr = status_after(&instr, value, outcome.flags, sr);
-    complete(context, machine, trap(&instr, value, old), place, outcome.value, clocks);
+    complete(
+        context,
+        machine,
+        trap(&instr, value, old),
+        place,
+        outcome.value,
+        clocks,
+    );
 }
 
 /// Takes the old value of the destination.
@@ -52,7 +76,14 @@ fn load_old(context: &Context, machine: &mut Machine, value: u32, place: Place68
 {
     let size = dest_size(&context.fetched.instr);
     match place {
-        Place68::Memory { at } => read(context, machine, size, false, at, Use::Old { value, place }),
+        Place68::Memory { at } => read(
+            context,
+            machine,
+            size,
+            false,
+            at,
+            Use::Old { value, place },
+        ),
         _ => {
             let old = held(&machine.regs, size, place);
             compute(context, machine, value, place, old);
@@ -74,7 +105,14 @@ pub fn with_dest(context: &Context, machine: &mut Machine, value: u32, place: Pl
 
 /// Goes on with the words of the destination's mode.
 #[tactic(auto, unfolding(m68k_decode::specs::Run::at_place))]
-pub fn resolve_dest(context: &Context, machine: &mut Machine, value: u32, pc: u32, high: u16, low: u16)
+pub fn resolve_dest(
+    context: &Context,
+    machine: &mut Machine,
+    value: u32,
+    pc: u32,
+    high: u16,
+    low: u16,
+)
     ensures { meaning context.now machine.new ≡ at_place (run_of context.now machine.old) (dest_mode context.now.fetched.instr) (dest_size context.now.fetched.instr) pc high low (λ p t. with_dest context.now.fetched.instr value p t) }
 {
     let mode = dest_mode(&context.fetched.instr);
@@ -98,8 +136,20 @@ pub fn dest(context: &Context, machine: &mut Machine, value: u32)
             let pc = machine.regs.pc;
             resolve_dest(context, machine, value, pc, 0, 0);
         }
-        1 => fetch(context, machine, Part::One { role: Role::Dest { value } }),
-        _ => fetch(context, machine, Part::High { role: Role::Dest { value } }),
+        1 => fetch(
+            context,
+            machine,
+            Part::One {
+                role: Role::Dest { value },
+            },
+        ),
+        _ => fetch(
+            context,
+            machine,
+            Part::High {
+                role: Role::Dest { value },
+            },
+        ),
     }
 }
 

@@ -20,5 +20,5 @@ mod state;
 mod status;
 
 pub use ask::Ask;
-pub use state::Cpu;
 pub use m68k_decode::CpuRegs;
+pub use state::Cpu;

@@ -170,7 +170,14 @@ pub fn store_next(context: &Context, machine: &mut Machine, at: u32, left: Left)
         at: stored_next(mode, size, at),
         left,
     };
-    write(context, machine, size, stored_at(mode, size, at), value, then);
+    write(
+        context,
+        machine,
+        size,
+        stored_at(mode, size, at),
+        value,
+        then,
+    );
 }
 
 /// Loads the next register.
@@ -208,7 +215,12 @@ pub fn list(context: &Context, machine: &mut Machine, mask: u16, place: Place68)
     ensures { meaning context.now machine.new ≡ listing context.now.fetched.instr mask place (run_of context.now machine.old) }
 {
     match (context.fetched.instr, place) {
-        (Instr::MovemToMemory { .. }, Place68::Memory { at }) => store_next(context, machine, at, left_of(mask)),
+        (Instr::MovemToMemory { .. }, Place68::Memory { at }) => store_next(
+            context,
+            machine,
+            at,
+            left_of(mask),
+        ),
         (_, Place68::Memory { at }) => load_next(context, machine, at, left_of(mask)),
         _ => finish(context, machine, 0),
     }
@@ -216,7 +228,14 @@ pub fn list(context: &Context, machine: &mut Machine, mask: u16, place: Place68)
 
 /// Goes on with the words of MOVEM's mode.
 #[tactic(auto, unfolding(m68k_decode::specs::Run::at_place))]
-pub fn resolve_list(context: &Context, machine: &mut Machine, mask: u16, pc: u32, high: u16, low: u16)
+pub fn resolve_list(
+    context: &Context,
+    machine: &mut Machine,
+    mask: u16,
+    pc: u32,
+    high: u16,
+    low: u16,
+)
     ensures { meaning context.now machine.new ≡ at_place (run_of context.now machine.old) (unstepped (list_mode context.now.fetched.instr)) (list_size context.now.fetched.instr) pc high low (λ p t. listing context.now.fetched.instr mask p t) }
 {
     let mode = unstepped(list_mode(&context.fetched.instr));
@@ -236,8 +255,20 @@ pub fn several(context: &Context, machine: &mut Machine, mask: u16)
             let pc = machine.regs.pc;
             resolve_list(context, machine, mask, pc, 0, 0);
         }
-        1 => fetch(context, machine, Part::One { role: Role::List { mask } }),
-        _ => fetch(context, machine, Part::High { role: Role::List { mask } }),
+        1 => fetch(
+            context,
+            machine,
+            Part::One {
+                role: Role::List { mask },
+            },
+        ),
+        _ => fetch(
+            context,
+            machine,
+            Part::High {
+                role: Role::List { mask },
+            },
+        ),
     }
 }
 
@@ -310,6 +341,9 @@ pub fn spread(context: &Context, machine: &mut Machine, displacement: u16)
         finish(context, machine, 0);
         return;
     };
-    let at = machine.regs.address(a).wrapping_add(extended_word(displacement));
+    let at = machine
+        .regs
+        .address(a)
+        .wrapping_add(extended_word(displacement));
     move_bytes(context, machine, r, o, at);
 }

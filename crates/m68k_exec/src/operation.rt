@@ -9,9 +9,10 @@ ghost use Rattle.m68k_decode.specs.RowData.{bit_size, logical, sum_or_difference
 use crate::row_data::{bit_size, extended};
 use crate::status::{condition, flags, kept_status, with_code, with_flags};
 use m68k_alu::{
-    op_abcd, op_add, op_addx, op_and, op_asl, op_asr, op_bchg, op_bclr, op_bset, op_btst, op_chk, op_clr, op_cmp,
-    op_divs, op_divu, op_eor, op_ext, op_lsl, op_lsr, op_move, op_muls, op_mulu, op_nbcd, op_neg, op_negx, op_not,
-    op_or, op_rol, op_ror, op_roxl, op_roxr, op_sbcd, op_sub, op_subx, op_swap, op_tas, op_tst,
+    op_abcd, op_add, op_addx, op_and, op_asl, op_asr, op_bchg, op_bclr, op_bset, op_btst, op_chk,
+    op_clr, op_cmp, op_divs, op_divu, op_eor, op_ext, op_lsl, op_lsr, op_move, op_muls, op_mulu,
+    op_nbcd, op_neg, op_negx, op_not, op_or, op_rol, op_ror, op_roxl, op_roxr, op_sbcd, op_sub,
+    op_subx, op_swap, op_tas, op_tst,
 };
 use m68k_decode::{Flags, Instr, Mode, Outcome, Size, Trap, ea};
 
@@ -185,14 +186,24 @@ fn arithmetic(instr: &Instr, value: u32, old: u32, f: Flags) -> Outcome
     ensures { result ≡ arithmetic_of instr.now value old f }
 {
     match *instr {
-        Instr::Quick { which, size, mode, .. } => quick(which == 0, mode, size, old, value, f),
+        Instr::Quick {
+            which,
+            size,
+            mode,
+            ..
+        } => quick(which == 0, mode, size, old, value, f),
         Instr::OrAndToDn { which, size, .. } => logical(which, size, old, value, f),
         Instr::SubAddToDn { which, size, .. } => sum_or_difference(which == 1, size, old, value, f),
         Instr::ToMemory { which, size, .. } => to_memory(which, size, old, value, f),
-        Instr::Cmpi { size, .. } | Instr::Cmp { size, .. } | Instr::Cmpm { size, .. } => op_cmp(size, old, value, f),
+        Instr::Cmpi { size, .. } | Instr::Cmp { size, .. } | Instr::Cmpm { size, .. } => op_cmp(
+            size, old, value, f,
+        ),
         Instr::Eor { size, .. } => op_eor(size, old, value, f),
         Instr::SubaAdda { which, size, .. } => {
-            unflagged(sum_or_difference(which == 1, Size::Long, old, extended(size, value), f).value, f)
+            unflagged(
+                sum_or_difference(which == 1, Size::Long, old, extended(size, value), f).value,
+                f,
+            )
         }
         Instr::Cmpa { size, .. } => op_cmp(Size::Long, old, extended(size, value), f),
         Instr::SubxAddx { which: 1, size, .. } => op_addx(size, old, value, f),
@@ -228,7 +239,11 @@ pub fn status_after(instr: &Instr, value: u32, f: Flags, sr: u16) -> u16
     match *instr {
         Instr::ImmediateToStatus { which } => {
             let status = status_logical(which, sr, value);
-            if which < 3 { with_code(sr, status) } else { kept_status(status) }
+            if which < 3 {
+                with_code(sr, status)
+            } else {
+                kept_status(status)
+            }
         }
         Instr::MoveToStatus { which: 0, .. } => with_code(sr, value),
         Instr::MoveToStatus { .. } => kept_status(value),
@@ -241,11 +256,7 @@ fn word_of(number: u32) -> i32
     ensures { result ≡ word_of number }
 {
     let word = (number & 0xffff) as i32;
-    if word < 0x8000 {
-        word
-    } else {
-        word - 0x1_0000
-    }
+    if word < 0x8000 { word } else { word - 0x1_0000 }
 }
 
 /// Whether CHK traps: below 0 and above the bound.

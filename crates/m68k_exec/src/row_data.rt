@@ -28,7 +28,10 @@ pub fn dest_size(instr: &Instr) -> Size
 {
     match *instr {
         Instr::BitDynamic { mode, .. } | Instr::BitStatic { mode, .. } => bit_size(mode),
-        Instr::Quick { mode: Mode::An { .. }, .. } => Size::Long,
+        Instr::Quick {
+            mode: Mode::An { .. },
+            ..
+        } => Size::Long,
         Instr::Immediate { size, .. }
         | Instr::Cmpi { size, .. }
         | Instr::Move { size, .. }
@@ -45,10 +48,8 @@ pub fn dest_size(instr: &Instr) -> Size
         | Instr::SubxAddx { size, .. }
         | Instr::ShiftRegister { size, .. } => size,
         Instr::MoveFromSr { .. } | Instr::Chk { .. } | Instr::ShiftMemory { .. } => Size::Word,
-        Instr::Nbcd { .. }
-        | Instr::Tas { .. }
-        | Instr::Scc { .. }
-        | Instr::SbcdAbcd { .. } => Size::Byte,
+        Instr::Nbcd { .. } | Instr::Tas { .. } | Instr::Scc { .. } | Instr::SbcdAbcd { .. } =>
+            Size::Byte,
         _ => Size::Long,
     }
 }
@@ -121,7 +122,9 @@ pub fn source_mode(instr: &Instr) -> Mode
         | Instr::Cmpa { mode, .. }
         | Instr::MuluMuls { mode, .. }
         | Instr::DivuDivs { mode, .. } => mode,
-        Instr::BitDynamic { r, .. } | Instr::ToMemory { r, .. } | Instr::Eor { r, .. } => Mode::Dn { reg: r },
+        Instr::BitDynamic { r, .. } | Instr::ToMemory { r, .. } | Instr::Eor { r, .. } => Mode::Dn {
+            reg: r,
+        },
         Instr::ShiftRegister { c, .. } => Mode::Dn { reg: c },
         Instr::Cmpm { y, .. } => Mode::Post { reg: y },
         Instr::SubxAddx { m, y, .. } | Instr::SbcdAbcd { m, y, .. } => pair_mode(m, y),
@@ -141,7 +144,11 @@ pub fn extended_byte(byte: u8) -> u32
     ensures { result ≡ extended_byte byte }
 {
     let byte = u32::from(byte);
-    if byte < 0x80 { byte } else { byte + 0xffff_ff00 }
+    if byte < 0x80 {
+        byte
+    } else {
+        byte + 0xffff_ff00
+    }
 }
 
 /// A word with its sign as 32 bits.
@@ -149,7 +156,11 @@ pub fn extended_word(word: u16) -> u32
     ensures { result ≡ extended_word word }
 {
     let word = u32::from(word);
-    if word < 0x8000 { word } else { word + 0xffff_0000 }
+    if word < 0x8000 {
+        word
+    } else {
+        word + 0xffff_0000
+    }
 }
 
 /// The source where there is no operand.
@@ -171,7 +182,10 @@ pub fn constant(instr: &Instr) -> u32
 pub fn has_dest(instr: &Instr) -> bool
     ensures { result ≡ has_dest instr.now }
 {
-    !matches!(*instr, Instr::ImmediateToStatus { .. } | Instr::MoveToStatus { .. })
+    !matches!(
+        *instr,
+        Instr::ImmediateToStatus { .. } | Instr::MoveToStatus { .. }
+    )
 }
 
 /// The destination operand.
@@ -195,7 +209,9 @@ pub fn dest_mode(instr: &Instr) -> Mode
         | Instr::Eor { mode, .. }
         | Instr::ShiftMemory { mode, .. } => mode,
         Instr::Move { dest, .. } => dest,
-        Instr::Movea { r, .. } | Instr::SubaAdda { r, .. } | Instr::Cmpa { r, .. } => Mode::An { reg: r },
+        Instr::Movea { r, .. } | Instr::SubaAdda { r, .. } | Instr::Cmpa { r, .. } => Mode::An {
+            reg: r,
+        },
         Instr::Swap { r }
         | Instr::Ext { r, .. }
         | Instr::Chk { r, .. }
@@ -235,7 +251,10 @@ pub fn dest_mode(instr: &Instr) -> Mode
 pub fn takes_old(instr: &Instr) -> bool
     ensures { result ≡ takes_old instr.now }
 {
-    !matches!(*instr, Instr::Move { .. } | Instr::Movea { .. } | Instr::Moveq { .. })
+    !matches!(
+        *instr,
+        Instr::Move { .. } | Instr::Movea { .. } | Instr::Moveq { .. }
+    )
 }
 
 /// Whether there is a result to be written.

@@ -82,20 +82,60 @@ pub enum Then {
 /// What the processor waits for. The last two last no longer than the call that leads to them.
 #[derive(Clone, Copy)]
 pub enum Step {
-    Fetch { part: Part },
-    ReadByte { at: u32, into: Use },
-    ReadWord { at: u32, into: Use },
-    ReadHigh { at: u32, program: bool, into: Use },
-    ReadLow { at: u32, high: u16, into: Use },
-    WriteByte { at: u32, byte: u16, then: Then },
-    WriteWord { at: u32, word: u16, then: Then },
-    WriteHigh { at: u32, high: u16, low: u16, then: Then },
+    Fetch {
+        part: Part,
+    },
+    ReadByte {
+        at: u32,
+        into: Use,
+    },
+    ReadWord {
+        at: u32,
+        into: Use,
+    },
+    ReadHigh {
+        at: u32,
+        program: bool,
+        into: Use,
+    },
+    ReadLow {
+        at: u32,
+        high: u16,
+        into: Use,
+    },
+    WriteByte {
+        at: u32,
+        byte: u16,
+        then: Then,
+    },
+    WriteWord {
+        at: u32,
+        word: u16,
+        then: Then,
+    },
+    WriteHigh {
+        at: u32,
+        high: u16,
+        low: u16,
+        then: Then,
+    },
     /// A word of a frame; `next` words of it are written with this one.
-    Push { at: u32, word: u16, next: u8, kind: Trap, ea: u8 },
+    Push {
+        at: u32,
+        word: u16,
+        next: u8,
+        kind: Trap,
+        ea: u8,
+    },
     /// The idle clocks at an end.
-    Ended { clocks: u32, under: Under },
+    Ended {
+        clocks: u32,
+        under: Under,
+    },
     /// An exception breaks off what was under way.
-    Broken { under: Under },
+    Broken {
+        under: Under,
+    },
     /// Nothing any more.
     Halted,
 }

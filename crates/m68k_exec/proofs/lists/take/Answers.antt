@@ -1,6 +1,5 @@
-use Rattle.std.proofs.Common.{◌≡◌, ◌≢◌, ◌<◌, ◌+◌, ◌-◌, ◌*◌, ◌/◌, ◌%◌, ℕ, [], ◌∷◌, refl, sym, ap, ◌∙◌, arith, rules}
+use Rattle.std.proofs.Common.{◌≡◌, ◌≢◌, ◌<◌, ◌-◌, ◌%◌, ◌∙◌, arith}
 use Rattle.m68k_exec.proofs.Counting.{numbers_none, numbers_one, numbers_zero}
-use Rattle.m68k_exec.specs.Meaning.{numbers_left}
 use Rattle.m68k_exec.proofs.lists.take.Goals as goal
 
 pub returns-then-lowest-eq1-clause-numbers : goal.returns-then-lowest-eq1-clause-numbers

@@ -1,6 +1,3 @@
-use Rattle.std.proofs.Common.{rules, arith, ◌≡◌, ◌≤◌, ℕ, ◌<◌}
-use Rattle.m68k_opcodes.specs.Table.{decode_of, clocks_at}
-use Rattle.m68k_opcodes.specs.Clocks.{number}
 use Rattle.m68k_exec.proofs.fetched.Fetched.clocks.Goals as goal
 
 -- the opcode of the struct is the one of the call's clause
