@@ -1,10 +1,10 @@
 -- The outcomes of shifts and rotations, in closed form: a shift by n is a product with 2 to the n or a quotient by it.
-use Rattle.std.specs.Prelude.{ℕ, ◌+◌, ◌-◌, ◌*◌, ◌/◌, ◌%◌, ◌^◌, Bool, false, not, ◌&&◌, if◌then◌else◌, ◌==◌, ◌≤◌, ◌≢◌, ℤ, pos, ◌*ℤ◌}
+use Rattle.std.specs.Prelude.{ℕ, ◌+◌, ◌-◌, ◌*◌, ◌/◌, ◌%◌, ◌^◌, Bool, false, not, ◌&&◌, if◌then◌else◌, ◌==◌, ◌≡◌, ◌≤◌, ◌≢◌, ℤ, pos, ◌*ℤ◌}
 use Rattle.std.specs.Int.{int_div_euclid}
 use Rattle.m68k_opcodes.specs.declared.operand.Size.{Size}
 use Rattle.m68k_decode.specs.declared.outcome.Flags.{Flags}
 use Rattle.m68k_decode.specs.declared.outcome.Outcome.{Outcome}
-use Rattle.m68k_decode.specs.Results.{bits, span, low, is_negative, signed, is_signed, wrapped, one_if, outcome}
+use Rattle.m68k_decode.specs.Results.{bits, span, half, low, is_negative, signed, is_signed, wrapped, one_if, outcome}
 
 -- the count of a shift
 abbrev pub shift_count : ℕ → ℕ
@@ -85,6 +85,17 @@ rotated_left s n k = rotated (bits s) (k % bits s) n
 
 abbrev pub rotated_right : Size → ℕ → ℕ → ℕ
 rotated_right s n k = rotated (bits s) (bits s - k % bits s) n
+
+-- One step of a rotation: to the left the top bit becomes the lowest, to the right the lowest the top bit.
+abbrev pub one_left : Size → ℕ → ℕ
+one_left s n = n * 2 % span s + n * 2 / span s
+
+abbrev pub one_right : Size → ℕ → ℕ
+one_right s n = n / 2 + n % 2 * half s
+
+-- A rotation by k, for every k: by none it leaves n, and one more is one step. ROL and ROR promise this of theirs.
+abbrev pub GoesByStep : (by : ℕ → ℕ) (step : ℕ → ℕ) (n : ℕ) → Type 0
+GoesByStep by step n = (by 0 ≡ n) × ((k : ℕ) → by (1 + k) ≡ step (by k))
 
 -- X stays; C is the last bit out, which is now the lowest or the highest of the result, and 0 at count 0
 abbrev pub rotation_outcome : Size → (value : ℕ) (last : Bool) (count : ℕ) → Flags → Outcome

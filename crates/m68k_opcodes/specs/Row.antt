@@ -1,5 +1,5 @@
 -- What a row of the table of instructions says, and which opcodes it takes.
-use Rattle.std.specs.Prelude.{ℕ, Bool, true, List, [], ◌∷◌, ◌++◌, ◌==◌, ◌+◌, ◌/◌, ◌%◌, ◌&&◌, ◌||◌, not, if◌then◌else◌, nat_lt}
+use Rattle.std.specs.Prelude.{ℕ, Bool, true, List, [], ◌∷◌, ◌++◌, ◌==◌, ◌/◌, ◌%◌, ◌&&◌, ◌||◌, not, if◌then◌else◌, nat_lt}
 use Rattle.m68k_opcodes.specs.declared.instr.Instr.{Instr}
 use Rattle.m68k_opcodes.specs.declared.instr.Instr.TheVariants as I
 use Rattle.m68k_opcodes.specs.Text.{fits, field, places, letter_s, letter_z, letter_e, letter_M, letter_R}
