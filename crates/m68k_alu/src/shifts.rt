@@ -86,7 +86,7 @@ fn last_bit_right(number: u32, count: u32) -> bool
     requires { count < 64 }
     ensures { result ≡ last_out_right number count }
 {
-    ((u64::from(number) * 2) >> count) & 1 == 1
+    count != 0 && (u64::from(number) >> (count - 1)) & 1 == 1
 }
 
 /// The number shifted to the right, with copies of its sign.
@@ -103,7 +103,7 @@ fn last_bit_right_signed(size: Size, number: u32, count: u32) -> bool
     requires count { count < 64 }
     ensures { result ≡ last_out_right_signed size (signed size number) count }
 {
-    shift_right_signed(size, with_sign(size, number) * 2, count) & 1 == 1
+    count != 0 && shift_right_signed(size, with_sign(size, number), count - 1) & 1 == 1
 }
 
 /// The flags of a shift: C is the last bit out, X is C where the count is not 0.
