@@ -7,3 +7,12 @@ pub mod ResultsDecimal
 pub mod ResultsBits
 pub mod ResultsShifts
 pub mod ResultsProducts
+pub mod Status
+pub mod Access
+pub mod Run
+pub mod RowData
+pub mod General
+pub mod Lists
+pub mod Flow
+pub mod Entries
+pub mod Walk

@@ -6,12 +6,14 @@ pub mod outcome;
 pub mod place;
 pub mod regs;
 pub mod trap;
+pub mod under;
 
 pub use m68k_opcodes::{Instr, Mode, Size, clocks, decode, ea};
 pub use outcome::{Flags, Outcome};
 pub use place::Place68;
 pub use regs::CpuRegs;
 pub use trap::Trap;
+pub use under::Under;
 
 #[cfg(test)]
 mod tests;
