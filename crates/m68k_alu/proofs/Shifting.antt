@@ -1,5 +1,6 @@
 -- Shifts of numbers below 2 ^ 32.
-use Rattle.std.proofs.Common.{◌≡◌, ℕ, ◌+◌, ◌-◌, ◌*◌, ◌/◌, ◌%◌, ◌^◌, ◌<◌, ◌≤◌, min, nat_lt, nat_le, arith, refl, inl, inr, ◌∙◌, sym, pow-add, rules, lt-ltb, le-ltb, le-leb}
+use Rattle.std.proofs.Common.{◌≡◌, ℕ, ◌+◌, ◌-◌, ◌*◌, ◌/◌, ◌%◌, ◌^◌, ◌<◌, ◌≤◌, min, nat_lt}
+use Rattle.std.proofs.Common.{nat_le, arith, refl, inl, inr, ◌∙◌, sym, pow-add, rules, lt-ltb, le-ltb, le-leb}
 use Rattle.std.proofs.lemmas.Nat.{shl_whole, shl-shr, pow_pos, mul-le}
 use Rattle.std.proofs.lemmas.Bool.{cases_lt, cases_eq, lt-leb}
 use Rattle.std.proofs.lemmas.Int.{ints}

@@ -94,7 +94,8 @@ negative_found s n (suc k) h below out =
       | inr w ↦ (let within : (span s - n) * 2 ^ k ≤ half s = w in
           let d : (span s - n) * 2 ^ suc k ≡ (span s - n) * 2 ^ k + (span s - n) * 2 ^ k = doubled (span s - n) k in
           let most : (span s - n) * 2 ^ suc k ≤ half s + half s = omega arith in
-          let clear : is_negative s (shifted_left s n (suc k)) ≡ false = clear_beyond s (n * 2 ^ suc k) ((span s - n) * 2 ^ suc k) (2 ^ suc k) (negative_sum s n (suc k) below) out most in
+          let clear : is_negative s (shifted_left s n (suc k)) ≡ false =
+          clear_beyond s (n * 2 ^ suc k) ((span s - n) * 2 ^ suc k) (2 ^ suc k) (negative_sum s n (suc k) below) out most in
           let set : is_negative s n ≡ true = le-leb (half s) n h in
           (suc k, (omega arith, λ same. true≢false (sym set ∙ sym same ∙ clear))))
     ]

@@ -2,7 +2,8 @@
 
 ghost use Rattle.std.specs.Prelude.{◌≡◌, ◌<◌, ◌≤◌, ◌-◌, ◌*◌, ◌/◌, ◌%◌, ◌^◌, ◌==◌, ◌↔◌, IsTrue, min};
 ghost use Rattle.m68k_decode.specs.Results.{half, low, span, signed};
-ghost use Rattle.m68k_decode.specs.ResultsShifts.{shift_count, shift_outcome, shifted_left, last_out_left, top_bit_changes, ChangesAtSomeStep, shifted_right, last_out_right, shifted_right_signed, last_out_right_signed, asl_of, asr_of, lsl_of, lsr_of};
+ghost use Rattle.m68k_decode.specs.ResultsShifts.{shift_count, shift_outcome, shifted_left, last_out_left, top_bit_changes, ChangesAtSomeStep, shifted_right};
+ghost use Rattle.m68k_decode.specs.ResultsShifts.{last_out_right, shifted_right_signed, last_out_right_signed, asl_of, asr_of, lsl_of, lsr_of};
 
 use crate::size::{bit_count, low_long, low_part, sign, with_sign, without_sign};
 use m68k_decode::{Flags, Outcome, Size};

@@ -34,11 +34,13 @@ difference s a b x = (a + span s - (b + one_if x)) % span s
 -- Z is set where the result is 0 and `zero` is true
 abbrev pub sum_of : Size → ℕ → ℕ → Bool → Bool → Outcome
 sum_of s a b x zero =
-    outcome (sum s a b x) (sum_carries s a b x) (is_negative s (sum s a b x)) (zero && (sum s a b x == 0)) (sum_overflows s a b x) (sum_carries s a b x)
+    outcome (sum s a b x) (sum_carries s a b x) (is_negative s (sum s a b x)) (zero && (sum s a b x == 0))
+    (sum_overflows s a b x) (sum_carries s a b x)
 
 abbrev pub difference_of : Size → ℕ → ℕ → Bool → Bool → Outcome
 difference_of s a b x zero =
-    outcome (difference s a b x) (difference_borrows a b x) (is_negative s (difference s a b x)) (zero && (difference s a b x == 0)) (difference_overflows s a b x) (difference_borrows a b x)
+    outcome (difference s a b x) (difference_borrows a b x) (is_negative s (difference s a b x))
+    (zero && (difference s a b x == 0)) (difference_overflows s a b x) (difference_borrows a b x)
 
 -- ---- the operations
 

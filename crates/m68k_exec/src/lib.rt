@@ -22,3 +22,6 @@ mod status;
 pub use ask::Ask;
 pub use m68k_decode::CpuRegs;
 pub use state::Cpu;
+
+#[cfg(test)]
+mod tests;

@@ -155,13 +155,15 @@ from_key l =
     else I.LineF))))))))))))))))))))))))))))))))))))))))))))))))
 
 pub back : (i : Instr) → from_key (key i) ≡ i
-back (I.Immediate n0 n1 z2 m3) = ap (λ w. I.Immediate n0 n1 w (mode_with (code m3) (register m3))) (size_back z2) ∙ ap (λ w. I.Immediate n0 n1 z2 w) (mode_back m3)
+back (I.Immediate n0 n1 z2 m3) = ap (λ w. I.Immediate n0 n1 w (mode_with (code m3) (register m3))) (size_back z2)
+    ∙ ap (λ w. I.Immediate n0 n1 z2 w) (mode_back m3)
 back (I.Cmpi z0 m1) = ap (λ w. I.Cmpi w (mode_with (code m1) (register m1))) (size_back z0) ∙ ap (λ w. I.Cmpi z0 w) (mode_back m1)
 back (I.ImmediateToStatus n0) = refl
 back (I.BitDynamic n0 n1 n2 m3) = ap (λ w. I.BitDynamic n0 n1 n2 w) (mode_back m3)
 back (I.BitStatic n0 n1 m2) = ap (λ w. I.BitStatic n0 n1 w) (mode_back m2)
 back (I.Movep n0 n1 n2) = refl
-back (I.Move z0 m1 m2) = ap (λ w. I.Move w (mode_with (code m1) (register m1)) (mode_with (code m2) (register m2))) (size_back z0) ∙ ap (λ w. I.Move z0 w (mode_with (code m2) (register m2))) (mode_back m1) ∙ ap (λ w. I.Move z0 m1 w) (mode_back m2)
+back (I.Move z0 m1 m2) = ap (λ w. I.Move w (mode_with (code m1) (register m1)) (mode_with (code m2) (register m2))) (size_back z0)
+    ∙ ap (λ w. I.Move z0 w (mode_with (code m2) (register m2))) (mode_back m1) ∙ ap (λ w. I.Move z0 m1 w) (mode_back m2)
 back (I.Movea z0 n1 m2) = ap (λ w. I.Movea w n1 (mode_with (code m2) (register m2))) (size_back z0) ∙ ap (λ w. I.Movea z0 n1 w) (mode_back m2)
 back (I.Unary n0 n1 z2 m3) = ap (λ w. I.Unary n0 n1 w (mode_with (code m3) (register m3))) (size_back z2) ∙ ap (λ w. I.Unary n0 n1 z2 w) (mode_back m3)
 back (I.MoveFromSr m0) = ap (λ w. I.MoveFromSr w) (mode_back m0)
@@ -171,7 +173,8 @@ back (I.Swap n0) = refl
 back (I.Pea m0) = ap (λ w. I.Pea w) (mode_back m0)
 back (I.Ext z0 n1) = ap (λ w. I.Ext w n1) (size_back z0)
 back (I.MovemToMemory z0 m1) = ap (λ w. I.MovemToMemory w (mode_with (code m1) (register m1))) (size_back z0) ∙ ap (λ w. I.MovemToMemory z0 w) (mode_back m1)
-back (I.MovemToRegisters z0 m1) = ap (λ w. I.MovemToRegisters w (mode_with (code m1) (register m1))) (size_back z0) ∙ ap (λ w. I.MovemToRegisters z0 w) (mode_back m1)
+back (I.MovemToRegisters z0 m1) = ap (λ w. I.MovemToRegisters w (mode_with (code m1) (register m1))) (size_back z0)
+    ∙ ap (λ w. I.MovemToRegisters z0 w) (mode_back m1)
 back (I.Tst z0 m1) = ap (λ w. I.Tst w (mode_with (code m1) (register m1))) (size_back z0) ∙ ap (λ w. I.Tst z0 w) (mode_back m1)
 back (I.Tas m0) = ap (λ w. I.Tas w) (mode_back m0)
 back (I.Trap n0) = refl
@@ -187,8 +190,10 @@ back (I.Scc n0 m1) = ap (λ w. I.Scc n0 w) (mode_back m1)
 back (I.Dbcc n0 n1) = refl
 back (I.Branch n0 n1 n2) = refl
 back (I.Moveq n0 n1) = refl
-back (I.OrAndToDn n0 n1 z2 m3) = ap (λ w. I.OrAndToDn n0 n1 w (mode_with (code m3) (register m3))) (size_back z2) ∙ ap (λ w. I.OrAndToDn n0 n1 z2 w) (mode_back m3)
-back (I.SubAddToDn n0 n1 z2 m3) = ap (λ w. I.SubAddToDn n0 n1 w (mode_with (code m3) (register m3))) (size_back z2) ∙ ap (λ w. I.SubAddToDn n0 n1 z2 w) (mode_back m3)
+back (I.OrAndToDn n0 n1 z2 m3) = ap (λ w. I.OrAndToDn n0 n1 w (mode_with (code m3) (register m3))) (size_back z2)
+    ∙ ap (λ w. I.OrAndToDn n0 n1 z2 w) (mode_back m3)
+back (I.SubAddToDn n0 n1 z2 m3) = ap (λ w. I.SubAddToDn n0 n1 w (mode_with (code m3) (register m3))) (size_back z2)
+    ∙ ap (λ w. I.SubAddToDn n0 n1 z2 w) (mode_back m3)
 back (I.ToMemory n0 n1 z2 m3) = ap (λ w. I.ToMemory n0 n1 w (mode_with (code m3) (register m3))) (size_back z2) ∙ ap (λ w. I.ToMemory n0 n1 z2 w) (mode_back m3)
 back (I.Cmp n0 z1 m2) = ap (λ w. I.Cmp n0 w (mode_with (code m2) (register m2))) (size_back z1) ∙ ap (λ w. I.Cmp n0 z1 w) (mode_back m2)
 back (I.Eor n0 z1 m2) = ap (λ w. I.Eor n0 w (mode_with (code m2) (register m2))) (size_back z1) ∙ ap (λ w. I.Eor n0 z1 w) (mode_back m2)

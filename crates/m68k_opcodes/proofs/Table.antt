@@ -58,7 +58,8 @@ fits_not q d r n fixed below other =
 in_row_not : (q d : ℕ) (r : Row) (n : ℕ) → fixes q d r ≡ true → n < 65536 → (n / 4096 / 2 ^ q == d) ≡ false → in_row r n ≡ false
 in_row_not q d r n fixed below other = rw (fits_not q d r n fixed below other) refl
 
-takes_none : (q d : ℕ) (rs rest : List Row) (n : ℕ) → all_fix q d rs ≡ true → n < 65536 → (n / 4096 / 2 ^ q == d) ≡ false → taking (rs ++ rest) n ≡ taking rest n
+takes_none : (q d : ℕ) (rs rest : List Row) (n : ℕ) → all_fix q d rs ≡ true → n < 65536 → (n / 4096 / 2 ^ q == d) ≡ false
+    → taking (rs ++ rest) n ≡ taking rest n
 takes_none q d [] rest n h below other = refl
 takes_none q d (r ∷ rs) rest n h below other =
     let p = if_both (fixes q d r) (all_fix q d rs) h in
@@ -110,7 +111,8 @@ nothing_left (k ∷ ks) (g ∷ gs) n f below h =
     let p = if_neither (n / 4096 / 2 ^ k.q == k.d) (only (n / 4096) zero zero ks) h in
     nothing_left ks gs n f.1 below p.1 ∙ sym (takes_none k.q k.d g (joined gs) n f.0 below p.0)
 
-taking_of_line : (before count : ℕ) (ks : List Digits) (gs : List (List Row)) (n : ℕ) → Fixed ks gs → n < 65536 → only (n / 4096) before count ks ≡ true → taking (joined (window before count gs)) n ≡ taking (joined gs) n
+taking_of_line : (before count : ℕ) (ks : List Digits) (gs : List (List Row)) (n : ℕ) → Fixed ks gs → n < 65536
+    → only (n / 4096) before count ks ≡ true → taking (joined (window before count gs)) n ≡ taking (joined gs) n
 taking_of_line before count [] [] n f below h = refl
 taking_of_line before count [] (g ∷ gs) n f below h = absurd f
 taking_of_line before count (k ∷ ks) [] n f below h = absurd f
@@ -160,7 +162,14 @@ from_all zero p e k h = absurd (omega arith)
 from_all (suc n) p e k h =
     let P : Bool → Type 0 = λ b. p n ≡ b → (if b then all_below n p else false) ≡ true → p k ≡ true in
     let split : (b : Bool) → P b =
-    (λ b. elim b as P [ true ↦ λ here rest. elim (cases_eq k n) [ inl same ↦ (let s : k ≡ n = same in rw s here) | inr other ↦ from_all n p rest k (let o : k ≡ n → ⊥ = other in omega arith) ] | false ↦ λ here rest. cc ]) in
+    (λ b. elim b as P [
+      | true ↦ λ here rest.
+          elim (cases_eq k n) [
+            | inl same ↦ (let s : k ≡ n = same in rw s here)
+            | inr other ↦ (let o : k ≡ n → ⊥ = other in from_all n p rest k (omega arith))
+          ]
+      | false ↦ λ here rest. cc
+    ]) in
     split (p n) refl e
 
 -- the same of the rows that take an opcode, of which there is one or none
@@ -273,7 +282,8 @@ pub record Whole (i : Instr) (n : ℕ) : Type 0 where
   pub clocks : clocks_at n ≡ timing i
   pub one_row : rows_at n ≤ 1
 
-pub whole : (line : ℕ) (f : ℕ → Instr) (before count : ℕ) → line < 16 → only line before count table_digits ≡ true → line_agrees (4096 * line) f (joined (window before count groups)) ≡ true → (n : ℕ) → n / 4096 ≡ line → Whole (f n) n
+pub whole : (line : ℕ) (f : ℕ → Instr) (before count : ℕ) → line < 16 → only line before count table_digits ≡ true
+    → line_agrees (4096 * line) f (joined (window before count groups)) ≡ true → (n : ℕ) → n / 4096 ≡ line → Whole (f n) n
 unfolding decode_of clocks_at rows_at
 whole line f before count small alone test n h =
     let below : n < 65536 = omega arith in

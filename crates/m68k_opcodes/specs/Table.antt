@@ -3,7 +3,8 @@ use Rattle.std.specs.Prelude.{ℕ, List, [], ◌∷◌, ◌==◌, ◌+◌, ◌||
 use Rattle.m68k_opcodes.specs.declared.operand.Size.TheVariants as S
 use Rattle.m68k_opcodes.specs.declared.instr.Instr.{Instr}
 use Rattle.m68k_opcodes.specs.declared.instr.Instr.TheVariants as I
-use Rattle.m68k_opcodes.specs.Modes.{code, all_modes, data_modes, data_but_immediate, memory_alterable, data_alterable, alterable, control, control_or_post, control_alterable_or_pre, listed, sized, ea, move_dest}
+use Rattle.m68k_opcodes.specs.Modes.{code, all_modes, data_modes, data_but_immediate, memory_alterable, data_alterable, alterable}
+use Rattle.m68k_opcodes.specs.Modes.{control, control_or_post, control_alterable_or_pre, listed, sized, ea, move_dest}
 use Rattle.m68k_opcodes.specs.Clocks.{Clocks, Always, Counted, Outcomes, Exception, in_dn, to_register}
 use Rattle.m68k_opcodes.specs.Row.{Row, row, joined, taking, first, made, taken}
 use Rattle.m68k_opcodes.specs.Letters.{a, c, d, i, m, o, q, r, t, v, x, y, rr, ss, s, zz, z, e, dest}

@@ -18,7 +18,8 @@ use crate::operand::{Mode, Size};
 /// An exception has no number of its own, and an outcome that is not there neither: 0.
 pub fn clocks(i: &Instr, extra: u32) -> u32
     requires { extra ≤ 63 }
-    ensures { (opcode : ℕ) → opcode < 65536 → decode_of opcode ≡ i.now → result ≡ number (clocks_at opcode) extra }
+    ensures { (opcode : ℕ) → opcode < 65536 → decode_of opcode ≡ i.now →
+        result ≡ number (clocks_at opcode) extra }
 {
     clocks_of(i, extra)
 }
