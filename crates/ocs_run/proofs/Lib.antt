@@ -1,5 +1,6 @@
 pub mod AskLaws
 pub mod ChipsLaws
+pub mod EndLaws
 pub mod InputLaws
 pub mod KeptLaws
 pub mod PictureLaws

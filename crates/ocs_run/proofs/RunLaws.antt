@@ -1,5 +1,5 @@
 -- The run over plain values: its start, its turns, its end and its stops.
-use Rattle.std.proofs.Common.{◌≡◌, ℕ, suc, ◌+◌, ◌<◌, true, false, List, [], ◌++◌, Option, Result, Ok, Err, OnOk, IfErr, IsErrAnd, arith, refl, ap, ◌∙◌, sym, subst, add-one, inl, inr, ◌∷◌, lit<}
+use Rattle.std.proofs.Common.{◌≡◌, ℕ, suc, ◌+◌, ◌<◌, ◌≤◌, true, false, List, [], ◌++◌, Option, Result, Ok, Err, OnOk, IfErr, IsErrAnd, arith, refl, ap, ◌∙◌, sym, subst, add-one, inl, inr, ◌∷◌, lit<}
 use Rattle.std.proofs.lemmas.Bool.{cases_eq}
 use Rattle.ocs_base.specs.Limits.{IsRunnable, AreFrom}
 use Rattle.ocs_base.specs.Script.{ScriptValue}
@@ -18,6 +18,7 @@ use Rattle.serial_model.specs.State.{State, reset}
 use Rattle.serial_model.specs.TraceText.{trace_text}
 use Rattle.serial_model.specs.declared.bus.SideAsk.TheVariants as S
 use Rattle.serial_model.specs.Tick.{start_clock, count_timers, show_pixels, made_of, make_access, run_processor, advance_beam, tick}
+use Rattle.serial_model.proofs.EndLaws.{frames_are_whole}
 use Rattle.ocs_run.proofs.PrefixLaws.{LeavesPrefixes-parts, LeavesPrefixes-end, LeavesPrefixes-all}
 use Rattle.ocs_run.specs.Picture.{IsPictureOf}
 use Rattle.ocs_run.specs.Run.{HasFiles, HasParts, HasEndParts, StopsUnbuilt, Stopped, HasCreated, LeavesAfter}
@@ -239,16 +240,18 @@ IsEnd-here image script base files fore ended so = record {
   running = so.run.running;
 }
 
-pub HasFiles-end : (image : List ℕ) (script : ScriptValue) (base before after : Option Files) (fore : Foreground) → fore.beam.frame ≡ script.frames
+pub HasFiles-end : (image : List ℕ) (script : ScriptValue) (base before after : Option Files) (fore : Foreground) → 1 ≤ script.frames
+    → fore.beam.frame ≡ script.frames
     → fore.out.frames ≡ [] → fore.out.trace ≡ [] → Completes fore.out before after (memory_text fore.chip.words)
     → IsUnderway image script base before fore → HasFiles image script fore.out.names base after
 unfolding Completes
-HasFiles-end image script base before after fore ended frames trace completes so =
+HasFiles-end image script base before after fore some ended frames trace completes so =
     let s : State = state_at image script fore.t in
     record {
       clocks = fore.t;
       end = IsEnd-here image script base before fore ended so;
       run = so.run;
+      shown = frames_are_whole image script fore.t some (IsEnd-here image script base before fore ended so);
       files = completes base s.shown s.trace frames trace (together fore so.written s base before so.stands so.held)
           ∙ ap (λ words. three_files fore.out.names base (frames_text s.shown) (trace_text s.trace) (memory_text words)) (sym so.stands.memory);
     }
@@ -315,9 +318,9 @@ StopsFinish-memory before now after old fore NoRoomToWrite fault flushes leaves 
 
 pub Finishes-all : (before now after : Option Files) (old fore : Foreground) → Flushes old fore before now → fore.out ≡ all_given old.out
     → Completes fore.out now after (memory_text fore.chip.words) → Finishes old before after
-Finishes-all before now after old fore flushes empty completes image script base ended so =
+Finishes-all before now after old fore flushes empty completes image script base some ended so =
     subst (λ ns. HasFiles image script ns base after) flushes.names
-    (HasFiles-end image script base now after fore (ap (λ b. b.frame) flushes.beam ∙ ended) (ap (λ o. o.frames) empty) (ap (λ o. o.trace) empty) completes
+    (HasFiles-end image script base now after fore some (ap (λ b. b.frame) flushes.beam ∙ ended) (ap (λ o. o.frames) empty) (ap (λ o. o.trace) empty) completes
     (IsUnderway-flush image script base before now old fore flushes so))
 
 -- the whole run and its stops
@@ -362,12 +365,12 @@ if_err_more (Ok v) P Q h f = tt
 if_err_more (Err e) P Q h f = f e h
 
 pub run-done : (image : List ℕ) (script : ScriptValue) (base mid before new : Option Files) (out made : OutFilesValue) (fore last : Foreground)
-    (r : Result (Unit {0}) RunFault) → IsFresh out → made ≡ out → Begins made base mid → IsReset image made fore → Runs script fore last mid before
+    (r : Result (Unit {0}) RunFault) → IsRunnable script → IsFresh out → made ≡ out → Begins made base mid → IsReset image made fore → Runs script fore last mid before
     → last.beam.frame ≡ script.frames → last.out.names ≡ fore.out.names → OnOk r (Finishes last before new)
     → OnOk r (HasFiles image script out.names base new)
-run-done image script base mid before new out made fore last r fresh same begins reset runs ended names finishes =
+run-done image script base mid before new out made fore last r good fresh same begins reset runs ended names finishes =
     on_ok r _ _ finishes (λ finish. subst (λ ns. HasFiles image script ns base new) (names ∙ named image out made fore same reset)
-    (finish image script base ended (runs image base (begun image script base mid out made fore fresh same begins reset))))
+    (finish image script base good.least ended (runs image base (begun image script base mid out made fore fresh same begins reset))))
 
 pub run-finish-stopped : (image : List ℕ) (script : ScriptValue) (base mid before new : Option Files) (out made : OutFilesValue) (fore last : Foreground)
     (r : Result (Unit {0}) RunFault) → IsFresh out → made ≡ out → Begins made base mid → IsReset image made fore → Runs script fore last mid before

@@ -1,5 +1,5 @@
 -- A run and its files.
-use Rattle.std.specs.Prelude.{◌≡◌, ℕ, ◌<◌, false, true, List, [], ◌⊎◌, take, Option}
+use Rattle.std.specs.Prelude.{◌≡◌, ℕ, ◌*◌, ◌<◌, length, false, true, List, [], ◌⊎◌, take, Option}
 use Rattle.ocs_base.specs.Script.{ScriptValue}
 use Rattle.ocs_base.specs.declared.script.System.TheVariants.{Pal}
 use Rattle.ocs_io.specs.Place.{Files}
@@ -9,7 +9,7 @@ use Rattle.out_files.specs.Together.{three_files, HoldParts}
 use Rattle.ocs_run.specs.Prefix.{LeavesPrefixes}
 use Rattle.serial_model.specs.Built.{meets_unbuilt}
 use Rattle.serial_model.specs.MemoryText.{memory_text}
-use Rattle.serial_model.specs.Outputs.{frames_text}
+use Rattle.serial_model.specs.Outputs.{frames_text, frame_bytes}
 use Rattle.serial_model.specs.Serial.{state_at, IsEnd}
 use Rattle.serial_model.specs.TraceText.{trace_text}
 use Rattle.ocs_run.specs.declared.fault.RunFault.{RunFault}
@@ -25,6 +25,8 @@ pub record HasFiles (image : List ℕ) (script : ScriptValue) (names : OutNames)
   pub clocks : ℕ
   pub end : IsEnd image script clocks
   pub run : HasRun image script clocks
+  -- all pixel bytes of the script's frames were shown, so that the frames file has a heading before each of them
+  pub shown : length (state_at image script clocks).shown ≡ script.frames * frame_bytes
   pub files : new ≡ (let s = state_at image script clocks in
       three_files names base (frames_text s.shown) (trace_text s.trace) (memory_text s.memory))
 

@@ -3,6 +3,7 @@ use Rattle.std.specs.Prelude.{◌≡◌, ℕ, ◌⊎◌, List, Option, Some, Non
 use Rattle.ocs_io.specs.Answers.{WhereTold}
 use Rattle.ocs_io.specs.Place.{Outside, Rose}
 use Rattle.script_read.specs.declared.fault.BadKind.{BadKind}
+use Rattle.serial_model.specs.Serial.{IsEnd}
 use Rattle.ocs_run.specs.Command.{OrderAnswers, HasGoodImage}
 use Rattle.ocs_run.specs.Fault.{status_of}
 use Rattle.ocs_run.specs.Order.{OrderValue}
@@ -38,6 +39,14 @@ HasBadImage verdict = verdict ≡ BadImageVerdict
 
 abbrev pub HasBadScript : Verdict → Type 0
 HasBadScript verdict = (line : ℕ) × (kind : BadKind) × (verdict ≡ BadScriptVerdict line kind)
+
+-- a run of good inputs comes to an end
+abbrev pub HasRunEnd : Verdict → Type 0
+HasRunEnd UsageVerdict = Unit {0}
+HasRunEnd (Absent name) = Unit {0}
+HasRunEnd BadImageVerdict = Unit {0}
+HasRunEnd (BadScriptVerdict line kind) = Unit {0}
+HasRunEnd (Good image script order) = (end : ℕ) × IsEnd image script end
 
 -- the status of a verdict where no fault of the outside came, but for want of memory
 abbrev pub Completed : Verdict → Outside → Outside → ℕ → Type 0

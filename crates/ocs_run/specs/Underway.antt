@@ -77,7 +77,8 @@ pub record IsFresh (out : OutFilesValue) : Type 0 where
 
 -- the files are completed at the end of a run
 abbrev pub Finishes : Foreground → Option Files → Option Files → Type 0
-Finishes fore before after = (image : List ℕ) (script : ScriptValue) (base : Option Files) → fore.beam.frame ≡ script.frames
+Finishes fore before after = (image : List ℕ) (script : ScriptValue) (base : Option Files) → 1 ≤ script.frames
+    → fore.beam.frame ≡ script.frames
     → IsUnderway image script base before fore → HasFiles image script fore.out.names base after
 
 -- or that was stopped

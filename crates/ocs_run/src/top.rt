@@ -6,7 +6,7 @@ ghost use Rattle.ocs_io.specs.Place.{Rose};
 ghost use Rattle.ocs_run.specs.Order.{order_of};
 ghost use Rattle.ocs_run.specs.Verdict.{of_order};
 ghost use Rattle.ocs_run.specs.Command.{IsDone, IsUnwritten, IsWanting, IsUnbuilt};
-ghost use Rattle.ocs_run.specs.Top.{ReadableInputs, CommandAnswers, SaysStatus, IsEarly, HasBadImage, HasBadScript, Completed};
+ghost use Rattle.ocs_run.specs.Top.{ReadableInputs, CommandAnswers, SaysStatus, IsEarly, HasBadImage, HasBadScript, Completed, HasRunEnd};
 ghost use Rattle.ocs_run.specs.Commanded.{KeepsSaid};
 
 use crate::command::run_order;
@@ -55,6 +55,10 @@ pub fn ocs_main<P: Place, G: Gate + Drop + Send + Sync + 'static>(
     // Without a rise of its count of faults a command answers by its verdict, or wants memory.
     ensures complete { WhereTold (P.outside place.old).files
         (λ files. Completed (of_order (order_of (map string_bytes words.now)) files) (P.outside place.old) (P.outside place.new) result) }
+
+    // The run of a good image and script, of whose texts the clauses above speak, has an end.
+    ensures ends { WhereTold (P.outside place.old).files
+        (λ files. HasRunEnd (of_order (order_of (map string_bytes words.now)) files)) }
 
     // What is said is the text of the status, and nothing at 0.
     ensures said { SaysStatus (order_of (map string_bytes words.now)) (P.outside place.old) (P.outside place.new) result }

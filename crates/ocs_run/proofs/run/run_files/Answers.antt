@@ -18,8 +18,8 @@ returns-in_err-run_clocks-clause-stopped g c =
 pub returns-clause-done : goal.returns-clause-done
 returns-clause-done g c =
     run-done c.args.image.now c.args.script.now _ _ _ _ c.args.out c.create.new.self c.in_ok-fore.fore c.run_clocks.new.fore c.finish.result
-    c.requires.fresh c.in_ok-create.ensures.same c.in_ok-create.ensures.together c.in_ok-fore.ensures c.in_ok-run_clocks.ensures.runs
-    c.in_ok-run_clocks.ensures.ended c.in_ok-run_clocks.ensures.out c.finish.ensures.done
+    c.requires.script c.requires.fresh c.in_ok-create.ensures.same c.in_ok-create.ensures.together c.in_ok-fore.ensures
+    c.in_ok-run_clocks.ensures.runs c.in_ok-run_clocks.ensures.ended c.in_ok-run_clocks.ensures.out c.finish.ensures.done
 
 pub returns-clause-stopped : goal.returns-clause-stopped
 returns-clause-stopped g c =

@@ -1,0 +1,36 @@
+-- The run of a good verdict has an end.
+use Rattle.std.proofs.Common.{◌≡◌, ℕ, Bool, true, false, if◌then◌else◌, List, Option, Some, None, refl}
+use Rattle.ocs_io.specs.Answers.{WhereTold}
+use Rattle.ocs_io.specs.Place.{Files, file}
+use Rattle.script_read.specs.Grammar.{script_of, Good as GoodScript, Bad as BadLine, Verdict as ScriptVerdict}
+use Rattle.script_read.proofs.RunnableLaws.{IsPrintable-script_of}
+use Rattle.serial_model.proofs.EndLaws.{has_end}
+use Rattle.ocs_run.specs.Order.{OrderValue}
+use Rattle.ocs_run.specs.Top.{HasRunEnd}
+use Rattle.ocs_run.specs.Verdict.{BadImage, of_script, of_text, of_image, of_order, is_image}
+
+script_ends : (order : OrderValue) (image text : List ℕ) (verdict : ScriptVerdict) → script_of text ≡ verdict
+    → HasRunEnd (of_script order image verdict)
+script_ends order image text (GoodScript script) is = has_end image script (IsPrintable-script_of text script is).runnable
+script_ends order image text (BadLine line kind) is = tt
+
+text_ends : (order : OrderValue) (image : List ℕ) (text : Option (List ℕ)) → HasRunEnd (of_text order image text)
+text_ends order image None = tt
+text_ends order image (Some text) = script_ends order image text (script_of text) refl
+
+if_image : (order : OrderValue) (files : Files) (image : List ℕ) (good : Bool)
+    → HasRunEnd (if good then of_text order image (file files order.script) else BadImage)
+if_image order files image true = text_ends order image (file files order.script)
+if_image order files image false = tt
+
+image_ends : (order : OrderValue) (files : Files) (image : Option (List ℕ)) → HasRunEnd (of_image order files image)
+image_ends order files None = tt
+image_ends order files (Some image) = if_image order files image (is_image image)
+
+verdict_ends : (order : Option OrderValue) (files : Files) → HasRunEnd (of_order order files)
+verdict_ends None files = tt
+verdict_ends (Some order) files = image_ends order files (file files order.image)
+
+pub ends_where_told : (order : Option OrderValue) (files : Option Files) → WhereTold files (λ f. HasRunEnd (of_order order f))
+ends_where_told order None = tt
+ends_where_told order (Some files) = verdict_ends order files

@@ -1,0 +1,139 @@
+// The geometry of a frame, and its pixels out of the PNG that the page holds.
+
+const WIDTH = 720;
+const FIRST_CLOCK = 47;
+const PIXELS_A_CLOCK = 4;
+const FRAMES_A_SECOND = 50;
+const MOST_DECODED = 64;
+
+/** The bytes of base64 text. */
+function bytesOf(base64) {
+  const text = atob(base64);
+  const bytes = new Uint8Array(text.length);
+  for (let at = 0; at < text.length; at++) bytes[at] = text.charCodeAt(at);
+  return bytes;
+}
+
+async function inflate(bytes) {
+  const stream = new Blob([bytes]).stream().pipeThrough(new DecompressionStream("deflate"));
+  return new Uint8Array(await new Response(stream).arrayBuffer());
+}
+
+/** The chunks of a PNG file by their kind. */
+function chunksOf(png) {
+  const view = new DataView(png.buffer);
+  const chunks = {};
+  for (let at = 8; at < png.length; ) {
+    const length = view.getUint32(at);
+    const kind = String.fromCharCode(...png.subarray(at + 4, at + 8));
+    chunks[kind] = png.subarray(at + 8, at + 8 + length);
+    at += 12 + length;
+  }
+  return chunks;
+}
+
+/**
+ * The pixels of a frame as ImageData. They are taken from the PNG's own bytes (its rows are not filtered), since what a
+ * canvas gives back may be changed by colour management or by protection from fingerprinting.
+ */
+async function pixelsOf(base64, height) {
+  const chunks = chunksOf(bytesOf(base64));
+  const palette = chunks.PLTE;
+  const rows = await inflate(chunks.IDAT);
+  const image = new ImageData(WIDTH, height);
+  const stride = 1 + WIDTH * (palette ? 1 : 3);
+  for (let to = 0, row = 0; row * stride < rows.length; row++) {
+    for (let from = row * stride + 1; from < (row + 1) * stride; from += palette ? 1 : 3, to += 4) {
+      const source = palette ? palette : rows;
+      const at = palette ? 3 * rows[from] : from;
+      image.data[to] = source[at];
+      image.data[to + 1] = source[at + 1];
+      image.data[to + 2] = source[at + 2];
+      image.data[to + 3] = 255;
+    }
+  }
+  return image;
+}
+
+/** The frames of a page, decoded when they are wanted; the MOST_DECODED that were wanted last are kept. */
+class Frames {
+  constructor(frames, height, whenReady) {
+    this.frames = frames;
+    this.height = height;
+    this.whenReady = whenReady;
+    this.decoded = new Map();
+    this.coming = new Set();
+  }
+
+  /** The pixels of a frame; null while they are decoded, and whenReady is called with its index once they are there. */
+  pixels(index) {
+    const image = this.decoded.get(index);
+    if (image) {
+      this.decoded.delete(index);
+      this.decoded.set(index, image);
+      return image;
+    }
+    this.decode(index);
+    return null;
+  }
+
+  async decode(index) {
+    if (!(index in this.frames) || this.coming.has(index) || this.decoded.has(index)) return;
+    this.coming.add(index);
+    const image = await pixelsOf(this.frames[index].png, this.height);
+    this.coming.delete(index);
+    this.decoded.set(index, image);
+    if (this.decoded.size > MOST_DECODED) this.decoded.delete(this.decoded.keys().next().value);
+    this.whenReady(index);
+  }
+}
+
+/** The twelve bits of the colour of a pixel; null where the frame has none there. */
+function colourAt(image, column, row) {
+  if (!image || column < 0 || row < 0 || column >= image.width || row >= image.height) return null;
+  const at = 4 * (row * image.width + column);
+  const data = image.data;
+  if (data[at + 3] === 0) return null;
+  return ((data[at] / 17) << 8) | ((data[at + 1] / 17) << 4) | (data[at + 2] / 17);
+}
+
+function hex(word, digits) {
+  return word.toString(16).padStart(digits, "0");
+}
+
+/** A count, its thousands parted by commas. */
+function counted(number) {
+  return number.toLocaleString("en");
+}
+
+function cssColour(word) {
+  return "#" + hex(word & 0xfff, 3);
+}
+
+function element(tag, className, text) {
+  const made = document.createElement(tag);
+  if (className) made.className = className;
+  if (text !== undefined) made.textContent = text;
+  return made;
+}
+
+/** A function that has `draw` called before the page is next drawn, once however often it is called until then. */
+function onceBeforeDrawing(draw) {
+  let asked = 0;
+  return () => {
+    asked ||= requestAnimationFrame(() => {
+      asked = 0;
+      draw();
+    });
+  };
+}
+
+function byId(id) {
+  return document.getElementById(id);
+}
+
+/** What is wrong where the browser lacks what the page stands on; empty where nothing does. */
+function lacking() {
+  if (typeof DecompressionStream !== "undefined") return "";
+  return "This browser is too old to show the frames: it lacks DecompressionStream.";
+}

@@ -1,0 +1,379 @@
+// The page of a run: its parts, and what the controls and keys do.
+
+const AHEAD = 3;
+const ARROWS = { ArrowLeft: [-1, 0], ArrowRight: [1, 0], ArrowUp: [0, -1], ArrowDown: [0, 1] };
+const LINES_A_LEAP = 8;
+
+class Look {
+  constructor(data, trace) {
+    this.data = data;
+    this.trace = trace;
+    this.system = data.system;
+    this.index = 0;
+    this.playing = false;
+    this.chosen = -1;
+    this.markedLine = -1;
+    this.frames = new Frames(data.frames, data.system.height, (index) => index === this.index && this.showFrame());
+    this.buildPicture();
+    const choose = (at) => this.choose(at, true);
+    this.list = new List(byId("list"), byId("list-space"), (row, at) => this.drawRow(row, at), choose);
+    this.reading = new Reading(trace, data.system, choose);
+    this.filter = new Filter(data.registers, () => this.applyFilter());
+    this.tip = element("div", "tip");
+    this.tip.hidden = true;
+    document.body.append(this.tip);
+    this.listen();
+    this.begin();
+  }
+
+  buildPicture() {
+    const style = getComputedStyle(document.documentElement);
+    const colours = GROUPS.map((group) => style.getPropertyValue(group.colour).trim());
+    const parts = { canvas: byId("picture"), viewport: byId("viewport"), spacer: byId("spacer") };
+    this.picture = new Picture(parts, this.system, this.trace, colours);
+    this.picture.whenPointed = (place, mark, event) => this.point(mark, event);
+    this.picture.whenClicked = (place, mark) => this.clickAt(place, mark);
+    this.picture.whenZoomed = (zoom) => (byId("zoom-label").textContent = zoom + "\u00d7");
+  }
+
+  begin() {
+    const data = this.data;
+    byId("notes").textContent = [lacking(), ...data.notes].filter(Boolean).join(" ");
+    byId("frame-slider").max = data.frames.length - 1;
+    for (const id of ["frame-slider", "play"]) byId(id).disabled = data.frames.length === 1;
+    for (const row of Object.values(data.registers)) byId("register-names").append(new Option(row[1], row[0]));
+    this.picture.fit();
+    this.goToFrame(0);
+    this.showDetail(-1);
+    this.followAddress();
+  }
+
+  /** The number of the frame that is shown, in the frames file. */
+  get frame() {
+    return this.data.frames[this.index].number;
+  }
+
+  // frames
+
+  goToFrame(index) {
+    const last = this.data.frames.length - 1;
+    this.index = Math.min(last, Math.max(0, index));
+    byId("frame-slider").value = this.index;
+    byId("frame-slider").setAttribute("aria-valuetext", "frame " + this.frame);
+    byId("frame-label").textContent = `frame ${this.frame} of ${this.data.total}`;
+    byId("previous").disabled = this.index === 0;
+    byId("next").disabled = this.index === last;
+    this.markedLine = -1;
+    this.picture.frameNumber = this.frame;
+    this.showFrame();
+    this.applyFilter();
+    this.showCounts();
+  }
+
+  showFrame() {
+    const image = this.frames.pixels(this.index);
+    for (let ahead = 1; ahead <= AHEAD; ahead++) this.frames.decode(this.index + ahead);
+    // while it plays, the frame before stands until this one is there
+    if (!image && this.playing && this.picture.image) return;
+    this.image = image;
+    this.picture.setFrame(image, this.data.frames[this.index].rows);
+    this.showReading();
+  }
+
+  setPlaying(playing) {
+    this.playing = playing && this.data.frames.length > 1;
+    const button = byId("play"), word = this.playing ? "Stop" : "Play";
+    button.textContent = word;
+    button.setAttribute("aria-label", word);
+    button.setAttribute("aria-pressed", String(this.playing));
+    if (!this.playing) return;
+    const begun = performance.now(), from = this.index;
+    const step = (now) => {
+      if (!this.playing) return;
+      const passed = Math.max(0, Math.floor(((now - begun) * FRAMES_A_SECOND) / 1000));
+      const index = (from + passed) % this.data.frames.length;
+      if (index !== this.index) this.goToFrame(index);
+      requestAnimationFrame(step);
+    };
+    requestAnimationFrame(step);
+  }
+
+  // the filter
+
+  /** The indexes of the trace lines of the frame: from the first up to the second. */
+  frameRange() {
+    return [this.trace.indexOf(this.frame, 0, 0), this.trace.indexOf(this.frame + 1, 0, 0)];
+  }
+
+  showCounts() {
+    const counts = GROUPS.map(() => 0);
+    const [from, to] = this.frameRange();
+    for (let at = from; at < to; at++) counts[this.trace.group(at)]++;
+    this.filter.showCounts(counts);
+  }
+
+  applyFilter() {
+    const passes = this.filter.test(this.trace), one = this.filter.thisFrame;
+    const [from, to] = this.frameRange();
+    this.picture.marks = filtered(from, to, passes);
+    const items = one ? this.picture.marks : filtered(0, this.trace.count, passes);
+    const whole = one ? to - from : this.trace.count, where = one ? ` in frame ${this.frame}` : "";
+    const part = items.length === whole ? "" : ` of ${counted(whole)}`;
+    byId("shown-count").textContent = `${counted(items.length)}${part} lines${where}`;
+    byId("trace-panel").classList.toggle("one-frame", one);
+    this.list.setItems(items, whole ? "No line passes the filter." : `No line${where}.`);
+    this.picture.redraw();
+  }
+
+  // the list
+
+  drawRow(row, at) {
+    const trace = this.trace, interrupt = trace.kind[at] === INTERRUPT, chosen = at === this.chosen;
+    const onLine = trace.frame[at] === this.frame && trace.line[at] === this.markedLine;
+    row.classList.toggle("chosen", chosen);
+    row.classList.toggle("on-line", !chosen && onLine);
+    row.setAttribute("aria-selected", String(chosen));
+    const numbers = [trace.frame[at], trace.line[at], trace.clock[at]];
+    const word = element("span", "", interrupt ? "" : hex(trace.word[at], 4));
+    if (isColour(trace.register[at])) word.append(dotOf(trace.word[at]));
+    row.replaceChildren(
+      ...numbers.map((number) => element("span", "", String(number))),
+      signOf(trace.group(at)),
+      element("span", "", interrupt ? "interrupt" : SOURCE_NAMES[trace.source[at]]),
+      element("span", "", interrupt ? "level " + trace.word[at] : trace.name(trace.register[at])),
+      word,
+      element("span", "says", (trace.kind[at] === READ ? "read: " : "") + trace.meaning(at, true)),
+    );
+  }
+
+  /** Chooses a trace line: its row, its mark and its words; with `go` the picture shows its place too. */
+  choose(at, go) {
+    this.chosen = at;
+    this.picture.chosen = at;
+    if (go && at >= 0) this.goToLine(at);
+    this.showDetail(at);
+    const position = at < 0 ? -1 : this.list.positionOf(at);
+    if (position >= 0) this.list.reveal(position);
+    byId("list").setAttribute("aria-activedescendant", position >= 0 ? "row-" + position : "");
+    this.list.redraw();
+    this.picture.redraw();
+  }
+
+  /** Goes to the frame and the place of a trace line, where the page has its frame. */
+  goToLine(at) {
+    const index = this.data.frames.findIndex((frame) => frame.number === this.trace.frame[at]);
+    if (index < 0) return;
+    if (index !== this.index) this.goToFrame(index);
+    const place = { x: this.trace.clock[at] * PIXELS_A_CLOCK, line: this.trace.line[at] };
+    this.picture.cursor = place;
+    this.picture.reveal(place.x, place.line);
+    this.showReading();
+  }
+
+  showDetail(at) {
+    const box = byId("detail"), trace = this.trace;
+    if (at < 0) {
+      box.textContent = "Click a mark, a line of the picture or a line of the list.";
+      return;
+    }
+    const interrupt = trace.kind[at] === INTERRUPT, register = trace.register[at];
+    const name = interrupt ? `Interrupt of level ${trace.word[at]}` : trace.name(register);
+    const said = new Set([trace.purposeOf(register), trace.meaning(at)].filter(Boolean));
+    const number = `line ${counted(trace.number[at])} of the trace: `;
+    const raw = element("span", "mono", trace.text(at));
+    box.replaceChildren(element("b", "", name), ` ${[...said].join(". ")}.`, element("br"), number, raw);
+  }
+
+  // the pointer
+
+  showReading() {
+    this.reading.show(this.frame, this.image, this.picture.hover || this.picture.cursor);
+  }
+
+  /** Shows what is at a place: the trace line of a mark, or the trace of that line of the picture. */
+  clickAt(place, mark) {
+    this.picture.cursor = place;
+    this.picture.canvas.focus({ preventScroll: true });
+    this.markedLine = place.line;
+    if (mark >= 0) this.choose(mark, false);
+    else this.showLine(place.line);
+    this.showReading();
+    const column = place.x - FIRST_CLOCK * PIXELS_A_CLOCK;
+    history.replaceState(null, "", `#frame=${this.frame}&line=${place.line}&column=${column}`);
+  }
+
+  /** Shows the trace of a line of the picture: its rows are marked, and the first stands near the top. */
+  showLine(line) {
+    const from = this.list.positionFrom(this.trace.indexOf(this.frame, line, 0));
+    const to = this.list.positionFrom(this.trace.indexOf(this.frame, line + 1, 0));
+    this.choose(-1, false);
+    this.list.reveal(from, 2, true);
+    const count = to - from;
+    const said = count ? `${count} line${count === 1 ? "" : "s"} of the trace.` : "no line of the trace that is shown.";
+    byId("detail").textContent = `Line ${line}: ${said}`;
+  }
+
+  point(mark, event) {
+    this.showReading();
+    this.tip.hidden = mark < 0;
+    if (mark < 0) return;
+    this.tip.textContent = this.trace.sentence(mark);
+    this.tip.style.left = Math.min(event.clientX + 14, innerWidth - this.tip.offsetWidth - 8) + "px";
+    this.tip.style.top = event.clientY + 18 + "px";
+  }
+
+  // controls
+
+  listen() {
+    const click = (id, act) => byId(id).addEventListener("click", act);
+    const change = (id, act) => byId(id).addEventListener("change", (event) => act(event.target.checked));
+    click("previous", () => this.goToFrame(this.index - 1));
+    click("next", () => this.goToFrame(this.index + 1));
+    click("play", () => this.setPlaying(!this.playing));
+    click("zoom-in", () => this.picture.zoomTo(this.picture.zoom + 1));
+    click("zoom-out", () => this.picture.zoomTo(this.picture.zoom - 1));
+    click("help-button", () => byId("help").showModal());
+    change("this-frame", () => this.changeReach());
+    change("marks", (shown) => this.picture.show({ marksShown: shown }));
+    change("blanking", (shown) => this.picture.show({ blanking: shown }));
+    byId("frame-slider").addEventListener("input", (event) => this.goToFrame(Number(event.target.value)));
+    document.addEventListener("keydown", (event) => this.press(event));
+    window.addEventListener("hashchange", () => this.followAddress());
+  }
+
+  /** After a change between the lines of this frame and all: what was looked at stays in view. */
+  changeReach() {
+    this.applyFilter();
+    const at = this.chosen >= 0 ? this.chosen : this.frameRange()[0];
+    this.list.reveal(this.list.positionFrom(at), 3, true);
+  }
+
+  // keys
+
+  press(event) {
+    if (event.ctrlKey || event.metaKey || event.altKey || byId("help").open) return;
+    const typing = event.target.matches("input[type=search], select");
+    if (event.key === "Escape") this.escape();
+    else if (typing) return;
+    else if (!this.pressInPart(event) && !this.pressAnywhere(event.target, event.key)) return;
+    event.preventDefault();
+  }
+
+  escape() {
+    this.filter.clear();
+    this.picture.cursor = null;
+    this.markedLine = -1;
+    this.choose(-1, false);
+    this.showReading();
+  }
+
+  /** Keys of the picture or the list, where one has the focus; whether there was one. */
+  pressInPart(event) {
+    if (event.target === this.picture.canvas) return this.pressInPicture(event);
+    if (event.target === this.list.box && this.list.items.length) return this.pressInList(event);
+    return false;
+  }
+
+  pressInPicture(event) {
+    const arrow = ARROWS[event.key];
+    const leap = event.shiftKey ? [PIXELS_A_CLOCK, LINES_A_LEAP] : [1, 1];
+    if (arrow) this.moveCursor(arrow[0] * leap[0], arrow[1] * leap[1]);
+    else if (event.key === "Enter" && this.picture.cursor) this.clickAtCursor();
+    else return false;
+    return true;
+  }
+
+  pressInList(event) {
+    const page = this.list.rowsInView;
+    const steps = { ArrowUp: -1, ArrowDown: 1, PageUp: -page, PageDown: page, Home: -Infinity, End: Infinity };
+    const down = steps[event.key];
+    if (down) this.moveChosen(down);
+    else if (event.key === "Enter" && this.chosen >= 0) this.choose(this.chosen, true);
+    else return false;
+    return true;
+  }
+
+  moveCursor(across, down) {
+    const system = this.system;
+    const from = this.picture.cursor || { x: FIRST_CLOCK * PIXELS_A_CLOCK, line: system.firstLine };
+    const within = (value, end) => Math.min(end - 1, Math.max(0, value));
+    const place = {
+      x: within(from.x + across, system.clocks * PIXELS_A_CLOCK),
+      line: within(from.line + down, system.lines),
+    };
+    this.picture.cursor = place;
+    this.picture.hover = null;
+    this.picture.reveal(place.x, place.line);
+    this.picture.redraw();
+    this.showReading();
+    byId("spoken").textContent = `line and clock ${byId("beam").textContent}, colour ${byId("colour").textContent}`;
+  }
+
+  clickAtCursor() {
+    const { x, line } = this.picture.cursor, trace = this.trace;
+    const clock = Math.floor(x / PIXELS_A_CLOCK);
+    const mark = this.picture.marks.find((at) => trace.line[at] === line && trace.clock[at] === clock);
+    this.clickAt(this.picture.cursor, mark ?? -1);
+  }
+
+  /** Chooses the line `step` rows further; where the chosen one is not in the list, from where it would be. */
+  moveChosen(step) {
+    const items = this.list.items, position = this.list.positionOf(this.chosen);
+    const from = position >= 0 ? position : this.list.positionFrom(this.chosen) - (step > 0 ? 1 : 0);
+    const at = items[Math.min(items.length - 1, Math.max(0, from + step))];
+    this.choose(at, this.trace.frame[at] === this.frame);
+  }
+
+  /** Keys that hold everywhere; whether there was one. */
+  pressAnywhere(target, key) {
+    if (target.matches("input[type=range]") && key in ARROWS) return false;
+    if (key === " " && target.matches("button, input[type=checkbox]")) return false;
+    const acts = {
+      ",": () => this.goToFrame(this.index - 1),
+      ".": () => this.goToFrame(this.index + 1),
+      Home: () => this.goToFrame(0),
+      End: () => this.goToFrame(this.data.frames.length - 1),
+      " ": () => this.setPlaying(!this.playing),
+      "+": () => this.picture.zoomTo(this.picture.zoom + 1),
+      "-": () => this.picture.zoomTo(this.picture.zoom - 1),
+      m: () => byId("marks").click(),
+      b: () => byId("blanking").click(),
+      "/": () => byId("filter-register").focus(),
+      "?": () => byId("help").showModal(),
+    };
+    const same = { PageUp: ",", ArrowLeft: ",", PageDown: ".", ArrowRight: ".", "=": "+" };
+    const act = acts[same[key] || key];
+    if (act) act();
+    return Boolean(act);
+  }
+
+  /** Goes to the place that the page's address names, as a click leaves it there. */
+  followAddress() {
+    const wanted = new URLSearchParams(location.hash.slice(1));
+    const [frame, line, column] = ["frame", "line", "column"].map((name) => Number(wanted.get(name) ?? NaN));
+    const index = this.data.frames.findIndex((one) => one.number === frame);
+    if (index < 0) return;
+    if (index !== this.index) this.goToFrame(index);
+    const place = { x: column + FIRST_CLOCK * PIXELS_A_CLOCK, line };
+    const end = this.system.clocks * PIXELS_A_CLOCK;
+    if (!(place.x >= 0 && place.x < end && line >= 0 && line < this.system.lines)) return;
+    this.picture.cursor = place;
+    this.markedLine = line;
+    requestAnimationFrame(() => {
+      this.picture.reveal(place.x, line);
+      this.showLine(line);
+      this.showReading();
+    });
+  }
+}
+
+/** A small square of a colour. */
+function dotOf(word) {
+  const dot = element("i", "dot");
+  dot.style.background = cssColour(word);
+  return dot;
+}
+
+const data = JSON.parse(byId("data").textContent);
+const trace = new Trace(byId("earlier").textContent, byId("trace").textContent, data.firstLine, data.registers);
+const look = new Look(data, trace);
