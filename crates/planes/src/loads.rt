@@ -1,6 +1,6 @@
 //! The loads that a line may still show.
 
-ghost use Rattle.std.specs.Prelude.{◌≡◌, ◌≤◌, ◌<◌, ◌+◌, ◌*◌, ◌∷◌, ◌++◌, []};
+ghost use Rattle.std.specs.Prelude.{◌≡◌, ◌≤◌, ◌<◌, ◌+◌, ◌*◌, ◌^◌, ◌∷◌, ◌++◌, []};
 ghost use Rattle.arrayvec.specs.ArrayVec.{array_vec_len};
 ghost use Rattle.planes.specs.PlaneBit.{ShowsLoadsOf, all_bits};
 
@@ -63,7 +63,8 @@ impl Loads {
     ///
     /// From position 4h on the planes show what they would show of all the loads that were taken in.
     pub fn load(&mut self, h: u16, latches: &[u16; 6], con1: u16, hires: bool)
-        ensures same { ShowsSame (4 * h) self.new (self.old ++ load_of h latches.now con1 hires ∷ []) }
+        ensures same { ShowsSame (4 * h) self.new
+            (self.old ++ load_of h latches.now con1 hires ∷ []) }
     {
         let load = Load::at(h, latches, con1, hires);
         drop_hidden(&mut self.kept, 4 * h as u32, &load);
@@ -75,7 +76,8 @@ impl Loads {
 fn drop_hidden(kept: &mut ArrayVec<Load, CAPACITY>, from: u32, load: &Load)
     requires odd { load.now.odd ≤ from + 36 }
     requires even { load.now.even ≤ from + 36 }
-    ensures same { ShowsLoadsOf from (kept.new.items ++ load.now ∷ []) (kept.old.items ++ load.now ∷ []) }
+    ensures same { ShowsLoadsOf from (kept.new.items ++ load.now ∷ [])
+        (kept.old.items ++ load.now ∷ []) }
     ensures room { array_vec_len kept.new < CAPACITY }
 {
     let mut odd = load.odd;
@@ -99,7 +101,8 @@ fn drop_hidden(kept: &mut ArrayVec<Load, CAPACITY>, from: u32, load: &Load)
 /// Of all the loads of the line this holds at positions not below 4h of the last, in an order that
 /// does not fall.
 pub fn plane_bits(l: &Loads, x: u16, count: u8) -> u8
-    ensures { result ≡ all_bits x count l.now }
+    ensures value { result ≡ all_bits x count l.now }
+    ensures few { result < 2 ^ count }
 {
     bits_of_planes(l.kept.as_slice(), x as u32, count)
 }
