@@ -1,6 +1,8 @@
 //! Instructions and exceptions, access by access: each row's accesses in order, the registers after, and the clocks,
 //! worked by hand from the tables. A processor runs from reset over a small memory.
 
+ghost use Rattle.std.specs.Prelude.{◌<◌};
+
 use crate::{Ask, Cpu, CpuRegs};
 
 mod arithmetic;
@@ -72,7 +74,9 @@ static START: [u32; 15] = [
 ];
 
 /// The word's place in the memory, of which the low 12 bits of an address count.
-fn place(at: u32) -> usize {
+fn place(at: u32) -> usize
+    ensures { result < 2048 }
+{
     ((at >> 1) & 2047) as usize
 }
 
