@@ -91,6 +91,20 @@ pub record Stage : Type 0 where
 abbrev pub stage : CpuRegs → Under → List ℕ → Stage
 stage r u ws = record { regs = r; under = u; answers = ws; begins = None }
 
+-- What begins. Where its first access is to an odd address, the address error begins in its place; the entry of that may
+-- come to an odd stack pointer, and then the halt begins. No third can follow, since a halt makes no access.
+abbrev pub replaced : Prog → CpuRegs → Under → (CpuRegs → Under → Stage) → Stage
+replaced (Enter r' u') r u k = k r' u'
+replaced (Ask a k') r u k = stage r u []
+replaced (End t r' u') r u k = stage r u []
+replaced Halt r u k = stage r u []
+
+unfoldable pub begin_again : CpuRegs → Under → Stage
+begin_again r u = replaced (program r u) r u (λ r' u'. stage r' u' [])
+
+unfoldable pub begin : CpuRegs → Under → Stage
+begin r u = replaced (program r u) r u (λ r' u'. begin_again r' u')
+
 -- whether an address error is being taken
 unfoldable pub taking_of : Under → Bool
 taking_of (U.Instruction taking) = taking
@@ -105,23 +119,24 @@ is_traced r _ = false
 -- At an end: the trace where one follows, else an interrupt where its level is above the mask, else what is under way next.
 unfoldable pub boundary : Bool → CpuRegs → Under → ℕ → Stage
 boundary traced r u level =
-    if traced then stage r (U.Entry T.Trace 0 (taking_of u)) []
-    else (if nat_lt (mask_of r.sr) level then record { regs = r; under = U.Entry (T.Interrupt level) 0 (taking_of u); answers = []; begins = Some level }
-    else stage r u [])
+    if traced then begin r (U.Entry T.Trace 0 (taking_of u))
+    else (if nat_lt (mask_of r.sr) level
+    then record (begin r (U.Entry (T.Interrupt level) 0 (taking_of u))) { begins = Some level }
+    else begin r u)
 
 -- after an access: an end without idle clocks comes with it
 unfoldable pub settled : Prog → CpuRegs → Under → List ℕ → ℕ → Stage
 settled (Ask a k) r u ws level = stage r u ws
 settled (End t r' u') r u ws level =
     if idle_clocks t (length ws) == 0 then boundary (is_traced r u) r' u' level else stage r u ws
-settled (Enter r' u') r u ws level = stage r' u' []
+settled (Enter r' u') r u ws level = begin r' u'
 settled Halt r u ws level = stage r u ws
 
 -- the answer of an access is its word; where the processor was idle, its idle clocks are over
 unfoldable pub answered : Prog → CpuRegs → Under → List ℕ → ℕ → ℕ → Stage
 answered (Ask a k) r u ws w level = settled (k w) r u (ws ++ w ∷ []) level
 answered (End t r' u') r u ws w level = boundary (is_traced r u) r' u' level
-answered (Enter r' u') r u ws w level = stage r' u' []
+answered (Enter r' u') r u ws w level = begin r' u'
 answered Halt r u ws w level = stage r u ws
 
 -- what the word of an answer and the interrupt level of its clock make of (registers, under way, answers)

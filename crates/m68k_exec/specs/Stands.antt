@@ -18,9 +18,12 @@ pub record Stands (c : Cpu) (r : CpuRegs) (u : Under) (ws : List ℕ) : Type 0 w
   pub done : c.done ≡ min (length ws) 4294967295
   pub traced : c.traced ≡ is_traced r u
 
+abbrev pub StandsFor : Cpu → Stage → Type 0
+StandsFor c stage = Stands c stage.regs stage.under stage.answers
+
 -- the same for a stage, with the level of the interrupt that begins with it
 pub record Reaches (c : Cpu) (begins : Option ℕ) (stage : Stage) : Type 0 where
-  pub stands : Stands c stage.regs stage.under stage.answers
+  pub stands : StandsFor c stage
   pub level : begins ≡ stage.begins
 
 -- what the processor asks for, by what is next

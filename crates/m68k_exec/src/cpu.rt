@@ -5,7 +5,7 @@ ghost use Rattle.m68k_decode.specs.declared.regs.CpuRegs.{CpuRegs};
 ghost use Rattle.m68k_decode.specs.declared.under.Under.{Under};
 ghost use Rattle.m68k_decode.specs.declared.under.Under.TheVariants as U;
 ghost use Rattle.m68k_decode.specs.Access.{after, next_of, idle_clocks};
-ghost use Rattle.m68k_decode.specs.Walk.{next, program, advance, settled, boundary, is_traced, taking_of, regs_at_reset};
+ghost use Rattle.m68k_decode.specs.Walk.{next, program, advance, begin, begin_again, settled, boundary, is_traced, taking_of, regs_at_reset};
 ghost use Rattle.m68k_exec.specs.declared.ask.Ask.TheVariants as A;
 ghost use Rattle.m68k_exec.specs.Meaning.{meaning};
 ghost use Rattle.m68k_exec.specs.Stands.{Stands, Reaches, wanted, is_halted};
@@ -21,7 +21,7 @@ use m68k_decode::{CpuRegs, Trap, Under};
 
 /// Begins what is under way.
 #[tactic(auto, unfolding(m68k_decode::specs::Walk::program, m68k_decode::specs::Walk::instruction, m68k_decode::specs::Walk::taking_of))]
-fn begin(context: &mut Context, machine: &mut Machine, under: Under)
+fn start(context: &mut Context, machine: &mut Machine, under: Under)
     ensures start { context.new.start ≡ machine.old.regs }
     ensures walk { meaning context.new machine.new ≡ program machine.old.regs under }
 {
@@ -95,7 +95,7 @@ impl Cpu {
             regs,
             step: Step::Halted,
         };
-        begin(&mut context, &mut machine, under);
+        start(&mut context, &mut machine, under);
         Cpu {
             context,
             machine,
@@ -217,13 +217,33 @@ impl Cpu {
         None
     }
 
-    /// Begins with the registers as they are.
+    /// Begins with the registers as they are; an access to an odd address may take its place.
     fn begin(&mut self, under: Under)
+        ensures { Reaches self.new None (begin self.old.machine.regs under) }
+    {
+        self.start(under);
+        if let Step::Broken { under } = self.machine.step {
+            self.begin_again(under);
+        }
+    }
+
+    /// Begins what takes the place of another.
+    fn begin_again(&mut self, under: Under)
+        ensures { Reaches self.new None (begin_again self.old.machine.regs under) }
+    {
+        self.start(under);
+        if let Step::Broken { under } = self.machine.step {
+            self.start(under);
+        }
+    }
+
+    /// Begins with the registers as they are.
+    fn start(&mut self, under: Under)
         ensures { Stands self.new self.old.machine.regs under [] }
     {
         self.traced = traces(&self.machine.regs, &under);
         self.done = 0;
-        begin(&mut self.context, &mut self.machine, under);
+        start(&mut self.context, &mut self.machine, under);
     }
 
     /// The registers with which what is under way began.

@@ -24,7 +24,7 @@ pub returns-in-Broken : goal.returns-in-Broken
 returns-in-Broken c = λ r u ws s.
     let broken : after (program r u) ws ≡ Enter c.args.self.now.machine.regs c.in-Broken.under =
     rw (← s.same) (rw c.in-Broken.is refl) in
-    rw (settled_enter _ r u ws c.args.level _ _ broken) (record { stands = c.begin.ensures; level = refl })
+    rw (settled_enter _ r u ws c.args.level _ _ broken) c.begin.ensures
 
 pub returns-in_default : goal.returns-in_default
 returns-in_default c = λ r u ws s.
