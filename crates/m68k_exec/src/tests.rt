@@ -1,6 +1,8 @@
 //! Instructions and exceptions, access by access: each row's accesses in order, the registers after, and the clocks,
 //! worked by hand from the tables. A processor runs from reset over a small memory.
 
+ghost use Rattle.std.specs.Prelude.{◌<◌};
+
 use crate::{Ask, Cpu, CpuRegs};
 
 mod arithmetic;
@@ -34,7 +36,7 @@ enum Reg {
 
 /// One instruction, with the exception that follows it.
 struct Case {
-    /// Registers before it, where they are not those of `START`.
+    /// Registers before it, where they are not those of `registers`.
     set: &'static [(Reg, u32)],
     /// Its words, from 410h on.
     code: &'static [u16],
@@ -52,8 +54,8 @@ const CODE: u32 = 0x410;
 /// What comes before them: LEA B00h,A0; MOVE A0,USP; MOVEM.L 600h,D0-D7/A0-A6; MOVE #,SR.
 static BEFORE: [u16; 7] = [0x41f8, 0x0b00, 0x4e60, 0x4cf8, 0x7fff, 0x0600, 0x46fc];
 
-/// D0 to D7 and A0 to A6 before a case. USP is B00h, SSP is C00h and SR is 2700h.
-static START: [u32; 15] = [
+/// D0 to D7 before a case.
+const START_D: [u32; 8] = [
     0x1234_5678,
     3,
     0xffff_fffe,
@@ -62,17 +64,15 @@ static START: [u32; 15] = [
     0x0001_0000,
     0x99,
     0x7fff_ffff,
-    0x800,
-    0x810,
-    0x820,
-    0x831,
-    0x840,
-    0x850,
-    0x860,
 ];
 
+/// A0 to A6 before a case. USP is B00h, SSP is C00h and SR is 2700h.
+const START_A: [u32; 7] = [0x800, 0x810, 0x820, 0x831, 0x840, 0x850, 0x860];
+
 /// The word's place in the memory, of which the low 12 bits of an address count.
-fn place(at: u32) -> usize {
+fn place(at: u32) -> usize
+    ensures { result < 2048 }
+{
     ((at >> 1) & 2047) as usize
 }
 
@@ -97,49 +97,60 @@ fn set(regs: &mut CpuRegs, changes: &[(Reg, u32)]) {
 /// The registers as a case begins.
 fn registers(case: &Case) -> CpuRegs {
     let mut regs = CpuRegs {
-        d: [0; 8],
-        a: [0; 7],
+        d: START_D,
+        a: START_A,
         usp: 0xb00,
         ssp: 0xc00,
         pc: CODE,
         sr: 0x2700,
     };
-    for n in 0..8 {
-        regs.d[n] = START[n];
-    }
-    for n in 0..7 {
-        regs.a[n] = START[8 + n];
-    }
     set(&mut regs, case.set);
     regs
 }
 
-/// The memory as a case begins: PC 400h, vector n at E00h + 2n; a word from 800h to 8FFh is its own address.
-fn memory(case: &Case, regs: &CpuRegs) -> [u16; 2048] {
-    let mut memory = [0; 2048];
-    put_long(&mut memory, 0, regs.ssp);
-    put_long(&mut memory, 4, 0x400);
-    for n in 2..64 {
-        put_long(&mut memory, 4 * n, 0xe00 + 2 * n);
+/// Vector n is E00h + 2n.
+fn put_vectors(memory: &mut [u16; 2048]) {
+    for n in 2..64u32 {
+        put_long(memory, 4 * n, 0xe00 + 2 * n);
     }
+}
+
+/// A word from 800h to 8FFh is its own address.
+fn put_addresses(memory: &mut [u16; 2048]) {
     for n in 0..128u16 {
         memory[1024 + n as usize] = 0x800 + 2 * n;
     }
-    for n in 0..7 {
-        memory[512 + n] = BEFORE[n];
+}
+
+/// Longs from an address on.
+fn put_longs(memory: &mut [u16; 2048], at: u32, longs: &[u32]) {
+    let mut at = at;
+    for long in longs {
+        put_long(memory, at, *long);
+        at = at.wrapping_add(4);
     }
-    memory[519] = regs.sr;
-    for n in 0..8u32 {
-        put_long(&mut memory, 0x600 + 4 * n, regs.d[(n & 7) as usize]);
-    }
-    for n in 0..7u32 {
-        put_long(&mut memory, 0x620 + 4 * n, regs.a[(n % 7) as usize]);
-    }
-    let mut at = CODE;
-    for word in case.code {
+}
+
+/// Words from an address on.
+fn put_words(memory: &mut [u16; 2048], at: u32, words: &[u16]) {
+    let mut at = at;
+    for word in words {
         memory[place(at)] = *word;
         at = at.wrapping_add(2);
     }
+}
+
+/// The memory as a case begins; the program begins at 400h.
+fn memory(case: &Case, regs: &CpuRegs) -> [u16; 2048] {
+    let mut memory = [0; 2048];
+    put_vectors(&mut memory);
+    put_addresses(&mut memory);
+    put_longs(&mut memory, 0, &[regs.ssp, 0x400]);
+    put_longs(&mut memory, 0x600, &regs.d);
+    put_longs(&mut memory, 0x620, &regs.a);
+    put_words(&mut memory, 0x400, &BEFORE);
+    put_words(&mut memory, 0x40e, &[regs.sr]);
+    put_words(&mut memory, CODE, case.code);
     memory
 }
 
