@@ -1,15 +1,15 @@
 -- The clauses of the top call, from what stands after the command and what was said.
 use Rattle.std.proofs.Common.{◌≡◌, ℕ, ◌≤◌, Bool, true, false, if◌then◌else◌, List, take, Option, Some, None, Err, inl, inr, refl, sym, ap, subst, ◌∙◌, arith}
+use Rattle.ocs_base.specs.Image.{is_image}
 use Rattle.ocs_io.specs.Answers.{WhereTold}
 use Rattle.ocs_io.specs.Place.{Files, Outside, Rose, OnlySays, file, said_more}
 use Rattle.script_read.specs.Grammar.{script_of, Good as GoodScript, Bad as BadLine, Verdict as ScriptVerdict}
-use Rattle.ocs_run.specs.Command.{IsUnwritten, IsWanting, IsUnbuilt}
-use Rattle.ocs_run.specs.Commanded.{KeepsSaid}
+use Rattle.ocs_run.specs.Command.{IsUnwritten, IsWanting, IsUnbuilt, KeepsSaid}
 use Rattle.ocs_run.specs.Fault.{status_of}
 use Rattle.ocs_run.specs.Order.{OrderValue}
 use Rattle.ocs_run.specs.Texts.{text_of, Says}
 use Rattle.ocs_run.specs.Top.{CommandAnswers, IsEarly, HasBadScript, Completed, IsTold, SaysStatus}
-use Rattle.ocs_run.specs.Verdict.{Verdict, Usage as UsageVerdict, Absent, BadImage as BadImageVerdict, BadScript as BadScriptVerdict, Good, of_order, of_image, of_text, of_script, is_image}
+use Rattle.ocs_run.specs.Verdict.{Verdict, Usage as UsageVerdict, Absent, BadImage as BadImageVerdict, BadScript as BadScriptVerdict, Good, of_order, of_image, of_text, of_script}
 use Rattle.ocs_run.specs.declared.fault.Fault.{Fault}
 use Rattle.ocs_run.specs.declared.fault.Fault.TheVariants.{Usage, BadImage, BadScript, Unread, Unwritten, OutOfMemory, NotBuilt}
 use Rattle.ocs_run.specs.declared.fault.Input.TheVariants.{Image, Script}

@@ -1,11 +1,10 @@
 //! The command `run`: the inputs read and tested, and the run.
 
 ghost use Rattle.std.specs.Prelude.{◌≡◌, true, string_bytes, IfOk, IfErr, OnOk};
+ghost use Rattle.ocs_base.specs.Image.{is_image};
 ghost use Rattle.ocs_base.specs.Limits.{IsRunnable};
 ghost use Rattle.ocs_run.specs.Asked.{value_of, AreApart};
-ghost use Rattle.ocs_run.specs.Command.{OrderAnswers, is_built_script as built_script, are_built as all_built, is_built_act as built_act, out_names};
-ghost use Rattle.ocs_run.specs.Commanded.{IsOutOf, RunAnswers, KeepsSaid};
-ghost use Rattle.ocs_run.specs.Verdict.{is_image};
+ghost use Rattle.ocs_run.specs.Command.{OrderAnswers, is_built_script as built_script, are_built as all_built, is_built_act as built_act, out_names, IsOutOf, RunAnswers, KeepsSaid};
 
 use crate::built::{is_missing, is_unreadable};
 use crate::fault::Fault;

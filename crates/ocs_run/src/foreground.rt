@@ -1,6 +1,7 @@
 //! The machine of the clock loop: one function for each of the seven steps of a colour clock.
 
 ghost use Rattle.std.specs.Prelude.{◌≡◌, ◌+◌, ◌<◌, ◌^◌, ◌%◌, ◌≤◌, false, true, [], Some, Err, length, OnOk, OnErr, IfOk, IfErr};
+ghost use Rattle.ocs_base.specs.Image.{is_image};
 ghost use Rattle.serial_model.specs.declared.bus.Made.TheVariants as M;
 ghost use Rattle.serial_model.specs.declared.bus.SideAsk.{SideAsk};
 ghost use Rattle.serial_model.specs.Beam.{IsOnScreen, place_of, next_place};
@@ -63,9 +64,7 @@ pub struct Foreground {
 impl Foreground {
     /// The working state at reset, over output files with nothing pending.
     pub fn new(alloc: Global, image: &[u8], out: OutFiles) -> Result<Foreground, OutOfMemory>
-        requires even { length image.now % 2 ≡ 0 }
-        requires least { 8 ≤ length image.now }
-        requires most { length image.now ≤ 524288 }
+        requires { is_image image.now ≡ true }
         ensures { IfOk result (IsReset image.now out) }
     {
         let chip = Chip::new(alloc, image)?;

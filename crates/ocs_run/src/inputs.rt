@@ -5,7 +5,7 @@ ghost use Rattle.ocs_io.specs.Place.{OnlyReads, KeepsNames};
 ghost use Rattle.ocs_run.specs.Inputs.{IsImageOf, IsImageFault, IsScriptOf, IsScriptFault, IsTextFault};
 ghost use Rattle.ocs_base.specs.Limits.{IsRunnable};
 ghost use Rattle.script_read.specs.Grammar.{script_of, Good};
-ghost use Rattle.ocs_run.specs.Verdict.{is_image as good_image};
+ghost use Rattle.ocs_base.specs.Image.{is_image as good_image};
 
 use crate::fault::{Fault, Input};
 use ocs_base::Script;

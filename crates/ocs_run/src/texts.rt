@@ -14,8 +14,37 @@ use out_files::OutFile;
 use script_read::BadKind;
 use std::alloc::Global;
 
-/// Says the text of a fault. A refusal to say it, or want of memory for it, changes nothing else.
+/// Says the text of a fault. A text without a name or a place needs no memory; it is said as it stands.
+/// A refusal to say a text, or want of memory for one that is made, changes nothing else.
+#[tactic(auto, unfolding(crate::specs::Texts::fault_text))]
 pub fn say_fault<P: Place>(alloc: Global, words: &[String], fault: Fault, place: &mut P)
+    ensures says { Says (text_of (order_of (map string_bytes words.now)) fault) (P.outside place.old) (P.outside place.new) }
+    ensures kept { OnlySays (P.outside place.old) (P.outside place.new) }
+{
+    match fault {
+        Fault::Usage => say(
+            "usage: ocs run IMAGE SCRIPT FRAMES TRACE MEMORY BAND WORKERS\n",
+            place,
+        ),
+        Fault::BadImage => say("bad image\n", place),
+        Fault::OutOfMemory => say("out of memory\n", place),
+        Fault::NotBuilt => say("not built\n", place),
+        Fault::BadScript { .. } | Fault::Unread { .. } | Fault::Unwritten { .. } => {
+            say_made(alloc, words, fault, place)
+        }
+    }
+}
+
+/// Says a text as it stands.
+fn say<P: Place>(text: &str, place: &mut P)
+    ensures says { Says text.now (P.outside place.old) (P.outside place.new) }
+    ensures kept { OnlySays (P.outside place.old) (P.outside place.new) }
+{
+    let _refused = place.say(text.as_bytes());
+}
+
+/// Says the text of a fault, which is made first, in one piece.
+fn say_made<P: Place>(alloc: Global, words: &[String], fault: Fault, place: &mut P)
     ensures says { Says (text_of (order_of (map string_bytes words.now)) fault) (P.outside place.old) (P.outside place.new) }
     ensures kept { OnlySays (P.outside place.old) (P.outside place.new) }
 {

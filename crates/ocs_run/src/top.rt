@@ -5,9 +5,8 @@ ghost use Rattle.ocs_io.specs.Answers.{WhereTold};
 ghost use Rattle.ocs_io.specs.Place.{Rose};
 ghost use Rattle.ocs_run.specs.Order.{order_of};
 ghost use Rattle.ocs_run.specs.Verdict.{of_order};
-ghost use Rattle.ocs_run.specs.Command.{IsDone, IsUnwritten, IsWanting, IsUnbuilt};
+ghost use Rattle.ocs_run.specs.Command.{IsDone, IsUnwritten, IsWanting, IsUnbuilt, KeepsSaid};
 ghost use Rattle.ocs_run.specs.Top.{ReadableInputs, CommandAnswers, SaysStatus, IsEarly, HasBadImage, HasBadScript, Completed, HasRunEnd};
-ghost use Rattle.ocs_run.specs.Commanded.{KeepsSaid};
 
 use crate::command::run_order;
 use crate::fault::Fault;
