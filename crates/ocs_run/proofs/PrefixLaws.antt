@@ -35,7 +35,8 @@ frames-grow first more now bytes rest is part = (
       ∙ sym (with_headings-append 0 first more) ∙ ap (λ l. frames_text l) (sym is),
 )
 
-trace-grow : (first more now : List TraceLine) (bytes rest : List ℕ) → now ≡ first ++ more → bytes ++ rest ≡ trace_text first → IsPartOf (trace_text now) (Some bytes)
+trace-grow : (first more now : List TraceLine) (bytes rest : List ℕ) → now ≡ first ++ more → bytes ++ rest ≡ trace_text first
+    → IsPartOf (trace_text now) (Some bytes)
 unfolding trace_text
 trace-grow first more now bytes rest is part = (
   rest ++ trace_text more,
@@ -49,7 +50,8 @@ frames-part : (image : List ℕ) (script : ScriptValue) (clocks end : ℕ) (byte
 frames-part image script clocks end bytes rest run is part =
     let le : clocks ≤ end = not_later image script clocks end run.running is in
     let e : clocks + (end - clocks) ≡ end = omega arith in
-    let grown : Extends (state_at image script clocks).shown (state_at image script (clocks + (end - clocks))).shown = shown-later image script clocks (end - clocks) in
+    let grown : Extends (state_at image script clocks).shown (state_at image script (clocks + (end - clocks))).shown =
+    shown-later image script clocks (end - clocks) in
     subst (λ n. IsPartOf (frames_text (state_at image script n).shown) (Some bytes)) e
     (frames-grow (state_at image script clocks).shown grown.more _ bytes rest grown.is part)
 
@@ -58,7 +60,8 @@ trace-part : (image : List ℕ) (script : ScriptValue) (clocks end : ℕ) (bytes
 trace-part image script clocks end bytes rest run is part =
     let le : clocks ≤ end = not_later image script clocks end run.running is in
     let e : clocks + (end - clocks) ≡ end = omega arith in
-    let grown : Extends (state_at image script clocks).trace (state_at image script (clocks + (end - clocks))).trace = trace-later image script clocks (end - clocks) in
+    let grown : Extends (state_at image script clocks).trace (state_at image script (clocks + (end - clocks))).trace =
+    trace-later image script clocks (end - clocks) in
     subst (λ n. IsPartOf (trace_text (state_at image script n).trace) (Some bytes)) e
     (trace-grow (state_at image script clocks).trace grown.more _ bytes rest grown.is part)
 
@@ -147,7 +150,8 @@ LeavesPrefixes-end image script names base new clocks has = record {
   held = has.parts.held;
   frames_part = λ end is. frames-part image script clocks end has.parts.frames has.parts.frames_rest has.run is has.parts.frames_part;
   trace_part = λ end is. trace-part image script clocks end has.parts.trace has.parts.trace_rest has.run is has.parts.trace_part;
-  memory_part = λ end is. subst (λ n. IsPartOf (memory_text (state_at image script n).memory) (Some has.parts.bytes)) (one_end image script clocks end has.end is)
+  memory_part = λ end is. subst (λ n. IsPartOf (memory_text (state_at image script n).memory) (Some has.parts.bytes))
+      (one_end image script clocks end has.end is)
       (has.parts.bytes_rest, has.parts.bytes_part);
 }
 

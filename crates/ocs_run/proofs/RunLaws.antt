@@ -39,7 +39,8 @@ use Rattle.ocs_run.specs.declared.foreground.Foreground.{Foreground}
 -- a tick looks at the events that are due, and at no others
 tick-due : (events left : List At) (s : State) → due_events s.beam events ≡ due_events s.beam left → tick Pal events s ≡ tick Pal left s
 unfolding tick
-tick-due events left s same = ap (λ acts. advance_beam (run_processor (make_access S.Nothing (show_pixels Pal (count_timers 0 (do_events acts (start_clock s))))))) same
+tick-due events left s same = ap (λ acts. advance_beam (run_processor
+    (make_access S.Nothing (show_pixels Pal (count_timers 0 (do_events acts (start_clock s))))))) same
 
 meets-due : (events left : List At) (s : State) → due_events s.beam events ≡ due_events s.beam left → meets_unbuilt Pal events s ≡ meets_unbuilt Pal left s
 unfolding meets_unbuilt
@@ -127,11 +128,16 @@ IsUnderway-more image script base files left old new so same going makes meets c
     })
   where
     more : (n t : ℕ) (P : ℕ → Type 0) → ((m : ℕ) → m < t → P m) → P t → n < suc t → P n
-    more n t P below here lt = elim (cases_eq n t) [ inl e ↦ (let s : t ≡ n = sym e in subst P s here) | inr other ↦ below n (let o : n ≡ t → ⊥ = other in omega arith) ]
+    more n t P below here lt = elim (cases_eq n t) [
+      | inl e ↦ (let s : t ≡ n = sym e in subst P s here)
+      | inr other ↦ below n
+          (let o : n ≡ t → ⊥ = other in omega arith)
+    ]
 
 pub IsInStep-start : (script : ScriptValue) (fore : Foreground) → IsRunnable script → fore.t ≡ 0 → fore.beam ≡ first_place → IsInStep script script.events fore
 IsInStep-start script fore good count place =
-    subst (λ b. IsInStep script script.events (record fore { beam = b })) (sym place) (subst (λ n. IsInStep script script.events (record fore { t = n; beam = first_place })) (sym count) (record {
+    subst (λ b. IsInStep script script.events (record fore { beam = b })) (sym place)
+    (subst (λ n. IsInStep script script.events (record fore { t = n; beam = first_place })) (sym count) (record {
       screen = record { line = lit< {m = 0} {n = 313} tt; clock = lit< {m = 0} {n = 227} tt };
       count = omega arith;
       frame = omega (arith, good.least);
@@ -388,7 +394,8 @@ StopsFinish-flush before after fore (Failed file) fault leaves is image script b
 StopsFinish-flush before after fore NoRoomToWrite fault leaves is image script base ended so =
     rw is (LeavesPrefixes-parts image script _ base after fore.t (HasParts-refused image script base before after fore leaves so))
 
-end_parts : (before now after : Option Files) (old fore : Foreground) (image : List ℕ) (script : ScriptValue) (base : Option Files) → Flushes old fore before now
+end_parts : (before now after : Option Files) (old fore : Foreground) (image : List ℕ) (script : ScriptValue) (base : Option Files)
+    → Flushes old fore before now
     → old.beam.frame ≡ script.frames → LeavesParts fore.out now after (memory_text fore.chip.words) → IsUnderway image script base before old
     → HasEndParts image script old.out.names base after fore.t
 end_parts before now after old fore image script base flushes ended leaves so =
@@ -413,7 +420,8 @@ Finishes-all before now after old fore flushes empty completes image script base
 -- the whole run and its stops
 pub LeavesAfter-created : (image : List ℕ) (script : ScriptValue) (names : OutNames) (old new : Outside) (f : WriteFault) (fault : RunFault)
     → CreateAnswers names old new (Err f) → fault ≡ of_write f → LeavesAfter fault image script names old.files new.files
-LeavesAfter-created image script names old new (Failed file) fault made is = rw is (LeavesPrefixes-all image script names old.files new.files (inl (made.0, made.3)))
+LeavesAfter-created image script names old new (Failed file) fault made is =
+    rw is (LeavesPrefixes-all image script names old.files new.files (inl (made.0, made.3)))
 LeavesAfter-created image script names old new NoRoomToWrite fault made is = rw is (LeavesPrefixes-all image script names old.files new.files (inl made))
 
 pub HasCreated-all : (names : OutNames) (old new : Outside) → CreateAnswers names old new (Ok tt) → HasCreated names old.files new.files

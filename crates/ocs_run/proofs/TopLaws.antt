@@ -87,7 +87,8 @@ unread BadImageVerdict old new s never e rose = inl rose
 unread (BadScriptVerdict line kind) old new s never e rose = inl rose
 unread (Good image script order) old new s never e rose = inl (inl rose)
 
-unwritten : (v : Verdict) (files : Files) (after : Option Files) (old new : Outside) (s : ℕ) → IsUnwritten v files after → Rose old.write_faults new.write_faults
+unwritten : (v : Verdict) (files : Files) (after : Option Files) (old new : Outside) (s : ℕ) → IsUnwritten v files after
+    → Rose old.write_faults new.write_faults
     → Completed v old new s
 unwritten UsageVerdict files after old new s is rose = absurd is
 unwritten (Absent name) files after old new s is rose = absurd is
@@ -119,7 +120,8 @@ always : (files : Option Files) (Q : Files → Type 0) → ((f : Files) → Q f)
 always None Q f = tt
 always (Some files) Q f = f files
 
-pub complete_clause : (order : Option OrderValue) (old mid new : Outside) (fault : Fault) (s : ℕ) → CommandAnswers order old mid (Err fault) → s ≡ status_of fault
+pub complete_clause : (order : Option OrderValue) (old mid new : Outside) (fault : Fault) (s : ℕ) → CommandAnswers order old mid (Err fault)
+    → s ≡ status_of fault
     → OnlySays mid new → WhereTold old.files (λ files. Completed (of_order order files) old new s)
 complete_clause None old mid new Usage s is e says = always old.files (λ f. Completed (of_order None f) old new s) (λ f. e)
 complete_clause None old mid new BadImage s is e says = absurd is

@@ -22,7 +22,8 @@ pub fn run_order<P: Place>(alloc: Global, order: &Order<'_>, place: &mut P) -> R
     requires image { P.readable place.old order.now.image.now }
     requires script { P.readable place.old order.now.script.now }
     requires apart { AreApart order.now }
-    ensures answer { OrderAnswers (value_of order.now) (P.outside place.old) (P.outside place.new) result }
+    ensures answer { OrderAnswers (value_of order.now) (P.outside place.old)
+        (P.outside place.new) result }
     ensures said { KeepsSaid (P.outside place.old) (P.outside place.new) }
 {
     let image = read_image(alloc, order.image, place)?;
@@ -42,7 +43,8 @@ fn run_inputs<P: Place>(
     requires image { is_image image.now ≡ true }
     requires script { IsRunnable script.now }
     requires apart { AreApart order.now }
-    ensures answer { RunAnswers (value_of order.now) image.now script.now (P.outside place.old) (P.outside place.new) result }
+    ensures answer { RunAnswers (value_of order.now) image.now script.now (P.outside place.old)
+        (P.outside place.new) result }
     ensures said { KeepsSaid (P.outside place.old) (P.outside place.new) }
 {
     if !is_built_script(script) {

@@ -83,12 +83,16 @@ impl Foreground {
     /// bytes.
     pub fn flush_lines<P: Place>(&mut self, place: &mut P) -> Result<(), WriteFault>
         requires { AreGrowable (P.growable place.old) self.old.out.names }
-        ensures flushed { OnOk result (Flushes self.old self.new (P.outside place.old).files (P.outside place.new).files) }
+        ensures flushed { OnOk result
+            (Flushes self.old self.new (P.outside place.old).files (P.outside place.new).files) }
         ensures small { OnOk result (HasNothingPending self.new) }
-        ensures parts { OnErr result (LeavesParts self.old.out (P.outside place.old).files (P.outside place.new).files []) }
+        ensures parts { OnErr result
+            (LeavesParts self.old.out (P.outside place.old).files (P.outside place.new).files []) }
         ensures kept { OnlyWrites (P.outside place.old) (P.outside place.new) }
-        ensures cause { IfErr result (λ fault. NamesFile fault → Rose (P.outside place.old).write_faults (P.outside place.new).write_faults) }
-        ensures names { KeepsNames (P.readable place.old) (P.growable place.old) (P.readable place.new) (P.growable place.new) }
+        ensures cause { IfErr result (λ fault. NamesFile fault
+            → Rose (P.outside place.old).write_faults (P.outside place.new).write_faults) }
+        ensures names { KeepsNames (P.readable place.old) (P.growable place.old)
+            (P.readable place.new) (P.growable place.new) }
     {
         if self.beam.h == 0 && self.beam.v % 32 == 0 {
             return self.flush(place);
@@ -99,12 +103,16 @@ impl Foreground {
     /// Appends all that is pending.
     pub fn flush<P: Place>(&mut self, place: &mut P) -> Result<(), WriteFault>
         requires { AreGrowable (P.growable place.old) self.old.out.names }
-        ensures flushed { OnOk result (Flushes self.old self.new (P.outside place.old).files (P.outside place.new).files) }
+        ensures flushed { OnOk result
+            (Flushes self.old self.new (P.outside place.old).files (P.outside place.new).files) }
         ensures empty { OnOk result (self.new.out ≡ all_given self.old.out) }
-        ensures parts { OnErr result (LeavesParts self.old.out (P.outside place.old).files (P.outside place.new).files []) }
+        ensures parts { OnErr result
+            (LeavesParts self.old.out (P.outside place.old).files (P.outside place.new).files []) }
         ensures kept { OnlyWrites (P.outside place.old) (P.outside place.new) }
-        ensures cause { IfErr result (λ fault. NamesFile fault → Rose (P.outside place.old).write_faults (P.outside place.new).write_faults) }
-        ensures names { KeepsNames (P.readable place.old) (P.growable place.old) (P.readable place.new) (P.growable place.new) }
+        ensures cause { IfErr result (λ fault. NamesFile fault
+            → Rose (P.outside place.old).write_faults (P.outside place.new).write_faults) }
+        ensures names { KeepsNames (P.readable place.old) (P.growable place.old)
+            (P.readable place.new) (P.growable place.new) }
     {
         self.out.flush(place)
     }
@@ -262,7 +270,8 @@ impl Foreground {
         requires frame { self.old.beam.frame + 1 < 2 ^ 32 }
         requires count { self.old.t + 1 < 2 ^ 64 }
         ensures step { Makes advance_beam self.old self.new }
-        ensures beam { self.new.beam ≡ next_place (is_interlaced self.old.chips.registers) self.old.beam }
+        ensures beam { self.new.beam
+            ≡ next_place (is_interlaced self.old.chips.registers) self.old.beam }
         ensures count { self.new.t ≡ self.old.t + 1 }
         ensures names { self.new.out.names ≡ self.old.out.names }
     {

@@ -27,15 +27,18 @@ fn run_clocks<P: Place>(
     requires growable { AreGrowable (P.growable place.old) fore.old.out.names }
     requires step { IsInStep script.now script.now.events fore.old }
     requires frames { script.now.frames ≤ 1000 }
-    ensures runs { OnOk result (Runs script.now fore.old fore.new (P.outside place.old).files (P.outside place.new).files) }
+    ensures runs { OnOk result (Runs script.now fore.old fore.new (P.outside place.old).files
+        (P.outside place.new).files) }
     ensures ended { OnOk result (fore.new.beam.frame ≡ script.now.frames) }
     ensures out { OnOk result (fore.new.out.names ≡ fore.old.out.names) }
     ensures stopped { IfErr result (λ fault. IsStoppedBy fault script.now fore.old fore.new
         (P.outside place.old).files (P.outside place.new).files) }
     ensures named { result ≡ Err RunFault.NotBuilt → fore.new.out.names ≡ fore.old.out.names }
     ensures kept { OnlyWrites (P.outside place.old) (P.outside place.new) }
-    ensures cause { IfErr result (λ fault. IsWrite fault → Rose (P.outside place.old).write_faults (P.outside place.new).write_faults) }
-    ensures names { KeepsNames (P.readable place.old) (P.growable place.old) (P.readable place.new) (P.growable place.new) }
+    ensures cause { IfErr result (λ fault. IsWrite fault
+        → Rose (P.outside place.old).write_faults (P.outside place.new).write_faults) }
+    ensures names { KeepsNames (P.readable place.old) (P.growable place.old) (P.readable place.new)
+        (P.growable place.new) }
 {
     let mut left = script.events();
     while fore.beam.frame < script.frames() {
@@ -91,10 +94,13 @@ pub fn run_files<P: Place>(
     requires image { is_image image.now ≡ true }
     requires script { IsRunnable script.now }
     requires fresh { IsFresh out }
-    ensures done { OnOk result (HasFiles image.now script.now out.names (P.outside place.old).files (P.outside place.new).files) }
-    ensures stopped { IfErr result (λ fault. LeavesAfter fault image.now script.now out.names (P.outside place.old).files (P.outside place.new).files) }
+    ensures done { OnOk result (HasFiles image.now script.now out.names (P.outside place.old).files
+        (P.outside place.new).files) }
+    ensures stopped { IfErr result (λ fault. LeavesAfter fault image.now script.now out.names
+        (P.outside place.old).files (P.outside place.new).files) }
     ensures kept { OnlyWrites (P.outside place.old) (P.outside place.new) }
-    ensures cause { IfErr result (λ fault. IsWrite fault → Rose (P.outside place.old).write_faults (P.outside place.new).write_faults) }
+    ensures cause { IfErr result (λ fault. IsWrite fault
+        → Rose (P.outside place.old).write_faults (P.outside place.new).write_faults) }
 {
     let mut fore = Foreground::new(alloc, image, out)?;
     fore.out.create(place)?;
@@ -105,10 +111,13 @@ pub fn run_files<P: Place>(
 /// Appends what is pending and the memory, at the end of a run.
 fn finish<P: Place>(fore: &mut Foreground, place: &mut P) -> Result<(), RunFault>
     requires { AreGrowable (P.growable place.old) fore.old.out.names }
-    ensures done { OnOk result (Finishes fore.old (P.outside place.old).files (P.outside place.new).files) }
-    ensures stopped { IfErr result (λ fault. StopsFinish fault fore.old (P.outside place.old).files (P.outside place.new).files) }
+    ensures done { OnOk result (Finishes fore.old (P.outside place.old).files
+        (P.outside place.new).files) }
+    ensures stopped { IfErr result (λ fault. StopsFinish fault fore.old (P.outside place.old).files
+        (P.outside place.new).files) }
     ensures kept { OnlyWrites (P.outside place.old) (P.outside place.new) }
-    ensures cause { IfErr result (λ fault. IsWrite fault → Rose (P.outside place.old).write_faults (P.outside place.new).write_faults) }
+    ensures cause { IfErr result (λ fault. IsWrite fault
+        → Rose (P.outside place.old).write_faults (P.outside place.new).write_faults) }
 {
     fore.flush(place)?;
     write_memory(fore, place)?;
@@ -118,10 +127,13 @@ fn finish<P: Place>(fore: &mut Foreground, place: &mut P) -> Result<(), RunFault
 /// Appends the words of chip memory to the memory file.
 fn write_memory<P: Place>(fore: &mut Foreground, place: &mut P) -> Result<(), WriteFault>
     requires { AreGrowable (P.growable place.old) fore.old.out.names }
-    ensures whole { OnOk result (Completes fore.old.out (P.outside place.old).files (P.outside place.new).files (memory_text fore.old.chip.words)) }
-    ensures parts { OnErr result (LeavesParts fore.old.out (P.outside place.old).files (P.outside place.new).files (memory_text fore.old.chip.words)) }
+    ensures whole { OnOk result (Completes fore.old.out (P.outside place.old).files
+        (P.outside place.new).files (memory_text fore.old.chip.words)) }
+    ensures parts { OnErr result (LeavesParts fore.old.out (P.outside place.old).files
+        (P.outside place.new).files (memory_text fore.old.chip.words)) }
     ensures kept { OnlyWrites (P.outside place.old) (P.outside place.new) }
-    ensures cause { IfErr result (λ fault. NamesFile fault → Rose (P.outside place.old).write_faults (P.outside place.new).write_faults) }
+    ensures cause { IfErr result (λ fault. NamesFile fault
+        → Rose (P.outside place.old).write_faults (P.outside place.new).write_faults) }
 {
     let Foreground { chip, out, .. } = fore;
     out.memory(chip, place)
