@@ -1,5 +1,6 @@
 -- The run of a good verdict has an end.
 use Rattle.std.proofs.Common.{◌≡◌, ℕ, Bool, true, false, if◌then◌else◌, List, Option, Some, None, refl}
+use Rattle.ocs_base.specs.Image.{is_image}
 use Rattle.ocs_io.specs.Answers.{WhereTold}
 use Rattle.ocs_io.specs.Place.{Files, file}
 use Rattle.script_read.specs.Grammar.{script_of, Good as GoodScript, Bad as BadLine, Verdict as ScriptVerdict}
@@ -7,7 +8,7 @@ use Rattle.script_read.proofs.RunnableLaws.{IsPrintable-script_of}
 use Rattle.serial_model.proofs.EndLaws.{has_end}
 use Rattle.ocs_run.specs.Order.{OrderValue}
 use Rattle.ocs_run.specs.Top.{HasRunEnd}
-use Rattle.ocs_run.specs.Verdict.{BadImage, of_script, of_text, of_image, of_order, is_image}
+use Rattle.ocs_run.specs.Verdict.{BadImage, of_script, of_text, of_image, of_order}
 
 script_ends : (order : OrderValue) (image text : List ℕ) (verdict : ScriptVerdict) → script_of text ≡ verdict
     → HasRunEnd (of_script order image verdict)

@@ -1,5 +1,5 @@
 -- What was shown and traced stays: later states only add to it.
-use Rattle.std.proofs.Common.{◌≡◌, ℕ, zero, suc, ◌+◌, List, [], ◌++◌, ap, ◌∙◌, sym, append_assoc, append-nil, add-suc, add-zero}
+use Rattle.std.proofs.Common.{◌≡◌, ℕ, zero, suc, ◌+◌, List, [], ◌++◌, refl, ap, ◌∙◌, sym, append_assoc, append-nil, add-suc, add-zero}
 use Rattle.ocs_base.specs.Script.{ScriptValue}
 use Rattle.ocs_base.specs.declared.script.At.{At}
 use Rattle.ocs_base.specs.declared.script.System.TheVariants.{Pal}
@@ -36,6 +36,17 @@ trace-tick events s =
       more = event_lines (due_events s.beam events) (start_clock s) ++ lines_of b.beam b.clx b.chips (made_in Pal events s);
       is = trace_next Pal events s;
     }
+
+-- what was shown and traced up to the access of a clock
+pub shown-before : (events : List At) (s : State) → Extends (before_access Pal events s).shown (tick Pal events s).shown
+unfolding tick
+shown-before events s = Extends-refl (before_access Pal events s).shown
+
+pub trace-before : (events : List At) (s : State) → Extends (before_access Pal events s).trace (tick Pal events s).trace
+unfolding tick
+trace-before events s =
+    let b : State = answer_state S.Nothing (before_access Pal events s) in
+    record { more = lines_of b.beam b.clx b.chips (made_in Pal events s); is = refl }
 
 pub shown-later : (image : List ℕ) (script : ScriptValue) (n k : ℕ) → Extends (state_at image script n).shown (state_at image script (n + k)).shown
 unfolding state_at

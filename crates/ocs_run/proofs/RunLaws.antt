@@ -1,5 +1,5 @@
 -- The run over plain values: its start, its turns, its end and its stops.
-use Rattle.std.proofs.Common.{◌≡◌, ℕ, suc, ◌+◌, ◌<◌, ◌≤◌, true, false, List, [], ◌++◌, Option, Result, Ok, Err, OnOk, IfErr, IsErrAnd, arith, refl, ap, ◌∙◌, sym, subst, add-one, inl, inr, ◌∷◌, lit<}
+use Rattle.std.proofs.Common.{◌≡◌, ℕ, suc, ◌+◌, ◌<◌, ◌≤◌, true, false, List, [], ◌++◌, Option, Result, Ok, Err, OnOk, IfErr, IsErrAnd, arith, refl, ap, ◌∙◌, sym, subst, append-nil, add-one, inl, inr, ◌∷◌, lit<}
 use Rattle.std.proofs.lemmas.Bool.{cases_eq}
 use Rattle.ocs_base.specs.Limits.{IsRunnable, AreFrom}
 use Rattle.ocs_base.specs.Script.{ScriptValue}
@@ -17,32 +17,39 @@ use Rattle.serial_model.specs.Serial.{state_at, IsEnd}
 use Rattle.serial_model.specs.State.{State, reset}
 use Rattle.serial_model.specs.TraceText.{trace_text}
 use Rattle.serial_model.specs.declared.bus.SideAsk.TheVariants as S
-use Rattle.serial_model.specs.Tick.{start_clock, count_timers, show_pixels, made_of, make_access, run_processor, advance_beam, tick}
+use Rattle.serial_model.specs.Tick.{start_clock, count_timers, show_pixels, made_of, make_access, run_processor, advance_beam, before_access, tick}
 use Rattle.serial_model.proofs.EndLaws.{frames_are_whole}
-use Rattle.ocs_run.proofs.PrefixLaws.{LeavesPrefixes-parts, LeavesPrefixes-end, LeavesPrefixes-all}
+use Rattle.ocs_run.specs.Prefix.{LeavesPrefixes}
+use Rattle.ocs_run.proofs.PrefixLaws.{LeavesPrefixes-parts, LeavesPrefixes-before, LeavesPrefixes-end, LeavesPrefixes-all}
 use Rattle.ocs_run.specs.Picture.{IsPictureOf}
-use Rattle.ocs_run.specs.Run.{HasFiles, HasParts, HasEndParts, StopsUnbuilt, Stopped, HasCreated, LeavesAfter}
+use Rattle.ocs_run.specs.Run.{HasFiles, HasParts, HasEndParts, StopsUnbuilt, state_before_access, HasCreated, LeavesAfter}
 use Rattle.ocs_run.specs.Fault.{of_tick, of_write}
 use Rattle.ocs_run.specs.declared.fault.RunFault.{RunFault}
 use Rattle.ocs_run.specs.declared.fault.RunFault.TheVariants.{Write, OutOfMemory as NoRoomToRun, NotBuilt}
 use Rattle.out_files.specs.Answers.{CreateAnswers, with_empty, in_order}
 use Rattle.ocs_run.specs.declared.foreground.TickFault.{TickFault}
 use Rattle.ocs_run.specs.declared.foreground.TickFault.TheVariants.{OutOfMemory as NoRoomToTick, NotBuilt as TickNotBuilt}
+use Rattle.out_files.specs.declared.fault.OutFile.{OutFile}
 use Rattle.out_files.specs.declared.fault.WriteFault.{WriteFault}
 use Rattle.out_files.specs.declared.fault.WriteFault.TheVariants.{Failed, OutOfMemory as NoRoomToWrite}
-use Rattle.ocs_run.specs.Steps.{Written, Stands, Makes, HasNext, Meets}
-use Rattle.ocs_run.specs.Underway.{IsReset, IsUnderway, IsInStep, Flushes, Runs, IsStoppedBy, StopsFinish, Finishes, IsFresh}
+use Rattle.ocs_run.specs.Steps.{Written, HasText, Stands, Makes, HasNext, Meets, StopsAt}
+use Rattle.ocs_run.specs.Underway.{IsReset, IsUnderway, IsInStep, Flushes, Runs, StandsBefore, Stopped, IsStoppedBy, LeavesRun, StopsFinish, Finishes, IsFresh}
 use Rattle.ocs_run.specs.declared.foreground.Foreground.{Foreground}
 
 -- a tick looks at the events that are due, and at no others
 tick-due : (events left : List At) (s : State) → due_events s.beam events ≡ due_events s.beam left → tick Pal events s ≡ tick Pal left s
 unfolding tick
-tick-due events left s same = ap (λ acts. advance_beam (run_processor (make_access S.Nothing (show_pixels Pal (count_timers 0 (do_events acts (start_clock s))))))) same
+tick-due events left s same = ap (λ acts. advance_beam (run_processor
+    (make_access S.Nothing (show_pixels Pal (count_timers 0 (do_events acts (start_clock s))))))) same
 
 meets-due : (events left : List At) (s : State) → due_events s.beam events ≡ due_events s.beam left → meets_unbuilt Pal events s ≡ meets_unbuilt Pal left s
 unfolding meets_unbuilt
 meets-due events left s same =
     ap (λ acts. is_unbuilt (made_of S.Nothing (show_pixels Pal (count_timers 0 (do_events acts (start_clock s)))))) same
+
+before-due : (events left : List At) (s : State) → due_events s.beam events ≡ due_events s.beam left
+    → before_access Pal events s ≡ before_access Pal left s
+before-due events left s same = ap (λ acts. show_pixels Pal (count_timers 0 (do_events acts (start_clock s)))) same
 
 -- nothing was appended
 pub Flushes-none : (fore : Foreground) (files : Option Files) → Flushes fore fore files files
@@ -121,11 +128,16 @@ IsUnderway-more image script base files left old new so same going makes meets c
     })
   where
     more : (n t : ℕ) (P : ℕ → Type 0) → ((m : ℕ) → m < t → P m) → P t → n < suc t → P n
-    more n t P below here lt = elim (cases_eq n t) [ inl e ↦ (let s : t ≡ n = sym e in subst P s here) | inr other ↦ below n (let o : n ≡ t → ⊥ = other in omega arith) ]
+    more n t P below here lt = elim (cases_eq n t) [
+      | inl e ↦ (let s : t ≡ n = sym e in subst P s here)
+      | inr other ↦ below n
+          (let o : n ≡ t → ⊥ = other in omega arith)
+    ]
 
 pub IsInStep-start : (script : ScriptValue) (fore : Foreground) → IsRunnable script → fore.t ≡ 0 → fore.beam ≡ first_place → IsInStep script script.events fore
 IsInStep-start script fore good count place =
-    subst (λ b. IsInStep script script.events (record fore { beam = b })) (sym place) (subst (λ n. IsInStep script script.events (record fore { t = n; beam = first_place })) (sym count) (record {
+    subst (λ b. IsInStep script script.events (record fore { beam = b })) (sym place)
+    (subst (λ n. IsInStep script script.events (record fore { t = n; beam = first_place })) (sym count) (record {
       screen = record { line = lit< {m = 0} {n = 313} tt; clock = lit< {m = 0} {n = 227} tt };
       count = omega arith;
       frame = omega (arith, good.least);
@@ -218,19 +230,60 @@ HasParts-refused image script base before after fore leaves so =
     let s : State = state_at image script fore.t in
     record { run = so.run; parts = leaves base s.shown s.trace (together fore so.written s base before so.stands so.held) }
 
-pub StopsUnbuilt-here : (image : List ℕ) (script : ScriptValue) (base files : Option Files) (left : List At) (fore : Foreground)
-    → IsInStep script left fore → fore.beam.frame < script.frames → Meets true left fore → IsUnderway image script base files fore
-    → StopsUnbuilt image script fore.out.names base files
-StopsUnbuilt-here image script base files left fore step going meets so =
-    let s : State = state_at image script fore.t in
+pub StandsBefore-here : (image : List ℕ) (script : ScriptValue) (base files : Option Files) (left : List At) (old new : Foreground)
+    → IsInStep script left old → old.beam.frame < script.frames → StopsAt left old new → IsUnderway image script base files old
+    → StandsBefore image script base files new
+StandsBefore-here image script base files left old new step going stops so =
+    let s : State = state_at image script old.t in
     let here : due_events s.beam script.events ≡ due_events s.beam left =
-    ap (λ b. due_events b script.events) so.stands.beam ∙ step.same fore.beam step.screen (omega arith) ∙ ap (λ b. due_events b left) (sym so.stands.beam) in
+    ap (λ b. due_events b script.events) so.stands.beam ∙ step.same old.beam step.screen (omega arith)
+    ∙ ap (λ b. due_events b left) (sym so.stands.beam) in
+    let text : HasText new.out so.written (before_access Pal script.events s) =
+    subst (HasText new.out so.written) (sym (before-due script.events left s here)) (stops.text so.written s so.stands) in
     record {
-      clocks = fore.t;
-      so_far = HasParts-now image script base files fore so;
-      frame = subst (λ b. b.frame < script.frames) (sym so.stands.beam) going;
-      unbuilt = meets-due script.events left s here ∙ meets so.written s so.stands;
+      clocks = old.t;
+      meets = record {
+        run = so.run;
+        frame = subst (λ b. b.frame < script.frames) (sym so.stands.beam) going;
+        unbuilt = meets-due script.events left s here ∙ stops.meets so.written s so.stands;
+      };
+      text = record {
+        frames = so.written.frames;
+        trace = so.written.trace;
+        held = so.held ∙ ap (λ ns. three_files ns base so.written.frames so.written.trace []) (sym stops.names);
+        pixels_given = text.frames;
+        lines_given = text.trace;
+        place = text.given;
+      };
     }
+
+-- what was pending there was appended, or a part of it
+pub StopsUnbuilt-flushed : (image : List ℕ) (script : ScriptValue) (base before after : Option Files) (old new : Foreground)
+    → Flushes old new before after → new.out ≡ all_given old.out → StandsBefore image script base before old
+    → StopsUnbuilt image script old.out.names base after
+unfolding StayTogether
+StopsUnbuilt-flushed image script base before after old new flushes empty stands =
+    let s : State = state_before_access image script stands.clocks in
+    let now : AreTogether new.out base after s.shown s.trace = flushes.files base s.shown s.trace stands.text in
+    let frames : now.frames ≡ frames_text s.shown =
+    sym (append-nil now.frames) ∙ ap (λ l. now.frames ++ l) (sym (ap (λ o. o.frames) empty)) ∙ now.pixels_given in
+    let trace : now.trace ≡ trace_text s.trace =
+    sym (append-nil now.trace) ∙ ap (λ l. now.trace ++ l) (sym (ap (λ o. o.trace) empty)) ∙ now.lines_given in
+    record {
+      clocks = stands.clocks;
+      meets = stands.meets;
+      files = now.held ∙ ap (λ ns. three_files ns base now.frames now.trace []) flushes.names
+          ∙ ap (λ l. three_files old.out.names base l now.trace []) frames
+          ∙ ap (λ l. three_files old.out.names base (frames_text s.shown) l []) trace;
+    }
+
+pub LeavesPrefixes-refused : (image : List ℕ) (script : ScriptValue) (base before after : Option Files) (fore : Foreground)
+    → LeavesParts fore.out before after [] → StandsBefore image script base before fore
+    → LeavesPrefixes image script fore.out.names base after
+unfolding LeavesParts
+LeavesPrefixes-refused image script base before after fore leaves stands =
+    let s : State = state_before_access image script stands.clocks in
+    LeavesPrefixes-before image script fore.out.names base after stands.clocks stands.meets (leaves base s.shown s.trace stands.text)
 
 -- the end
 pub IsEnd-here : (image : List ℕ) (script : ScriptValue) (base files : Option Files) (fore : Foreground) → fore.beam.frame ≡ script.frames
@@ -274,24 +327,64 @@ pub if_err : {T E : Type 0} (r : Result T E) (P Q : E → Type 0) → IsErrAnd r
 if_err (Ok v) P Q h f = tt
 if_err (Err e) P Q h f = f e h
 
-pub stop-tick : (script : ScriptValue) (before now : Option Files) (first fore : Foreground) (left : List At) (f : TickFault) (fault : RunFault)
-    → IsInStep script left fore → fore.beam.frame < script.frames → fore.out.names ≡ first.out.names → Runs script first fore before now
-    → (f ≡ TickNotBuilt → Meets true left fore) → fault ≡ of_tick f → IsStoppedBy fault script first before now
-stop-tick script before now first fore left NoRoomToTick fault step going names runs meets is image base so =
-    rw is (subst (λ ns. (clocks : ℕ) × HasParts image script ns base now clocks) names (fore.t, HasParts-now image script base now fore (runs image base so)))
-stop-tick script before now first fore left TickNotBuilt fault step going names runs meets is image base so =
-    rw is (subst (λ ns. StopsUnbuilt image script ns base now) names
-    (StopsUnbuilt-here image script base now left fore step going (meets refl) (runs image base so)))
+pub stop-tick : (script : ScriptValue) (before now : Option Files) (first old new : Foreground) (left : List At) (f : TickFault) (fault : RunFault)
+    → IsInStep script left old → old.beam.frame < script.frames → old.out.names ≡ first.out.names → Runs script first old before now
+    → (f ≡ TickNotBuilt → StopsAt left old new) → fault ≡ of_tick f → IsStoppedBy fault script first new before now
+stop-tick script before now first old new left NoRoomToTick fault step going names runs stops is image base so =
+    rw is (subst (λ ns. (clocks : ℕ) × HasParts image script ns base now clocks) names
+    (old.t, HasParts-now image script base now old (runs image base so)))
+stop-tick script before now first old new left TickNotBuilt fault step going names runs stops is image base so =
+    rw is (StandsBefore-here image script base now left old new step going (stops refl) (runs image base so))
 
-pub stop-flush : (script : ScriptValue) (before now after : Option Files) (first fore : Foreground) (f : WriteFault) (fault : RunFault)
+pub stop-flush : (script : ScriptValue) (before now after : Option Files) (first fore last : Foreground) (f : WriteFault) (fault : RunFault)
     → fore.out.names ≡ first.out.names → Runs script first fore before now → LeavesParts fore.out now after [] → fault ≡ of_write f
-    → IsStoppedBy fault script first before after
-stop-flush script before now after first fore (Failed file) fault names runs leaves is image base so =
+    → IsStoppedBy fault script first last before after
+stop-flush script before now after first fore last (Failed file) fault names runs leaves is image base so =
     rw is (subst (λ ns. (clocks : ℕ) × HasParts image script ns base after clocks) names
     (fore.t, HasParts-refused image script base now after fore leaves (runs image base so)))
-stop-flush script before now after first fore NoRoomToWrite fault names runs leaves is image base so =
+stop-flush script before now after first fore last NoRoomToWrite fault names runs leaves is image base so =
     rw is (subst (λ ns. (clocks : ℕ) × HasParts image script ns base after clocks) names
     (fore.t, HasParts-refused image script base now after fore leaves (runs image base so)))
+
+-- where the names stayed at a clock that is not built
+pub names-tick : (left : List At) (first old new : Foreground) (f : TickFault) (fault : RunFault) → old.out.names ≡ first.out.names
+    → (f ≡ TickNotBuilt → StopsAt left old new) → fault ≡ of_tick f → fault ≡ NotBuilt → new.out.names ≡ first.out.names
+names-tick left first old new NoRoomToTick fault names stops is none = absurd (cc (is, none))
+names-tick left first old new TickNotBuilt fault names stops is none = (stops refl).names ∙ names
+
+-- the clocks are over
+pub stopped_by : (script : ScriptValue) (old new : Foreground) (before after : Option Files) (given fault : RunFault) → given ≡ fault
+    → IsStoppedBy given script old new before after → IsStoppedBy fault script old new before after
+stopped_by script old new before after given fault is stopped = subst (λ f. IsStoppedBy f script old new before after) is stopped
+
+pub LeavesRun-write : (script : ScriptValue) (old new : Foreground) (before after : Option Files) (given : RunFault) (file : OutFile)
+    → given ≡ Write file → IsStoppedBy given script old new before after → LeavesRun (Write file) script old before after
+LeavesRun-write script old new before after given file is stopped image base so =
+    let parts = subst (Stopped image script old.out.names new base after) is (stopped image base so) in
+    LeavesPrefixes-parts image script _ base after parts.0 parts.1
+
+pub LeavesRun-room : (script : ScriptValue) (old new : Foreground) (before after : Option Files) (given : RunFault) → given ≡ NoRoomToRun
+    → IsStoppedBy given script old new before after → LeavesRun NoRoomToRun script old before after
+LeavesRun-room script old new before after given is stopped image base so =
+    let parts = subst (Stopped image script old.out.names new base after) is (stopped image base so) in
+    LeavesPrefixes-parts image script _ base after parts.0 parts.1
+
+pub LeavesRun-flushed : (script : ScriptValue) (first old new : Foreground) (before now after : Option Files) → old.out.names ≡ first.out.names
+    → IsStoppedBy NotBuilt script first old before now → Flushes old new now after → new.out ≡ all_given old.out
+    → LeavesRun NotBuilt script first before after
+LeavesRun-flushed script first old new before now after names stopped flushes empty image base so =
+    subst (λ ns. StopsUnbuilt image script ns base after) names
+    (StopsUnbuilt-flushed image script base now after old new flushes empty (stopped image base so))
+
+pub LeavesRun-refused : (script : ScriptValue) (first old : Foreground) (before now after : Option Files) (f : WriteFault) (fault : RunFault)
+    → old.out.names ≡ first.out.names → IsStoppedBy NotBuilt script first old before now → LeavesParts old.out now after []
+    → fault ≡ of_write f → LeavesRun fault script first before after
+LeavesRun-refused script first old before now after (Failed file) fault names stopped leaves is image base so =
+    rw is (subst (λ ns. LeavesPrefixes image script ns base after) names
+    (LeavesPrefixes-refused image script base now after old leaves (stopped image base so)))
+LeavesRun-refused script first old before now after NoRoomToWrite fault names stopped leaves is image base so =
+    rw is (subst (λ ns. LeavesPrefixes image script ns base after) names
+    (LeavesPrefixes-refused image script base now after old leaves (stopped image base so)))
 
 -- the end of a run and its stops
 pub StopsFinish-flush : (before after : Option Files) (fore : Foreground) (f : WriteFault) (fault : RunFault) → LeavesParts fore.out before after []
@@ -301,7 +394,8 @@ StopsFinish-flush before after fore (Failed file) fault leaves is image script b
 StopsFinish-flush before after fore NoRoomToWrite fault leaves is image script base ended so =
     rw is (LeavesPrefixes-parts image script _ base after fore.t (HasParts-refused image script base before after fore leaves so))
 
-end_parts : (before now after : Option Files) (old fore : Foreground) (image : List ℕ) (script : ScriptValue) (base : Option Files) → Flushes old fore before now
+end_parts : (before now after : Option Files) (old fore : Foreground) (image : List ℕ) (script : ScriptValue) (base : Option Files)
+    → Flushes old fore before now
     → old.beam.frame ≡ script.frames → LeavesParts fore.out now after (memory_text fore.chip.words) → IsUnderway image script base before old
     → HasEndParts image script old.out.names base after fore.t
 end_parts before now after old fore image script base flushes ended leaves so =
@@ -326,35 +420,41 @@ Finishes-all before now after old fore flushes empty completes image script base
 -- the whole run and its stops
 pub LeavesAfter-created : (image : List ℕ) (script : ScriptValue) (names : OutNames) (old new : Outside) (f : WriteFault) (fault : RunFault)
     → CreateAnswers names old new (Err f) → fault ≡ of_write f → LeavesAfter fault image script names old.files new.files
-LeavesAfter-created image script names old new (Failed file) fault made is = rw is (LeavesPrefixes-all image script names old.files new.files (inl (made.0, made.3)))
+LeavesAfter-created image script names old new (Failed file) fault made is =
+    rw is (LeavesPrefixes-all image script names old.files new.files (inl (made.0, made.3)))
 LeavesAfter-created image script names old new NoRoomToWrite fault made is = rw is (LeavesPrefixes-all image script names old.files new.files (inl made))
 
 pub HasCreated-all : (names : OutNames) (old new : Outside) → CreateAnswers names old new (Ok tt) → HasCreated names old.files new.files
 HasCreated-all names old new made = (3, made)
 
-pub LeavesAfter-stopped : (image : List ℕ) (script : ScriptValue) (names : OutNames) (base new : Option Files) (fault : RunFault)
-    → Stopped image script names base new fault → LeavesAfter fault image script names base new
-LeavesAfter-stopped image script names base new (Write file) parts = LeavesPrefixes-parts image script names base new parts.0 parts.1
-LeavesAfter-stopped image script names base new NoRoomToRun parts = LeavesPrefixes-parts image script names base new parts.0 parts.1
-LeavesAfter-stopped image script names base new NotBuilt parts = parts
-
 -- from the creates to the end of a whole run
-begun : (image : List ℕ) (script : ScriptValue) (base mid : Option Files) (out made : OutFilesValue) (fore : Foreground) → IsFresh out → made ≡ out
-    → Begins made base mid → IsReset image made fore → IsUnderway image script base mid fore
-begun image script base mid out made fore fresh same begins reset =
-    IsUnderway-start image script base mid made fore (ap (λ o. o.frames) same ∙ fresh.frames) (ap (λ o. o.trace) same ∙ fresh.trace)
-    (ap (λ o. o.given) same ∙ fresh.given) begins reset
+-- the machine as it was made, once the files were created
+pub IsReset-created : (image : List ℕ) (out created : OutFilesValue) (fore : Foreground) → IsReset image out fore → created ≡ fore.out
+    → IsReset image out (record fore { out = created })
+IsReset-created image out created fore reset same = record {
+  t = reset.t;
+  beam = reset.beam;
+  memory = reset.memory;
+  chips = reset.chips;
+  picture = reset.picture;
+  clx = reset.clx;
+  out = same ∙ reset.out;
+}
 
-named : (image : List ℕ) (out made : OutFilesValue) (fore : Foreground) → made ≡ out → IsReset image made fore → fore.out.names ≡ out.names
-named image out made fore same reset = ap (λ o. o.names) reset.out ∙ ap (λ o. o.names) same
+begun : (image : List ℕ) (script : ScriptValue) (base mid : Option Files) (out : OutFilesValue) (fore : Foreground) → IsFresh out
+    → Begins fore.out base mid → IsReset image out fore → IsUnderway image script base mid fore
+begun image script base mid out fore fresh begins reset =
+    IsUnderway-start image script base mid out fore fresh.frames fresh.trace fresh.given (subst (λ o. Begins o base mid) reset.out begins) reset
 
-pub run-stopped : (image : List ℕ) (script : ScriptValue) (base mid new : Option Files) (out made : OutFilesValue) (fore : Foreground) (fault : RunFault)
-    → IsFresh out → made ≡ out → Begins made base mid → IsReset image made fore → IsStoppedBy fault script fore mid new
+named : (image : List ℕ) (out : OutFilesValue) (fore : Foreground) → IsReset image out fore → fore.out.names ≡ out.names
+named image out fore reset = ap (λ o. o.names) reset.out
+
+pub run-stopped : (image : List ℕ) (script : ScriptValue) (base mid new : Option Files) (out : OutFilesValue) (fore : Foreground) (fault : RunFault)
+    → IsFresh out → Begins fore.out base mid → IsReset image out fore → LeavesRun fault script fore mid new
     → LeavesAfter fault image script out.names base new
-run-stopped image script base mid new out made fore fault fresh same begins reset stopped =
-    LeavesAfter-stopped image script out.names base new fault
-    (subst (λ ns. Stopped image script ns base new fault) (named image out made fore same reset)
-    (stopped image base (begun image script base mid out made fore fresh same begins reset)))
+run-stopped image script base mid new out fore fault fresh begins reset stopped =
+    subst (λ ns. LeavesAfter fault image script ns base new) (named image out fore reset)
+    (stopped image base (begun image script base mid out fore fresh begins reset))
 
 on_ok : {T E : Type 0} (r : Result T E) (P Q : Type 0) → OnOk r P → (P → Q) → OnOk r Q
 on_ok (Ok v) P Q h f = f h
@@ -364,23 +464,23 @@ if_err_more : {T E : Type 0} (r : Result T E) (P Q : E → Type 0) → IfErr r P
 if_err_more (Ok v) P Q h f = tt
 if_err_more (Err e) P Q h f = f e h
 
-pub run-done : (image : List ℕ) (script : ScriptValue) (base mid before new : Option Files) (out made : OutFilesValue) (fore last : Foreground)
-    (r : Result (Unit {0}) RunFault) → IsRunnable script → IsFresh out → made ≡ out → Begins made base mid → IsReset image made fore → Runs script fore last mid before
-    → last.beam.frame ≡ script.frames → last.out.names ≡ fore.out.names → OnOk r (Finishes last before new)
-    → OnOk r (HasFiles image script out.names base new)
-run-done image script base mid before new out made fore last r good fresh same begins reset runs ended names finishes =
-    on_ok r _ _ finishes (λ finish. subst (λ ns. HasFiles image script ns base new) (names ∙ named image out made fore same reset)
-    (finish image script base good.least ended (runs image base (begun image script base mid out made fore fresh same begins reset))))
+pub run-done : (image : List ℕ) (script : ScriptValue) (base mid before new : Option Files) (out : OutFilesValue) (fore last : Foreground)
+    (r : Result (Unit {0}) RunFault) → IsRunnable script → IsFresh out → Begins fore.out base mid → IsReset image out fore
+    → Runs script fore last mid before → last.beam.frame ≡ script.frames → last.out.names ≡ fore.out.names
+    → OnOk r (Finishes last before new) → OnOk r (HasFiles image script out.names base new)
+run-done image script base mid before new out fore last r good fresh begins reset runs ended names finishes =
+    on_ok r _ _ finishes (λ finish. subst (λ ns. HasFiles image script ns base new) (names ∙ named image out fore reset)
+    (finish image script base good.least ended (runs image base (begun image script base mid out fore fresh begins reset))))
 
-pub run-finish-stopped : (image : List ℕ) (script : ScriptValue) (base mid before new : Option Files) (out made : OutFilesValue) (fore last : Foreground)
-    (r : Result (Unit {0}) RunFault) → IsFresh out → made ≡ out → Begins made base mid → IsReset image made fore → Runs script fore last mid before
+pub run-finish-stopped : (image : List ℕ) (script : ScriptValue) (base mid before new : Option Files) (out : OutFilesValue) (fore last : Foreground)
+    (r : Result (Unit {0}) RunFault) → IsFresh out → Begins fore.out base mid → IsReset image out fore → Runs script fore last mid before
     → last.beam.frame ≡ script.frames → last.out.names ≡ fore.out.names → IfErr r (λ fault. StopsFinish fault last before new)
     → IfErr r (λ fault. LeavesAfter fault image script out.names base new)
-run-finish-stopped image script base mid before new out made fore last r fresh same begins reset runs ended names stops =
-    if_err_more r _ _ stops (λ fault stop. subst (λ ns. LeavesAfter fault image script ns base new) (names ∙ named image out made fore same reset)
-    (stop image script base ended (runs image base (begun image script base mid out made fore fresh same begins reset))))
+run-finish-stopped image script base mid before new out fore last r fresh begins reset runs ended names stops =
+    if_err_more r _ _ stops (λ fault stop. subst (λ ns. LeavesAfter fault image script ns base new) (names ∙ named image out fore reset)
+    (stop image script base ended (runs image base (begun image script base mid out fore fresh begins reset))))
 
--- the files were created, and memory was wanting for the machine
-pub LeavesAfter-memory : (image : List ℕ) (script : ScriptValue) (names : OutNames) (old new : Outside) (fault : RunFault)
-    → new.files ≡ with_empty (in_order names) old.files → fault ≡ NoRoomToRun → LeavesAfter fault image script names old.files new.files
-LeavesAfter-memory image script names old new fault made is = rw is (LeavesPrefixes-all image script names old.files new.files (inl (3, made)))
+-- memory was wanting for the machine, before anything was created
+pub LeavesAfter-memory : (image : List ℕ) (script : ScriptValue) (names : OutNames) (files : Option Files) (fault : RunFault)
+    → fault ≡ NoRoomToRun → LeavesAfter fault image script names files files
+LeavesAfter-memory image script names files fault is = rw is (LeavesPrefixes-all image script names files files (inl (0, refl)))

@@ -1,15 +1,15 @@
 -- The clauses of the top call, from what stands after the command and what was said.
 use Rattle.std.proofs.Common.{◌≡◌, ℕ, ◌≤◌, Bool, true, false, if◌then◌else◌, List, take, Option, Some, None, Err, inl, inr, refl, sym, ap, subst, ◌∙◌, arith}
+use Rattle.ocs_base.specs.Image.{is_image}
 use Rattle.ocs_io.specs.Answers.{WhereTold}
 use Rattle.ocs_io.specs.Place.{Files, Outside, Rose, OnlySays, file, said_more}
 use Rattle.script_read.specs.Grammar.{script_of, Good as GoodScript, Bad as BadLine, Verdict as ScriptVerdict}
-use Rattle.ocs_run.specs.Command.{IsUnwritten, IsWanting, IsUnbuilt}
-use Rattle.ocs_run.specs.Commanded.{KeepsSaid}
+use Rattle.ocs_run.specs.Command.{IsUnwritten, IsWanting, IsUnbuilt, KeepsSaid}
 use Rattle.ocs_run.specs.Fault.{status_of}
 use Rattle.ocs_run.specs.Order.{OrderValue}
 use Rattle.ocs_run.specs.Texts.{text_of, Says}
 use Rattle.ocs_run.specs.Top.{CommandAnswers, IsEarly, HasBadScript, Completed, IsTold, SaysStatus}
-use Rattle.ocs_run.specs.Verdict.{Verdict, Usage as UsageVerdict, Absent, BadImage as BadImageVerdict, BadScript as BadScriptVerdict, Good, of_order, of_image, of_text, of_script, is_image}
+use Rattle.ocs_run.specs.Verdict.{Verdict, Usage as UsageVerdict, Absent, BadImage as BadImageVerdict, BadScript as BadScriptVerdict, Good, of_order, of_image, of_text, of_script}
 use Rattle.ocs_run.specs.declared.fault.Fault.{Fault}
 use Rattle.ocs_run.specs.declared.fault.Fault.TheVariants.{Usage, BadImage, BadScript, Unread, Unwritten, OutOfMemory, NotBuilt}
 use Rattle.ocs_run.specs.declared.fault.Input.TheVariants.{Image, Script}
@@ -87,7 +87,8 @@ unread BadImageVerdict old new s never e rose = inl rose
 unread (BadScriptVerdict line kind) old new s never e rose = inl rose
 unread (Good image script order) old new s never e rose = inl (inl rose)
 
-unwritten : (v : Verdict) (files : Files) (after : Option Files) (old new : Outside) (s : ℕ) → IsUnwritten v files after → Rose old.write_faults new.write_faults
+unwritten : (v : Verdict) (files : Files) (after : Option Files) (old new : Outside) (s : ℕ) → IsUnwritten v files after
+    → Rose old.write_faults new.write_faults
     → Completed v old new s
 unwritten UsageVerdict files after old new s is rose = absurd is
 unwritten (Absent name) files after old new s is rose = absurd is
@@ -119,7 +120,8 @@ always : (files : Option Files) (Q : Files → Type 0) → ((f : Files) → Q f)
 always None Q f = tt
 always (Some files) Q f = f files
 
-pub complete_clause : (order : Option OrderValue) (old mid new : Outside) (fault : Fault) (s : ℕ) → CommandAnswers order old mid (Err fault) → s ≡ status_of fault
+pub complete_clause : (order : Option OrderValue) (old mid new : Outside) (fault : Fault) (s : ℕ) → CommandAnswers order old mid (Err fault)
+    → s ≡ status_of fault
     → OnlySays mid new → WhereTold old.files (λ files. Completed (of_order order files) old new s)
 complete_clause None old mid new Usage s is e says = always old.files (λ f. Completed (of_order None f) old new s) (λ f. e)
 complete_clause None old mid new BadImage s is e says = absurd is

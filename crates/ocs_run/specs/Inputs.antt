@@ -1,5 +1,6 @@
 -- What reading the inputs tells.
 use Rattle.std.specs.Prelude.{◌≡◌, ℕ, true, false, List, Some}
+use Rattle.ocs_base.specs.Image.{is_image}
 use Rattle.ocs_base.specs.Limits.{IsRunnable}
 use Rattle.ocs_base.specs.Script.{ScriptValue}
 use Rattle.ocs_io.specs.Answers.{WhereTold}
@@ -9,7 +10,6 @@ use Rattle.script_read.specs.Grammar.{script_of, Good, Bad}
 use Rattle.ocs_run.specs.declared.fault.Fault.{Fault}
 use Rattle.ocs_run.specs.declared.fault.Fault.TheVariants.{Usage, BadImage, BadScript, Unread, Unwritten, OutOfMemory, NotBuilt}
 use Rattle.ocs_run.specs.declared.fault.Input.TheVariants.{Image, Script}
-use Rattle.ocs_run.specs.Verdict.{is_image}
 
 -- the file is there with these bytes
 abbrev pub Holds : List ℕ → List ℕ → Files → Type 0

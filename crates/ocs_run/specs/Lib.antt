@@ -1,6 +1,5 @@
 pub mod Asked
 pub mod Command
-pub mod Commanded
 pub mod CopperAct
 pub mod Fault
 pub mod Inputs

@@ -11,6 +11,8 @@ use Rattle.serial_model.specs.Built.{meets_unbuilt}
 use Rattle.serial_model.specs.MemoryText.{memory_text}
 use Rattle.serial_model.specs.Outputs.{frames_text, frame_bytes}
 use Rattle.serial_model.specs.Serial.{state_at, IsEnd}
+use Rattle.serial_model.specs.State.{State}
+use Rattle.serial_model.specs.Tick.{before_access}
 use Rattle.serial_model.specs.TraceText.{trace_text}
 use Rattle.ocs_run.specs.declared.fault.RunFault.{RunFault}
 use Rattle.ocs_run.specs.declared.fault.RunFault.TheVariants.{Write, OutOfMemory, NotBuilt}
@@ -42,18 +44,23 @@ pub record HasEndParts (image : List ℕ) (script : ScriptValue) (names : OutNam
   pub run : HasRun image script clocks
   pub parts : (let s = state_at image script clocks in HoldParts names base new s.shown s.trace (memory_text s.memory))
 
--- the run stopped at a clock that does something unbuilt
-pub record StopsUnbuilt (image : List ℕ) (script : ScriptValue) (names : OutNames) (base new : Option Files) : Type 0 where
-  pub clocks : ℕ
-  pub so_far : HasParts image script names base new clocks
+-- after so many clocks the run came to one that does something unbuilt
+pub record MeetsUnbuilt (image : List ℕ) (script : ScriptValue) (clocks : ℕ) : Type 0 where
+  pub run : HasRun image script clocks
   pub frame : (state_at image script clocks).beam.frame < script.frames
   pub unbuilt : meets_unbuilt Pal script.events (state_at image script clocks) ≡ true
 
--- what stands after a run was stopped by a fault
-abbrev pub Stopped : List ℕ → ScriptValue → OutNames → Option Files → Option Files → RunFault → Type 0
-Stopped image script names base new (Write file) = (clocks : ℕ) × HasParts image script names base new clocks
-Stopped image script names base new OutOfMemory = (clocks : ℕ) × HasParts image script names base new clocks
-Stopped image script names base new NotBuilt = StopsUnbuilt image script names base new
+-- the state in which the access after so many clocks is made
+abbrev pub state_before_access : List ℕ → ScriptValue → ℕ → State
+state_before_access image script clocks = before_access Pal script.events (state_at image script clocks)
+
+-- the run stopped at a clock that does something unbuilt: the frames file and the trace are the texts up to the access of
+-- that clock, whole, the memory file is empty, and every other file is as before
+pub record StopsUnbuilt (image : List ℕ) (script : ScriptValue) (names : OutNames) (base new : Option Files) : Type 0 where
+  pub clocks : ℕ
+  pub meets : MeetsUnbuilt image script clocks
+  pub files : new ≡ (let s = state_before_access image script clocks in
+      three_files names base (frames_text s.shown) (trace_text s.trace) [])
 
 -- the first so many of the three files were created, and nothing else was done
 abbrev pub HasCreated : OutNames → Option Files → Option Files → Type 0

@@ -6,15 +6,16 @@ use Rattle.ocs_io.specs.Place.{Files}
 use Rattle.ocs_base.specs.Memory.{memory_of}
 use Rattle.serial_model.specs.State.{reset_chips}
 use Rattle.serial_model.specs.Picture.{reset_picture}
-use Rattle.out_files.specs.OutFiles.{OutFilesValue}
-use Rattle.out_files.specs.Together.{three_files, StayTogether}
+use Rattle.out_files.specs.OutFiles.{OutFilesValue, OutNames}
+use Rattle.out_files.specs.Together.{three_files, AreTogether, StayTogether}
 use Rattle.serial_model.specs.Beam.{IsOnScreen, place_of, first_place}
 use Rattle.serial_model.specs.Events.{due_events}
 use Rattle.serial_model.specs.Serial.{state_at}
 use Rattle.ocs_base.specs.declared.beam.Beam.{Beam}
 use Rattle.ocs_run.specs.Picture.{IsPictureOf}
-use Rattle.ocs_run.specs.Run.{HasRun, HasFiles, Stopped, LeavesAfter}
+use Rattle.ocs_run.specs.Run.{HasRun, HasParts, MeetsUnbuilt, state_before_access, HasFiles, LeavesAfter}
 use Rattle.ocs_run.specs.declared.fault.RunFault.{RunFault}
+use Rattle.ocs_run.specs.declared.fault.RunFault.TheVariants.{Write, OutOfMemory, NotBuilt}
 use Rattle.ocs_run.specs.Steps.{Written, Stands, IsLeft}
 use Rattle.ocs_run.specs.declared.foreground.Foreground.{Foreground}
 
@@ -64,10 +65,27 @@ abbrev pub Runs : ScriptValue → Foreground → Foreground → Option Files →
 Runs script old new before after = (image : List ℕ) (base : Option Files)
     → IsUnderway image script base before old → IsUnderway image script base after new
 
+-- the loop came to a clock that does something unbuilt: its text up to the access of that clock is in the files or pending
+pub record StandsBefore (image : List ℕ) (script : ScriptValue) (base files : Option Files) (fore : Foreground) : Type 0 where
+  pub clocks : ℕ
+  pub meets : MeetsUnbuilt image script clocks
+  pub text : (let s = state_before_access image script clocks in AreTogether fore.out base files s.shown s.trace)
+
+-- what stands where a fault stopped the loop
+abbrev pub Stopped : List ℕ → ScriptValue → OutNames → Foreground → Option Files → Option Files → RunFault → Type 0
+Stopped image script names fore base new (Write file) = (clocks : ℕ) × HasParts image script names base new clocks
+Stopped image script names fore base new OutOfMemory = (clocks : ℕ) × HasParts image script names base new clocks
+Stopped image script names fore base new NotBuilt = StandsBefore image script base new fore
+
 -- the loop was stopped
-abbrev pub IsStoppedBy : RunFault → ScriptValue → Foreground → Option Files → Option Files → Type 0
-IsStoppedBy fault script old before after = (image : List ℕ) (base : Option Files)
-    → IsUnderway image script base before old → Stopped image script old.out.names base after fault
+abbrev pub IsStoppedBy : RunFault → ScriptValue → Foreground → Foreground → Option Files → Option Files → Type 0
+IsStoppedBy fault script old new before after = (image : List ℕ) (base : Option Files)
+    → IsUnderway image script base before old → Stopped image script old.out.names new base after fault
+
+-- the clocks were stopped, and what was pending at one that is not built was appended
+abbrev pub LeavesRun : RunFault → ScriptValue → Foreground → Option Files → Option Files → Type 0
+LeavesRun fault script old before after = (image : List ℕ) (base : Option Files)
+    → IsUnderway image script base before old → LeavesAfter fault image script old.out.names base after
 
 -- output files that nothing was given to yet, of three different names
 pub record IsFresh (out : OutFilesValue) : Type 0 where

@@ -1,5 +1,6 @@
 -- What the words of the command line and the files come to.
 use Rattle.std.specs.Prelude.{ℕ, ◌%◌, Bool, ◌&&◌, ◌==◌, nat_le, if◌then◌else◌, List, length, Option, Some, None}
+use Rattle.ocs_base.specs.Image.{is_image}
 use Rattle.ocs_base.specs.Script.{ScriptValue}
 use Rattle.ocs_io.specs.Place.{Files, file}
 use Rattle.script_read.specs.Grammar.{script_of, Good as GoodScript, Bad as BadLine, Verdict as ScriptVerdict}
@@ -18,10 +19,6 @@ pub data Verdict : Type 0 where
   BadScript : ℕ → BadKind → Verdict
   -- an image and a script, and what is asked
   Good : List ℕ → ScriptValue → OrderValue → Verdict
-
--- an image: an even number of 8 to 524,288 bytes
-abbrev pub is_image : List ℕ → Bool
-is_image image = (length image % 2 == 0) && nat_le 8 (length image) && nat_le (length image) 524288
 
 abbrev pub of_script : OrderValue → List ℕ → ScriptVerdict → Verdict
 of_script order image (GoodScript script) = Good image script order

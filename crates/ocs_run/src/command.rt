@@ -1,11 +1,10 @@
 //! The command `run`: the inputs read and tested, and the run.
 
 ghost use Rattle.std.specs.Prelude.{◌≡◌, true, string_bytes, IfOk, IfErr, OnOk};
+ghost use Rattle.ocs_base.specs.Image.{is_image};
 ghost use Rattle.ocs_base.specs.Limits.{IsRunnable};
 ghost use Rattle.ocs_run.specs.Asked.{value_of, AreApart};
-ghost use Rattle.ocs_run.specs.Command.{OrderAnswers, is_built_script as built_script, are_built as all_built, is_built_act as built_act, out_names};
-ghost use Rattle.ocs_run.specs.Commanded.{IsOutOf, RunAnswers, KeepsSaid};
-ghost use Rattle.ocs_run.specs.Verdict.{is_image};
+ghost use Rattle.ocs_run.specs.Command.{OrderAnswers, is_built_script as built_script, are_built as all_built, is_built_act as built_act, out_names, IsOutOf, RunAnswers, KeepsSaid};
 
 use crate::built::{is_missing, is_unreadable};
 use crate::fault::Fault;
@@ -23,7 +22,8 @@ pub fn run_order<P: Place>(alloc: Global, order: &Order<'_>, place: &mut P) -> R
     requires image { P.readable place.old order.now.image.now }
     requires script { P.readable place.old order.now.script.now }
     requires apart { AreApart order.now }
-    ensures answer { OrderAnswers (value_of order.now) (P.outside place.old) (P.outside place.new) result }
+    ensures answer { OrderAnswers (value_of order.now) (P.outside place.old)
+        (P.outside place.new) result }
     ensures said { KeepsSaid (P.outside place.old) (P.outside place.new) }
 {
     let image = read_image(alloc, order.image, place)?;
@@ -43,7 +43,8 @@ fn run_inputs<P: Place>(
     requires image { is_image image.now ≡ true }
     requires script { IsRunnable script.now }
     requires apart { AreApart order.now }
-    ensures answer { RunAnswers (value_of order.now) image.now script.now (P.outside place.old) (P.outside place.new) result }
+    ensures answer { RunAnswers (value_of order.now) image.now script.now (P.outside place.old)
+        (P.outside place.new) result }
     ensures said { KeepsSaid (P.outside place.old) (P.outside place.new) }
 {
     if !is_built_script(script) {

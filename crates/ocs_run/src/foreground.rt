@@ -1,6 +1,7 @@
 //! The machine of the clock loop: one function for each of the seven steps of a colour clock.
 
 ghost use Rattle.std.specs.Prelude.{◌≡◌, ◌+◌, ◌<◌, ◌^◌, ◌%◌, ◌≤◌, false, true, [], Some, Err, length, OnOk, OnErr, IfOk, IfErr};
+ghost use Rattle.ocs_base.specs.Image.{is_image};
 ghost use Rattle.serial_model.specs.declared.bus.Made.TheVariants as M;
 ghost use Rattle.serial_model.specs.declared.bus.SideAsk.{SideAsk};
 ghost use Rattle.serial_model.specs.Beam.{IsOnScreen, place_of, next_place};
@@ -63,9 +64,7 @@ pub struct Foreground {
 impl Foreground {
     /// The working state at reset, over output files with nothing pending.
     pub fn new(alloc: Global, image: &[u8], out: OutFiles) -> Result<Foreground, OutOfMemory>
-        requires even { length image.now % 2 ≡ 0 }
-        requires least { 8 ≤ length image.now }
-        requires most { length image.now ≤ 524288 }
+        requires { is_image image.now ≡ true }
         ensures { IfOk result (IsReset image.now out) }
     {
         let chip = Chip::new(alloc, image)?;
@@ -84,12 +83,16 @@ impl Foreground {
     /// bytes.
     pub fn flush_lines<P: Place>(&mut self, place: &mut P) -> Result<(), WriteFault>
         requires { AreGrowable (P.growable place.old) self.old.out.names }
-        ensures flushed { OnOk result (Flushes self.old self.new (P.outside place.old).files (P.outside place.new).files) }
+        ensures flushed { OnOk result
+            (Flushes self.old self.new (P.outside place.old).files (P.outside place.new).files) }
         ensures small { OnOk result (HasNothingPending self.new) }
-        ensures parts { OnErr result (LeavesParts self.old.out (P.outside place.old).files (P.outside place.new).files []) }
+        ensures parts { OnErr result
+            (LeavesParts self.old.out (P.outside place.old).files (P.outside place.new).files []) }
         ensures kept { OnlyWrites (P.outside place.old) (P.outside place.new) }
-        ensures cause { IfErr result (λ fault. NamesFile fault → Rose (P.outside place.old).write_faults (P.outside place.new).write_faults) }
-        ensures names { KeepsNames (P.readable place.old) (P.growable place.old) (P.readable place.new) (P.growable place.new) }
+        ensures cause { IfErr result (λ fault. NamesFile fault
+            → Rose (P.outside place.old).write_faults (P.outside place.new).write_faults) }
+        ensures names { KeepsNames (P.readable place.old) (P.growable place.old)
+            (P.readable place.new) (P.growable place.new) }
     {
         if self.beam.h == 0 && self.beam.v % 32 == 0 {
             return self.flush(place);
@@ -100,12 +103,16 @@ impl Foreground {
     /// Appends all that is pending.
     pub fn flush<P: Place>(&mut self, place: &mut P) -> Result<(), WriteFault>
         requires { AreGrowable (P.growable place.old) self.old.out.names }
-        ensures flushed { OnOk result (Flushes self.old self.new (P.outside place.old).files (P.outside place.new).files) }
+        ensures flushed { OnOk result
+            (Flushes self.old self.new (P.outside place.old).files (P.outside place.new).files) }
         ensures empty { OnOk result (self.new.out ≡ all_given self.old.out) }
-        ensures parts { OnErr result (LeavesParts self.old.out (P.outside place.old).files (P.outside place.new).files []) }
+        ensures parts { OnErr result
+            (LeavesParts self.old.out (P.outside place.old).files (P.outside place.new).files []) }
         ensures kept { OnlyWrites (P.outside place.old) (P.outside place.new) }
-        ensures cause { IfErr result (λ fault. NamesFile fault → Rose (P.outside place.old).write_faults (P.outside place.new).write_faults) }
-        ensures names { KeepsNames (P.readable place.old) (P.growable place.old) (P.readable place.new) (P.growable place.new) }
+        ensures cause { IfErr result (λ fault. NamesFile fault
+            → Rose (P.outside place.old).write_faults (P.outside place.new).write_faults) }
+        ensures names { KeepsNames (P.readable place.old) (P.growable place.old)
+            (P.readable place.new) (P.growable place.new) }
     {
         self.out.flush(place)
     }
@@ -263,7 +270,8 @@ impl Foreground {
         requires frame { self.old.beam.frame + 1 < 2 ^ 32 }
         requires count { self.old.t + 1 < 2 ^ 64 }
         ensures step { Makes advance_beam self.old self.new }
-        ensures beam { self.new.beam ≡ next_place (is_interlaced self.old.chips.registers) self.old.beam }
+        ensures beam { self.new.beam
+            ≡ next_place (is_interlaced self.old.chips.registers) self.old.beam }
         ensures count { self.new.t ≡ self.old.t + 1 }
         ensures names { self.new.out.names ≡ self.old.out.names }
     {

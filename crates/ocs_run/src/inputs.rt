@@ -5,7 +5,7 @@ ghost use Rattle.ocs_io.specs.Place.{OnlyReads, KeepsNames};
 ghost use Rattle.ocs_run.specs.Inputs.{IsImageOf, IsImageFault, IsScriptOf, IsScriptFault, IsTextFault};
 ghost use Rattle.ocs_base.specs.Limits.{IsRunnable};
 ghost use Rattle.script_read.specs.Grammar.{script_of, Good};
-ghost use Rattle.ocs_run.specs.Verdict.{is_image as good_image};
+ghost use Rattle.ocs_base.specs.Image.{is_image as good_image};
 
 use crate::fault::{Fault, Input};
 use ocs_base::Script;
@@ -23,9 +23,11 @@ const SCRIPT_BYTES: usize = 4_194_304;
 pub fn read_image<P: Place>(alloc: Global, name: &str, place: &mut P) -> Result<Vec<u8>, Fault>
     requires { P.readable place.old name.now }
     ensures good { IfOk result (λ image. IsImageOf (P.outside place.old) name.now image.items) }
-    ensures fault { IfErr result (IsImageFault (P.outside place.old) (P.outside place.new) name.now) }
+    ensures fault { IfErr result (IsImageFault (P.outside place.old)
+        (P.outside place.new) name.now) }
     ensures kept { OnlyReads (P.outside place.old) (P.outside place.new) }
-    ensures names { KeepsNames (P.readable place.old) (P.growable place.old) (P.readable place.new) (P.growable place.new) }
+    ensures names { KeepsNames (P.readable place.old) (P.growable place.old) (P.readable place.new)
+        (P.growable place.new) }
 {
     let mut image = Vec::new(alloc);
     match place.read(name, IMAGE_BYTES, &mut image) {
@@ -49,9 +51,11 @@ fn is_image(image: &[u8]) -> bool
 pub fn read_script_file<P: Place>(alloc: Global, name: &str, place: &mut P) -> Result<Script, Fault>
     requires { P.readable place.old name.now }
     ensures good { IfOk result (λ script. IsScriptOf (P.outside place.old) name.now script) }
-    ensures fault { IfErr result (IsScriptFault (P.outside place.old) (P.outside place.new) name.now) }
+    ensures fault { IfErr result (IsScriptFault (P.outside place.old)
+        (P.outside place.new) name.now) }
     ensures kept { OnlyReads (P.outside place.old) (P.outside place.new) }
-    ensures names { KeepsNames (P.readable place.old) (P.growable place.old) (P.readable place.new) (P.growable place.new) }
+    ensures names { KeepsNames (P.readable place.old) (P.growable place.old) (P.readable place.new)
+        (P.growable place.new) }
 {
     let mut text = Vec::new(alloc);
     match place.read(name, SCRIPT_BYTES, &mut text) {

@@ -57,7 +57,8 @@ impl Picture {
     /// A write to one of Denise's registers, at clock `h` of the line.
     #[tactic(auto, unfolding(serial_model::specs::Picture::set_picture))]
     pub fn set(&mut self, h: u16, reg: Reg, word: u16)
-        ensures { (p : Denise) → IsPictureOf self.old p → IsPictureOf self.new (set_picture h reg.offset word p) }
+        ensures { (p : Denise) → IsPictureOf self.old p
+            → IsPictureOf self.new (set_picture h reg.offset word p) }
     {
         match reg.offset {
             0x08e => self.diwstrt = word,
@@ -77,7 +78,8 @@ impl Picture {
     /// A write to a sprite's register, which lies so far behind SPR0POS.
     fn set_sprite(&mut self, from: u16, word: u16)
         requires { from < 64 }
-        ensures { (p : Denise) → IsPictureOf self.old p → IsPictureOf self.new (set_sprite_of (from / 8) (from % 8) word p) }
+        ensures { (p : Denise) → IsPictureOf self.old p
+            → IsPictureOf self.new (set_sprite_of (from / 8) (from % 8) word p) }
     {
         let sprite = from as usize / 8;
         match from % 8 {
@@ -96,7 +98,8 @@ impl Picture {
 
     /// Gives the four pixels of a visible clock to the frames file: each is COLOR00.
     pub fn show(&self, beam: &Beam, out: &mut OutFiles) -> Result<(), OutOfMemory>
-        ensures pixels { OnOk result ((p : Denise) → IsPictureOf self.now p → Shows (pixels System.Pal beam.now.v beam.now.h p) out.old out.new) }
+        ensures pixels { OnOk result ((p : Denise) → IsPictureOf self.now p
+            → Shows (pixels System.Pal beam.now.v beam.now.h p) out.old out.new) }
         ensures names { OnOk result (out.new.names ≡ out.old.names) }
     {
         if is_visible(beam.v, beam.h) {

@@ -1,14 +1,15 @@
 //! A run: the clocks from reset to the last of the script's frames, and the files.
 
-ghost use Rattle.std.specs.Prelude.{◌≡◌, ◌≤◌, ◌%◌, length, OnOk, OnErr, IfErr};
+ghost use Rattle.std.specs.Prelude.{◌≡◌, ◌≤◌, true, Err, OnOk, OnErr, IfErr};
 ghost use Rattle.ocs_io.specs.Place.{Rose, OnlyWrites, KeepsNames};
+ghost use Rattle.ocs_base.specs.Image.{is_image};
 ghost use Rattle.ocs_base.specs.Limits.{IsRunnable};
 ghost use Rattle.out_files.specs.Answers.{AreGrowable, NamesFile};
 ghost use Rattle.out_files.specs.Together.{Completes, LeavesParts};
 ghost use Rattle.serial_model.specs.MemoryText.{memory_text};
 ghost use Rattle.ocs_run.specs.Fault.{IsWrite};
 ghost use Rattle.ocs_run.specs.Run.{HasFiles, LeavesAfter};
-ghost use Rattle.ocs_run.specs.Underway.{IsInStep, Runs, IsStoppedBy, IsFresh, Finishes, StopsFinish};
+ghost use Rattle.ocs_run.specs.Underway.{IsInStep, Runs, IsStoppedBy, LeavesRun, IsFresh, Finishes, StopsFinish};
 
 use crate::fault::RunFault;
 use crate::foreground::Foreground;
@@ -26,13 +27,18 @@ fn run_clocks<P: Place>(
     requires growable { AreGrowable (P.growable place.old) fore.old.out.names }
     requires step { IsInStep script.now script.now.events fore.old }
     requires frames { script.now.frames ≤ 1000 }
-    ensures runs { OnOk result (Runs script.now fore.old fore.new (P.outside place.old).files (P.outside place.new).files) }
+    ensures runs { OnOk result (Runs script.now fore.old fore.new (P.outside place.old).files
+        (P.outside place.new).files) }
     ensures ended { OnOk result (fore.new.beam.frame ≡ script.now.frames) }
     ensures out { OnOk result (fore.new.out.names ≡ fore.old.out.names) }
-    ensures stopped { IfErr result (λ fault. IsStoppedBy fault script.now fore.old (P.outside place.old).files (P.outside place.new).files) }
+    ensures stopped { IfErr result (λ fault. IsStoppedBy fault script.now fore.old fore.new
+        (P.outside place.old).files (P.outside place.new).files) }
+    ensures named { result ≡ Err RunFault.NotBuilt → fore.new.out.names ≡ fore.old.out.names }
     ensures kept { OnlyWrites (P.outside place.old) (P.outside place.new) }
-    ensures cause { IfErr result (λ fault. IsWrite fault → Rose (P.outside place.old).write_faults (P.outside place.new).write_faults) }
-    ensures names { KeepsNames (P.readable place.old) (P.growable place.old) (P.readable place.new) (P.growable place.new) }
+    ensures cause { IfErr result (λ fault. IsWrite fault
+        → Rose (P.outside place.old).write_faults (P.outside place.new).write_faults) }
+    ensures names { KeepsNames (P.readable place.old) (P.growable place.old) (P.readable place.new)
+        (P.growable place.new) }
 {
     let mut left = script.events();
     while fore.beam.frame < script.frames() {
@@ -42,38 +48,76 @@ fn run_clocks<P: Place>(
     Ok(())
 }
 
-/// Runs the script over the image and writes the three files, which it creates first. Without a fault
-/// they are the texts of the run, whole; after one each of them is as before or has a part of its text.
+/// Runs the clocks; where they come to one that is not built, what is pending is appended, so that the
+/// files end at the place where the run stopped.
+fn run_to_the_end<P: Place>(
+    fore: &mut Foreground,
+    script: &Script,
+    place: &mut P,
+) -> Result<(), RunFault>
+    requires growable { AreGrowable (P.growable place.old) fore.old.out.names }
+    requires step { IsInStep script.now script.now.events fore.old }
+    requires frames { script.now.frames ≤ 1000 }
+    ensures runs { OnOk result (Runs script.now fore.old fore.new
+        (P.outside place.old).files (P.outside place.new).files) }
+    ensures ended { OnOk result (fore.new.beam.frame ≡ script.now.frames) }
+    ensures out { OnOk result (fore.new.out.names ≡ fore.old.out.names) }
+    ensures stopped { IfErr result (λ fault. LeavesRun fault script.now fore.old
+        (P.outside place.old).files (P.outside place.new).files) }
+    ensures kept { OnlyWrites (P.outside place.old) (P.outside place.new) }
+    ensures cause { IfErr result (λ fault. IsWrite fault
+        → Rose (P.outside place.old).write_faults (P.outside place.new).write_faults) }
+    ensures names { KeepsNames (P.readable place.old) (P.growable place.old)
+        (P.readable place.new) (P.growable place.new) }
+{
+    match run_clocks(fore, script, place) {
+        Ok(()) => Ok(()),
+        Err(RunFault::Write { file }) => Err(RunFault::Write { file }),
+        Err(RunFault::OutOfMemory) => Err(RunFault::OutOfMemory),
+        Err(RunFault::NotBuilt) => {
+            fore.flush(place)?;
+            Err(RunFault::NotBuilt)
+        }
+    }
+}
+
+/// Runs the script over the image and writes the three files, which it creates once the machine is
+/// made. Without a fault they are the texts of the run, whole; after one each of them is as before or
+/// has a part of its text.
 pub fn run_files<P: Place>(
     alloc: Global,
     image: &[u8],
     script: &Script,
-    mut out: OutFiles,
+    out: OutFiles,
     place: &mut P,
 ) -> Result<(), RunFault>
-    requires even { length image.now % 2 ≡ 0 }
-    requires least { 8 ≤ length image.now }
-    requires most { length image.now ≤ 524288 }
+    requires image { is_image image.now ≡ true }
     requires script { IsRunnable script.now }
     requires fresh { IsFresh out }
-    ensures done { OnOk result (HasFiles image.now script.now out.names (P.outside place.old).files (P.outside place.new).files) }
-    ensures stopped { IfErr result (λ fault. LeavesAfter fault image.now script.now out.names (P.outside place.old).files (P.outside place.new).files) }
+    ensures done { OnOk result (HasFiles image.now script.now out.names (P.outside place.old).files
+        (P.outside place.new).files) }
+    ensures stopped { IfErr result (λ fault. LeavesAfter fault image.now script.now out.names
+        (P.outside place.old).files (P.outside place.new).files) }
     ensures kept { OnlyWrites (P.outside place.old) (P.outside place.new) }
-    ensures cause { IfErr result (λ fault. IsWrite fault → Rose (P.outside place.old).write_faults (P.outside place.new).write_faults) }
+    ensures cause { IfErr result (λ fault. IsWrite fault
+        → Rose (P.outside place.old).write_faults (P.outside place.new).write_faults) }
 {
-    out.create(place)?;
     let mut fore = Foreground::new(alloc, image, out)?;
-    run_clocks(&mut fore, script, place)?;
+    fore.out.create(place)?;
+    run_to_the_end(&mut fore, script, place)?;
     finish(&mut fore, place)
 }
 
 /// Appends what is pending and the memory, at the end of a run.
 fn finish<P: Place>(fore: &mut Foreground, place: &mut P) -> Result<(), RunFault>
     requires { AreGrowable (P.growable place.old) fore.old.out.names }
-    ensures done { OnOk result (Finishes fore.old (P.outside place.old).files (P.outside place.new).files) }
-    ensures stopped { IfErr result (λ fault. StopsFinish fault fore.old (P.outside place.old).files (P.outside place.new).files) }
+    ensures done { OnOk result (Finishes fore.old (P.outside place.old).files
+        (P.outside place.new).files) }
+    ensures stopped { IfErr result (λ fault. StopsFinish fault fore.old (P.outside place.old).files
+        (P.outside place.new).files) }
     ensures kept { OnlyWrites (P.outside place.old) (P.outside place.new) }
-    ensures cause { IfErr result (λ fault. IsWrite fault → Rose (P.outside place.old).write_faults (P.outside place.new).write_faults) }
+    ensures cause { IfErr result (λ fault. IsWrite fault
+        → Rose (P.outside place.old).write_faults (P.outside place.new).write_faults) }
 {
     fore.flush(place)?;
     write_memory(fore, place)?;
@@ -83,10 +127,13 @@ fn finish<P: Place>(fore: &mut Foreground, place: &mut P) -> Result<(), RunFault
 /// Appends the words of chip memory to the memory file.
 fn write_memory<P: Place>(fore: &mut Foreground, place: &mut P) -> Result<(), WriteFault>
     requires { AreGrowable (P.growable place.old) fore.old.out.names }
-    ensures whole { OnOk result (Completes fore.old.out (P.outside place.old).files (P.outside place.new).files (memory_text fore.old.chip.words)) }
-    ensures parts { OnErr result (LeavesParts fore.old.out (P.outside place.old).files (P.outside place.new).files (memory_text fore.old.chip.words)) }
+    ensures whole { OnOk result (Completes fore.old.out (P.outside place.old).files
+        (P.outside place.new).files (memory_text fore.old.chip.words)) }
+    ensures parts { OnErr result (LeavesParts fore.old.out (P.outside place.old).files
+        (P.outside place.new).files (memory_text fore.old.chip.words)) }
     ensures kept { OnlyWrites (P.outside place.old) (P.outside place.new) }
-    ensures cause { IfErr result (λ fault. NamesFile fault → Rose (P.outside place.old).write_faults (P.outside place.new).write_faults) }
+    ensures cause { IfErr result (λ fault. NamesFile fault
+        → Rose (P.outside place.old).write_faults (P.outside place.new).write_faults) }
 {
     let Foreground { chip, out, .. } = fore;
     out.memory(chip, place)

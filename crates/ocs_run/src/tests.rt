@@ -139,6 +139,8 @@ fn bars_for_every_band_and_worker(rt: HostRuntime) -> Result<(), OutOfMemory> {
             (176_400, [0, 0, 136]),
         ],
     )?;
+    let mut memory = Vec::from_slice(alloc, &image)?;
+    memory.resize(524_288, 0)?;
     for (band, workers) in [("1", "0"), ("3", "4"), ("313", "0"), ("313", "4")] {
         let words = [
             "run", "image", "script", "frames", "trace", "memory", band, workers,
@@ -147,6 +149,7 @@ fn bars_for_every_band_and_worker(rt: HostRuntime) -> Result<(), OutOfMemory> {
         assert_eq!(rt; run(alloc, &words, &mut shelf)?, 0, "{band} {workers}");
         assert!(rt; holds(&shelf, "frames", &frames), "frames");
         assert!(rt; holds(&shelf, "trace", BAR_TRACE.as_bytes()), "trace");
+        assert!(rt; holds(&shelf, "memory", &memory), "memory");
     }
     Ok(())
 }
@@ -295,7 +298,6 @@ fn answers_and_their_texts(rt: HostRuntime) -> Result<(), OutOfMemory> {
     let long = vec![in alloc; 0u8; 524_290]?;
     let whole = vec![in alloc; 0u8; 524_288]?;
     let good = script(alloc, "")?;
-    let started = script(alloc, START)?;
     let falling = script(alloc, "at 0 5 0 poke 180 0001\nat 0 4 0 poke 180 0002\n")?;
     for (image, text, status, said) in [
         (&[0u8; 7] as &[u8], good.as_str(), 3, "bad image\n"),
@@ -316,17 +318,50 @@ fn answers_and_their_texts(rt: HostRuntime) -> Result<(), OutOfMemory> {
         assert!(rt; shelf.said() == said.as_bytes(), "{said}");
         assert!(rt; shelf.file("frames").is_none(), "created for {said}");
     }
-    for (image, text, status, said) in [
+    let mut shelf = shelf(alloc, &whole, good.as_bytes())?;
+    assert_eq!(rt; run(alloc, &WORDS, &mut shelf)?, 0);
+    assert!(rt; shelf.said().is_empty());
+    assert!(rt; holds(&shelf, "memory", &whole), "memory of a whole image");
+    Ok(())
+}
+
+#[test]
+fn a_run_that_is_not_built(rt: HostRuntime) -> Result<(), OutOfMemory> {
+    let alloc = rt.alloc();
+    let text = script(alloc, START)?;
+    let mut shelf = shelf(alloc, &MOVE_TO_BITPLANE, text.as_bytes())?;
+    assert_eq!(rt; run(alloc, &WORDS, &mut shelf)?, 8);
+    assert!(rt; shelf.said() == b"not built\n".as_slice());
+    assert!(rt; holds(&shelf, "trace", STARTED.as_bytes()), "trace");
+    assert!(rt; holds(&shelf, "frames", &[]), "frames");
+    assert!(rt; holds(&shelf, "memory", &[]), "memory");
+    Ok(())
+}
+
+/// A text that begins as a script, with so many lines of events.
+fn long_script(alloc: Global, events: usize) -> Result<String, OutOfMemory> {
+    let mut text = String::from_str(alloc, HEAD)?;
+    for _ in 0..events {
+        text.push_str("at 0 0 0 peek 006\n")?;
+    }
+    Ok(text)
+}
+
+#[test]
+fn scripts_that_are_too_long(rt: HostRuntime) -> Result<(), OutOfMemory> {
+    let alloc = rt.alloc();
+    let lines = long_script(alloc, 99_998)?;
+    let bytes = vec![in alloc; b'0'; 4_194_305]?;
+    for (text, said) in [
+        (lines.as_bytes(), "bad script: line 100001: lines\n"),
+        (bytes.as_slice(), "bad script: line 0: long\n"),
         (
-            &MOVE_TO_BITPLANE as &[u8],
-            started.as_str(),
-            8,
-            "not built\n",
+            b"ocs 1\ncpu off\nframes 1\nend\nend\n".as_slice(),
+            "bad script: line 5: extra\n",
         ),
-        (whole.as_slice(), good.as_str(), 0, ""),
     ] {
-        let mut shelf = shelf(alloc, image, text.as_bytes())?;
-        assert_eq!(rt; run(alloc, &WORDS, &mut shelf)?, status, "{said}");
+        let mut shelf = shelf(alloc, &IMAGE, text)?;
+        assert_eq!(rt; run(alloc, &WORDS, &mut shelf)?, 4, "{said}");
         assert!(rt; shelf.said() == said.as_bytes(), "{said}");
     }
     Ok(())
@@ -358,22 +393,60 @@ fn words_that_are_no_run(rt: HostRuntime) -> Result<(), OutOfMemory> {
     Ok(())
 }
 
+/// Whether the file is not there, or has so many bytes, the first of the text.
+fn has_part(shelf: &Shelf, name: &str, text: &[u8], count: Option<usize>) -> bool {
+    match (shelf.file(name), count) {
+        (Some(file), Some(count)) => file.len() == count && text.starts_with(file),
+        (None, None) => true,
+        _ => false,
+    }
+}
+
 #[test]
 fn faults_of_the_place(rt: HostRuntime) -> Result<(), OutOfMemory> {
     let alloc = rt.alloc();
     let text = script(alloc, "at 0 100 100 poke 180 0f00\n")?;
-    for (call, status, said, created) in [
-        (0, 5, "cannot read image\n", false),
-        (1, 5, "cannot read script\n", false),
-        (2, 6, "cannot write frames\n", false),
-        (3, 6, "cannot write trace\n", true),
-        (5, 6, "cannot write frames\n", true),
+    let frames = picture(alloc, &[(53_492, BLACK), (152_428, RED)])?;
+    let trace = b"0 100 100 W 180 0f00 S\n".as_slice();
+    let memory = vec![in alloc; 0u8; 524_288]?;
+    for (call, status, said, counts) in [
+        (0, 5, "cannot read image\n", [None, None, None]),
+        (1, 5, "cannot read script\n", [None, None, None]),
+        (2, 6, "cannot write frames\n", [None, None, None]),
+        (3, 6, "cannot write trace\n", [Some(0), None, None]),
+        (4, 6, "cannot write memory\n", [Some(0), Some(0), None]),
+        (
+            5,
+            6,
+            "cannot write frames\n",
+            [Some(6_487), Some(0), Some(0)],
+        ),
+        (
+            9,
+            6,
+            "cannot write trace\n",
+            [Some(220_335), Some(11), Some(0)],
+        ),
+        (
+            16,
+            6,
+            "cannot write memory\n",
+            [Some(617_775), Some(23), Some(262_144)],
+        ),
     ] {
         let mut shelf = shelf(alloc, &IMAGE, text.as_bytes())?;
         shelf.fail_at(call)?;
         assert_eq!(rt; run(alloc, &WORDS, &mut shelf)?, status, "call {call}");
         assert!(rt; shelf.said() == said.as_bytes(), "call {call}");
-        assert_eq!(rt; shelf.file("frames").is_some(), created, "call {call}");
+        assert!(rt;
+            has_part(&shelf, "frames", &frames, counts[0]),
+            "call {call}"
+        );
+        assert!(rt; has_part(&shelf, "trace", trace, counts[1]), "call {call}");
+        assert!(rt;
+            has_part(&shelf, "memory", &memory, counts[2]),
+            "call {call}"
+        );
     }
     Ok(())
 }

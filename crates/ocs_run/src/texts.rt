@@ -14,9 +14,40 @@ use out_files::OutFile;
 use script_read::BadKind;
 use std::alloc::Global;
 
-/// Says the text of a fault. A refusal to say it, or want of memory for it, changes nothing else.
+/// Says the text of a fault. A text without a name or a place needs no memory; it is said as it stands.
+/// A refusal to say a text, or want of memory for one that is made, changes nothing else.
+#[tactic(auto, unfolding(crate::specs::Texts::fault_text))]
 pub fn say_fault<P: Place>(alloc: Global, words: &[String], fault: Fault, place: &mut P)
-    ensures says { Says (text_of (order_of (map string_bytes words.now)) fault) (P.outside place.old) (P.outside place.new) }
+    ensures says { Says (text_of (order_of (map string_bytes words.now)) fault)
+        (P.outside place.old) (P.outside place.new) }
+    ensures kept { OnlySays (P.outside place.old) (P.outside place.new) }
+{
+    match fault {
+        Fault::Usage => say(
+            "usage: ocs run IMAGE SCRIPT FRAMES TRACE MEMORY BAND WORKERS\n",
+            place,
+        ),
+        Fault::BadImage => say("bad image\n", place),
+        Fault::OutOfMemory => say("out of memory\n", place),
+        Fault::NotBuilt => say("not built\n", place),
+        Fault::BadScript { .. } | Fault::Unread { .. } | Fault::Unwritten { .. } => {
+            say_made(alloc, words, fault, place)
+        }
+    }
+}
+
+/// Says a text as it stands.
+fn say<P: Place>(text: &str, place: &mut P)
+    ensures says { Says text.now (P.outside place.old) (P.outside place.new) }
+    ensures kept { OnlySays (P.outside place.old) (P.outside place.new) }
+{
+    let _refused = place.say(text.as_bytes());
+}
+
+/// Says the text of a fault, which is made first, in one piece.
+fn say_made<P: Place>(alloc: Global, words: &[String], fault: Fault, place: &mut P)
+    ensures says { Says (text_of (order_of (map string_bytes words.now)) fault)
+        (P.outside place.old) (P.outside place.new) }
     ensures kept { OnlySays (P.outside place.old) (P.outside place.new) }
 {
     let mut text = Vec::new(alloc);
@@ -28,7 +59,8 @@ pub fn say_fault<P: Place>(alloc: Global, words: &[String], fault: Fault, place:
 /// Appends the text of a fault.
 #[tactic(auto, unfolding(crate::specs::Texts::fault_text))]
 fn put_text(words: &[String], fault: Fault, text: &mut Vec<u8>) -> Result<(), OutOfMemory>
-    ensures { OnOk result (text.new.items ≡ text.old.items ++ text_of (order_of (map string_bytes words.now)) fault) }
+    ensures { OnOk result (text.new.items ≡ text.old.items
+        ++ text_of (order_of (map string_bytes words.now)) fault) }
 {
     match fault {
         Fault::Usage => put(
@@ -46,7 +78,8 @@ fn put_text(words: &[String], fault: Fault, text: &mut Vec<u8>) -> Result<(), Ou
 
 /// The name of an input, empty where the words are not those of a run.
 fn input_name(words: &[String], input: Input) -> &str
-    ensures { result.now ≡ name_of_input (order_or_none (order_of (map string_bytes words.now))) input }
+    ensures { result.now ≡ name_of_input
+        (order_or_none (order_of (map string_bytes words.now))) input }
 {
     match (read_order(words), input) {
         (Some(order), Input::Image) => order.image,
@@ -57,7 +90,8 @@ fn input_name(words: &[String], input: Input) -> &str
 
 /// The name of an output, empty where the words are not those of a run.
 fn file_name(words: &[String], file: OutFile) -> &str
-    ensures { result.now ≡ name_of_file (order_or_none (order_of (map string_bytes words.now))) file }
+    ensures { result.now ≡ name_of_file
+        (order_or_none (order_of (map string_bytes words.now))) file }
 {
     match (read_order(words), file) {
         (Some(order), OutFile::Frames) => order.frames,
@@ -77,7 +111,8 @@ fn put(text: &mut Vec<u8>, piece: &str) -> Result<(), OutOfMemory>
 
 /// Appends a text and a name, and ends the line.
 fn put_named(text: &mut Vec<u8>, start: &str, name: &str) -> Result<(), OutOfMemory>
-    ensures { OnOk result (text.new.items ≡ text.old.items ++ (start.now ++ name.now ++ codes "\n")) }
+    ensures { OnOk result (text.new.items ≡ text.old.items
+        ++ (start.now ++ name.now ++ codes "\n")) }
 {
     put(text, start)?;
     put(text, name)?;
@@ -86,7 +121,9 @@ fn put_named(text: &mut Vec<u8>, start: &str, name: &str) -> Result<(), OutOfMem
 
 /// Appends the place and the kind of a bad line.
 fn put_bad_line(text: &mut Vec<u8>, line: u32, kind: BadKind) -> Result<(), OutOfMemory>
-    ensures { OnOk result (text.new.items ≡ text.old.items ++ (codes "bad script: line " ++ decimal line ++ codes ": " ++ kind_name kind ++ codes "\n")) }
+    ensures { OnOk result (text.new.items ≡ text.old.items
+        ++ (codes "bad script: line " ++ decimal line ++ codes ": " ++ kind_name kind
+        ++ codes "\n")) }
 {
     put(text, "bad script: line ")?;
     put_dec(line as u64, text)?;

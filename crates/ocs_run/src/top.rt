@@ -5,9 +5,8 @@ ghost use Rattle.ocs_io.specs.Answers.{WhereTold};
 ghost use Rattle.ocs_io.specs.Place.{Rose};
 ghost use Rattle.ocs_run.specs.Order.{order_of};
 ghost use Rattle.ocs_run.specs.Verdict.{of_order};
-ghost use Rattle.ocs_run.specs.Command.{IsDone, IsUnwritten, IsWanting, IsUnbuilt};
+ghost use Rattle.ocs_run.specs.Command.{IsDone, IsUnwritten, IsWanting, IsUnbuilt, KeepsSaid};
 ghost use Rattle.ocs_run.specs.Top.{ReadableInputs, CommandAnswers, SaysStatus, IsEarly, HasBadImage, HasBadScript, Completed, HasRunEnd};
-ghost use Rattle.ocs_run.specs.Commanded.{KeepsSaid};
 
 use crate::command::run_order;
 use crate::fault::Fault;
@@ -34,7 +33,8 @@ pub fn ocs_main<P: Place, G: Gate + Drop + Send + Sync + 'static>(
 
     // Done: the three files are the texts of the serial run, whole, and every other file is as before.
     ensures done { result ≡ 0 → WhereTold (P.outside place.old).files
-        (λ files. IsDone (of_order (order_of (map string_bytes words.now)) files) files (P.outside place.new).files) }
+        (λ files. IsDone (of_order (order_of (map string_bytes words.now)) files) files
+        (P.outside place.new).files) }
 
     // Each other answer and its cause.
     ensures usage { (result ≡ 2) ↔ (order_of (map string_bytes words.now) ≡ None) }
@@ -42,26 +42,33 @@ pub fn ocs_main<P: Place, G: Gate + Drop + Send + Sync + 'static>(
         (λ files. HasBadImage (of_order (order_of (map string_bytes words.now)) files)) }
     ensures script { result ≡ 4 → WhereTold (P.outside place.old).files
         (λ files. HasBadScript (of_order (order_of (map string_bytes words.now)) files)) }
-    ensures unread { result ≡ 5 → Rose (P.outside place.old).read_faults (P.outside place.new).read_faults }
-    ensures unwritten_fault { result ≡ 6 → Rose (P.outside place.old).write_faults (P.outside place.new).write_faults }
+    ensures unread { result ≡ 5 → Rose (P.outside place.old).read_faults
+        (P.outside place.new).read_faults }
+    ensures unwritten_fault { result ≡ 6
+        → Rose (P.outside place.old).write_faults (P.outside place.new).write_faults }
     ensures unwritten { result ≡ 6 → WhereTold (P.outside place.old).files
-        (λ files. IsUnwritten (of_order (order_of (map string_bytes words.now)) files) files (P.outside place.new).files) }
+        (λ files. IsUnwritten (of_order (order_of (map string_bytes words.now)) files) files
+        (P.outside place.new).files) }
     ensures wanting { result ≡ 7 → WhereTold (P.outside place.old).files
-        (λ files. IsWanting (of_order (order_of (map string_bytes words.now)) files) files (P.outside place.new).files) }
+        (λ files. IsWanting (of_order (order_of (map string_bytes words.now)) files) files
+        (P.outside place.new).files) }
     ensures unbuilt { result ≡ 8 → WhereTold (P.outside place.old).files
-        (λ files. IsUnbuilt (of_order (order_of (map string_bytes words.now)) files) files (P.outside place.new).files) }
+        (λ files. IsUnbuilt (of_order (order_of (map string_bytes words.now)) files) files
+        (P.outside place.new).files) }
     ensures kept { IsEarly result → (P.outside place.new).files ≡ (P.outside place.old).files }
 
     // Without a rise of its count of faults a command answers by its verdict, or wants memory.
     ensures complete { WhereTold (P.outside place.old).files
-        (λ files. Completed (of_order (order_of (map string_bytes words.now)) files) (P.outside place.old) (P.outside place.new) result) }
+        (λ files. Completed (of_order (order_of (map string_bytes words.now)) files)
+        (P.outside place.old) (P.outside place.new) result) }
 
     // The run of a good image and script, of whose texts the clauses above speak, has an end.
     ensures ends { WhereTold (P.outside place.old).files
         (λ files. HasRunEnd (of_order (order_of (map string_bytes words.now)) files)) }
 
     // What is said is the text of the status, and nothing at 0.
-    ensures said { SaysStatus (order_of (map string_bytes words.now)) (P.outside place.old) (P.outside place.new) result }
+    ensures said { SaysStatus (order_of (map string_bytes words.now)) (P.outside place.old)
+        (P.outside place.new) result }
 {
     drop(gate);
     match run_words(alloc, words, place) {
@@ -76,7 +83,8 @@ pub fn ocs_main<P: Place, G: Gate + Drop + Send + Sync + 'static>(
 /// Does what the words ask for, and says nothing.
 fn run_words<P: Place>(alloc: Global, words: &[String], place: &mut P) -> Result<(), Fault>
     requires { ReadableInputs (P.readable place.old) (order_of (map string_bytes words.now)) }
-    ensures answer { CommandAnswers (order_of (map string_bytes words.now)) (P.outside place.old) (P.outside place.new) result }
+    ensures answer { CommandAnswers (order_of (map string_bytes words.now)) (P.outside place.old)
+        (P.outside place.new) result }
     ensures said { KeepsSaid (P.outside place.old) (P.outside place.new) }
 {
     match read_order(words) {

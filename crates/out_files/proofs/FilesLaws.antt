@@ -28,7 +28,8 @@ grown-with_file (Some f) name v piece =
     ∙ ap (λ (g : Files). Some g) (insert_twice f name v (v ++ piece))
 
 -- a file that is grown where another was set
-pub grown-other : (files : Option Files) (name other v piece : List ℕ) → name ≢ other → grown (with_file files other v) name piece ≡ with_file (grown files name piece) other v
+pub grown-other : (files : Option Files) (name other v piece : List ℕ) → name ≢ other
+    → grown (with_file files other v) name piece ≡ with_file (grown files name piece) other v
 unfolding with_file grown
 grown-other None name other v piece differ = refl
 grown-other (Some f) name other v piece differ =

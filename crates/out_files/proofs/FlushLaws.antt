@@ -22,7 +22,8 @@ first_at was frames old new (Failed Memory) some = absurd (cc some.right)
 first_at was frames old new OutOfMemory none =
     inl (record { files = none.files; kept = ap (λ (bytes : List ℕ). let o : OutFilesValue = record was { frames = bytes } in o) none.rest })
 
-second_at : (was : OutFilesValue) (frames trace : List ℕ) (old mid new : Outside) (r : Result (Unit {0}) WriteFault) → Gave was.names.frames was.frames frames old mid →
+second_at : (was : OutFilesValue) (frames trace : List ℕ) (old mid new : Outside) (r : Result (Unit {0}) WriteFault)
+    → Gave was.names.frames was.frames frames old mid →
     GiveAnswers was.names.trace Trace was.trace trace mid new r → FlushAnswers was (record was { frames = frames; trace = trace }) old new r
 second_at was frames trace old mid new (Ok done) first all =
     record {

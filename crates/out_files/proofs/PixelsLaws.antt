@@ -40,7 +40,8 @@ pixels-end start text [] n none whole = sym (append-nil text) ∙ whole
 pixels-end start text (byte ∷ bytes) n none whole = absurd (omega arith)
 
 -- what stood first still does
-pub kept-grown : (first text more now : List ℕ) → now ≡ text ++ more → length first ≤ length text → take (length first) text ≡ first → take (length first) now ≡ first
+pub kept-grown : (first text more now : List ℕ) → now ≡ text ++ more → length first ≤ length text → take (length first) text ≡ first
+    → take (length first) now ≡ first
 kept-grown first text more now grown longer kept =
     ap (λ (bytes : List ℕ). take (length first) bytes) grown ∙ take-append-le (length first) text more longer ∙ kept
 

@@ -74,7 +74,8 @@ adds_line was now line added base files pixels lines so_far =
     }
 
 -- the frames file with all that was pending for it
-frames_appended : (was : OutFilesValue) (base old : Option Files) (pixels : List ℕ) (lines : List TraceLine) (so_far : AreTogether was base old pixels lines) → AreDifferent was.names →
+frames_appended : (was : OutFilesValue) (base old : Option Files) (pixels : List ℕ) (lines : List TraceLine) (so_far : AreTogether was base old pixels lines)
+    → AreDifferent was.names →
     appended old was.names.frames was.frames ≡ three_files was.names base (so_far.frames ++ was.frames) so_far.trace []
 frames_appended was base old pixels lines so_far different =
     ap (λ (files : Option Files). appended files was.names.frames was.frames) so_far.held
@@ -172,7 +173,8 @@ flush_refused was now old new OutOfMemory different failed base pixels lines so_
     ]
 
 -- the memory file, appended where nothing else is pending, completes the outputs
-pub completes : (was : OutFilesValue) (old new : Outside) (memory : List ℕ) → new.files ≡ grown old.files was.names.memory memory → Completes was old.files new.files memory
+pub completes : (was : OutFilesValue) (old new : Outside) (memory : List ℕ) → new.files ≡ grown old.files was.names.memory memory
+    → Completes was old.files new.files memory
 unfolding Completes
 completes was old new memory appended base pixels lines no_frames no_trace so_far =
     let frames : so_far.frames ≡ frames_text pixels =
@@ -223,7 +225,8 @@ memory_refused was old new memory OutOfMemory same base pixels lines so_far =
     }
 
 -- the same, by the answer of a call
-pub created_begins : (out : OutFilesValue) (old new : Outside) (r : Result (Unit {0}) WriteFault) → CreateAnswers out.names old new r → OnOk r (Begins out old.files new.files)
+pub created_begins : (out : OutFilesValue) (old new : Outside) (r : Result (Unit {0}) WriteFault) → CreateAnswers out.names old new r
+    → OnOk r (Begins out old.files new.files)
 created_begins out old new (Ok done) created = begins out old.files new.files created
 created_begins out old new (Err fault) created = tt
 
@@ -238,11 +241,15 @@ flush_leaves was now old new (Ok done) different all = tt
 flush_leaves was now old new (Err fault) different failed = flush_refused was now old new fault different failed
 
 -- the same, where the append itself was refused
-pub append_refused : (was : OutFilesValue) (name piece memory : List ℕ) (old new : Outside) (refusal : WriteRefusal) → name ≡ was.names.memory → piece ≡ memory →
+pub append_refused : (was : OutFilesValue) (name piece memory : List ℕ) (old new : Outside) (refusal : WriteRefusal) → name ≡ was.names.memory
+    → piece ≡ memory →
     AppendAnswers old new name piece (Err refusal) → LeavesParts was old.files new.files memory
 append_refused was name piece memory old new Refused same whole failed =
-    memory_refused was old new memory (Failed Memory)
-    (failed.0, failed.1 ∙ ap (λ (at : List ℕ). grown old.files at (take failed.0 piece)) same ∙ ap (λ (bytes : List ℕ). grown old.files was.names.memory (take failed.0 bytes)) whole)
+    memory_refused was old new memory (Failed Memory) (
+      failed.0,
+      failed.1 ∙ ap (λ (at : List ℕ). grown old.files at (take failed.0 piece)) same
+          ∙ ap (λ (bytes : List ℕ). grown old.files was.names.memory (take failed.0 bytes)) whole,
+    )
 append_refused was name piece memory old new NoRoom same whole kept = memory_refused was old new memory OutOfMemory kept
 
 pub append_completes : (was : OutFilesValue) (name piece memory : List ℕ) (old new : Outside) → name ≡ was.names.memory → piece ≡ memory →

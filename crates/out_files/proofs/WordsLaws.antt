@@ -11,7 +11,8 @@ memory_text-append (x ∷ xs) ys =
     ap (λ (text : List ℕ). x / 256 ∷ x % 256 ∷ text) (memory_text-append xs ys)
 
 -- one word more
-pub memory_text-more : (words : List ℕ) (i : ℕ) → i < length words → memory_text (take (i + 1) words) ≡ memory_text (take i words) ++ word_bytes (get_or words i 0)
+pub memory_text-more : (words : List ℕ) (i : ℕ) → i < length words → memory_text (take (i + 1) words) ≡ memory_text (take i words)
+    ++ word_bytes (get_or words i 0)
 unfolding memory_text
 memory_text-more words i here =
     ap memory_text (take_more words i 0 here) ∙ memory_text-append (take i words) (get_or words i 0 ∷ [])
@@ -54,7 +55,8 @@ words-read first now zero same counted = ap (λ (c : ChipValue). c.words) (same 
 words-read first now (suc n) same counted = ap (λ (c : ChipValue). c.words) (counted (omega arith))
 
 -- nothing but the count of reads changes
-pub only-reads : (first now : ChipValue) (n : ℕ) → (n ≡ 0 → now ≡ first) → (0 < n → now ≡ after_reads first (256 * n)) → now ≡ record first { reads = now.reads }
+pub only-reads : (first now : ChipValue) (n : ℕ) → (n ≡ 0 → now ≡ first) → (0 < n → now ≡ after_reads first (256 * n))
+    → now ≡ record first { reads = now.reads }
 only-reads first now zero same counted =
     let e : now ≡ first = same refl in
     e ∙ ap (λ (reads : ℕ). let c : ChipValue = record first { reads = reads } in c) (sym (ap (λ (c : ChipValue). c.reads) e))

@@ -1,6 +1,7 @@
 //! The three files of a run and the text that is pending for them.
 
-ghost use Rattle.std.specs.Prelude.{◌≡◌, ◌≢◌, [], IfErr, OnOk, OnErr, string_bytes};
+ghost use Rattle.std.specs.Prelude.{◌≡◌, ◌≢◌, ◌/◌, [], IfErr, OnOk, OnErr, string_bytes};
+ghost use Rattle.ocs_base.specs.Addr.{chip_span};
 ghost use Rattle.ocs_io.specs.Place.{Rose, OnlyWrites, KeepsNames};
 ghost use Rattle.serial_model.specs.MemoryText.{memory_text};
 ghost use Rattle.mem_versions.specs.Chip.{after_reads};
@@ -37,6 +38,7 @@ impl Model for OutFiles {
     ghost use Rattle.std.specs.Prelude.{◌<◌, string_bytes};
     ghost use Rattle.out_files.specs.OutFiles.{OutFilesValue};
     ghost use Rattle.out_files.specs.Together.{AreDifferent};
+    ghost use Rattle.serial_model.specs.Outputs.{frame_bytes};
 
     ghost Value = { OutFilesValue };
 
@@ -48,7 +50,7 @@ impl Model for OutFiles {
     } };
 
     ghost invariant = { λ f. record {
-      within : f.given < 617760;
+      within : f.given < frame_bytes;
       different : AreDifferent (record { frames = string_bytes f.frames_name; trace = string_bytes f.trace_name; memory = string_bytes f.memory_name });
     } };
 }
@@ -84,13 +86,17 @@ impl OutFiles {
     /// Creates the files, empty, in the order frames, trace, memory. A refusal ends the call: the files
     /// before the refused one are empty, and those after it are as before.
     pub fn create<P: Place>(&mut self, place: &mut P) -> Result<(), WriteFault>
-        ensures answer { CreateAnswers self.old.names (P.outside place.old) (P.outside place.new) result }
-        ensures together { OnOk result (Begins self.new (P.outside place.old).files (P.outside place.new).files) }
+        ensures answer { CreateAnswers self.old.names (P.outside place.old)
+            (P.outside place.new) result }
+        ensures together { OnOk result
+            (Begins self.new (P.outside place.old).files (P.outside place.new).files) }
         ensures growable { OnOk result (AreGrowable (P.growable place.new) self.old.names) }
         ensures same { self.new ≡ self.old }
         ensures kept { OnlyWrites (P.outside place.old) (P.outside place.new) }
-        ensures cause { IfErr result (λ fault. NamesFile fault → Rose (P.outside place.old).write_faults (P.outside place.new).write_faults) }
-        ensures names { KeepsNames (P.readable place.old) (P.growable place.old) (P.readable place.new) (P.growable place.new) }
+        ensures cause { IfErr result (λ fault. NamesFile fault
+            → Rose (P.outside place.old).write_faults (P.outside place.new).write_faults) }
+        ensures names { KeepsNames (P.readable place.old) (P.growable place.old)
+            (P.readable place.new) (P.growable place.new) }
     {
         make(place, self.frames_name.as_str(), OutFile::Frames)?;
         make(place, self.trace_name.as_str(), OutFile::Trace)?;
@@ -136,12 +142,17 @@ impl OutFiles {
     pub fn flush<P: Place>(&mut self, place: &mut P) -> Result<(), WriteFault>
         requires frames { P.growable place.old self.old.names.frames }
         requires trace { P.growable place.old self.old.names.trace }
-        ensures answer { FlushAnswers self.old self.new (P.outside place.old) (P.outside place.new) result }
-        ensures together { OnOk result (StayTogether self.old self.new (P.outside place.old).files (P.outside place.new).files) }
-        ensures parts { OnErr result (LeavesParts self.old (P.outside place.old).files (P.outside place.new).files []) }
+        ensures answer { FlushAnswers self.old self.new (P.outside place.old)
+            (P.outside place.new) result }
+        ensures together { OnOk result (StayTogether self.old self.new (P.outside place.old).files
+            (P.outside place.new).files) }
+        ensures parts { OnErr result
+            (LeavesParts self.old (P.outside place.old).files (P.outside place.new).files []) }
         ensures kept { OnlyWrites (P.outside place.old) (P.outside place.new) }
-        ensures cause { IfErr result (λ fault. NamesFile fault → Rose (P.outside place.old).write_faults (P.outside place.new).write_faults) }
-        ensures names { KeepsNames (P.readable place.old) (P.growable place.old) (P.readable place.new) (P.growable place.new) }
+        ensures cause { IfErr result (λ fault. NamesFile fault
+            → Rose (P.outside place.old).write_faults (P.outside place.new).write_faults) }
+        ensures names { KeepsNames (P.readable place.old) (P.growable place.old)
+            (P.readable place.new) (P.growable place.new) }
     {
         give(
             place,
@@ -161,15 +172,21 @@ impl OutFiles {
     /// read once.
     pub fn memory<P: Place>(&mut self, chip: &mut Chip, place: &mut P) -> Result<(), WriteFault>
         requires { P.growable place.old self.old.names.memory }
-        ensures answer { MemoryAnswers self.old.names.memory (memory_text chip.old.words) (P.outside place.old) (P.outside place.new) result }
-        ensures whole { OnOk result (Completes self.old (P.outside place.old).files (P.outside place.new).files (memory_text chip.old.words)) }
-        ensures parts { OnErr result (LeavesParts self.old (P.outside place.old).files (P.outside place.new).files (memory_text chip.old.words)) }
-        ensures chip { OnOk result (chip.new ≡ after_reads chip.old 262144) }
+        ensures answer { MemoryAnswers self.old.names.memory (memory_text chip.old.words)
+            (P.outside place.old) (P.outside place.new) result }
+        ensures whole { OnOk result (Completes self.old (P.outside place.old).files
+            (P.outside place.new).files (memory_text chip.old.words)) }
+        ensures parts { OnErr result
+            (LeavesParts self.old (P.outside place.old).files (P.outside place.new).files
+            (memory_text chip.old.words)) }
+        ensures chip { OnOk result (chip.new ≡ after_reads chip.old (chip_span / 2)) }
         ensures words { chip.new ≡ record chip.old { reads = chip.new.reads } }
         ensures same { self.new ≡ self.old }
         ensures kept { OnlyWrites (P.outside place.old) (P.outside place.new) }
-        ensures cause { IfErr result (λ fault. NamesFile fault → Rose (P.outside place.old).write_faults (P.outside place.new).write_faults) }
-        ensures names { KeepsNames (P.readable place.old) (P.growable place.old) (P.readable place.new) (P.growable place.new) }
+        ensures cause { IfErr result (λ fault. NamesFile fault
+            → Rose (P.outside place.old).write_faults (P.outside place.new).write_faults) }
+        ensures names { KeepsNames (P.readable place.old) (P.growable place.old)
+            (P.readable place.new) (P.growable place.new) }
     {
         let mut text = Vec::new(*self.frames.allocator());
         put_memory(&mut text, chip)?;

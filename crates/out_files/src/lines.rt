@@ -59,7 +59,8 @@ fn put_place(text: &mut Vec<u8>, beam: &Beam) -> Result<(), OutOfMemory>
 /// Appends the register, the word and who wrote or read it.
 #[tactic(auto, using(crate::proofs::LinesLaws::digits_laws))]
 fn put_access(text: &mut Vec<u8>, reg: Reg, word: u16, by: Source) -> Result<(), OutOfMemory>
-    ensures { OnOk result (text.new.items ≡ text.old.items ++ offset_text reg.offset ++ codes " " ++ word_text word ++ codes " " ++ letter_of by) }
+    ensures { OnOk result (text.new.items ≡ text.old.items ++ offset_text reg.offset ++ codes " "
+        ++ word_text word ++ codes " " ++ letter_of by) }
 {
     put_hex(reg.raw(), 3, text)?;
     text.push(b' ')?;

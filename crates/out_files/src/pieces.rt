@@ -14,8 +14,10 @@ pub fn make<P: Place>(place: &mut P, name: &str, file: OutFile) -> Result<(), Wr
     ensures answer { MakeAnswers name.now file (P.outside place.old) (P.outside place.new) result }
     ensures growable { OnOk result (P.growable place.new name.now) }
     ensures kept { OnlyWrites (P.outside place.old) (P.outside place.new) }
-    ensures cause { IfErr result (λ fault. NamesFile fault → Rose (P.outside place.old).write_faults (P.outside place.new).write_faults) }
-    ensures names { KeepsNames (P.readable place.old) (P.growable place.old) (P.readable place.new) (P.growable place.new) }
+    ensures cause { IfErr result (λ fault. NamesFile fault
+        → Rose (P.outside place.old).write_faults (P.outside place.new).write_faults) }
+    ensures names { KeepsNames (P.readable place.old) (P.growable place.old) (P.readable place.new)
+        (P.growable place.new) }
 {
     match place.create(name) {
         Ok(()) => Ok(()),
@@ -31,10 +33,13 @@ pub fn give<P: Place>(
     file: OutFile,
 ) -> Result<(), WriteFault>
     requires { P.growable place.old name.now }
-    ensures answer { GiveAnswers name.now file pending.old.items pending.new.items (P.outside place.old) (P.outside place.new) result }
+    ensures answer { GiveAnswers name.now file pending.old.items pending.new.items
+        (P.outside place.old) (P.outside place.new) result }
     ensures kept { OnlyWrites (P.outside place.old) (P.outside place.new) }
-    ensures cause { IfErr result (λ fault. NamesFile fault → Rose (P.outside place.old).write_faults (P.outside place.new).write_faults) }
-    ensures names { KeepsNames (P.readable place.old) (P.growable place.old) (P.readable place.new) (P.growable place.new) }
+    ensures cause { IfErr result (λ fault. NamesFile fault
+        → Rose (P.outside place.old).write_faults (P.outside place.new).write_faults) }
+    ensures names { KeepsNames (P.readable place.old) (P.growable place.old) (P.readable place.new)
+        (P.growable place.new) }
 {
     if pending.is_empty() {
         return Ok(());

@@ -14,7 +14,7 @@ const HEADING: &[u8] = b"P6\n720 286\n255\n";
 /// Appends pixel bytes, with the heading before the first of each frame. `given` counts those of the
 /// present frame; the answer counts them afterwards. After a refusal a part may have been appended.
 pub fn put_pixels(text: &mut Vec<u8>, given: usize, piece: &[u8]) -> Result<usize, OutOfMemory>
-    requires { given < 617760 }
+    requires { given < frame_bytes }
     ensures text { OnOk result (text.new.items ≡ text.old.items ++ with_headings given piece.now) }
     ensures given { IfOk result (λ after. after ≡ (given + length piece.now) % frame_bytes) }
     ensures refused { OnErr result (take (length text.old.items) text.new.items ≡ text.old.items) }
@@ -33,7 +33,7 @@ pub fn put_pixels(text: &mut Vec<u8>, given: usize, piece: &[u8]) -> Result<usiz
 /// Appends pixel bytes of one frame, with the heading where they are its first.
 #[tactic(auto, unfolding(serial_model::specs::Outputs::heading))]
 fn put_part(text: &mut Vec<u8>, given: usize, part: &[u8]) -> Result<(), OutOfMemory>
-    requires { given < 617760 }
+    requires { given < frame_bytes }
     ensures text { OnOk result (text.new.items ≡ text.old.items ++ heading_at given ++ part.now) }
     ensures refused { OnErr result (take (length text.old.items) text.new.items ≡ text.old.items) }
 {

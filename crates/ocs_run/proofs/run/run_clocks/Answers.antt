@@ -8,15 +8,15 @@ returns-in_err-left-clause-stopped g c =
     let going : c.loop-fore.fore.beam.frame < c.args.script.now.frames =
     subst (λ n. c.loop-fore.fore.beam.frame < n) c.frames.ensures c.loop-fore-test.true in
     if_err _ _ _ c.from_residual.ensures.1
-    (λ fault is. stop-tick c.args.script.now _ _ _ _ c.loop-fore.left.now c.in_err-left.field-0.0 fault c.loop-fore.invariant.step going
-    c.loop-fore.invariant.out c.loop-fore.invariant.runs (λ e. (c.in_err-left.ensures.unbuilt (ap (λ f. Err f) e)).meets) is)
+    (λ fault is. stop-tick c.args.script.now _ _ _ _ _ c.loop-fore.left.now c.in_err-left.field-0.0 fault c.loop-fore.invariant.step going
+    c.loop-fore.invariant.out c.loop-fore.invariant.runs (λ e. c.in_err-left.ensures.unbuilt (ap (λ f. Err f) e)) is)
 
 pub returns-in_err-flush_lines-clause-stopped : goal.returns-in_err-flush_lines-clause-stopped
 returns-in_err-flush_lines-clause-stopped g c =
     let going : c.loop-fore.fore.beam.frame < c.args.script.now.frames =
     subst (λ n. c.loop-fore.fore.beam.frame < n) c.frames.ensures c.loop-fore-test.true in
     if_err _ _ _ c.from_residual-in_err-flush_lines.ensures.1
-    (λ fault is. stop-flush c.args.script.now _ _ _ _ c.tick.new.self c.in_err-flush_lines.field-0.0 fault
+    (λ fault is. stop-flush c.args.script.now _ _ _ _ c.tick.new.self _ c.in_err-flush_lines.field-0.0 fault
     (c.in_ok-left.ensures.next.names ∙ c.loop-fore.invariant.out)
     (λ image base so. IsUnderway-tick image c.args.script.now base _ c.loop-fore.left.now c.in_ok-left.left.now _ _ c.loop-fore.invariant.step going
     c.in_ok-left.ensures.step c.in_ok-left.ensures.built c.in_ok-left.ensures.next (c.loop-fore.invariant.runs image base so))

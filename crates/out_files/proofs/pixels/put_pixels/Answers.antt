@@ -23,12 +23,14 @@ loop-rest-preserved c =
     record {
       within = omega arith;
       text =
-          pixels-turn (c.args.text.now.items ++ with_headings c.args.given c.args.piece.now) text rest now (take (length rest - count) (drop count rest)) n count
+          pixels-turn (c.args.text.now.items ++ with_headings c.args.given c.args.piece.now) text rest now
+          (take (length rest - count) (drop count rest)) n count
           (omega arith) (omega arith) (omega arith) grown shorter c.loop-rest.invariant.text;
       count = omega arith;
       kept = kept-grown c.args.text.now.items text (heading_at n ++ take count rest) now grows c.loop-rest.invariant.longer c.loop-rest.invariant.kept;
       longer =
-          (let more : length now ≡ length text + length (heading_at n ++ take count rest) = ap length grows ∙ length-append text (heading_at n ++ take count rest) in
+          (let more : length now ≡ length text + length (heading_at n ++ take count rest) = ap length grows
+          ∙ length-append text (heading_at n ++ take count rest) in
           let longer : length c.args.text.now.items ≤ length text = c.loop-rest.invariant.longer in
           omega arith);
     }

@@ -21,5 +21,6 @@ loop-number-preserved c =
           page-more c.args.text.now.items c.loop-number.text.items c.put_words.new.text.items c.page.result.now first.words n c.in_ok-put_words.ensures
           (c.page.ensures.words ∙ ap (λ (words : List ℕ). take 256 (drop (256 * n) words)) same) c.loop-number.invariant.text;
       first = λ none. absurd (omega arith);
-      counted = λ some. reads-more first now c.page.follows.lender-at-none n c.loop-number.invariant.first c.loop-number.invariant.counted c.page.follows.holds-at-none;
+      counted = λ some. reads-more first now c.page.follows.lender-at-none n c.loop-number.invariant.first c.loop-number.invariant.counted
+          c.page.follows.holds-at-none;
     }

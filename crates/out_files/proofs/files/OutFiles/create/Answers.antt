@@ -22,7 +22,8 @@ returns-in_err-make-2-clause-answer g c =
     subst (λ (r : Result (Unit {0}) WriteFault). CreateAnswers names (outside c.args.place.now) (outside c.make-2.new.place) r) (sym refused)
     (second_refused names (outside c.args.place.now) (outside c.make.new.place) (outside c.make-2.new.place) c.in_err-make-2.field-0.0
     (c.in_ok-make.ensures.answer ∙ ap (λ (name : List ℕ). with_file (outside c.args.place.now).files name []) first)
-    (subst (λ (name : List ℕ). MakeAnswers name Trace (outside c.make.new.place) (outside c.make-2.new.place) (Err c.in_err-make-2.field-0.0)) second c.in_err-make-2.ensures.answer))
+    (subst (λ (name : List ℕ). MakeAnswers name Trace (outside c.make.new.place) (outside c.make-2.new.place)
+    (Err c.in_err-make-2.field-0.0)) second c.in_err-make-2.ensures.answer))
 
 pub returns-clause-answer : goal.returns-clause-answer
 returns-clause-answer g c =

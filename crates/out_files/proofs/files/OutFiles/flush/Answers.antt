@@ -13,14 +13,16 @@ returns-in_err-give-clause-parts g c =
     let different : AreDifferent c.args.self.now.names = subst (λ (v : OutFilesValue). AreDifferent v.names) c.self.view_is c.self.invariant.different in
     on_err c.from_residual.result (LeavesParts c.args.self.now (outside c.args.place.now).files (outside c.give.new.place).files [])
     (flush_refused c.args.self.now _ (outside c.args.place.now) (outside c.give.new.place) c.in_err-give.field-0.0 different
-    (first_refused c.args.self.now _ c.as_str.result.now c.give.new.pending.items (outside c.args.place.now) (outside c.give.new.place) c.in_err-give.field-0.0 c.self.view_is
+    (first_refused c.args.self.now _ c.as_str.result.now c.give.new.pending.items (outside c.args.place.now)
+    (outside c.give.new.place) c.in_err-give.field-0.0 c.self.view_is
     c.as_str.ensures.value c.in_err-give.ensures.answer))
 
 pub returns-clause-answer : goal.returns-clause-answer
 returns-clause-answer g c =
     let outside = g.P.Place.outside in
     second_answered c.args.self.now _ c.as_str.result.now c.as_str-2.result.now c.give.new.pending.items c.give-2.new.pending.items (outside c.args.place.now)
-    (outside c.give.new.place) (outside c.give-2.new.place) c.give-2.result c.self.view_is c.as_str.ensures.value c.as_str-2.ensures.value c.in_ok-give.ensures.answer
+    (outside c.give.new.place) (outside c.give-2.new.place) c.give-2.result c.self.view_is c.as_str.ensures.value c.as_str-2.ensures.value
+    c.in_ok-give.ensures.answer
     c.give-2.ensures.answer
 
 pub returns-clause-together : goal.returns-clause-together

@@ -22,7 +22,8 @@ returns-in-Ok-clause-whole g c =
     let text : c.as_slice.result.now ≡ memory =
     c.as_slice.ensures.value ∙ c.in_ok-put_memory.ensures.text ∙ ap (λ (before : List ℕ). before ++ memory) c.new-text.ensures.items
     in
-    append_completes c.args.self.now c.as_str.result.now c.as_slice.result.now memory (outside c.args.place.now) (outside c.append.new.self) name text c.in-Ok.ensures.answer
+    append_completes c.args.self.now c.as_str.result.now c.as_slice.result.now memory (outside c.args.place.now)
+    (outside c.append.new.self) name text c.in-Ok.ensures.answer
 
 pub returns-clause-parts : goal.returns-clause-parts
 returns-clause-parts g c =
@@ -32,4 +33,5 @@ returns-clause-parts g c =
     let text : c.as_slice.result.now ≡ memory =
     c.as_slice.ensures.value ∙ c.in_ok-put_memory.ensures.text ∙ ap (λ (before : List ℕ). before ++ memory) c.new-text.ensures.items
     in
-    append_refused c.args.self.now c.as_str.result.now c.as_slice.result.now memory (outside c.args.place.now) (outside c.append.new.self) c.in-Err.refusal name text c.in-Err.ensures.answer
+    append_refused c.args.self.now c.as_str.result.now c.as_slice.result.now memory (outside c.args.place.now)
+    (outside c.append.new.self) c.in-Err.refusal name text c.in-Err.ensures.answer
