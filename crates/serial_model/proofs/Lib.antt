@@ -4,3 +4,4 @@ pub mod HeadingLaws
 pub mod NextLaws
 pub mod EndLaws
 pub mod WriteLaws
+pub mod FetchLaws
