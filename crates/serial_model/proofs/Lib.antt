@@ -5,3 +5,4 @@ pub mod NextLaws
 pub mod EndLaws
 pub mod WriteLaws
 pub mod FetchLaws
+pub mod SlotLaws

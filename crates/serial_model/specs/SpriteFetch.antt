@@ -80,17 +80,15 @@ sprite_in_slot h registers taken =
 abbrev pub sprite_pointer : ℕ → ℕ
 sprite_pointer sprite = 0x120 + 4 * sprite
 
--- what a sprite of this kind asks for
-abbrev pub ask_by_kind : SpriteKind → ℕ → List ℕ → ℕ → Option SpriteAsk
-ask_by_kind Nothing h registers sprite = None
-ask_by_kind Control h registers sprite =
-    Some (A.Control sprite (is_second_slot h) (pointer_at registers (sprite_pointer sprite)))
-ask_by_kind Words h registers sprite =
-    Some (A.Words sprite (is_second_slot h) (pointer_at registers (sprite_pointer sprite)))
+-- what a sprite of this kind asks for, in its first or its second slot
+abbrev pub ask_by_kind : SpriteKind → Bool → List ℕ → ℕ → Option SpriteAsk
+ask_by_kind Nothing second registers sprite = None
+ask_by_kind Control second registers sprite = Some (A.Control sprite second (pointer_at registers (sprite_pointer sprite)))
+ask_by_kind Words second registers sprite = Some (A.Words sprite second (pointer_at registers (sprite_pointer sprite)))
 
 abbrev pub ask_in_slot : Option ℕ → ℕ → List ℕ → List SpriteKind → Option SpriteAsk
 ask_in_slot None h registers kinds = None
-ask_in_slot (Some sprite) h registers kinds = ask_by_kind (get_or kinds sprite Nothing) h registers sprite
+ask_in_slot (Some sprite) h registers kinds = ask_by_kind (get_or kinds sprite Nothing) (is_second_slot h) registers sprite
 
 -- what the sprites ask of the bus, where the kinds of this line, with this clock's, are these
 abbrev pub sprite_ask : ℕ → List ℕ → List SpriteKind → Bool → Option SpriteAsk
