@@ -3,3 +3,4 @@ pub mod SingleBits
 pub mod Shifting
 pub mod Rotating
 pub mod TopBit
+pub mod Turning

@@ -34,12 +34,14 @@ high_below w n k h below =
     let e : k + (w - k) ≡ w = omega arith in
     let b : n < 2 ^ (k + (w - k)) = rw e below in shr_below n k (w - k) b
 
-pub rotated_is : (w n k : ℕ) → w ≤ 33 → k ≤ w → n < 2 ^ w → bit_or (bit_and (n * 2 ^ k % 18446744073709551616) (1 * 2 ^ w % 18446744073709551616 - 1)) (n / 2 ^ (w - k)) ≡ rotated w k n
+pub rotated_is : (w n k : ℕ) → w ≤ 33 → k ≤ w → n < 2 ^ w
+    → bit_or (bit_and (n * 2 ^ k % 18446744073709551616) (1 * 2 ^ w % 18446744073709551616 - 1)) (n / 2 ^ (w - k)) ≡ rotated w k n
 rotated_is w n k wide within below =
     let narrow : w < 64 = omega arith in
     let most : w ≤ 64 = omega arith in
     let one : 1 * 2 ^ w % 18446744073709551616 ≡ 2 ^ w = one_shl w 64 narrow in
-    let joined : bit_or (n % 2 ^ (w - k) * 2 ^ k) (n / 2 ^ (w - k)) ≡ n % 2 ^ (w - k) * 2 ^ k + n / 2 ^ (w - k) = or_shifted (n % 2 ^ (w - k)) k (n / 2 ^ (w - k)) (high_below w n k within below) in
+    let joined : bit_or (n % 2 ^ (w - k) * 2 ^ k) (n / 2 ^ (w - k)) ≡ n % 2 ^ (w - k) * 2 ^ k + n / 2 ^ (w - k) =
+    or_shifted (n % 2 ^ (w - k)) k (n / 2 ^ (w - k)) (high_below w n k within below) in
     rw (one, and_mask, cut_twice w (n * 2 ^ k) most, raised w n k within, lowered w n k within) joined
 
 pub rotated_below : (w n k : ℕ) → k ≤ w → n < 2 ^ w → rotated w k n < 2 ^ w
@@ -47,8 +49,10 @@ rotated_below w n k within below =
     let e : k + (w - k) ≡ w = omega arith in
     let p : 2 ^ (k + (w - k)) ≡ 2 ^ k * 2 ^ (w - k) = pow-add 2 k (w - k) in
     let whole : 2 ^ w ≡ 2 ^ k * 2 ^ (w - k) = rw e at p in
-    let it : n % 2 ^ (w - k) * 2 ^ k + n / 2 ^ (w - k) < 2 ^ k * 2 ^ (w - k) = mul-add-lt (n % 2 ^ (w - k)) (2 ^ k) (n / 2 ^ (w - k)) (2 ^ (w - k)) (mod_below n (2 ^ (w - k)) (pow_pos (w - k))) (high_below w n k within below) in
+    let it : n % 2 ^ (w - k) * 2 ^ k + n / 2 ^ (w - k) < 2 ^ k * 2 ^ (w - k) =
+    mul-add-lt (n % 2 ^ (w - k)) (2 ^ k) (n / 2 ^ (w - k)) (2 ^ (w - k)) (mod_below n (2 ^ (w - k)) (pow_pos (w - k))) (high_below w n k within below) in
     omega (arith, raised w n k within, lowered w n k within)
 
-pub joined_below : (w n k : ℕ) → w ≤ 33 → k ≤ w → n < 2 ^ w → bit_or (bit_and (n * 2 ^ k % 18446744073709551616) (1 * 2 ^ w % 18446744073709551616 - 1)) (n / 2 ^ (w - k)) < 2 ^ w
+pub joined_below : (w n k : ℕ) → w ≤ 33 → k ≤ w → n < 2 ^ w
+    → bit_or (bit_and (n * 2 ^ k % 18446744073709551616) (1 * 2 ^ w % 18446744073709551616 - 1)) (n / 2 ^ (w - k)) < 2 ^ w
 joined_below w n k wide within below = rw (rotated_is w n k wide within below) (rotated_below w n k within below)

@@ -1,10 +1,11 @@
 -- Shifts of numbers below 2 ^ 32.
-use Rattle.std.proofs.Common.{◌≡◌, ℕ, ◌+◌, ◌-◌, ◌*◌, ◌/◌, ◌%◌, ◌^◌, ◌<◌, ◌≤◌, min, nat_lt, nat_le, arith, refl, inl, inr, ◌∙◌, sym, pow-add, rules, lt-ltb, le-ltb, le-leb}
+use Rattle.std.proofs.Common.{◌≡◌, ℕ, ◌+◌, ◌-◌, ◌*◌, ◌/◌, ◌%◌, ◌^◌, ◌<◌, ◌≤◌, min, nat_lt}
+use Rattle.std.proofs.Common.{nat_le, arith, refl, inl, inr, ◌∙◌, sym, pow-add, rules, lt-ltb, le-ltb, le-leb}
 use Rattle.std.proofs.lemmas.Nat.{shl_whole, shl-shr, pow_pos, mul-le}
-use Rattle.std.proofs.lemmas.Bool.{cases_lt, cases_eq}
+use Rattle.std.proofs.lemmas.Bool.{cases_lt, cases_eq, lt-leb}
 use Rattle.std.proofs.lemmas.Int.{ints}
-use Rattle.m68k_decode.specs.declared.operand.Size.{Size}
-use Rattle.m68k_decode.specs.declared.operand.Size.TheVariants.{Byte, Word, Long}
+use Rattle.m68k_opcodes.specs.declared.operand.Size.{Size}
+use Rattle.m68k_opcodes.specs.declared.operand.Size.TheVariants.{Byte, Word, Long}
 use Rattle.m68k_decode.specs.Results.{span, half}
 use Rattle.m68k_decode.specs.ResultsShifts.{shifted_left, top_bit_changes}
 
@@ -93,27 +94,20 @@ at_least h m k some bound =
           ]))
     ]
 
+above_is : (h x : ℕ) → nat_lt h x ≡ nat_le (1 + h) x
+above_is h x =
+    elim (cases_lt h x) [
+      | inl l ↦ (let less : h < x = l in
+          let next : 1 + h ≤ x = omega arith in
+          lt-ltb h x less ∙ sym (le-leb (1 + h) x next))
+      | inr m ↦ (let most : x ≤ h = m in
+          let before : x < 1 + h = omega arith in
+          le-ltb h x most ∙ sym (lt-leb (1 + h) x before))
+    ]
+
 more_than : (h m k : ℕ) → h < 4294967296 → nat_lt h (m * 2 ^ min k 32) ≡ nat_lt h (m * 2 ^ k)
 more_than h m k bound =
-    elim (cases_lt k 33) [
-      | inl small ↦ (let s : k < 33 = small in
-          rw (within k s) refl)
-      | inr large ↦ (let l : 33 ≤ k = large in
-          let less : 32 ≤ k = omega arith in
-          let y : ℕ = m * 2 ^ (k - 32) in
-          let f : m * 2 ^ k ≡ y * 4294967296 = far 32 m k less in
-          rw (beyond k l, f) (elim (cases_eq m 0) [
-            | inl zero ↦ (let z : m ≡ 0 = zero in
-                let none : y ≡ 0 = rw z (omega arith) in
-                rw (none, z) refl)
-            | inr more ↦ (let o : m ≡ 0 → ⊥ = more in
-                let one : 1 ≤ m = omega arith in
-                let two : 1 ≤ y = mul-le 1 1 m (2 ^ (k - 32)) one (pow_pos (k - 32)) in
-                let left : h < m * 4294967296 = omega arith in
-                let right : h < y * 4294967296 = omega arith in
-                lt-ltb h (m * 4294967296) left ∙ sym (lt-ltb h (y * 4294967296) right))
-          ]))
-    ]
+    above_is h (m * 2 ^ min k 32) ∙ at_least (1 + h) m k (omega arith) (omega arith) ∙ sym (above_is h (m * 2 ^ k))
 
 half_bounds : (s : Size) → (0 < half s) × (half s < 4294967296)
 half_bounds Byte = (omega arith, omega arith)

@@ -1,5 +1,6 @@
 -- One bit of a number, set, cleared and changed by masks.
-use Rattle.std.proofs.Common.{◌≡◌, ℕ, ◌+◌, ◌-◌, ◌*◌, ◌/◌, ◌%◌, ◌^◌, ◌<◌, Bool, true, false, if◌then◌else◌, ◌==◌, bit_and, bit_or, bit_xor, arith, refl, inl, inr, ◌∙◌, eqb-true}
+use Rattle.std.proofs.Common.{◌≡◌, ℕ, ◌+◌, ◌-◌, ◌*◌, ◌/◌, ◌%◌, ◌^◌, ◌<◌, Bool, true, false}
+use Rattle.std.proofs.Common.{if◌then◌else◌, ◌==◌, bit_and, bit_or, bit_xor, arith, refl, inl, inr, ◌∙◌, eqb-true}
 use Rattle.std.specs.Int.Bits.{or_zero_r, xor_zero_r}
 use Rattle.std.proofs.lemmas.Bool.{cases_eq, eqb-false}
 use Rattle.std.proofs.lemmas.Nat.{or_block, xor_block, shr_split, mod_below, pow_pos, and-not, and_comm, one_shl, pow_below}
@@ -38,7 +39,8 @@ xor_one n =
 or_parts : (n k : ℕ) → bit_or n (2 ^ k) ≡ (n / 2 ^ k / 2 * 2 + 1) * 2 ^ k + n % 2 ^ k
 or_parts n k =
     let rest : n % 2 ^ k < 2 ^ k = mod_below n (2 ^ k) (pow_pos k) in
-    let block : bit_or (n / 2 ^ k * 2 ^ k + n % 2 ^ k) (1 * 2 ^ k + 0) ≡ bit_or (n / 2 ^ k) 1 * 2 ^ k + bit_or (n % 2 ^ k) 0 = or_block k (n / 2 ^ k) 1 (n % 2 ^ k) 0 rest (pow_pos k) in
+    let block : bit_or (n / 2 ^ k * 2 ^ k + n % 2 ^ k) (1 * 2 ^ k + 0) ≡ bit_or (n / 2 ^ k) 1 * 2 ^ k + bit_or (n % 2 ^ k) 0 =
+    or_block k (n / 2 ^ k) 1 (n % 2 ^ k) 0 rest (pow_pos k) in
     let p : 1 * 2 ^ k + 0 ≡ 2 ^ k = omega arith in
     let whole = rw (shr_split n k, p, or_one, or_zero_r) at block in
     whole
@@ -46,7 +48,8 @@ or_parts n k =
 xor_parts : (n k : ℕ) → bit_xor n (2 ^ k) ≡ (n / 2 ^ k / 2 * 2 + (1 - n / 2 ^ k % 2)) * 2 ^ k + n % 2 ^ k
 xor_parts n k =
     let rest : n % 2 ^ k < 2 ^ k = mod_below n (2 ^ k) (pow_pos k) in
-    let block : bit_xor (n / 2 ^ k * 2 ^ k + n % 2 ^ k) (1 * 2 ^ k + 0) ≡ bit_xor (n / 2 ^ k) 1 * 2 ^ k + bit_xor (n % 2 ^ k) 0 = xor_block k (n / 2 ^ k) 1 (n % 2 ^ k) 0 rest (pow_pos k) in
+    let block : bit_xor (n / 2 ^ k * 2 ^ k + n % 2 ^ k) (1 * 2 ^ k + 0) ≡ bit_xor (n / 2 ^ k) 1 * 2 ^ k + bit_xor (n % 2 ^ k) 0 =
+    xor_block k (n / 2 ^ k) 1 (n % 2 ^ k) 0 rest (pow_pos k) in
     let p : 1 * 2 ^ k + 0 ≡ 2 ^ k = omega arith in
     let whole = rw (shr_split n k, p, xor_one, xor_zero_r) at block in
     whole

@@ -4,8 +4,8 @@ use Rattle.std.specs.Prelude.{IsTrue}
 use Rattle.std.proofs.Math.Nat.{pow-suc, mul-le-mul_left}
 use Rattle.std.proofs.Math.Pow.{pow_mono}
 use Rattle.std.proofs.lemmas.Bool.{cases_lt, lt-leb, leb-true, leb-false, ltb-true, ltb-false}
-use Rattle.m68k_decode.specs.declared.operand.Size.{Size}
-use Rattle.m68k_decode.specs.declared.operand.Size.TheVariants.{Byte, Word, Long}
+use Rattle.m68k_opcodes.specs.declared.operand.Size.{Size}
+use Rattle.m68k_opcodes.specs.declared.operand.Size.TheVariants.{Byte, Word, Long}
 use Rattle.m68k_decode.specs.Results.{low, span, half, is_negative}
 use Rattle.m68k_decode.specs.ResultsShifts.{shifted_left, top_bit_changes, ChangesAtSomeStep}
 use Rattle.m68k_alu.proofs.Shifting.{positive_top, negative_top}
@@ -94,7 +94,8 @@ negative_found s n (suc k) h below out =
       | inr w ↦ (let within : (span s - n) * 2 ^ k ≤ half s = w in
           let d : (span s - n) * 2 ^ suc k ≡ (span s - n) * 2 ^ k + (span s - n) * 2 ^ k = doubled (span s - n) k in
           let most : (span s - n) * 2 ^ suc k ≤ half s + half s = omega arith in
-          let clear : is_negative s (shifted_left s n (suc k)) ≡ false = clear_beyond s (n * 2 ^ suc k) ((span s - n) * 2 ^ suc k) (2 ^ suc k) (negative_sum s n (suc k) below) out most in
+          let clear : is_negative s (shifted_left s n (suc k)) ≡ false =
+          clear_beyond s (n * 2 ^ suc k) ((span s - n) * 2 ^ suc k) (2 ^ suc k) (negative_sum s n (suc k) below) out most in
           let set : is_negative s n ≡ true = le-leb (half s) n h in
           (suc k, (omega arith, λ same. true≢false (sym set ∙ sym same ∙ clear))))
     ]

@@ -1,9 +1,9 @@
 //! The decimal operations, on bytes of two digits.
 
 ghost use Rattle.std.specs.Prelude.{◌≡◌, ◌<◌};
-ghost use Rattle.m68k_decode.specs.ResultsDecimal.{decimal, digits_adjusted, decimal_borrows, decimal_difference, abcd_of, sbcd_of, nbcd_of};
+ghost use Rattle.m68k_decode.specs.ResultsDecimal.{decimal, digits_adjusted, less, less_adjusted, abcd_of, sbcd_of, nbcd_of};
 
-use crate::size::low_part;
+use crate::size::{low_part, without_sign};
 use m68k_decode::{Flags, Outcome, Size};
 
 /// A decimal result: the carry is C and X, Z can only be cleared, N and V stay.
@@ -46,17 +46,27 @@ pub fn op_abcd(size: Size, a: u32, b: u32, f: Flags) -> Outcome
     decimal_outcome(adjusted & 0xff, carry, f)
 }
 
-/// The difference of two bytes in decimal digits, modulo 256.
-fn difference_in_digits(a: u32, b: u32, extend: bool, borrow: bool) -> u32
+/// The difference of two numbers and X.
+fn less(a: u32, b: u32, extend: bool) -> i64
     requires left { a < 256 }
     requires right { b < 256 }
-    requires borrow { borrow ≡ decimal_borrows a b extend }
-    ensures { result ≡ decimal_difference a b extend }
+    ensures { result ≡ less a b extend }
 {
-    let extend = u32::from(extend);
-    let low_digit = if (a & 0xf) < (b & 0xf) + extend { 6 } else { 0 };
-    let high_digit = if borrow { 0x60 } else { 0 };
-    a.wrapping_sub(b + extend + low_digit + high_digit) & 0xff
+    i64::from(a) - i64::from(b) - i64::from(extend)
+}
+
+/// The difference of two bytes, with its low digit made decimal.
+fn difference_adjusted(a: u32, b: u32, extend: bool) -> i64
+    requires left { a < 256 }
+    requires right { b < 256 }
+    ensures { result ≡ less_adjusted a b extend }
+{
+    let difference = less(a, b, extend);
+    if less(a & 0xf, b & 0xf, extend) < 0 {
+        difference - 6
+    } else {
+        difference
+    }
 }
 
 /// SBCD. The size says nothing.
@@ -64,8 +74,14 @@ pub fn op_sbcd(size: Size, a: u32, b: u32, f: Flags) -> Outcome
     ensures { result ≡ sbcd_of size a b f }
 {
     let (from, taken) = (low_part(Size::Byte, a), low_part(Size::Byte, b));
-    let borrow = from < taken + u32::from(f.x);
-    decimal_outcome(difference_in_digits(from, taken, f.x, borrow), borrow, f)
+    let borrow = less(from, taken, f.x) < 0;
+    let difference = difference_adjusted(from, taken, f.x);
+    let adjusted = if borrow {
+        difference - 0x60
+    } else {
+        difference
+    };
+    decimal_outcome(without_sign(Size::Byte, adjusted), borrow, f)
 }
 
 /// NBCD: 0 less the operand, in decimal digits. The size says nothing.

@@ -1,8 +1,10 @@
 //! Rotations. A count is taken modulo 64.
 
 ghost use Rattle.std.specs.Prelude.{◌≡◌, ◌<◌, ◌≤◌, ◌+◌, ◌*◌, ◌^◌, ◌%◌};
-ghost use Rattle.m68k_decode.specs.Results.{span};
-ghost use Rattle.m68k_decode.specs.ResultsShifts.{rotated, rotated_left, rotated_right, rotation_outcome, with_x, extended_rotation_outcome, rol_of, ror_of, roxl_of, roxr_of};
+ghost use Rattle.m68k_decode.specs.Results.{span, low};
+ghost use Rattle.m68k_decode.specs.ResultsShifts.{rotated, rotated_left, rotated_right, one_left, one_right, GoesByStep};
+ghost use Rattle.m68k_decode.specs.ResultsShifts.{rotation_outcome, with_x, extended_rotation_outcome};
+ghost use Rattle.m68k_decode.specs.ResultsShifts.{rol_of, ror_of, roxl_of, roxr_of};
 
 use crate::size::{bit_count, low_long, low_part, sign};
 use m68k_decode::{Flags, Outcome, Size};
@@ -56,7 +58,8 @@ fn rotated_outcome(size: Size, value: u32, last: bool, count: u32, f: Flags) -> 
 
 /// ROL.
 pub fn op_rol(size: Size, a: u32, b: u32, f: Flags) -> Outcome
-    ensures { result ≡ rol_of size a b f }
+    ensures value { result ≡ rol_of size a b f }
+    ensures step { GoesByStep (rotated_left size (low size a)) (one_left size) (low size a) }
 {
     let count = b % 64;
     let value = rotate_left(size, low_part(size, a), count);
@@ -65,7 +68,8 @@ pub fn op_rol(size: Size, a: u32, b: u32, f: Flags) -> Outcome
 
 /// ROR.
 pub fn op_ror(size: Size, a: u32, b: u32, f: Flags) -> Outcome
-    ensures { result ≡ ror_of size a b f }
+    ensures value { result ≡ ror_of size a b f }
+    ensures step { GoesByStep (rotated_right size (low size a)) (one_right size) (low size a) }
 {
     let count = b % 64;
     let value = rotate_right(size, low_part(size, a), count);

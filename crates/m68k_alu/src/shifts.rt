@@ -2,7 +2,8 @@
 
 ghost use Rattle.std.specs.Prelude.{◌≡◌, ◌<◌, ◌≤◌, ◌-◌, ◌*◌, ◌/◌, ◌%◌, ◌^◌, ◌==◌, ◌↔◌, IsTrue, min};
 ghost use Rattle.m68k_decode.specs.Results.{half, low, span, signed};
-ghost use Rattle.m68k_decode.specs.ResultsShifts.{shift_count, shift_outcome, shifted_left, last_out_left, top_bit_changes, ChangesAtSomeStep, shifted_right, last_out_right, shifted_right_signed, last_out_right_signed, asl_of, asr_of, lsl_of, lsr_of};
+ghost use Rattle.m68k_decode.specs.ResultsShifts.{shift_count, shift_outcome, shifted_left, last_out_left, top_bit_changes, ChangesAtSomeStep, shifted_right};
+ghost use Rattle.m68k_decode.specs.ResultsShifts.{last_out_right, shifted_right_signed, last_out_right_signed, asl_of, asr_of, lsl_of, lsr_of};
 
 use crate::size::{bit_count, low_long, low_part, sign, with_sign, without_sign};
 use m68k_decode::{Flags, Outcome, Size};
@@ -86,7 +87,7 @@ fn last_bit_right(number: u32, count: u32) -> bool
     requires { count < 64 }
     ensures { result ≡ last_out_right number count }
 {
-    ((u64::from(number) * 2) >> count) & 1 == 1
+    count != 0 && (u64::from(number) >> (count - 1)) & 1 == 1
 }
 
 /// The number shifted to the right, with copies of its sign.
@@ -103,7 +104,7 @@ fn last_bit_right_signed(size: Size, number: u32, count: u32) -> bool
     requires count { count < 64 }
     ensures { result ≡ last_out_right_signed size (signed size number) count }
 {
-    shift_right_signed(size, with_sign(size, number) * 2, count) & 1 == 1
+    count != 0 && shift_right_signed(size, with_sign(size, number), count - 1) & 1 == 1
 }
 
 /// The flags of a shift: C is the last bit out, X is C where the count is not 0.

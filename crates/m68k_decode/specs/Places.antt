@@ -1,11 +1,11 @@
 -- Where an operand is, by its mode.
 use Rattle.std.specs.Prelude.{ℕ, List, ◌==◌, ◌+◌, ◌-◌, ◌*◌, ◌/◌, ◌%◌, if◌then◌else◌, slice_index}
-use Rattle.m68k_decode.specs.declared.operand.Size.{Size}
-use Rattle.m68k_decode.specs.declared.operand.Size.TheVariants as S
-use Rattle.m68k_decode.specs.declared.operand.Mode.{Mode}
-use Rattle.m68k_decode.specs.declared.operand.Mode.TheVariants as M
-use Rattle.m68k_decode.specs.declared.operand.Place68.{Place68}
-use Rattle.m68k_decode.specs.declared.operand.Place68.TheVariants as P
+use Rattle.m68k_opcodes.specs.declared.operand.Size.{Size}
+use Rattle.m68k_opcodes.specs.declared.operand.Size.TheVariants as S
+use Rattle.m68k_opcodes.specs.declared.operand.Mode.{Mode}
+use Rattle.m68k_opcodes.specs.declared.operand.Mode.TheVariants as M
+use Rattle.m68k_decode.specs.declared.place.Place68.{Place68}
+use Rattle.m68k_decode.specs.declared.place.Place68.TheVariants as P
 use Rattle.m68k_decode.specs.declared.regs.CpuRegs.{CpuRegs}
 use Rattle.m68k_decode.specs.Registers.{word32, extended_word, extended_byte, data_of, address_of, with_address}
 
@@ -65,7 +65,7 @@ immediate_of words S.Word = slice_index words 0
 immediate_of words S.Long = long_of words
 
 -- the place of an operand: words are the extension words, and pc the address of the first
-abbrev pub place_of : Mode → CpuRegs → List ℕ → ℕ → Size → Place68
+unfoldable pub place_of : Mode → CpuRegs → List ℕ → ℕ → Size → Place68
 place_of (M.Dn r) regs words pc z = P.Data r
 place_of (M.An r) regs words pc z = P.Address r
 place_of (M.Ind r) regs words pc z = P.Memory (address_of regs r)
@@ -80,7 +80,7 @@ place_of M.PcIndex regs words pc z = P.Memory (indexed regs pc (slice_index word
 place_of M.Imm regs words pc z = P.Value (immediate_of words z)
 
 -- the registers after the step of a mode
-abbrev pub stepped : Mode → CpuRegs → Size → CpuRegs
+unfoldable pub stepped : Mode → CpuRegs → Size → CpuRegs
 stepped (M.Post r) regs z = with_address regs r (after_post regs r z)
 stepped (M.Pre r) regs z = with_address regs r (after_pre regs r z)
 stepped _ regs z = regs

@@ -18,19 +18,19 @@ abbrev pub has_supervisor : ℕ → Bool
 has_supervisor sr = sr / 8192 % 2 == 1
 
 -- a data register
-abbrev pub data_of : CpuRegs → ℕ → ℕ
+unfoldable pub data_of : CpuRegs → ℕ → ℕ
 data_of regs n = slice_index regs.d (n % 8)
 
 -- an address register; 7 is the stack pointer that the S bit chooses
-abbrev pub address_of : CpuRegs → ℕ → ℕ
+unfoldable pub address_of : CpuRegs → ℕ → ℕ
 address_of regs n =
     if n % 8 == 7 then (if has_supervisor regs.sr then regs.ssp else regs.usp) else slice_index regs.a (n % 8)
 
 -- the registers with another value in a data register, and in an address register
-abbrev pub with_data : CpuRegs → ℕ → ℕ → CpuRegs
+unfoldable pub with_data : CpuRegs → ℕ → ℕ → CpuRegs
 with_data regs n value = record regs { d = slice_set regs.d (n % 8) value }
 
-abbrev pub with_address : CpuRegs → ℕ → ℕ → CpuRegs
+unfoldable pub with_address : CpuRegs → ℕ → ℕ → CpuRegs
 with_address regs n value =
     if n % 8 == 7 then (if has_supervisor regs.sr then record regs { ssp = value } else record regs { usp = value })
     else record regs { a = slice_set regs.a (n % 8) value }

@@ -1,6 +1,6 @@
 -- The outcomes of the bit operations. Z is the contrary of the bit before, all other flags stay.
 use Rattle.std.specs.Prelude.{ℕ, ◌+◌, ◌-◌, ◌/◌, ◌%◌, ◌^◌, Bool, not, if◌then◌else◌, ◌==◌}
-use Rattle.m68k_decode.specs.declared.operand.Size.{Size}
+use Rattle.m68k_opcodes.specs.declared.operand.Size.{Size}
 use Rattle.m68k_decode.specs.declared.outcome.Flags.{Flags}
 use Rattle.m68k_decode.specs.declared.outcome.Outcome.{Outcome}
 use Rattle.m68k_decode.specs.Results.{bits, low, outcome}

@@ -1,10 +1,10 @@
 -- The outcomes of the decimal operations, on bytes of two decimal digits at any size.
-use Rattle.std.specs.Prelude.{ℕ, ◌+◌, ◌-◌, ◌%◌, Bool, ◌&&◌, if◌then◌else◌, ◌==◌, nat_lt}
-use Rattle.m68k_decode.specs.declared.operand.Size.{Size}
-use Rattle.m68k_decode.specs.declared.operand.Size.TheVariants.{Byte}
+use Rattle.std.specs.Prelude.{ℕ, ◌+◌, ◌%◌, Bool, ◌&&◌, if◌then◌else◌, ◌==◌, nat_lt, ℤ, pos, ◌-ℤ◌, int_lt}
+use Rattle.m68k_opcodes.specs.declared.operand.Size.{Size}
+use Rattle.m68k_opcodes.specs.declared.operand.Size.TheVariants.{Byte}
 use Rattle.m68k_decode.specs.declared.outcome.Flags.{Flags}
 use Rattle.m68k_decode.specs.declared.outcome.Outcome.{Outcome}
-use Rattle.m68k_decode.specs.Results.{low, one_if, outcome}
+use Rattle.m68k_decode.specs.Results.{low, one_if, wrapped, outcome}
 
 -- C and X are the carry; Z can only be cleared; N and V stay
 abbrev pub decimal : ℕ → Bool → Flags → Outcome
@@ -22,23 +22,30 @@ abbrev pub decimal_sum : ℕ → ℕ → Bool → ℕ
 decimal_sum a b x = (digits_adjusted a b x + (if decimal_carries a b x then 0x60 else 0)) % 256
 
 abbrev pub abcd_of : Size → ℕ → ℕ → Flags → Outcome
-abcd_of s a b f = decimal (decimal_sum (low Byte a) (low Byte b) f.x) (decimal_carries (low Byte a) (low Byte b) f.x) f
+abcd_of s a b f =
+    decimal (decimal_sum (low Byte a) (low Byte b) f.x) (decimal_carries (low Byte a) (low Byte b) f.x) f
 
--- the binary difference a - b - X is below 0
+-- the difference a - b - X of numbers
+abbrev pub less : ℕ → ℕ → Bool → ℤ
+less a b x = pos a -ℤ pos b -ℤ pos (one_if x)
+
+-- it is below 0: a borrow
 abbrev pub decimal_borrows : ℕ → ℕ → Bool → Bool
-decimal_borrows a b x = nat_lt a (b + one_if x)
+decimal_borrows a b x = int_lt (less a b x) (pos 0)
 
--- what is taken from a: b, X, 6 where the low digits' difference with X is below 0, and 60h where the whole is
-abbrev pub decimal_taken : ℕ → ℕ → Bool → ℕ
-decimal_taken a b x =
-    b + one_if x + (if nat_lt (a % 16) (b % 16 + one_if x) then 6 else 0) + (if decimal_borrows a b x then 0x60 else 0)
+-- 6 less where the difference of the low digits is below 0
+abbrev pub less_adjusted : ℕ → ℕ → Bool → ℤ
+less_adjusted a b x =
+    if int_lt (less (a % 16) (b % 16) x) (pos 0) then less a b x -ℤ pos 6 else less a b x
 
--- the difference modulo 256; at most 358 is taken, so 512 more keeps it above 0
+-- 60h less where the whole difference is, modulo 256
 abbrev pub decimal_difference : ℕ → ℕ → Bool → ℕ
-decimal_difference a b x = (a + 512 - decimal_taken a b x) % 256
+decimal_difference a b x =
+    wrapped Byte (if decimal_borrows a b x then less_adjusted a b x -ℤ pos 0x60 else less_adjusted a b x)
 
 abbrev pub sbcd_of : Size → ℕ → ℕ → Flags → Outcome
-sbcd_of s a b f = decimal (decimal_difference (low Byte a) (low Byte b) f.x) (decimal_borrows (low Byte a) (low Byte b) f.x) f
+sbcd_of s a b f =
+    decimal (decimal_difference (low Byte a) (low Byte b) f.x) (decimal_borrows (low Byte a) (low Byte b) f.x) f
 
 -- NBCD: SBCD of 0 and the operand
 abbrev pub nbcd_of : Size → ℕ → ℕ → Flags → Outcome

@@ -1,7 +1,7 @@
 -- The outcomes of multiplication and division: words to a long, and a long by a word, at any size.
 use Rattle.std.specs.Prelude.{ℕ, ◌+◌, ◌*◌, ◌/◌, ◌%◌, true, false, if◌then◌else◌, ◌==◌, nat_lt, ◌*ℤ◌, int_div, int_rem}
-use Rattle.m68k_decode.specs.declared.operand.Size.{Size}
-use Rattle.m68k_decode.specs.declared.operand.Size.TheVariants.{Word, Long}
+use Rattle.m68k_opcodes.specs.declared.operand.Size.{Size}
+use Rattle.m68k_opcodes.specs.declared.operand.Size.TheVariants.{Word, Long}
 use Rattle.m68k_decode.specs.declared.outcome.Flags.{Flags}
 use Rattle.m68k_decode.specs.declared.outcome.Outcome.{Outcome}
 use Rattle.m68k_decode.specs.Results.{low, is_negative, signed, is_signed, wrapped, outcome, plain}

@@ -1,7 +1,7 @@
 -- The outcomes of sums, differences and comparisons.
 use Rattle.std.specs.Prelude.{ℕ, ◌+◌, ◌-◌, ◌%◌, Bool, true, false, not, ◌&&◌, if◌then◌else◌, ◌==◌, nat_lt, nat_le, ℤ, pos, ◌+ℤ◌, ◌-ℤ◌, int_lt}
-use Rattle.m68k_decode.specs.declared.operand.Size.{Size}
-use Rattle.m68k_decode.specs.declared.operand.Size.TheVariants.{Word}
+use Rattle.m68k_opcodes.specs.declared.operand.Size.{Size}
+use Rattle.m68k_opcodes.specs.declared.operand.Size.TheVariants.{Word}
 use Rattle.m68k_decode.specs.declared.outcome.Flags.{Flags}
 use Rattle.m68k_decode.specs.declared.outcome.Outcome.{Outcome}
 use Rattle.m68k_decode.specs.Results.{span, low, is_negative, signed, is_signed, one_if, outcome}
@@ -34,11 +34,13 @@ difference s a b x = (a + span s - (b + one_if x)) % span s
 -- Z is set where the result is 0 and `zero` is true
 abbrev pub sum_of : Size → ℕ → ℕ → Bool → Bool → Outcome
 sum_of s a b x zero =
-    outcome (sum s a b x) (sum_carries s a b x) (is_negative s (sum s a b x)) (zero && (sum s a b x == 0)) (sum_overflows s a b x) (sum_carries s a b x)
+    outcome (sum s a b x) (sum_carries s a b x) (is_negative s (sum s a b x)) (zero && (sum s a b x == 0))
+    (sum_overflows s a b x) (sum_carries s a b x)
 
 abbrev pub difference_of : Size → ℕ → ℕ → Bool → Bool → Outcome
 difference_of s a b x zero =
-    outcome (difference s a b x) (difference_borrows a b x) (is_negative s (difference s a b x)) (zero && (difference s a b x == 0)) (difference_overflows s a b x) (difference_borrows a b x)
+    outcome (difference s a b x) (difference_borrows a b x) (is_negative s (difference s a b x))
+    (zero && (difference s a b x == 0)) (difference_overflows s a b x) (difference_borrows a b x)
 
 -- ---- the operations
 

@@ -1,23 +1,19 @@
-//! The MC68000's opcodes, its clocks, and the types and definitions that the processor's crates share.
+//! The types and definitions that the processor's crates share: registers, places, results, exceptions; with the
+//! opcodes and their clocks.
 #![tactic(auto)]
 
-mod class;
-mod fields;
-pub mod instr;
-pub mod opcode;
-pub mod operand;
 pub mod outcome;
+pub mod place;
 pub mod regs;
-pub mod timing;
 pub mod trap;
+pub mod under;
 
-pub use instr::Instr;
-pub use opcode::decode;
-pub use operand::{Mode, Place68, Size};
+pub use m68k_opcodes::{Instr, Mode, Size, clocks, decode, ea};
 pub use outcome::{Flags, Outcome};
+pub use place::Place68;
 pub use regs::CpuRegs;
-pub use timing::clocks;
 pub use trap::Trap;
+pub use under::Under;
 
 #[cfg(test)]
 mod tests;

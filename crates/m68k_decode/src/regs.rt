@@ -29,6 +29,7 @@ impl CpuRegs {
     }
 
     /// Data register `reg`, of which the low three bits count.
+    #[tactic(auto, unfolding(crate::specs::Registers::data_of))]
     pub fn data(&self, reg: u8) -> u32
         ensures { result ≡ data_of self.now reg }
     {
@@ -36,6 +37,7 @@ impl CpuRegs {
     }
 
     /// Address register `reg`, of which the low three bits count; 7 is the active stack pointer.
+    #[tactic(auto, unfolding(crate::specs::Registers::address_of))]
     pub fn address(&self, reg: u8) -> u32
         ensures { result ≡ address_of self.now reg }
     {
@@ -47,6 +49,7 @@ impl CpuRegs {
     }
 
     /// Writes data register `reg`.
+    #[tactic(auto, unfolding(crate::specs::Registers::with_data))]
     pub fn set_data(&mut self, reg: u8, value: u32)
         ensures { self.new ≡ with_data self.old reg value }
     {
@@ -54,6 +57,7 @@ impl CpuRegs {
     }
 
     /// Writes address register `reg`; 7 is the active stack pointer.
+    #[tactic(auto, unfolding(crate::specs::Registers::with_address))]
     pub fn set_address(&mut self, reg: u8, value: u32)
         ensures { self.new ≡ with_address self.old reg value }
     {

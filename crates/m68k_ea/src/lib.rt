@@ -4,8 +4,8 @@
 ghost use Rattle.std.specs.Prelude.{◌≡◌, ◌≤◌, ◌+◌, ◌*◌, ◌%◌, length, slice_index};
 ghost use Rattle.m68k_decode.specs.Places.{extensions, step_of, after_post, after_pre, displaced, index_of, indexed, long_of, immediate_of, place_of, stepped};
 ghost use Rattle.m68k_decode.specs.Registers.{extended_word, extended_byte, address_of, with_address};
-ghost use Rattle.m68k_decode.specs.declared.operand.Place68.TheVariants as P;
-ghost use Rattle.m68k_decode.specs.declared.operand.Mode.TheVariants as M;
+ghost use Rattle.m68k_decode.specs.declared.place.Place68.TheVariants as P;
+ghost use Rattle.m68k_opcodes.specs.declared.operand.Mode.TheVariants as M;
 
 pub use m68k_decode::{CpuRegs, Mode, Place68, Size};
 
@@ -34,6 +34,7 @@ pub fn extension_words(mode: &Mode, size: Size) -> u8
 /// extension words, and `pc` is the address of the first of them, from which the PC-relative modes count. Addresses
 /// keep their 32 bits and wrap. A register number counts by its low three bits, and A7 is the active stack pointer
 /// (M68000 Programmer's Reference Manual, effective addressing).
+#[tactic(auto, unfolding(m68k_decode::specs::Places::place_of, m68k_decode::specs::Places::stepped))]
 pub fn resolve(mode: &Mode, regs: &mut CpuRegs, words: &[u16], pc: u32, size: Size) -> Place68
     requires { extensions mode.now size ≤ length words.now }
     ensures place { result ≡ place_of mode.now regs.old words.now pc size }

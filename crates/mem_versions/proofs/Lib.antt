@@ -1,1 +1,6 @@
+pub mod FilterLaws
+pub mod MemoryLaws
+pub mod OrderLaws
+pub mod PagesLaws
+pub mod SearchLaws
 pub mod WordsLaws

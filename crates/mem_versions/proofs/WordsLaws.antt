@@ -1,6 +1,6 @@
 -- Laws of the words that bytes make.
-use Rattle.std.proofs.Common.{◌≡◌, ℕ, ◌+◌, ◌-◌, ◌*◌, ◌/◌, ◌<◌, ◌≤◌, List, [], ◌∷◌, ◌++◌, length, replicate, take, drop, get_or, ap, ◌∙◌, arith, append_assoc}
-use Rattle.std.proofs.lemmas.List.{take_all, append-nil}
+use Rattle.std.proofs.Common.{◌≡◌, ℕ, ◌+◌, ◌-◌, ◌*◌, ◌/◌, ◌<◌, ◌≤◌, List, [], ◌∷◌, ◌++◌, length, replicate, take, drop, get_or, ap, ◌∙◌, arith, append_assoc, length-append}
+use Rattle.std.proofs.lemmas.List.{take_all, append-nil, length-replicate}
 use Rattle.ocs_base.specs.Memory.{words, memory_of}
 
 -- the words of a text of two bytes and more: its first word, and those of the rest
@@ -31,3 +31,8 @@ memory_of-filled image fits =
     let all : take 262144 (words image) ≡ words image = take_all 262144 (words image) (omega (arith, length-words image)) in
     let count : 262144 - length (words image) ≡ 262144 - length image / 2 = ap (λ (n : ℕ). 262144 - n) (length-words image) in
     ap (λ (xs : List ℕ). xs ++ replicate (262144 - length (words image)) 0) all ∙ ap (λ (n : ℕ). words image ++ replicate n 0) count
+
+pub length-memory_of : (image : List ℕ) → length image ≤ 524288 → length (memory_of image) ≡ 262144
+unfolding memory_of
+length-memory_of image fits =
+    omega (arith, length-append (words image) (replicate (262144 - length image / 2) 0), length-words image, length-replicate {A = ℕ} (262144 - length image / 2) 0)

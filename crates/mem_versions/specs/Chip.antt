@@ -1,11 +1,20 @@
 -- A chip memory as contracts see it, and what its calls make of it.
-use Rattle.std.specs.Prelude.{ℕ, ◌+◌, ◌-◌, ◌*◌, ◌/◌, ◌%◌, ◌^◌, min, Bool, true, false, List, take, drop, slice_index, slice_set}
+use Rattle.std.specs.Prelude.{ℕ, ◌+◌, ◌-◌, ◌*◌, ◌/◌, ◌%◌, ◌^◌, min, Bool, true, false, List, [], ◌∷◌, ◌++◌, take, drop, slice_index, slice_set}
 use Rattle.ocs_base.specs.declared.addr.Addr.{Addr}
+use Rattle.ocs_base.specs.Memory.{memory_of}
+use Rattle.mem_versions.specs.declared.write.Write.{Write}
+use Rattle.mem_versions.specs.MemoryAt.{memory_at, writes_from}
 
 pub record ChipValue : Type 0 where
+  -- the clock of the last cut, 0 before the first
+  pub last : ℕ
+  -- the words at that clock
+  pub base : List ℕ
+  -- the writes of clocks from it on, in order of happening
+  pub writes : List Write
   -- the present words, from address 0 on
   pub words : List ℕ
-  -- the clock of the newest write, 0 before the first
+  -- the clock of the newest write or cut, 0 before the first
   pub newest : ℕ
   -- how many words were read, where the count has not come to stand still
   pub reads : ℕ
@@ -21,13 +30,25 @@ word_at c at = slice_index c.words (word_index at)
 abbrev pub page_of : ChipValue → ℕ → List ℕ
 page_of c number = take 256 (drop (256 * number) c.words)
 
+-- the memory that an image makes at clock 0
+abbrev pub memory_from : List ℕ → ChipValue
+memory_from image =
+    record { last = 0; base = memory_of image; writes = []; words = memory_of image; newest = 0; reads = 0 }
+
 -- the memory after so many more reads: the count stands still at the greatest number of 64 bits
 abbrev pub after_reads : ChipValue → ℕ → ChipValue
 after_reads c count = record c { reads = min (c.reads + count) (2 ^ 64 - 1) }
 
 -- the memory after a write of a word at a clock
 abbrev pub after_write : ChipValue → ℕ → Addr → ℕ → ChipValue
-after_write c now at word = record c { words = slice_set c.words (word_index at) word; newest = now }
+after_write c now at word =
+    let place = word_index at in
+    record c { writes = c.writes ++ record { clock = now; place = place; word = word } ∷ []; words = slice_set c.words place word; newest = now }
+
+-- the memory after a cut at a clock: the writes of that clock stay, and all before it are in the base
+abbrev pub after_cut : ChipValue → ℕ → ChipValue
+after_cut c now =
+    record c { last = now; base = memory_at now c.base c.writes; writes = writes_from now c.writes; newest = now }
 
 -- a word with its high or its low byte replaced
 abbrev pub with_half : ℕ → Bool → ℕ → ℕ

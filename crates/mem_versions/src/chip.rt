@@ -1,41 +1,52 @@
-//! The words of chip memory.
+//! The chip memory: present words, writes since the last cut, and the count of reads.
 
-ghost use Rattle.std.specs.Prelude.{◌≡◌, ◌+◌, ◌*◌, ◌/◌, ◌%◌, ◌<◌, ◌≤◌, ◌++◌, length, IfOk, OnOk, OnErr};
+ghost use Rattle.std.specs.Prelude.{◌≡◌, ◌+◌, ◌*◌, ◌/◌, ◌%◌, ◌<◌, ◌≤◌, ◌++◌, length, take, drop, IfOk, OnOk, OnErr, All};
 ghost use Rattle.std.specs.Borrow.{sem};
+ghost use Rattle.std.specs.List.Sorted.{IsNonDecreasingBy};
 ghost use Rattle.ocs_base.specs.Memory.{words, memory_of};
+ghost use Rattle.mem_versions.specs.declared.write.Write.{Write as WriteValue};
+ghost use Rattle.mem_versions.specs.MemoryAt.{words_after, writes_below, writes_from};
 
+use crate::history::History;
+use crate::pages::{PAGE, PAGES, Pages};
+use crate::view::MemView;
+use crate::write::Write;
 use ocs_base::{Addr, Clock, OutOfMemory};
 use std::alloc::{AllocError, AllocFailed, Global};
 use std::marker::Model;
+use std::mem;
 
 /// How many words the chip memory has.
 const WORDS: usize = 262_144;
 
-/// How many words a page has.
-const PAGE: usize = 256;
-
-/// The chip memory of the machine: 512 KiB as words, from address 0 on. It counts the words that are
-/// read, and the count stands still at the greatest u64.
+/// The chip memory of the machine: 512 KiB as words, from address 0 on, in pages that its views share.
+/// It keeps each write since the last cut, and counts the words that are read; the count stands still
+/// at the greatest u64.
 #[derive(Drop)]
 pub struct Chip {
-    words: Vec<u16>,
+    alloc: Global,
+    words: Pages,
+    base: Pages,
+    writes: Vec<Write>,
+    last: u64,
     newest: u64,
     reads: u64,
 }
 
 impl Model for Chip {
-    ghost use Rattle.std.specs.Prelude.{◌≡◌, length};
     ghost use Rattle.mem_versions.specs.Chip.{ChipValue};
+    ghost use Rattle.mem_versions.specs.Sound.{IsSound};
 
     ghost Value = { ChipValue };
 
-    ghost view = { λ c. record { words = c.words.items; newest = c.newest; reads = c.reads } };
+    ghost view = { λ c. record { last = c.last; base = c.base; writes = c.writes.items; words = c.words; newest = c.newest; reads = c.reads } };
 
-    ghost invariant = { λ c. length c.words.items ≡ 262144 };
+    ghost invariant = { λ c. IsSound c.base c.words c.writes.items c.newest };
 }
 
 impl Chip {
-    ghost use Rattle.mem_versions.specs.Chip.{word_at, page_of, after_reads, after_write, with_half};
+    ghost use Rattle.mem_versions.specs.Chip.{memory_from, word_at, page_of, after_reads, after_write, after_cut, with_half};
+    ghost use Rattle.mem_versions.specs.MemView.{Covers, word_then, IsViewOf};
     ghost use Rattle.mem_versions.specs.Lending.{CountsPage};
 
     /// The memory that an image makes at clock 0: the bytes of the image from address 0 on, the high
@@ -44,13 +55,16 @@ impl Chip {
         requires even { length image.now % 2 ≡ 0 }
         requires least { 8 ≤ length image.now }
         requires most { length image.now ≤ 524288 }
-        ensures { IfOk result (λ chip. chip ≡ record { words = memory_of image.now; newest = 0; reads = 0 }) }
+        ensures { IfOk result (λ chip. chip ≡ memory_from image.now) }
     {
-        let mut words = Vec::with_capacity(alloc, WORDS)?;
-        push_words(&mut words, image)?;
-        words.resize(WORDS, 0)?;
+        let words = Pages::new(alloc, &image_words(alloc, image)?)?;
+        let base = words.share()?;
         Ok(Chip {
+            alloc,
             words,
+            base,
+            writes: Vec::new(alloc),
+            last: 0,
             newest: 0,
             reads: 0,
         })
@@ -62,7 +76,7 @@ impl Chip {
         ensures reads { self.new ≡ after_reads self.old 1 }
     {
         self.reads = self.reads.saturating_add(1);
-        self.words[at.value as usize / 2]
+        self.words.word(at.value as usize / 2)
     }
 
     /// The present words of a page, from address 512 times its number on; 256 more reads.
@@ -73,8 +87,7 @@ impl Chip {
         ensures size { length result.now ≡ 256 }
     {
         self.reads = self.reads.saturating_add(PAGE as u64);
-        let start = number * PAGE;
-        &self.words[start..start + PAGE]
+        self.words.page(number)
     }
 
     /// How many words were read since the memory was made.
@@ -89,16 +102,26 @@ impl Chip {
         ensures count { result ≡ 1024 }
         ensures size { length self.now.words ≡ 256 * result }
     {
-        self.words.len() / PAGE
+        self.words.count()
     }
 
-    /// Writes a word at a clock. After a refusal all is as before.
+    /// Writes a word at a clock, not below that of the newest write or cut. Every view stays as it was.
+    /// After a refusal all is as before.
     pub fn write(&mut self, now: Clock, at: Addr, word: u16) -> Result<(), OutOfMemory>
         requires { self.old.newest ≤ now.0 }
         ensures ok { OnOk result (self.new ≡ after_write self.old now.0 at word) }
         ensures refused { OnErr result (self.new ≡ self.old) }
     {
-        self.words[at.value as usize / 2] = word;
+        let place = at.value / 2;
+        self.writes.push(Write {
+            clock: now.0,
+            place,
+            word,
+        })?;
+        if let Err(refused) = self.words.set_word(place as usize, word) {
+            self.writes.pop();
+            return Err(refused);
+        }
         self.newest = now.0;
         Ok(())
     }
@@ -116,9 +139,93 @@ impl Chip {
         ensures ok { OnOk result (self.new ≡ after_write self.old now.0 at (with_half (word_at self.old at) high byte)) }
         ensures refused { OnErr result (self.new ≡ self.old) }
     {
-        let word = half_replaced(self.words[at.value as usize / 2], high, byte);
+        let word = half_replaced(self.words.word(at.value as usize / 2), high, byte);
         self.write(now, at, word)
     }
+
+    /// Begins a new version at a clock, not below that of the newest write or cut, and gives a view of
+    /// the clocks from the last cut to this one. The pages are shared and no word is copied, but where a
+    /// write of this very clock was made the writes before it are made again. After a refusal all is as
+    /// before.
+    pub fn cut(&mut self, now: Clock) -> Result<MemView, OutOfMemory>
+        requires { self.old.newest ≤ now.0 }
+        ensures view { IfOk result (IsViewOf self.old now.0) }
+        ensures cut { OnOk result (self.new ≡ after_cut self.old now.0) }
+        ensures refused { OnErr result (self.new ≡ self.old) }
+    {
+        let count = count_below(&self.writes, now.0);
+        let history = History::new(self.alloc, &self.writes[..count])?;
+        let words = pages_after(&self.base, &self.words, &self.writes, count)?;
+        let base = mem::replace(&mut self.base, words);
+        let view = MemView::new(self.last, now.0, base, history);
+        remove_first(&mut self.writes, count);
+        self.last = now.0;
+        self.newest = now.0;
+        Ok(view)
+    }
+
+    /// The word at an address at the start of a clock that a view covers; one more read.
+    pub fn resolve(&mut self, view: &MemView, c: Clock, a: Addr) -> u16
+        requires { Covers view.now c.0 }
+        ensures word { result ≡ word_then view.now c.0 a }
+        ensures reads { self.new ≡ after_reads self.old 1 }
+    {
+        let reads = self.reads.saturating_add(1);
+        self.reads = reads;
+        view.at(c, a)
+    }
+}
+
+/// How many of the writes have clocks below one: they come first.
+fn count_below(writes: &[Write], clock: u64) -> usize
+    requires { IsNonDecreasingBy (λ (write : WriteValue). write.clock) writes.now }
+    ensures within { result ≤ length writes.now }
+    ensures below { take result writes.now ≡ writes_below clock writes.now }
+    ensures from { drop result writes.now ≡ writes_from clock writes.now }
+{
+    writes.partition_point(|write| write.clock < clock)
+}
+
+/// The words after the first writes. Where these are all, they are the present words.
+fn pages_after(
+    base: &Pages,
+    words: &Pages,
+    writes: &[Write],
+    count: usize,
+) -> Result<Pages, OutOfMemory>
+    requires within { count ≤ length writes.now }
+    requires present { words.now ≡ words_after base.now writes.now }
+    requires places { All (λ (write : WriteValue). write.place < 262144) writes.now }
+    ensures { IfOk result (λ after. after ≡ words_after base.now (take count writes.now)) }
+{
+    if count == writes.len() {
+        return words.share();
+    }
+    let mut after = base.share()?;
+    for write in &writes[..count] {
+        after.set_word(write.place as usize, write.word)?;
+    }
+    Ok(after)
+}
+
+/// Removes the first writes.
+fn remove_first(writes: &mut Vec<Write>, count: usize)
+    requires { count ≤ length writes.old.items }
+    ensures { writes.new.items ≡ drop count writes.old.items }
+{
+    writes.rotate_left(count);
+    writes.truncate(writes.len() - count);
+}
+
+/// The words of the chip memory that an image makes.
+fn image_words(alloc: Global, image: &[u8]) -> Result<Vec<u16>, OutOfMemory>
+    requires { length image.now ≤ 524288 }
+    ensures { IfOk result (λ list. list.items ≡ memory_of image.now) }
+{
+    let mut list = Vec::with_capacity(alloc, WORDS)?;
+    push_words(&mut list, image)?;
+    list.resize(WORDS, 0)?;
+    Ok(list)
 }
 
 /// Appends the words that bytes make.

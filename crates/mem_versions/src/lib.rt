@@ -1,9 +1,18 @@
-//! The chip memory: its words, read and written at clocks, and the count of reads.
+//! The chip memory with versions: words read and written at clocks, the count of reads, and views of
+//! the memory at each clock between two cuts.
 #![tactic(auto)]
 
 pub mod chip;
+mod history;
+mod pages;
+pub mod steps;
+pub mod view;
+pub mod write;
 
 pub use chip::Chip;
+pub use steps::Steps;
+pub use view::MemView;
+pub use write::Write;
 
 #[cfg(test)]
 mod tests;

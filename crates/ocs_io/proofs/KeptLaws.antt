@@ -37,49 +37,69 @@ same_called name other e = sym ((bytes_eq-Decides name other).0 e)
 absent : (name : List ℕ) (files : List File) → length files ≤ first name files → get (files_of files) name ≡ None
 unfolding files_of
 absent name [] none = get-empty (slice_cmp nat_cmp) name
-absent name (file ∷ files) none = get_inserted (files_of files) file.name.items file.bytes.items name ∙ ap (λ b. cond b (Some file.bytes.items) (get (files_of files) name)) (sym (named_same name file.name.items)) ∙ step (is_named name file) (absent name files) none
+absent name (file ∷ files) none = get_inserted (files_of files) file.name.items file.bytes.items name
+    ∙ ap (λ b. cond b (Some file.bytes.items) (get (files_of files) name)) (sym (named_same name file.name.items))
+    ∙ step (is_named name file) (absent name files) none
   where
-    step : (b : Bool) → (length files ≤ first name files → get (files_of files) name ≡ None) → suc (length files) ≤ cond (not b) (suc (first name files)) 0 → cond b (Some file.bytes.items) (get (files_of files) name) ≡ None
+    step : (b : Bool) → (length files ≤ first name files → get (files_of files) name ≡ None) → suc (length files) ≤ cond (not b) (suc (first name files)) 0
+        → cond b (Some file.bytes.items) (get (files_of files) name) ≡ None
     step true more le = absurd (omega arith)
     step false more le = more (omega arith)
 
 -- the first file of a name is what the map has there
-found : (name : List ℕ) (files : List File) (d : File) → first name files < length files → get (files_of files) name ≡ Some (get_or files (first name files) d).bytes.items
+found : (name : List ℕ) (files : List File) (d : File) → first name files < length files
+    → get (files_of files) name ≡ Some (get_or files (first name files) d).bytes.items
 unfolding files_of
 found name [] d some = absurd (omega arith)
-found name (file ∷ files) d some = get_inserted (files_of files) file.name.items file.bytes.items name ∙ ap (λ b. cond b (Some file.bytes.items) (get (files_of files) name)) (sym (named_same name file.name.items)) ∙ step (is_named name file) (found name files d) some
+found name (file ∷ files) d some = get_inserted (files_of files) file.name.items file.bytes.items name
+    ∙ ap (λ b. cond b (Some file.bytes.items) (get (files_of files) name)) (sym (named_same name file.name.items))
+    ∙ step (is_named name file) (found name files d) some
   where
-    step : (b : Bool) → (first name files < length files → get (files_of files) name ≡ Some (get_or files (first name files) d).bytes.items) → cond (not b) (suc (first name files)) 0 < suc (length files) → cond b (Some file.bytes.items) (get (files_of files) name) ≡ Some (get_or (file ∷ files) (cond (not b) (suc (first name files)) 0) d).bytes.items
+    step : (b : Bool) → (first name files < length files → get (files_of files) name ≡ Some (get_or files (first name files) d).bytes.items)
+        → cond (not b) (suc (first name files)) 0 < suc (length files)
+        → cond b (Some file.bytes.items) (get (files_of files) name) ≡ Some (get_or (file ∷ files) (cond (not b) (suc (first name files)) 0) d).bytes.items
     step true more lt = refl
     step false more lt = more (omega arith)
 
 -- to change the first file of a name is to insert it
-changed : (name : List ℕ) (files : List File) (file : File) → file.name.items ≡ name → first name files < length files → files_of (set files (first name files) file) ≡ insert (files_of files) name file.bytes.items
+changed : (name : List ℕ) (files : List File) (file : File) → file.name.items ≡ name → first name files < length files
+    → files_of (set files (first name files) file) ≡ insert (files_of files) name file.bytes.items
 unfolding files_of
 changed name [] file is some = absurd (omega arith)
 changed name (top ∷ files) file is some = step (is_named name top) refl (changed name files file is) some
   where
-    step : (b : Bool) → is_named name top ≡ b → (first name files < length files → files_of (set files (first name files) file) ≡ insert (files_of files) name file.bytes.items) → cond (not b) (suc (first name files)) 0 < suc (length files)
-        → files_of (set (top ∷ files) (cond (not b) (suc (first name files)) 0) file) ≡ insert (insert (files_of files) top.name.items top.bytes.items) name file.bytes.items
-    step true e more lt = ap (λ n. insert (files_of files) n file.bytes.items) is ∙ sym (ap (λ n. insert (insert (files_of files) n top.bytes.items) name file.bytes.items) (same_called name top.name.items e) ∙ insert_twice (files_of files) name top.bytes.items file.bytes.items)
-    step false e more lt = ap (λ m. insert m top.name.items top.bytes.items) (more (omega arith)) ∙ insert_other (files_of files) name top.name.items file.bytes.items top.bytes.items (sym (named_same name top.name.items) ∙ e)
+    step : (b : Bool) → is_named name top ≡ b → (first name files < length files
+        → files_of (set files (first name files) file) ≡ insert (files_of files) name file.bytes.items)
+        → cond (not b) (suc (first name files)) 0 < suc (length files)
+        → files_of (set (top ∷ files) (cond (not b) (suc (first name files)) 0) file)
+        ≡ insert (insert (files_of files) top.name.items top.bytes.items) name file.bytes.items
+    step true e more lt = ap (λ n. insert (files_of files) n file.bytes.items) is
+        ∙ sym (ap (λ n. insert (insert (files_of files) n top.bytes.items) name file.bytes.items) (same_called name top.name.items e)
+        ∙ insert_twice (files_of files) name top.bytes.items file.bytes.items)
+    step false e more lt = ap (λ m. insert m top.name.items top.bytes.items) (more (omega arith))
+        ∙ insert_other (files_of files) name top.name.items file.bytes.items top.bytes.items (sym (named_same name top.name.items) ∙ e)
 
 -- to add a file of a name that no file has is to insert it
-added : (name : List ℕ) (files : List File) (file : File) → file.name.items ≡ name → length files ≤ first name files → files_of (files ++ file ∷ []) ≡ insert (files_of files) name file.bytes.items
+added : (name : List ℕ) (files : List File) (file : File) → file.name.items ≡ name → length files ≤ first name files
+    → files_of (files ++ file ∷ []) ≡ insert (files_of files) name file.bytes.items
 unfolding files_of
 added name [] file is none = ap (λ n. insert empty n file.bytes.items) is
 added name (top ∷ files) file is none = step (is_named name top) refl (added name files file is) none
   where
-    step : (b : Bool) → is_named name top ≡ b → (length files ≤ first name files → files_of (files ++ file ∷ []) ≡ insert (files_of files) name file.bytes.items) → suc (length files) ≤ cond (not b) (suc (first name files)) 0
-        → insert (files_of (files ++ file ∷ [])) top.name.items top.bytes.items ≡ insert (insert (files_of files) top.name.items top.bytes.items) name file.bytes.items
+    step : (b : Bool) → is_named name top ≡ b → (length files ≤ first name files
+        → files_of (files ++ file ∷ []) ≡ insert (files_of files) name file.bytes.items) → suc (length files) ≤ cond (not b) (suc (first name files)) 0
+        → insert (files_of (files ++ file ∷ [])) top.name.items top.bytes.items
+        ≡ insert (insert (files_of files) top.name.items top.bytes.items) name file.bytes.items
     step true e more le = absurd (omega arith)
-    step false e more le = ap (λ m. insert m top.name.items top.bytes.items) (more (omega arith)) ∙ insert_other (files_of files) name top.name.items file.bytes.items top.bytes.items (sym (named_same name top.name.items) ∙ e)
+    step false e more le = ap (λ m. insert m top.name.items top.bytes.items) (more (omega arith))
+        ∙ insert_other (files_of files) name top.name.items file.bytes.items top.bytes.items (sym (named_same name top.name.items) ∙ e)
 
 named : (name : List ℕ) (files : List File) (d : File) → first name files < length files → (get_or files (first name files) d).name.items ≡ name
 named name [] d some = absurd (omega arith)
 named name (file ∷ files) d some = step (is_named name file) refl (named name files d) some
   where
-    step : (b : Bool) → is_named name file ≡ b → (first name files < length files → (get_or files (first name files) d).name.items ≡ name) → cond (not b) (suc (first name files)) 0 < suc (length files) → (get_or (file ∷ files) (cond (not b) (suc (first name files)) 0) d).name.items ≡ name
+    step : (b : Bool) → is_named name file ≡ b → (first name files < length files → (get_or files (first name files) d).name.items ≡ name)
+        → cond (not b) (suc (first name files)) 0 < suc (length files) → (get_or (file ∷ files) (cond (not b) (suc (first name files)) 0) d).name.items ≡ name
     step true e more lt = same_called name file.name.items e
     step false e more lt = more (omega arith)
 
@@ -115,7 +135,12 @@ IsPlace-position name files at e =
 
 pub IsNew-position : (name : List ℕ) (files : List File) → position (is_named name) files ≡ None → IsNew name files
 IsNew-position name files e =
-    let past : length files ≤ first name files = omega (arith, ltb-false (position_or_len (is_named name) files) (length files) (unchosen (nat_lt (position_or_len (is_named name) files) (length files)) (position_or_len (is_named name) files) e), first_is name files) in
+    let past : length files ≤ first name files = omega (
+      arith,
+      ltb-false (position_or_len (is_named name) files) (length files)
+          (unchosen (nat_lt (position_or_len (is_named name) files) (length files)) (position_or_len (is_named name) files) e),
+      first_is name files,
+    ) in
     record { absent = absent name files past; added = λ file called. added name files file called past }
 
 -- what the map has, and becomes, at the place that was found
@@ -124,7 +149,8 @@ pub record IsThere (name : List ℕ) (kept : List File) (value : Files) (at : �
   pub changed : (file : File) → file.name.items ≡ old.name.items → files_of (set kept at file) ≡ insert value name file.bytes.items
   pub unchanged : (file : File) → file.name.items ≡ old.name.items → file.bytes.items ≡ old.bytes.items → files_of (set kept at file) ≡ value
 
-pub IsThere-found : (name : List ℕ) (looked kept : List File) (value : Files) (at : ℕ) (old : File) → looked ≡ kept → files_of kept ≡ value → Some at ≡ position (is_named name) looked → old ≡ get_or kept at old → IsThere name kept value at old
+pub IsThere-found : (name : List ℕ) (looked kept : List File) (value : Files) (at : ℕ) (old : File) → looked ≡ kept → files_of kept ≡ value
+    → Some at ≡ position (is_named name) looked → old ≡ get_or kept at old → IsThere name kept value at old
 IsThere-found name looked kept value at old same view is read =
     let place = IsPlace-position name kept at (ap (position (is_named name)) (sym same) ∙ sym is) in
     let called : old.name.items ≡ name = ap (λ f. f.name.items) read ∙ place.named old in
@@ -132,11 +158,16 @@ IsThere-found name looked kept value at old same view is read =
     record {
       bytes = bytes;
       changed = λ file named. place.changed file (named ∙ called) ∙ ap (λ f. insert f name file.bytes.items) view;
-      unchanged = λ file named kept_bytes. place.changed file (named ∙ called) ∙ (λ i. insert (view i) name (kept_bytes i)) ∙ insert_same value name old.bytes.items bytes;
+      unchanged = λ file named kept_bytes. place.changed file (named ∙ called) ∙ (λ i. insert (view i) name (kept_bytes i))
+          ∙ insert_same value name old.bytes.items bytes;
     }
 
-pub IsAbsent-looked : (name : List ℕ) (looked kept : List File) (value : Files) → looked ≡ kept → files_of kept ≡ value → None ≡ position (is_named name) looked → get value name ≡ None
-IsAbsent-looked name looked kept value same view is = ap (λ f. get f name) (sym view) ∙ (IsNew-position name kept (ap (position (is_named name)) (sym same) ∙ sym is)).absent
+pub IsAbsent-looked : (name : List ℕ) (looked kept : List File) (value : Files) → looked ≡ kept → files_of kept ≡ value → None ≡ position (is_named name) looked
+    → get value name ≡ None
+IsAbsent-looked name looked kept value same view is = ap (λ f. get f name) (sym view)
+    ∙ (IsNew-position name kept (ap (position (is_named name)) (sym same) ∙ sym is)).absent
 
-pub with_new : (name : List ℕ) (looked kept : List File) (value : Files) (file : File) → looked ≡ kept → files_of kept ≡ value → None ≡ position (is_named name) looked → file.name.items ≡ name → files_of (kept ++ file ∷ []) ≡ insert value name file.bytes.items
-with_new name looked kept value file same view is called = (IsNew-position name kept (ap (position (is_named name)) (sym same) ∙ sym is)).added file called ∙ ap (λ f. insert f name file.bytes.items) view
+pub with_new : (name : List ℕ) (looked kept : List File) (value : Files) (file : File) → looked ≡ kept → files_of kept ≡ value
+    → None ≡ position (is_named name) looked → file.name.items ≡ name → files_of (kept ++ file ∷ []) ≡ insert value name file.bytes.items
+with_new name looked kept value file same view is called = (IsNew-position name kept (ap (position (is_named name)) (sym same) ∙ sym is)).added file called
+    ∙ ap (λ f. insert f name file.bytes.items) view

@@ -5,3 +5,4 @@ pub mod KeptLaws
 pub mod ShelfLaws
 pub mod SureShelfLaws
 pub mod FolderLaws
+pub mod WholeLaws

@@ -19,7 +19,8 @@ same_name-trans a b c first second = sym ((eq_by_cmp_equiv nat_list_cmp_total).c
 pub same_text : (a b : List ℕ) → same_name a b ≡ true → a ≡ b
 same_text a b e = (bytes_eq-Decides a b).0 (texts_ties a b ∙ e)
 
-pub get_inserted : (files : Files) (name : List ℕ) (bytes : List ℕ) (other : List ℕ) → get (insert files name bytes) other ≡ cond (same_name other name) (Some bytes) (get files other)
+pub get_inserted : (files : Files) (name : List ℕ) (bytes : List ℕ) (other : List ℕ)
+    → get (insert files name bytes) other ≡ cond (same_name other name) (Some bytes) (get files other)
 get_inserted = get-insert nat_list_cmp_total
 
 pub same_files : (f g : Files) → ((name : List ℕ) → get f name ≡ get g name) → f ≡ g
@@ -27,15 +28,18 @@ same_files = same_map nat_list_cmp_total (slice_cmp-IsAntisymmetric nat_cmp-IsAn
 
 -- the later of two insertions at one name counts
 pub insert_twice : (files : Files) (name v w : List ℕ) → insert (insert files name v) name w ≡ insert files name w
-insert_twice files name v w = same_files _ _ (λ other. get_inserted _ name w other ∙ hidden _ _ (same_name other name) (get_inserted files name v other) ∙ sym (get_inserted files name w other))
+insert_twice files name v w = same_files _ _ (λ other. get_inserted _ name w other ∙ hidden _ _ (same_name other name) (get_inserted files name v other)
+    ∙ sym (get_inserted files name w other))
   where
     hidden : (x y : Option (List ℕ)) (b : Bool) → x ≡ cond b (Some v) y → cond b (Some w) x ≡ cond b (Some w) y
     hidden x y true e = refl
     hidden x y false e = e
 
 -- insertions at two names do not touch each other
-pub insert_other : (files : Files) (first second v w : List ℕ) → same_name first second ≡ false → insert (insert files first v) second w ≡ insert (insert files second w) first v
-insert_other files first second v w differ = same_files _ _ (λ other. get_inserted _ second w other ∙ ap (cond (same_name other second) (Some w)) (get_inserted files first v other)
+pub insert_other : (files : Files) (first second v w : List ℕ) → same_name first second ≡ false
+    → insert (insert files first v) second w ≡ insert (insert files second w) first v
+insert_other files first second v w differ = same_files _ _
+    (λ other. get_inserted _ second w other ∙ ap (cond (same_name other second) (Some w)) (get_inserted files first v other)
     ∙ turned (same_name other second) (same_name other first) (get files other) (λ a b. differ_more other a b)
     ∙ sym (get_inserted _ first v other ∙ ap (cond (same_name other first) (Some v)) (get_inserted files second w other)))
   where

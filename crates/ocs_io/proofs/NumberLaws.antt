@@ -6,13 +6,15 @@ use Rattle.std.specs.Str.Parse.{digits_value, digits_value_after}
 use Rattle.std.specs.Char.{digit_value}
 use Rattle.ocs_io.specs.Numbers.{all_bytes, is_digit, hex_digit, hex_text}
 
-pub all_bytes-more : (test : ℕ → Bool) (bytes : List ℕ) (i : ℕ) → i < length bytes → all_bytes test (drop i bytes) ≡ (test (get_or bytes i 0) && all_bytes test (drop (i + 1) bytes))
+pub all_bytes-more : (test : ℕ → Bool) (bytes : List ℕ) (i : ℕ) → i < length bytes
+    → all_bytes test (drop i bytes) ≡ (test (get_or bytes i 0) && all_bytes test (drop (i + 1) bytes))
 all_bytes-more test bytes i h = ap (all_bytes test) (drop_more bytes i 0 h)
 
 pub all_bytes-end : (test : ℕ → Bool) (bytes : List ℕ) (i : ℕ) → length bytes ≤ i → all_bytes test (drop i bytes) ≡ true
 all_bytes-end test bytes i h = ap (all_bytes test) (drop_all i bytes h)
 
-pub value-more : (radix value : ℕ) (bytes : List ℕ) (i : ℕ) → i < length bytes → digits_value_after radix value (drop i bytes) ≡ digits_value_after radix (value * radix + digit_value (get_or bytes i 0)) (drop (i + 1) bytes)
+pub value-more : (radix value : ℕ) (bytes : List ℕ) (i : ℕ) → i < length bytes
+    → digits_value_after radix value (drop i bytes) ≡ digits_value_after radix (value * radix + digit_value (get_or bytes i 0)) (drop (i + 1) bytes)
 value-more radix value bytes i h = ap (digits_value_after radix value) (drop_more bytes i 0 h)
 
 pub value-end : (radix value : ℕ) (bytes : List ℕ) (i : ℕ) → length bytes ≤ i → digits_value_after radix value (drop i bytes) ≡ value
@@ -25,7 +27,8 @@ value-grows value (b ∷ bytes) = omega (arith, value-grows (value * 10 + digit_
 pub ruleset reading = (all_bytes-more, all_bytes-end, value-more, value-end, value-grows)
 
 -- the four digits of a number, less those that are not wanted
-pub last_digits : (digits n a b c d : ℕ) → 2 ≤ digits → digits ≤ 4 → n < 65536 → a ≡ hex_digit (n / 4096) → b ≡ hex_digit (n / 256 % 16) → c ≡ hex_digit (n / 16 % 16) → d ≡ hex_digit (n % 16)
+pub last_digits : (digits n a b c d : ℕ) → 2 ≤ digits → digits ≤ 4 → n < 65536 → a ≡ hex_digit (n / 4096) → b ≡ hex_digit (n / 256 % 16)
+    → c ≡ hex_digit (n / 16 % 16) → d ≡ hex_digit (n % 16)
     → take (4 - (4 - digits)) (drop (4 - digits) (a ∷ b ∷ c ∷ d ∷ [])) ≡ hex_text digits n
 unfolding hex_text
 last_digits zero n a b c d few many fits first second third fourth = absurd (omega arith)
@@ -47,8 +50,10 @@ last_digits (suc (suc (suc (suc zero)))) n a b c d few many fits first second th
 last_digits (suc (suc (suc (suc (suc more))))) n a b c d few many fits first second third fourth = absurd (omega arith)
 
 -- what is answered where a digit more cannot be taken, and at the end
-pub unread_digits : (value : ℕ) (bytes : List ℕ) (i : ℕ) → i < length bytes → digits_value_after 10 value (drop i bytes) ≡ digits_value 10 bytes → all_bytes is_digit (drop i bytes) ≡ all_bytes is_digit bytes
-    → None ≡ (if is_digit (get_or bytes i 0) && nat_lt (value * 10 + digit_value (get_or bytes i 0)) (2 ^ 64) then Some (value * 10 + digit_value (get_or bytes i 0)) else None)
+pub unread_digits : (value : ℕ) (bytes : List ℕ) (i : ℕ) → i < length bytes → digits_value_after 10 value (drop i bytes) ≡ digits_value 10 bytes
+    → all_bytes is_digit (drop i bytes) ≡ all_bytes is_digit bytes
+    → None ≡ (if is_digit (get_or bytes i 0) && nat_lt (value * 10 + digit_value (get_or bytes i 0)) (2 ^ 64)
+    then Some (value * 10 + digit_value (get_or bytes i 0)) else None)
     → None ≡ (if all_bytes is_digit bytes && nat_lt (digits_value 10 bytes) (2 ^ 64) then Some (digits_value 10 bytes) else None)
 unread_digits value bytes i h same good stops =
     let more = value-more 10 value bytes i h in
@@ -56,7 +61,8 @@ unread_digits value bytes i h same good stops =
     let grows = value-grows (value * 10 + digit_value (get_or bytes i 0)) (drop (i + 1) bytes) in
     grind (arith, nat_tests)
 
-pub read_digits : (value : ℕ) (bytes : List ℕ) (i : ℕ) → length bytes ≤ i → value < 2 ^ 64 → digits_value_after 10 value (drop i bytes) ≡ digits_value 10 bytes → all_bytes is_digit (drop i bytes) ≡ all_bytes is_digit bytes
+pub read_digits : (value : ℕ) (bytes : List ℕ) (i : ℕ) → length bytes ≤ i → value < 2 ^ 64 → digits_value_after 10 value (drop i bytes) ≡ digits_value 10 bytes
+    → all_bytes is_digit (drop i bytes) ≡ all_bytes is_digit bytes
     → Some value ≡ (if all_bytes is_digit bytes && nat_lt (digits_value 10 bytes) (2 ^ 64) then Some (digits_value 10 bytes) else None)
 read_digits value bytes i h fits same good =
     let is = value-end 10 value bytes i h in

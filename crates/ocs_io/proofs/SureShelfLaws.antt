@@ -34,12 +34,14 @@ module _ (old new : SureShelfValue) (name : List ℕ) (cap : ℕ) (read : List �
   ReadAnswers-sure (Err NoRoomToRead) is = is.0
 
   pub OnlyReads-sure : (answer : Result (Unit {0}) ReadRefusal) → SureReads old new name cap read answer → OnlyReads (sure_outside old) (sure_outside new)
-  OnlyReads-sure answer is = let e = unmoved answer is in record { files = ap (λ s. Some s.files) e; said = ap (λ s. Some s.said) e; read_faults = omega arith; write_faults = refl; say_faults = refl }
+  OnlyReads-sure answer is = let e = unmoved answer is in
+      record { files = ap (λ s. Some s.files) e; said = ap (λ s. Some s.said) e; read_faults = omega arith; write_faults = refl; say_faults = refl }
 
   pub Rose-read : (answer : Result (Unit {0}) ReadRefusal) → SureReads old new name cap read answer → answer ≡ Err ReadFailed → Rose 0 0
   Rose-read answer is e = absurd (subst (SureReads old new name cap read) e is)
 
-  pub KeepsNames-read : (answer : Result (Unit {0}) ReadRefusal) → SureReads old new name cap read answer → KeepsNames (IsHeld old.files) (IsHeld old.files) (IsHeld new.files) (IsHeld new.files)
+  pub KeepsNames-read : (answer : Result (Unit {0}) ReadRefusal) → SureReads old new name cap read answer
+      → KeepsNames (IsHeld old.files) (IsHeld old.files) (IsHeld new.files) (IsHeld new.files)
   KeepsNames-read answer is = keeps old.files new.files (same old.files new.files (ap (λ s. s.files) (unmoved answer is)))
 
 pub ruleset read_laws = (ReadAnswers-sure, OnlyReads-sure, Rose-read, KeepsNames-read)
@@ -48,30 +50,36 @@ pub Rose-write : (old done new : SureShelfValue) (answer : Result (Unit {0}) Wri
 Rose-write old done new answer is e = absurd (subst (SureWrites old done new) e is)
 
 module _ (old new : SureShelfValue) (name bytes : List ℕ) where
-  pub OnlyWrites-sure : (answer : Result (Unit {0}) WriteRefusal) → SureWrites old (set_file old name bytes) new answer → OnlyWrites (sure_outside old) (sure_outside new)
+  pub OnlyWrites-sure : (answer : Result (Unit {0}) WriteRefusal) → SureWrites old (set_file old name bytes) new answer
+      → OnlyWrites (sure_outside old) (sure_outside new)
   OnlyWrites-sure (Ok done) is = record { said = ap (λ s. Some s.said) is; read_faults = refl; write_faults = omega arith; say_faults = refl }
   OnlyWrites-sure (Err Failed) is = absurd is
   OnlyWrites-sure (Err OutOfMemory) is = record { said = ap (λ s. Some s.said) is; read_faults = refl; write_faults = omega arith; say_faults = refl }
 
-  pub KeepsNames-write : (answer : Result (Unit {0}) WriteRefusal) → SureWrites old (set_file old name bytes) new answer → KeepsNames (IsHeld old.files) (IsHeld old.files) (IsHeld new.files) (IsHeld new.files)
+  pub KeepsNames-write : (answer : Result (Unit {0}) WriteRefusal) → SureWrites old (set_file old name bytes) new answer
+      → KeepsNames (IsHeld old.files) (IsHeld old.files) (IsHeld new.files) (IsHeld new.files)
   KeepsNames-write (Ok done) is = keeps old.files new.files (more old.files new.files name bytes (ap (λ s. s.files) is))
   KeepsNames-write (Err Failed) is = absurd is
   KeepsNames-write (Err OutOfMemory) is = keeps old.files new.files (same old.files new.files (ap (λ s. s.files) is))
 
-pub CreateAnswers-sure : (old new : SureShelfValue) (name : List ℕ) (answer : Result (Unit {0}) WriteRefusal) → SureWrites old (set_file old name []) new answer → CreateAnswers (sure_outside old) (sure_outside new) name answer
+pub CreateAnswers-sure : (old new : SureShelfValue) (name : List ℕ) (answer : Result (Unit {0}) WriteRefusal) → SureWrites old (set_file old name []) new answer
+    → CreateAnswers (sure_outside old) (sure_outside new) name answer
 unfolding with_file
 CreateAnswers-sure old new name (Ok done) is = ap (λ s. Some s.files) is
 CreateAnswers-sure old new name (Err Failed) is = absurd is
 CreateAnswers-sure old new name (Err OutOfMemory) is = ap (λ s. Some s.files) is
 
-pub GrowsIfOk-sure : (old new : SureShelfValue) (name : List ℕ) (answer : Result (Unit {0}) WriteRefusal) → SureWrites old (set_file old name []) new answer → GrowsIfOk (IsHeld new.files name) answer
+pub GrowsIfOk-sure : (old new : SureShelfValue) (name : List ℕ) (answer : Result (Unit {0}) WriteRefusal) → SureWrites old (set_file old name []) new answer
+    → GrowsIfOk (IsHeld new.files name) answer
 GrowsIfOk-sure old new name (Ok done) is = subst (λ f. IsHeld f name) (sym (ap (λ s. s.files) is)) (IsHeld-inserted old.files name [])
 GrowsIfOk-sure old new name (Err Failed) is = tt
 GrowsIfOk-sure old new name (Err OutOfMemory) is = tt
 
 pub ruleset create_laws = (CreateAnswers-sure, GrowsIfOk-sure, OnlyWrites-sure, Rose-write, KeepsNames-write)
 
-pub AppendAnswers-sure : (old new : SureShelfValue) (name piece : List ℕ) (answer : Result (Unit {0}) WriteRefusal) → SureWrites old (set_file old name (unwrap_or (get old.files name) [] ++ piece)) new answer → AppendAnswers (sure_outside old) (sure_outside new) name piece answer
+pub AppendAnswers-sure : (old new : SureShelfValue) (name piece : List ℕ) (answer : Result (Unit {0}) WriteRefusal)
+    → SureWrites old (set_file old name (unwrap_or (get old.files name) [] ++ piece)) new answer
+    → AppendAnswers (sure_outside old) (sure_outside new) name piece answer
 unfolding grown
 AppendAnswers-sure old new name piece (Ok done) is = ap (λ s. Some s.files) is
 AppendAnswers-sure old new name piece (Err Failed) is = absurd is
@@ -79,17 +87,21 @@ AppendAnswers-sure old new name piece (Err OutOfMemory) is = ap (λ s. Some s.fi
 
 pub ruleset append_laws = (AppendAnswers-sure, OnlyWrites-sure, Rose-write, KeepsNames-write)
 
-pub SayAnswers-sure : (old new : SureShelfValue) (piece : List ℕ) (answer : Result (Unit {0}) WriteRefusal) → SureWrites old (after_saying old piece) new answer → SayAnswers (sure_outside old) (sure_outside new) piece answer
+pub SayAnswers-sure : (old new : SureShelfValue) (piece : List ℕ) (answer : Result (Unit {0}) WriteRefusal) → SureWrites old (after_saying old piece) new answer
+    → SayAnswers (sure_outside old) (sure_outside new) piece answer
 SayAnswers-sure old new piece (Ok done) is = ap (λ s. Some s.said) is
 SayAnswers-sure old new piece (Err Failed) is = absurd is
 SayAnswers-sure old new piece (Err OutOfMemory) is = ap (λ s. Some s.said) is
 
-pub OnlySays-sure : (old new : SureShelfValue) (piece : List ℕ) (answer : Result (Unit {0}) WriteRefusal) → SureWrites old (after_saying old piece) new answer → OnlySays (sure_outside old) (sure_outside new)
+pub OnlySays-sure : (old new : SureShelfValue) (piece : List ℕ) (answer : Result (Unit {0}) WriteRefusal) → SureWrites old (after_saying old piece) new answer
+    → OnlySays (sure_outside old) (sure_outside new)
 OnlySays-sure old new piece (Ok done) is = record { files = ap (λ s. Some s.files) is; read_faults = refl; write_faults = refl; say_faults = omega arith }
 OnlySays-sure old new piece (Err Failed) is = absurd is
-OnlySays-sure old new piece (Err OutOfMemory) is = record { files = ap (λ s. Some s.files) is; read_faults = refl; write_faults = refl; say_faults = omega arith }
+OnlySays-sure old new piece (Err OutOfMemory) is = record
+    { files = ap (λ s. Some s.files) is; read_faults = refl; write_faults = refl; say_faults = omega arith }
 
-pub KeepsNames-say : (old new : SureShelfValue) (piece : List ℕ) (answer : Result (Unit {0}) WriteRefusal) → SureWrites old (after_saying old piece) new answer → KeepsNames (IsHeld old.files) (IsHeld old.files) (IsHeld new.files) (IsHeld new.files)
+pub KeepsNames-say : (old new : SureShelfValue) (piece : List ℕ) (answer : Result (Unit {0}) WriteRefusal) → SureWrites old (after_saying old piece) new answer
+    → KeepsNames (IsHeld old.files) (IsHeld old.files) (IsHeld new.files) (IsHeld new.files)
 KeepsNames-say old new piece (Ok done) is = keeps old.files new.files (same old.files new.files (ap (λ s. s.files) is))
 KeepsNames-say old new piece (Err Failed) is = absurd is
 KeepsNames-say old new piece (Err OutOfMemory) is = keeps old.files new.files (same old.files new.files (ap (λ s. s.files) is))

@@ -24,7 +24,8 @@ zero_first (suc n) fits leads = absurd (omega (arith, first_decimal (suc n) (ome
 
 is_decimal-digits : (bytes : List ℕ) → 0 < length bytes → all_bytes is_digit bytes ≡ true → (get_or bytes 0 0 ≡ 48 → length bytes ≡ 1) → is_decimal bytes ≡ true
 is_decimal-digits [] some all leads = absurd (omega arith)
-is_decimal-digits (b ∷ bytes) some all leads = parted (is_digit b) (all_bytes is_digit bytes) (b == 48) (length bytes == 0) all (λ first. le_eq (length bytes) (leads (eqb-true b 48 first)))
+is_decimal-digits (b ∷ bytes) some all leads = parted (is_digit b) (all_bytes is_digit bytes) (b == 48) (length bytes == 0) all
+    (λ first. le_eq (length bytes) (leads (eqb-true b 48 first)))
   where
     parted : (digit digits leading only : Bool) → (digit && digits) ≡ true → (leading ≡ true → only ≡ true) → (digit && digits && (not leading || only)) ≡ true
     parted true true true only all leads = leads refl
@@ -37,7 +38,8 @@ is_decimal-digits (b ∷ bytes) some all leads = parted (is_digit b) (all_bytes 
     le_eq (suc k) e = absurd (omega arith)
 
 is_decimal-decimal : (n : ℕ) → n < 2 ^ 64 → is_decimal (decimal n) ≡ true
-is_decimal-decimal n fits = is_decimal-digits (decimal n) (decimal_nonempty n fits) (digits_decimal (numerals_by_value _ tells_digits) n fits) (zero_first n fits)
+is_decimal-decimal n fits = is_decimal-digits (decimal n) (decimal_nonempty n fits) (digits_decimal (numerals_by_value _ tells_digits) n fits)
+    (zero_first n fits)
 
 -- a number that is written in decimal is read again
 pub dec_of-decimal : (n : ℕ) → n < 2 ^ 64 → dec_of (decimal n) ≡ Some n
@@ -77,7 +79,8 @@ decimal-dec_of bytes n read =
     let is = chosen (is_decimal bytes && nat_lt (digits_value 10 bytes) (2 ^ 64)) (digits_value 10 bytes) n read in
     let tests = both (is_decimal bytes) (nat_lt (digits_value 10 bytes) (2 ^ 64)) is.0 in
     let p = plain bytes tests.0 in
-    sym (decimal-digits_value (numerals_by_value _ tells_digits) bytes p.digits p.some p.leads (ltb-true (digits_value 10 bytes) (2 ^ 64) tests.1)) ∙ ap decimal is.1
+    sym (decimal-digits_value (numerals_by_value _ tells_digits) bytes p.digits p.some p.leads (ltb-true (digits_value 10 bytes) (2 ^ 64) tests.1))
+    ∙ ap decimal is.1
 
 digit_value-hex_digit : (d : ℕ) → d < 16 → digit_value (hex_digit d) ≡ d
 digit_value-hex_digit d small = grind (arith, nat_tests)
@@ -88,7 +91,8 @@ is_lower_hex-hex_digit d small = grind (arith, nat_tests)
 all_lower-hex_text : (digits n : ℕ) → all_bytes is_lower_hex (hex_text digits n) ≡ true
 unfolding hex_text
 all_lower-hex_text zero n = refl
-all_lower-hex_text (suc k) n = ap (λ t. t && all_bytes is_lower_hex (hex_text k n)) (is_lower_hex-hex_digit (n / 16 ^ k % 16) (omega arith)) ∙ all_lower-hex_text k n
+all_lower-hex_text (suc k) n = ap (λ t. t && all_bytes is_lower_hex (hex_text k n)) (is_lower_hex-hex_digit (n / 16 ^ k % 16) (omega arith))
+    ∙ all_lower-hex_text k n
 
 length-hex_text : (digits n : ℕ) → length (hex_text digits n) ≡ digits
 unfolding hex_text
@@ -100,8 +104,20 @@ unfolding hex_text
 value-hex_text zero n many fits = omega arith
 value-hex_text (suc zero) n many fits = omega (arith, digit_value-hex_digit (n / 1 % 16) (omega arith))
 value-hex_text (suc (suc zero)) n many fits = omega (arith, digit_value-hex_digit (n / 1 % 16) (omega arith), digit_value-hex_digit (n / 16 % 16) (omega arith))
-value-hex_text (suc (suc (suc zero))) n many fits = omega (arith, digit_value-hex_digit (n / 1 % 16) (omega arith), digit_value-hex_digit (n / 16 % 16) (omega arith), digit_value-hex_digit (n / 256 % 16) (omega arith))
-value-hex_text (suc (suc (suc (suc zero)))) n many fits = omega (arith, digit_value-hex_digit (n / 1 % 16) (omega arith), digit_value-hex_digit (n / 16 % 16) (omega arith), digit_value-hex_digit (n / 256 % 16) (omega arith), digit_value-hex_digit (n / 4096 % 16) (omega arith))
+value-hex_text (suc (suc (suc zero))) n many fits = omega (
+  arith,
+  digit_value-hex_digit (n / 1 % 16) (omega arith),
+  digit_value-hex_digit (n / 16 % 16) (omega arith),
+  digit_value-hex_digit (n / 256 % 16) (omega arith),
+)
+value-hex_text (suc (suc (suc (suc zero)))) n many fits =
+    omega (
+      arith,
+      digit_value-hex_digit (n / 1 % 16) (omega arith),
+      digit_value-hex_digit (n / 16 % 16) (omega arith),
+      digit_value-hex_digit (n / 256 % 16) (omega arith),
+      digit_value-hex_digit (n / 4096 % 16) (omega arith),
+    )
 value-hex_text (suc (suc (suc (suc (suc more))))) n many fits = absurd (omega arith)
 
 -- a number that is written in hexadecimal digits is read again

@@ -7,3 +7,4 @@ pub mod Shelf
 pub mod Halves
 pub mod SureShelf
 pub mod Folder
+pub mod Whole

@@ -18,9 +18,13 @@ pub record Outside : Type 0 where
   pub write_faults : ℕ
   pub say_faults : ℕ
 
+-- the number after it, where there is one in 64 bits
+abbrev pub next_number : ℕ → ℕ
+next_number n = min (n + 1) (2 ^ 64 - 1)
+
 -- a count rose: it is greater than before, or stands at the greatest number of its type
 abbrev pub Rose : ℕ → ℕ → Type 0
-Rose before now = min (before + 1) (2 ^ 64 - 1) ≤ now
+Rose before now = next_number before ≤ now
 
 -- the file of that name where it is there
 abbrev pub file : Files → List ℕ → Option (List ℕ)

@@ -1,9 +1,9 @@
 -- A place in memory: its files, what was said, and the calls that are to fail.
-use Rattle.std.specs.Prelude.{◌≡◌, ℕ, ◌+◌, ◌-◌, ◌^◌, ◌<◌, ◌≤◌, ◌⊎◌, Bool, true, false, ◌==◌, List, [], ◌++◌, length, min, Some, None, IsSome, unwrap_or, Result, Ok, Err, refl}
+use Rattle.std.specs.Prelude.{◌≡◌, ℕ, ◌^◌, ◌<◌, ◌≤◌, ◌⊎◌, Bool, true, false, ◌==◌, List, [], ◌++◌, length, Some, None, IsSome, unwrap_or, Result, Ok, Err, refl}
 use Rattle.std.specs.List.{list_any}
 use Rattle.std.specs.FinMap.{get, insert}
 use Rattle.std.specs.Coded.{Coded, code_by, coded×, coded_ℕ, coded_list}
-use Rattle.ocs_io.specs.Place.{Files, Outside}
+use Rattle.ocs_io.specs.Place.{Files, Outside, next_number}
 use Rattle.ocs_io.specs.Files.{files_code}
 use Rattle.ocs_io.specs.Halves.{half}
 use Rattle.ocs_io.specs.Answers.{HoldsMore}
@@ -28,16 +28,21 @@ shelf_code =
     code_by (Files × (List ℕ × (ℕ × (ℕ × (ℕ × (ℕ × List ℕ))))))
     (coded× files_code (coded× (coded_list coded_ℕ) (coded× coded_ℕ (coded× coded_ℕ (coded× coded_ℕ (coded× coded_ℕ (coded_list coded_ℕ)))))))
     (λ s. (s.files, (s.said, (s.read_faults, (s.write_faults, (s.say_faults, (s.call, s.failing)))))))
-    (λ t. record { files = t.0; said = t.1.0; read_faults = t.1.1.0; write_faults = t.1.1.1.0; say_faults = t.1.1.1.1.0; call = t.1.1.1.1.1.0; failing = t.1.1.1.1.1.1 })
+    (λ t. record {
+      files = t.0;
+      said = t.1.0;
+      read_faults = t.1.1.0;
+      write_faults = t.1.1.1.0;
+      say_faults = t.1.1.1.1.0;
+      call = t.1.1.1.1.1.0;
+      failing =
+          t.1.1.1.1.1.1;
+    })
     (λ _. refl)
 
 -- what is seen of it from outside: everything
 abbrev pub outside_of : ShelfValue → Outside
 outside_of s = record { files = Some s.files; said = Some s.said; read_faults = s.read_faults; write_faults = s.write_faults; say_faults = s.say_faults }
-
--- the number after it, where there is one in 64 bits
-abbrev pub next_number : ℕ → ℕ
-next_number n = min (n + 1) (2 ^ 64 - 1)
 
 -- the next call is one of those that are to fail
 abbrev pub is_to_fail : ShelfValue → Bool

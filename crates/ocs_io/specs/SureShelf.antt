@@ -15,7 +15,8 @@ pub record SureShelfValue : Type 0 where
   pub said : List ℕ
 
 abbrev pub sure_shelf_code : Coded SureShelfValue
-sure_shelf_code = code_by (Files × List ℕ) (coded× files_code (coded_list coded_ℕ)) (λ s. (s.files, s.said)) (λ t. record { files = t.0; said = t.1 }) (λ _. refl)
+sure_shelf_code = code_by (Files × List ℕ) (coded× files_code (coded_list coded_ℕ)) (λ s. (s.files, s.said)) (λ t. record { files = t.0; said = t.1 })
+    (λ _. refl)
 
 -- what is seen of it from outside: everything, and never a fault
 abbrev pub sure_outside : SureShelfValue → Outside

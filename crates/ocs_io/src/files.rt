@@ -76,7 +76,8 @@ impl FilesInMemory {
         }
     }
 
-    /// Sets a file to these bytes, in place of one that was there. After a refusal all is as before.
+    /// Sets a file to these bytes, in place of one that was there. After a refusal all is as
+    /// before.
     pub fn set(&mut self, name: &[u8], bytes: &[u8]) -> Result<(), OutOfMemory>
         ensures ok { OnOk result (self.new ≡ insert self.old name.now bytes.now) }
         ensures refused { OnErr result (self.new ≡ self.old) }
@@ -95,7 +96,8 @@ impl FilesInMemory {
     /// Appends a piece to a file. After a refusal all is as before.
     pub fn grow(&mut self, name: &[u8], piece: &[u8]) -> Result<(), OutOfMemory>
         requires { IsSome (get self.old name.now) }
-        ensures ok { OnOk result (self.new ≡ insert self.old name.now (unwrap_or (get self.old name.now) [] ++ piece.now)) }
+        ensures ok { OnOk result (self.new
+            ≡ insert self.old name.now (unwrap_or (get self.old name.now) [] ++ piece.now)) }
         ensures refused { OnErr result (self.new ≡ self.old) }
     {
         if let Some(at) = place_of(&self.kept, name) {

@@ -4,8 +4,8 @@ ghost use Rattle.std.specs.Prelude.{◌≡◌, ◌≤◌, [], length, OnOk};
 ghost use Rattle.ocs_io.specs.Folder.{counts_alone};
 
 use crate::place::{Place, ReadRefusal, WriteRefusal};
+use crate::whole::{Refused, read_whole, write_whole};
 use std::fs::OpenOptions;
-use std::io::{Read, Write};
 use std::marker::Model;
 use std::rt::Files;
 use std::{fs, io};
@@ -50,7 +50,10 @@ impl<'a, R: Files + Print> Folder<'a, R> {
 }
 
 impl<'a, R: Files + Print> Place for Folder<'a, R> {
+    ghost use Rattle.ocs_io.specs.Place.{Rose, OnlyReads, OnlyWrites, OnlySays, KeepsNames};
+    ghost use Rattle.ocs_io.specs.Answers.{ReadAnswers, CreateAnswers, AppendAnswers, SayAnswers, GrowsIfOk};
     ghost use Rattle.ocs_io.specs.Shelf.{IsAnyName};
+    ghost use Rattle.ocs_io.specs.Folder.{CountsRead, CountsWrite, CountsSay};
 
     ghost outside = { λ f. f };
 
@@ -58,7 +61,15 @@ impl<'a, R: Files + Print> Place for Folder<'a, R> {
 
     ghost growable = { λ f name. IsAnyName name };
 
-    fn read(&mut self, name: &str, cap: usize, into: &mut Vec<u8>) -> Result<(), ReadRefusal> {
+    fn read(&mut self, name: &str, cap: usize, into: &mut Vec<u8>) -> Result<(), ReadRefusal>
+        requires { into.old.items ≡ [] }
+        ensures counts { CountsRead self.old self.new result }
+        ensures answer { ReadAnswers self.old name.now cap into.new.items result }
+        ensures kept { OnlyReads self.old self.new }
+        ensures cause { result ≡ Err ReadRefusal.Failed
+            → Rose self.old.read_faults self.new.read_faults }
+        ensures names { KeepsNames IsAnyName IsAnyName IsAnyName IsAnyName }
+    {
         let answer = read_file(self.rt, name, cap, into);
         if answer.is_err() {
             into.clear();
@@ -69,7 +80,16 @@ impl<'a, R: Files + Print> Place for Folder<'a, R> {
         answer
     }
 
-    fn create(&mut self, name: &str) -> Result<(), WriteRefusal> {
+    fn create(&mut self, name: &str) -> Result<(), WriteRefusal>
+        ensures counts { CountsWrite self.old self.new result }
+        ensures answer { CreateAnswers self.old self.new name.now result }
+        ensures growable { GrowsIfOk (IsAnyName name.now) result }
+        ensures kept { OnlyWrites self.old self.new }
+        ensures cause { result ≡ Err WriteRefusal.Failed
+            → Rose self.old.write_faults self.new.write_faults }
+        ensures wanting { result ≡ Err WriteRefusal.OutOfMemory → self.new ≡ self.old }
+        ensures names { KeepsNames IsAnyName IsAnyName IsAnyName IsAnyName }
+    {
         if fs::create(self.rt, name).is_err() {
             self.write_faults = self.write_faults.saturating_add(1);
             return Err(WriteRefusal::Failed);
@@ -77,7 +97,15 @@ impl<'a, R: Files + Print> Place for Folder<'a, R> {
         Ok(())
     }
 
-    fn append(&mut self, name: &str, piece: &[u8]) -> Result<(), WriteRefusal> {
+    fn append(&mut self, name: &str, piece: &[u8]) -> Result<(), WriteRefusal>
+        ensures counts { CountsWrite self.old self.new result }
+        ensures answer { AppendAnswers self.old self.new name.now piece.now result }
+        ensures kept { OnlyWrites self.old self.new }
+        ensures cause { result ≡ Err WriteRefusal.Failed
+            → Rose self.old.write_faults self.new.write_faults }
+        ensures wanting { result ≡ Err WriteRefusal.OutOfMemory → self.new ≡ self.old }
+        ensures names { KeepsNames IsAnyName IsAnyName IsAnyName IsAnyName }
+    {
         if append_to_file(self.rt, name, piece).is_err() {
             self.write_faults = self.write_faults.saturating_add(1);
             return Err(WriteRefusal::Failed);
@@ -85,7 +113,15 @@ impl<'a, R: Files + Print> Place for Folder<'a, R> {
         Ok(())
     }
 
-    fn say(&mut self, piece: &[u8]) -> Result<(), WriteRefusal> {
+    fn say(&mut self, piece: &[u8]) -> Result<(), WriteRefusal>
+        ensures counts { CountsSay self.old self.new result }
+        ensures answer { SayAnswers self.old self.new piece.now result }
+        ensures kept { OnlySays self.old self.new }
+        ensures cause { result ≡ Err WriteRefusal.Failed
+            → Rose self.old.say_faults self.new.say_faults }
+        ensures wanting { result ≡ Err WriteRefusal.OutOfMemory → self.new ≡ self.old }
+        ensures names { KeepsNames IsAnyName IsAnyName IsAnyName IsAnyName }
+    {
         if write_whole(&mut io::writer(self.rt), piece).is_err() {
             self.say_faults = self.say_faults.saturating_add(1);
             return Err(WriteRefusal::Failed);
@@ -94,11 +130,7 @@ impl<'a, R: Files + Print> Place for Folder<'a, R> {
     }
 }
 
-/// The system refused.
-#[derive(Clone, Copy)]
-struct Refused;
-
-/// Reads a file of at most `cap` bytes into the empty `into`.
+/// Opens a file, and reads it whole into the empty `into` if it has at most `cap` bytes.
 fn read_file<R: Files>(
     rt: &R,
     name: &str,
@@ -111,28 +143,7 @@ fn read_file<R: Files>(
     let Ok(mut file) = fs::open(rt, name) else {
         return Err(ReadRefusal::Failed);
     };
-    fill(&mut file, cap, into)
-}
-
-/// Reads until the end, but no more than one byte past `cap`.
-fn fill<F: Read>(file: &mut F, cap: usize, into: &mut Vec<u8>) -> Result<(), ReadRefusal>
-    requires { into.old.items ≡ [] }
-    ensures { OnOk result (length into.new.items ≤ cap) }
-{
-    let mut buffer = [0u8; 4096];
-    while into.len() <= cap {
-        let room = (cap - into.len()).saturating_add(1).min(buffer.len());
-        let Ok(count) = file.read(&mut buffer[..room]) else {
-            return Err(ReadRefusal::Failed);
-        };
-        if count == 0 {
-            return Ok(());
-        }
-        if into.extend_from_slice(&buffer[..count]).is_err() {
-            return Err(ReadRefusal::OutOfMemory);
-        }
-    }
-    Err(ReadRefusal::TooLong)
+    read_whole(&mut file, cap, into)
 }
 
 /// Opens a file that is there, and writes a piece at its end.
@@ -143,16 +154,4 @@ fn append_to_file<R: Files>(rt: &R, name: &str, piece: &[u8]) -> Result<(), Refu
         return Err(Refused);
     };
     write_whole(&mut file, piece)
-}
-
-/// Writes all of a piece.
-fn write_whole<W: Write>(writer: &mut W, piece: &[u8]) -> Result<(), Refused> {
-    let mut rest = piece;
-    while !rest.is_empty() {
-        match writer.write(rest) {
-            Ok(0) | Err(_) => return Err(Refused),
-            Ok(count) => rest = &rest[count..],
-        }
-    }
-    Ok(())
 }

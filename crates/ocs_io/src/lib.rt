@@ -7,6 +7,7 @@ pub mod numbers;
 pub mod place;
 pub mod shelf;
 pub mod sure_shelf;
+mod whole;
 
 pub use folder::Folder;
 pub use numbers::{dec, hex, put_dec, put_hex};

@@ -34,7 +34,8 @@ pub fn hex(bytes: &[u8]) -> Option<u16>
 
 /// Whether a byte is there, and a 0 begins no longer text.
 fn starts_plain(bytes: &[u8]) -> bool
-    ensures { result ≡ (nat_le 1 (length bytes.now) && (not (slice_index bytes.now 0 == 48) || (length bytes.now == 1))) }
+    ensures { result ≡ (nat_le 1 (length bytes.now)
+        && (not (slice_index bytes.now 0 == 48) || (length bytes.now == 1))) }
 {
     match bytes {
         [] => false,
@@ -46,7 +47,9 @@ fn starts_plain(bytes: &[u8]) -> bool
 /// The number that digits write, where they all are digits and it fits.
 #[tactic(auto, using(crate::proofs::NumberLaws::reading))]
 fn digits(bytes: &[u8]) -> Option<u64>
-    ensures { result ≡ (if all_bytes is_digit bytes.now && nat_lt (digits_value 10 bytes.now) (2 ^ 64) then Some (digits_value 10 bytes.now) else None) }
+    ensures { result ≡ (if all_bytes is_digit bytes.now
+        && nat_lt (digits_value 10 bytes.now) (2 ^ 64) then Some (digits_value 10 bytes.now)
+        else None) }
 {
     let mut value = 0;
     for byte in bytes {
@@ -60,7 +63,8 @@ fn digits(bytes: &[u8]) -> Option<u64>
 
 /// A number and one digit more.
 fn with_digit(value: u64, byte: u8) -> Option<u64>
-    ensures { result ≡ (if is_digit byte && nat_lt (value * 10 + digit_value byte) (2 ^ 64) then Some (value * 10 + digit_value byte) else None) }
+    ensures { result ≡ (if is_digit byte && nat_lt (value * 10 + digit_value byte) (2 ^ 64)
+        then Some (value * 10 + digit_value byte) else None) }
 {
     match byte {
         b'0'..=b'9' => value.checked_mul(10)?.checked_add((byte - b'0') as u64),
@@ -72,7 +76,8 @@ fn with_digit(value: u64, byte: u8) -> Option<u64>
 #[tactic(auto, using(crate::proofs::NumberLaws::reading))]
 fn hex_digits(bytes: &[u8]) -> Option<u16>
     requires { length bytes.now ≤ 4 }
-    ensures { result ≡ (if all_bytes is_lower_hex bytes.now then Some (digits_value 16 bytes.now) else None) }
+    ensures { result ≡ (if all_bytes is_lower_hex bytes.now then Some (digits_value 16 bytes.now)
+        else None) }
 {
     let mut value: u16 = 0;
     for byte in bytes {

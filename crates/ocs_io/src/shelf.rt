@@ -29,7 +29,16 @@ impl Model for Shelf {
 
     ghost coded = { shelf_code };
 
-    ghost view = { λ s. record { files = s.files; said = s.said.items; read_faults = s.read_faults; write_faults = s.write_faults; say_faults = s.say_faults; call = s.call; failing = s.failing.items } };
+    ghost view = { λ s. record {
+      files = s.files;
+      said = s.said.items;
+      read_faults = s.read_faults;
+      write_faults = s.write_faults;
+      say_faults = s.say_faults;
+      call = s.call;
+      failing =
+          s.failing.items;
+    } };
 
     ghost invariant = { λ s. AreCounts s.read_faults s.write_faults s.say_faults };
 }
@@ -39,7 +48,15 @@ impl Shelf {
 
     /// A place without files in which nothing was said.
     pub fn new(alloc: Global) -> Shelf
-        ensures { result ≡ record { files = empty; said = []; read_faults = 0; write_faults = 0; say_faults = 0; call = 0; failing = [] } }
+        ensures { result ≡ record {
+          files = empty;
+          said = [];
+          read_faults = 0;
+          write_faults = 0;
+          say_faults = 0;
+          call = 0;
+          failing = [];
+        } }
     {
         Shelf {
             files: FilesInMemory::new(alloc),
@@ -52,8 +69,8 @@ impl Shelf {
         }
     }
 
-    /// Puts a file there, in place of one of the name. This is no call of the place. After a refusal
-    /// all is as before.
+    /// Puts a file there, in place of one of the name. This is no call of the place. After a
+    /// refusal all is as before.
     pub fn put(&mut self, name: &str, bytes: &[u8]) -> Result<(), OutOfMemory>
         ensures ok { OnOk result (self.new ≡ with_bytes self.old name.now bytes.now) }
         ensures refused { OnErr result (self.new ≡ self.old) }
@@ -62,10 +79,11 @@ impl Shelf {
         Ok(())
     }
 
-    /// Makes the call of that number fail, counted from 0 over all calls of the place; calls past the
-    /// greatest number all have that number. After a refusal all is as before.
+    /// Makes the call of that number fail, counted from 0 over all calls of the place; calls past
+    /// the greatest number all have that number. After a refusal all is as before.
     pub fn fail_at(&mut self, call: u64) -> Result<(), OutOfMemory>
-        ensures ok { OnOk result (self.new ≡ record self.old { failing = self.old.failing ++ call ∷ [] }) }
+        ensures ok { OnOk result (self.new
+            ≡ record self.old { failing = self.old.failing ++ call ∷ [] }) }
         ensures refused { OnErr result (self.new ≡ self.old) }
     {
         self.failing.push(call)?;
@@ -196,8 +214,10 @@ impl Place for Shelf {
         ensures exact { ShelfReads self.old self.new name.now cap into.new.items result }
         ensures answer { ReadAnswers (outside_of self.old) name.now cap into.new.items result }
         ensures kept { OnlyReads (outside_of self.old) (outside_of self.new) }
-        ensures cause { result ≡ Err ReadRefusal.Failed → Rose self.old.read_faults self.new.read_faults }
-        ensures names { KeepsNames IsAnyName (IsHeld self.old.files) IsAnyName (IsHeld self.new.files) }
+        ensures cause { result ≡ Err ReadRefusal.Failed
+            → Rose self.old.read_faults self.new.read_faults }
+        ensures names { KeepsNames IsAnyName (IsHeld self.old.files) IsAnyName
+            (IsHeld self.new.files) }
     {
         self.read_file(name.as_bytes(), cap, into)
     }
@@ -209,8 +229,12 @@ impl Place for Shelf {
         ensures answer { CreateAnswers (outside_of self.old) (outside_of self.new) name.now result }
         ensures growable { GrowsIfOk (IsHeld self.new.files name.now) result }
         ensures kept { OnlyWrites (outside_of self.old) (outside_of self.new) }
-        ensures cause { result ≡ Err WriteRefusal.Failed → Rose self.old.write_faults self.new.write_faults }
-        ensures names { KeepsNames IsAnyName (IsHeld self.old.files) IsAnyName (IsHeld self.new.files) }
+        ensures cause { result ≡ Err WriteRefusal.Failed
+            → Rose self.old.write_faults self.new.write_faults }
+        ensures wanting { result ≡ Err WriteRefusal.OutOfMemory
+            → outside_of self.new ≡ outside_of self.old }
+        ensures names { KeepsNames IsAnyName (IsHeld self.old.files) IsAnyName
+            (IsHeld self.new.files) }
     {
         self.create_file(name.as_bytes())
     }
@@ -220,10 +244,15 @@ impl Place for Shelf {
     fn append(&mut self, name: &str, piece: &[u8]) -> Result<(), WriteRefusal>
         requires { IsHeld self.old.files name.now }
         ensures exact { ShelfAppends self.old self.new name.now piece.now result }
-        ensures answer { AppendAnswers (outside_of self.old) (outside_of self.new) name.now piece.now result }
+        ensures answer { AppendAnswers (outside_of self.old)
+            (outside_of self.new) name.now piece.now result }
         ensures kept { OnlyWrites (outside_of self.old) (outside_of self.new) }
-        ensures cause { result ≡ Err WriteRefusal.Failed → Rose self.old.write_faults self.new.write_faults }
-        ensures names { KeepsNames IsAnyName (IsHeld self.old.files) IsAnyName (IsHeld self.new.files) }
+        ensures cause { result ≡ Err WriteRefusal.Failed
+            → Rose self.old.write_faults self.new.write_faults }
+        ensures wanting { result ≡ Err WriteRefusal.OutOfMemory
+            → outside_of self.new ≡ outside_of self.old }
+        ensures names { KeepsNames IsAnyName (IsHeld self.old.files) IsAnyName
+            (IsHeld self.new.files) }
     {
         self.append_piece(name.as_bytes(), piece)
     }
@@ -234,8 +263,12 @@ impl Place for Shelf {
         ensures exact { ShelfSays self.old self.new piece.now result }
         ensures answer { SayAnswers (outside_of self.old) (outside_of self.new) piece.now result }
         ensures kept { OnlySays (outside_of self.old) (outside_of self.new) }
-        ensures cause { result ≡ Err WriteRefusal.Failed → Rose self.old.say_faults self.new.say_faults }
-        ensures names { KeepsNames IsAnyName (IsHeld self.old.files) IsAnyName (IsHeld self.new.files) }
+        ensures cause { result ≡ Err WriteRefusal.Failed
+            → Rose self.old.say_faults self.new.say_faults }
+        ensures wanting { result ≡ Err WriteRefusal.OutOfMemory
+            → outside_of self.new ≡ outside_of self.old }
+        ensures names { KeepsNames IsAnyName (IsHeld self.old.files) IsAnyName
+            (IsHeld self.new.files) }
     {
         self.say_piece(piece)
     }

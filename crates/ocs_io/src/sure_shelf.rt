@@ -9,8 +9,8 @@ use ocs_base::OutOfMemory;
 use std::alloc::Global;
 use std::marker::Model;
 
-/// A place that keeps its files and what was said in memory. It answers nothing but Ok, `TooLong` and
-/// want of memory.
+/// A place that keeps its files and what was said in memory. It answers nothing but Ok, `TooLong`
+/// and want of memory.
 #[derive(Drop)]
 pub struct SureShelf {
     files: FilesInMemory,
@@ -83,7 +83,9 @@ impl SureShelf {
 
     fn append_piece(&mut self, name: &[u8], piece: &[u8]) -> Result<(), WriteRefusal>
         requires { IsHeld self.old.files name.now }
-        ensures { SureWrites self.old (set_file self.old name.now (unwrap_or (get self.old.files name.now) [] ++ piece.now)) self.new result }
+        ensures { SureWrites self.old
+            (set_file self.old name.now
+            (unwrap_or (get self.old.files name.now) [] ++ piece.now)) self.new result }
     {
         match self.files.grow(name, piece) {
             Ok(()) => Ok(()),
@@ -121,7 +123,8 @@ impl Place for SureShelf {
         ensures answer { ReadAnswers (sure_outside self.old) name.now cap into.new.items result }
         ensures kept { OnlyReads (sure_outside self.old) (sure_outside self.new) }
         ensures cause { result ≡ Err ReadRefusal.Failed → Rose 0 0 }
-        ensures names { KeepsNames (IsHeld self.old.files) (IsHeld self.old.files) (IsHeld self.new.files) (IsHeld self.new.files) }
+        ensures names { KeepsNames (IsHeld self.old.files) (IsHeld self.old.files)
+            (IsHeld self.new.files) (IsHeld self.new.files) }
     {
         self.read_file(name.as_bytes(), cap, into)
     }
@@ -129,11 +132,15 @@ impl Place for SureShelf {
     #[tactic(auto, using(crate::proofs::SureShelfLaws::create_laws))]
     fn create(&mut self, name: &str) -> Result<(), WriteRefusal>
         ensures exact { SureWrites self.old (set_file self.old name.now []) self.new result }
-        ensures answer { CreateAnswers (sure_outside self.old) (sure_outside self.new) name.now result }
+        ensures answer { CreateAnswers (sure_outside self.old)
+            (sure_outside self.new) name.now result }
         ensures growable { GrowsIfOk (IsHeld self.new.files name.now) result }
         ensures kept { OnlyWrites (sure_outside self.old) (sure_outside self.new) }
         ensures cause { result ≡ Err WriteRefusal.Failed → Rose 0 0 }
-        ensures names { KeepsNames (IsHeld self.old.files) (IsHeld self.old.files) (IsHeld self.new.files) (IsHeld self.new.files) }
+        ensures wanting { result ≡ Err WriteRefusal.OutOfMemory
+            → sure_outside self.new ≡ sure_outside self.old }
+        ensures names { KeepsNames (IsHeld self.old.files) (IsHeld self.old.files)
+            (IsHeld self.new.files) (IsHeld self.new.files) }
     {
         self.create_file(name.as_bytes())
     }
@@ -141,11 +148,17 @@ impl Place for SureShelf {
     #[tactic(auto, using(crate::proofs::SureShelfLaws::append_laws))]
     fn append(&mut self, name: &str, piece: &[u8]) -> Result<(), WriteRefusal>
         requires { IsHeld self.old.files name.now }
-        ensures exact { SureWrites self.old (set_file self.old name.now (unwrap_or (get self.old.files name.now) [] ++ piece.now)) self.new result }
-        ensures answer { AppendAnswers (sure_outside self.old) (sure_outside self.new) name.now piece.now result }
+        ensures exact { SureWrites self.old
+            (set_file self.old name.now
+            (unwrap_or (get self.old.files name.now) [] ++ piece.now)) self.new result }
+        ensures answer { AppendAnswers (sure_outside self.old)
+            (sure_outside self.new) name.now piece.now result }
         ensures kept { OnlyWrites (sure_outside self.old) (sure_outside self.new) }
         ensures cause { result ≡ Err WriteRefusal.Failed → Rose 0 0 }
-        ensures names { KeepsNames (IsHeld self.old.files) (IsHeld self.old.files) (IsHeld self.new.files) (IsHeld self.new.files) }
+        ensures wanting { result ≡ Err WriteRefusal.OutOfMemory
+            → sure_outside self.new ≡ sure_outside self.old }
+        ensures names { KeepsNames (IsHeld self.old.files) (IsHeld self.old.files)
+            (IsHeld self.new.files) (IsHeld self.new.files) }
     {
         self.append_piece(name.as_bytes(), piece)
     }
@@ -153,10 +166,14 @@ impl Place for SureShelf {
     #[tactic(auto, using(crate::proofs::SureShelfLaws::say_laws))]
     fn say(&mut self, piece: &[u8]) -> Result<(), WriteRefusal>
         ensures exact { SureWrites self.old (after_saying self.old piece.now) self.new result }
-        ensures answer { SayAnswers (sure_outside self.old) (sure_outside self.new) piece.now result }
+        ensures answer { SayAnswers (sure_outside self.old)
+            (sure_outside self.new) piece.now result }
         ensures kept { OnlySays (sure_outside self.old) (sure_outside self.new) }
         ensures cause { result ≡ Err WriteRefusal.Failed → Rose 0 0 }
-        ensures names { KeepsNames (IsHeld self.old.files) (IsHeld self.old.files) (IsHeld self.new.files) (IsHeld self.new.files) }
+        ensures wanting { result ≡ Err WriteRefusal.OutOfMemory
+            → sure_outside self.new ≡ sure_outside self.old }
+        ensures names { KeepsNames (IsHeld self.old.files) (IsHeld self.old.files)
+            (IsHeld self.new.files) (IsHeld self.new.files) }
     {
         self.say_piece(piece)
     }

@@ -1,8 +1,10 @@
 //! Each public call once with ample memory; the numbers and the files are worked by hand.
 
+use crate::whole::{Refused, read_whole, write_whole};
 use crate::*;
+use std::io::{ErrorKind, Read, Write};
 use std::test::Fail;
-use std::{fs, process};
+use std::{fs, io, process};
 
 const GREATEST: &[u8] = b"18446744073709551615";
 
@@ -45,9 +47,10 @@ fn numbers_are_written(rt: HostRuntime) -> Result<(), Fail> {
     put_hex(0x1fe, 3, &mut text)?;
     put_hex(0x0f00, 4, &mut text)?;
     put_hex(0xa, 2, &mut text)?;
+    put_hex(0xf, 3, &mut text)?;
     assert_eq!(rt;
         text.as_slice(),
-        b"n=0184467440737095516151fe0f000a".as_slice()
+        b"n=0184467440737095516151fe0f000a00f".as_slice()
     );
     Ok(())
 }
@@ -141,5 +144,85 @@ fn a_folder_on_a_real_file(rt: HostRuntime) -> Result<(), Fail> {
     assert_eq!(rt; folder.create("/"), Err(WriteRefusal::Failed));
     folder.say(b"")?;
     fs::remove_file(&rt, name)?;
+    Ok(())
+}
+
+/// A stream in memory of which each read and each write moves at most `step` bytes, and that
+/// refuses to hold more than `room`.
+#[derive(Drop)]
+struct Trickle {
+    bytes: Vec<u8>,
+    at: usize,
+    step: usize,
+    room: usize,
+}
+
+impl Read for Trickle {
+    fn read(&mut self, buf: &mut [u8]) -> io::Result<usize> {
+        let rest = self.bytes.get(self.at..).unwrap_or(&[]);
+        let count = buf.len().min(rest.len()).min(self.step);
+        buf[..count].copy_from_slice(&rest[..count]);
+        self.at = self.at.saturating_add(count);
+        Ok(count)
+    }
+}
+
+impl Write for Trickle {
+    fn write(&mut self, buf: &[u8]) -> io::Result<usize> {
+        let count = buf.len().min(self.step);
+        if self.bytes.len().saturating_add(count) > self.room {
+            return Err(io::Error::from(ErrorKind::Other));
+        }
+        match self.bytes.extend_from_slice(&buf[..count]) {
+            Ok(()) => Ok(count),
+            Err(_) => Err(io::Error::from(ErrorKind::OutOfMemory)),
+        }
+    }
+
+    fn flush(&mut self) -> io::Result<()> {
+        Ok(())
+    }
+}
+
+#[test]
+fn short_reads_are_read_on(rt: HostRuntime) -> Result<(), Fail> {
+    for (cap, want) in [
+        (5, Ok(())),
+        (9, Ok(())),
+        (4, Err(ReadRefusal::TooLong)),
+        (0, Err(ReadRefusal::TooLong)),
+    ] {
+        let mut into = Vec::new(rt.alloc());
+        let mut stream = Trickle {
+            bytes: Vec::from_slice(rt.alloc(), b"abcde")?,
+            at: 0,
+            step: 2,
+            room: 0,
+        };
+        assert_eq!(rt; read_whole(&mut stream, cap, &mut into), want, "{cap}");
+        if want.is_ok() {
+            assert_eq!(rt; into.as_slice(), b"abcde".as_slice());
+        }
+    }
+    Ok(())
+}
+
+#[test]
+fn short_writes_are_written_on(rt: HostRuntime) -> Result<(), Fail> {
+    for (room, step, want, held) in [
+        (9, 2, Ok(()), b"abcde".as_slice()),
+        (5, 9, Ok(()), b"abcde".as_slice()),
+        (4, 2, Err(Refused), b"abcd".as_slice()),
+        (9, 0, Err(Refused), b"".as_slice()),
+    ] {
+        let mut stream = Trickle {
+            bytes: Vec::new(rt.alloc()),
+            at: 0,
+            step,
+            room,
+        };
+        assert_eq!(rt; write_whole(&mut stream, b"abcde"), want, "{room} {step}");
+        assert_eq!(rt; stream.bytes.as_slice(), held);
+    }
     Ok(())
 }

@@ -7,7 +7,7 @@ use Rattle.serial_model.specs.Serial.{state_at}
 use Rattle.serial_model.specs.State.{State}
 use Rattle.serial_model.specs.declared.bus.SideAsk.TheVariants as S
 use Rattle.serial_model.specs.Events.{due_events, event_lines}
-use Rattle.serial_model.specs.Laws.{made_in, step_in}
+use Rattle.serial_model.specs.Laws.{made_in, picture_step}
 use Rattle.serial_model.specs.Made.{lines_of}
 use Rattle.serial_model.specs.Tick.{tick, start_clock, answer_state, before_access}
 use Rattle.serial_model.proofs.NextLaws.{shown_next, trace_next}
@@ -27,7 +27,7 @@ Extends-trans xs ys zs first second = record {
 }
 
 pub shown-tick : (events : List At) (s : State) → Extends s.shown (tick Pal events s).shown
-shown-tick events s = record { more = (step_in Pal events s).bytes; is = shown_next Pal events s }
+shown-tick events s = record { more = (picture_step Pal events s).bytes; is = shown_next Pal events s }
 
 pub trace-tick : (events : List At) (s : State) → Extends s.trace (tick Pal events s).trace
 trace-tick events s =

@@ -1,14 +1,15 @@
 -- The last load that has started, looked for from the end of the list.
-use Rattle.std.proofs.Common.{◌≡◌, ℕ, ◌+◌, ◌-◌, ◌*◌, ◌/◌, ◌%◌, ◌^◌, ◌≤◌, ◌<◌, zero, bit_and, List, [], ◌∷◌, ◌++◌, Bool, true, false, Option, None, Some, length, take, drop, get_or, sym, ◌∙◌, ap, nat_le, suc, arith}
+use Rattle.std.proofs.Common.{◌≡◌, ℕ, ◌+◌, ◌-◌, ◌*◌, ◌/◌, ◌%◌, ◌^◌, ◌≤◌, ◌<◌, zero, bit_and, List, [], ◌∷◌, ◌++◌, Bool, true, false, Option, None, Some, length, take, drop, get_or, sym, ◌∙◌, ap, nat_le, suc, refl, arith}
 use Rattle.std.specs.Bool.{if◌then◌else◌}
 use Rattle.std.specs.Option.{option_map, unwrap_or}
 use Rattle.std.specs.Prelude.{slice_index}
 use Rattle.std.proofs.lemmas.Nat.Bits.{and_high}
+use Rattle.std.proofs.Math.Pow.{pow_mono}
 use Rattle.std.proofs.Math.Seq.{drop-cons}
 use Rattle.std.proofs.lemmas.List.{take-append-drop}
 use Rattle.std.proofs.lemmas.Bool.Decides.{nat_tests}
 use Rattle.planes.specs.declared.load.Load.{Load}
-use Rattle.planes.specs.PlaneBit.{start_of, shown_load, word_bit, load_bit, plane_bit}
+use Rattle.planes.specs.PlaneBit.{start_of, shown_load, word_bit, load_bit, plane_bit, all_bits}
 use Rattle.planes.proofs.Showing.{later, shown-append, one_there}
 
 at_place : (loads : List Load) (i : ℕ) (d e : Load) → i < length loads → e ≡ get_or loads i d →
@@ -76,3 +77,44 @@ pub whole : (a b c d e f count : ℕ) → 6 ≤ count →
     ≡ (if nat_le 1 count then a else 0) + 2 * (if nat_le 2 count then b else 0) + 4 * (if nat_le 3 count then c else 0)
     + 8 * (if nat_le 4 count then d else 0) + 16 * (if nat_le 5 count then e else 0) + 32 * (if nat_le 6 count then f else 0)
 whole a b c d e f count h = grind (arith, nat_tests)
+
+-- the bits of the lowest planes are below 2 to their number
+few : (a b c d e f count : ℕ) → a < 2 → b < 2 → c < 2 → d < 2 → e < 2 → f < 2 → count < 6 →
+    (if nat_le 1 count then a else 0) + 2 * (if nat_le 2 count then b else 0) + 4 * (if nat_le 3 count then c else 0)
+    + 8 * (if nat_le 4 count then d else 0) + 16 * (if nat_le 5 count then e else 0) + 32 * (if nat_le 6 count then f else 0)
+    < 2 ^ count
+few a b c d e f zero ha hb hc hd he hf h = omega arith
+few a b c d e f (suc zero) ha hb hc hd he hf h = omega arith
+few a b c d e f (suc (suc zero)) ha hb hc hd he hf h = omega arith
+few a b c d e f (suc (suc (suc zero))) ha hb hc hd he hf h = omega arith
+few a b c d e f (suc (suc (suc (suc zero)))) ha hb hc hd he hf h = omega arith
+few a b c d e f (suc (suc (suc (suc (suc zero))))) ha hb hc hd he hf h = omega arith
+few a b c d e f (suc (suc (suc (suc (suc (suc n)))))) ha hb hc hd he hf h = absurd (omega arith)
+
+pub bits_below_count : (x count : ℕ) (loads : List Load) → all_bits x count loads < 2 ^ count
+unfolding all_bits
+bits_below_count x count loads = by_count (nat_le 6 count) refl
+  where
+    bit : ℕ → ℕ
+    bit p = plane_bit p x loads
+
+    by_count : (t : Bool) → nat_le 6 count ≡ t → all_bits x count loads < 2 ^ count
+    by_count true is =
+        let enough : 6 ≤ count = grind (arith, nat_tests) in
+        let all = whole (bit 1) (bit 2) (bit 3) (bit 4) (bit 5) (bit 6) count enough in
+        omega (
+          arith,
+          all,
+          pow_mono enough,
+          plane_bit-lt 1 x loads,
+          plane_bit-lt 2 x loads,
+          plane_bit-lt 3 x loads,
+          plane_bit-lt 4 x loads,
+          plane_bit-lt 5 x loads,
+          plane_bit-lt 6 x loads,
+        )
+    by_count false is =
+        let less : count < 6 = grind (arith, nat_tests) in
+        few (bit 1) (bit 2) (bit 3) (bit 4) (bit 5) (bit 6) count
+        (plane_bit-lt 1 x loads) (plane_bit-lt 2 x loads) (plane_bit-lt 3 x loads)
+        (plane_bit-lt 4 x loads) (plane_bit-lt 5 x loads) (plane_bit-lt 6 x loads) less

@@ -8,22 +8,22 @@ use Rattle.planes.proofs.Showing.{later, shown-append, one_there, one_not}
 -- lists that show the same loads show the same bits
 pub ShowsSame-shows : (from : ℕ) (a b : List Load) → ShowsLoadsOf from a b → ShowsSame from a b
 unfolding ShowsSame ShowsLoadsOf plane_bit
-ShowsSame-shows from a b same p x h = ap (λ (o : Option Load). unwrap_or (option_map (load_bit p x) o) 0) (same p x h)
+ShowsSame-shows from a b same p x low high h = ap (λ (o : Option Load). unwrap_or (option_map (load_bit p x) o) 0) (same p x h)
 
 pub ShowsSame-refl : (from : ℕ) (a : List Load) → ShowsSame from a a
 unfolding ShowsSame
-ShowsSame-refl from a p x h = refl
+ShowsSame-refl from a p x low high h = refl
 
 pub ShowsSame-trans : (from : ℕ) (a b c : List Load) → ShowsSame from a b → ShowsSame from b c → ShowsSame from a c
 unfolding ShowsSame
-ShowsSame-trans from a b c one two p x h = one p x h ∙ two p x h
+ShowsSame-trans from a b c one two p x low high h = one p x low high h ∙ two p x low high h
 
 -- what stands for a list from one position on does so from a later one on
 pub ShowsSame-later : (from to : ℕ) (a b : List Load) → from ≤ to → ShowsSame from a b → ShowsSame to a b
 unfolding ShowsSame
-ShowsSame-later from to a b le same p x h =
+ShowsSame-later from to a b le same p x low high h =
     let at : from ≤ x = omega arith in
-    same p x at
+    same p x low high at
 
 -- one load more on both sides
 more : (p x : ℕ) (a b : List Load) (load : Load) → plane_bit p x a ≡ plane_bit p x b →
@@ -44,7 +44,8 @@ more p x a b load same false is =
 pub ShowsSame-more : (from : ℕ) (a b : List Load) (load : Load) → ShowsSame from a b →
     ShowsSame from (a ++ load ∷ []) (b ++ load ∷ [])
 unfolding ShowsSame
-ShowsSame-more from a b load same p x h = more p x a b load (same p x h) (nat_le (start_of p load) x) refl
+ShowsSame-more from a b load same p x low high h =
+    more p x a b load (same p x low high h) (nat_le (start_of p load) x) refl
 
 -- what `Loads::load` leaves stands for what the loads before stood for, with the new one
 pub ShowsSame-loaded : (from to : ℕ) (old new loads : List Load) (load : Load) → from ≤ to →
@@ -57,4 +58,12 @@ ShowsSame-loaded from to old new loads load le made stood =
 pub all_bits-same : (from x count : ℕ) (a b : List Load) → ShowsSame from a b → from ≤ x → all_bits x count a ≡ all_bits x count b
 unfolding ShowsSame all_bits
 all_bits-same from x count a b same h =
-    rw (same 1 x h, same 2 x h, same 3 x h, same 4 x h, same 5 x h, same 6 x h)
+    let of : (p : ℕ) → 1 ≤ p → p ≤ 6 → plane_bit p x a ≡ plane_bit p x b = λ p low high. same p x low high h in
+    rw (
+      of 1 (omega arith) (omega arith),
+      of 2 (omega arith) (omega arith),
+      of 3 (omega arith) (omega arith),
+      of 4 (omega arith) (omega arith),
+      of 5 (omega arith) (omega arith),
+      of 6 (omega arith) (omega arith),
+    )

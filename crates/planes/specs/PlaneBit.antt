@@ -57,10 +57,10 @@ all_bits x count loads =
     + 16 * counted count 5 x loads
     + 32 * counted count 6 x loads
 
--- Two lists of loads show the same bit of each plane at each position from one on: the first stands for the second
--- from there on.
+-- Two lists of loads show the same bit of each of the planes 1 to 6 at each position from one on: the first stands for
+-- the second from there on.
 unfoldable pub ShowsSame : ℕ → List Load → List Load → Type 0
-ShowsSame from kept loads = (p x : ℕ) → from ≤ x → plane_bit p x kept ≡ plane_bit p x loads
+ShowsSame from kept loads = (p x : ℕ) → 1 ≤ p → p ≤ 6 → from ≤ x → plane_bit p x kept ≡ plane_bit p x loads
 
 -- the same, where it is even the same load that is shown
 unfoldable pub ShowsLoadsOf : ℕ → List Load → List Load → Type 0

@@ -1,6 +1,6 @@
 //! The loads that a line may still show.
 
-ghost use Rattle.std.specs.Prelude.{◌≡◌, ◌≤◌, ◌<◌, ◌+◌, ◌*◌, ◌∷◌, ◌++◌, []};
+ghost use Rattle.std.specs.Prelude.{◌≡◌, ◌≤◌, ◌<◌, ◌+◌, ◌*◌, ◌^◌, ◌∷◌, ◌++◌, []};
 ghost use Rattle.arrayvec.specs.ArrayVec.{array_vec_len};
 ghost use Rattle.planes.specs.PlaneBit.{ShowsLoadsOf, all_bits};
 
@@ -58,12 +58,13 @@ impl Loads {
         Loads { kept }
     }
 
-    /// Takes in the load of a write to BPL1DAT at clock `h` of the line, with the latches and BPLCON1
-    /// as they are then. Loads come in order of clocks.
+    /// Takes in the load of a write to BPL1DAT at clock `h` of the line, with the latches and
+    /// BPLCON1 as they are then. Any order of clocks is safe; a line's loads come in that order.
     ///
-    /// From position 4h on the planes show what they would show of all the loads that were taken in.
+    /// From position 4h on the planes show what they showed of the loads before, with the new one.
     pub fn load(&mut self, h: u16, latches: &[u16; 6], con1: u16, hires: bool)
-        ensures same { ShowsSame (4 * h) self.new (self.old ++ load_of h latches.now con1 hires ∷ []) }
+        ensures same { ShowsSame (4 * h) self.new
+            (self.old ++ load_of h latches.now con1 hires ∷ []) }
     {
         let load = Load::at(h, latches, con1, hires);
         drop_hidden(&mut self.kept, 4 * h as u32, &load);
@@ -71,11 +72,13 @@ impl Loads {
     }
 }
 
-/// Drops the loads that neither odd nor even planes show from position `from` on, once `load` follows.
+/// Drops the loads that neither odd nor even planes show from position `from` on, once `load`
+/// follows.
 fn drop_hidden(kept: &mut ArrayVec<Load, CAPACITY>, from: u32, load: &Load)
     requires odd { load.now.odd ≤ from + 36 }
     requires even { load.now.even ≤ from + 36 }
-    ensures same { ShowsLoadsOf from (kept.new.items ++ load.now ∷ []) (kept.old.items ++ load.now ∷ []) }
+    ensures same { ShowsLoadsOf from (kept.new.items ++ load.now ∷ [])
+        (kept.old.items ++ load.now ∷ []) }
     ensures room { array_vec_len kept.new < CAPACITY }
 {
     let mut odd = load.odd;
@@ -96,10 +99,10 @@ fn drop_hidden(kept: &mut ArrayVec<Load, CAPACITY>, from: u32, load: &Load)
 /// The bits that the planes show at position `x`, in high-resolution pixels from the line's begin:
 /// plane p is bit p - 1, and planes above `count` show 0.
 ///
-/// Of all the loads of the line this holds at positions not below 4h of the last, in an order that
-/// does not fall.
+/// These are the bits by all loads of the line at every position from 4h of the last load on.
 pub fn plane_bits(l: &Loads, x: u16, count: u8) -> u8
-    ensures { result ≡ all_bits x count l.now }
+    ensures value { result ≡ all_bits x count l.now }
+    ensures few { result < 2 ^ count }
 {
     bits_of_planes(l.kept.as_slice(), x as u32, count)
 }

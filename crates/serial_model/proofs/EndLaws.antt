@@ -11,7 +11,7 @@ use Rattle.ocs_base.specs.declared.script.System.TheVariants.{Pal}
 use Rattle.serial_model.specs.declared.bus.SideAsk.TheVariants as S
 use Rattle.serial_model.specs.declared.picture.Denise.{Denise}
 use Rattle.serial_model.specs.Beam.{IsOnScreen, place_of, next_place, is_visible}
-use Rattle.serial_model.specs.Laws.{HasEnd, FramesAreWhole, step_in, picture_before}
+use Rattle.serial_model.specs.Laws.{HasEnd, FramesAreWhole, picture_step, picture_before}
 use Rattle.serial_model.specs.Outputs.{frame_bytes}
 use Rattle.serial_model.specs.Picture.{pixels, step_of, colour_bytes}
 use Rattle.serial_model.specs.Registers.{is_interlaced}
@@ -100,7 +100,7 @@ bytes-next : (lace : Bool) (b : Beam) → IsOnScreen b
     ≡ (next_place lace b).frame * frame_bytes + bytes_before (next_place lace b).v (next_place lace b).h
 bytes-next lace b on = grind (arith, nat_tests, on.line, on.clock)
 
-step-length : (events : List At) (s : State) → length (step_in Pal events s).bytes ≡ bytes_at s.beam.v s.beam.h
+step-length : (events : List At) (s : State) → length (picture_step Pal events s).bytes ≡ bytes_at s.beam.v s.beam.h
 unfolding step_of
 step-length events s = pixels-length s.beam.v s.beam.h (picture_before events s)
 
@@ -116,7 +116,7 @@ shown_count image script (suc n) =
     let place : Beam = record s.beam { lof = b.beam.lof } in
     let on : IsOnScreen s.beam = on_screen image script n in
     let more : length (tick Pal script.events s).shown ≡ length s.shown + bytes_at s.beam.v s.beam.h =
-    ap (λ l. length l) (shown_next Pal script.events s) ∙ length-append s.shown (step_in Pal script.events s).bytes
+    ap (λ l. length l) (shown_next Pal script.events s) ∙ length-append s.shown (picture_step Pal script.events s).bytes
     ∙ ap (λ k. length s.shown + k) (step-length script.events s) in
     let next : place.frame * frame_bytes + bytes_before place.v place.h + bytes_at place.v place.h
     ≡ (next_place lace place).frame * frame_bytes + bytes_before (next_place lace place).v (next_place lace place).h =

@@ -27,8 +27,8 @@ abbrev pub picture_before : List At → State → Denise
 picture_before events s =
     touch_in_order s.beam.h (word_of s.memory) (touches_of (due_events s.beam events)) (clear_line s.beam s.picture)
 
-abbrev pub step_in : System → List At → State → PictureStep
-step_in system events s = step_of system s.beam.v s.beam.h (picture_before events s)
+abbrev pub picture_step : System → List At → State → PictureStep
+picture_step system events s = step_of system s.beam.v s.beam.h (picture_before events s)
 
 -- memory: what the access stores, and nothing else
 abbrev pub MemoryNext : Type 0
@@ -40,17 +40,17 @@ abbrev pub PictureNext : Type 0
 PictureNext = (system : System) (events : List At) (s : State) →
     (tick system events s).picture
     ≡ touch_if_any s.beam.h (word_of s.memory) (touch_of (made_in system events s))
-    (after_step (step_in system events s) (picture_before events s))
+    (after_step (picture_step system events s) (picture_before events s))
 
 -- the pixel bytes: those of the picture step
 abbrev pub ShownNext : Type 0
 ShownNext = (system : System) (events : List At) (s : State) →
-    (tick system events s).shown ≡ s.shown ++ (step_in system events s).bytes
+    (tick system events s).shown ≡ s.shown ++ (picture_step system events s).bytes
 
 -- the collision bits, where the access does not read them: those after the script's events, and those of the picture step
 abbrev pub ClxNext : Type 0
 ClxNext = (system : System) (events : List At) (s : State) → is_clx_read (made_in system events s) ≡ false →
-    (tick system events s).clx ≡ bit_or (run_script events (start_clock s)).clx (step_in system events s).clx
+    (tick system events s).clx ≡ bit_or (run_script events (start_clock s)).clx (picture_step system events s).clx
 
 -- the trace: the lines of the script's events, and then those of the access
 abbrev pub TraceNext : Type 0

@@ -1,20 +1,15 @@
--- The words of the image, filled up with zeros, are its memory.
-use Rattle.std.proofs.Common.{◌≡◌, ℕ, ◌-◌, List, ◌++◌, length, take, replicate, ap, ◌∙◌}
-use Rattle.ocs_base.specs.Memory.{words, memory_of}
-use Rattle.mem_versions.specs.Chip.{ChipValue}
-use Rattle.mem_versions.proofs.WordsLaws.{memory_of-filled}
+-- The memory of an image is whole, and nothing is written yet.
+use Rattle.std.proofs.Common.{length, ap, sym, ◌∙◌}
+use Rattle.mem_versions.proofs.WordsLaws.{length-memory_of}
+use Rattle.mem_versions.proofs.MemoryLaws.{IsSound-new}
 use Rattle.mem_versions.proofs.chip.Chip.new.Goals as goal
 
-pub returns : goal.returns
-returns c =
-    let image = c.args.image.now in
-    let pushed : c.push_words.new.into.items ≡ words image =
-    c.in_ok-push_words.ensures ∙ ap (λ (before : List ℕ). before ++ words image) c.in_ok-words.ensures.items
-    in
-    let filled : c.resize.new.self.items ≡ take 262144 c.push_words.new.into.items ++ replicate (262144 - length c.push_words.new.into.items) 0 =
-    c.in_ok-resize.ensures.items ∙ ap (λ (n : ℕ). take 262144 c.push_words.new.into.items ++ replicate (262144 - n) 0) c.push_words.new.into.ok.0
-    in
-    let whole : c.resize.new.self.items ≡ memory_of image =
-    filled ∙ ap (λ (xs : List ℕ). take 262144 xs ++ replicate (262144 - length xs) 0) pushed ∙ memory_of-filled image c.requires.most
-    in
-    ap (λ (words : List ℕ). let value : ChipValue = record { words = words; newest = 0; reads = 0 } in value) whole
+pub new-requires : goal.new-requires
+new-requires c =
+    ap length (c.deref.ensures.value ∙ c.in_ok-image_words.ensures) ∙ length-memory_of c.args.image.now c.requires.most
+
+pub invariant_of-result : goal.invariant_of-result
+invariant_of-result c =
+    IsSound-new c.in_ok-base.base c.in_ok-words.words c.new-2.result.items
+    (ap length (c.in_ok-base.ensures ∙ c.in_ok-words.ensures ∙ c.deref.ensures.value ∙ c.in_ok-image_words.ensures) ∙ length-memory_of c.args.image.now c.requires.most)
+    (sym c.in_ok-base.ensures) c.new-2.ensures.items

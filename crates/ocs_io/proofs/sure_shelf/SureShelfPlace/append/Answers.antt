@@ -5,4 +5,5 @@ use Rattle.ocs_io.proofs.sure_shelf.SureShelfPlace.append.Goals as goal
 
 pub returns-clause-names : goal.returns-clause-names
 returns-clause-names c =
-    KeepsNames-write c.args.self.now c.append_piece.new.self c.as_bytes.result.now (unwrap_or (get c.args.self.now.files c.as_bytes.result.now) [] ++ c.args.piece.now) c.append_piece.result c.append_piece.ensures
+    KeepsNames-write c.args.self.now c.append_piece.new.self c.as_bytes.result.now
+    (unwrap_or (get c.args.self.now.files c.as_bytes.result.now) [] ++ c.args.piece.now) c.append_piece.result c.append_piece.ensures

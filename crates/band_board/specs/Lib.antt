@@ -1,0 +1,5 @@
+pub mod View
+pub mod BoardRule
+pub mod Steps
+pub mod Seats
+pub mod Answers

@@ -1,0 +1,239 @@
+//! Fetches, reads, writes, address errors and the end: what the parts of every row are made of.
+
+ghost use Rattle.std.specs.Prelude.{◌≡◌, ◌≤◌, ◌<◌, ◌+◌, ◌*◌, ◌/◌, ◌%◌, true, false, ℕ, Bool};
+ghost use Rattle.m68k_opcodes.specs.declared.operand.Size.TheVariants as S;
+ghost use Rattle.m68k_decode.specs.Access.{Prog, Enter, End};
+ghost use Rattle.m68k_decode.specs.Registers.{word32};
+ghost use Rattle.m68k_decode.specs.Results.{low};
+ghost use Rattle.m68k_decode.specs.Run.{Run, fault, finish, ended, fetch, read, read_word, write, write_word, load, store, merged, address_after, address_before, width_of};
+ghost use Rattle.m68k_exec.specs.declared.state.Context.{Context};
+ghost use Rattle.m68k_exec.specs.Meaning.{is_memory, meaning, run_of, fetched, valued, written};
+
+use crate::state::{Context, Machine, Part, Step, Then, Use};
+use m68k_decode::{CpuRegs, Place68, Size, Trap, Under};
+
+/// An access to an odd address breaks off what is under way.
+#[tactic(auto, unfolding(m68k_decode::specs::Run::fault))]
+pub fn fault(context: &Context, machine: &mut Machine, at: u32, read: bool, program: bool)
+    ensures { meaning context.now machine.new ≡ fault (run_of context.now machine.old) at read program }
+{
+    let pc = machine.regs.pc;
+    machine.regs = context.start;
+    if context.taking {
+        machine.step = Step::Broken {
+            under: Under::Halted,
+        };
+        return;
+    }
+    machine.regs.pc = pc;
+    machine.step = Step::Broken {
+        under: Under::Entry {
+            kind: Trap::AddressError {
+                at,
+                opcode: context.fetched.opcode,
+                read,
+                program,
+                instruction: context.instruction,
+            },
+            ea: 0,
+            taking: true,
+        },
+    };
+}
+
+/// The end of an instruction with its clocks.
+pub fn end(machine: &mut Machine, clocks: u32)
+    ensures { (c : Context) → meaning c machine.new ≡ ended clocks (run_of c machine.old) }
+{
+    machine.step = Step::Ended {
+        clocks,
+        under: Under::Instruction { taking: false },
+    };
+}
+
+/// The end of an instruction, with the clocks of its row.
+#[tactic(auto, unfolding(m68k_decode::specs::Run::finish))]
+pub fn finish(context: &Context, machine: &mut Machine, extra: u32)
+    requires { extra ≤ 63 }
+    ensures { meaning context.now machine.new ≡ finish extra (run_of context.now machine.old) }
+{
+    end(machine, context.fetched.clocks(extra));
+}
+
+/// Asks for the next word of the program.
+#[tactic(auto, unfolding(m68k_decode::specs::Run::fetch, m68k_decode::specs::Run::read_word))]
+pub fn fetch(context: &Context, machine: &mut Machine, part: Part)
+    ensures { meaning context.now machine.new ≡ fetch (run_of context.now machine.old) (fetched part context.now.fetched.instr machine.old.regs.pc) }
+{
+    let pc = machine.regs.pc;
+    if pc & 1 == 1 {
+        fault(context, machine, pc, true, true);
+    } else {
+        machine.step = Step::Fetch { part };
+    }
+}
+
+/// Asks for a value in memory.
+#[tactic(auto, unfolding(m68k_decode::specs::Run::read, m68k_decode::specs::Run::read_word))]
+pub fn read(context: &Context, machine: &mut Machine, size: Size, program: bool, at: u32, into: Use)
+    ensures { meaning context.now machine.new ≡ read (run_of context.now machine.old) size program at (valued into context.now.fetched.instr (run_of context.now machine.old)) }
+{
+    machine.step = match size {
+        Size::Byte => Step::ReadByte { at, into },
+        _ if at & 1 == 1 => {
+            fault(context, machine, at, true, program);
+            return;
+        }
+        Size::Word => Step::ReadWord { at, into },
+        Size::Long => Step::ReadHigh { at, program, into },
+    };
+}
+
+/// Asks for the low word of a long.
+#[tactic(auto, unfolding(m68k_decode::specs::Run::read_word))]
+pub fn read_low(
+    context: &Context,
+    machine: &mut Machine,
+    program: bool,
+    at: u32,
+    high: u16,
+    into: Use,
+)
+    ensures { meaning context.now machine.new ≡ read_word (run_of context.now machine.old) program at (λ l. valued into context.now.fetched.instr (run_of context.now machine.old) (high * 65536 + l)) }
+{
+    if at & 1 == 1 {
+        fault(context, machine, at, true, program);
+    } else {
+        machine.step = Step::ReadLow { at, high, into };
+    }
+}
+
+/// Asks to write a word.
+#[tactic(auto, unfolding(m68k_decode::specs::Run::write_word))]
+pub fn write_word(context: &Context, machine: &mut Machine, at: u32, word: u16, then: Then)
+    ensures { meaning context.now machine.new ≡ write_word (run_of context.now machine.old) at word (written then context.now.fetched.instr (run_of context.now machine.old)) }
+{
+    if at & 1 == 1 {
+        fault(context, machine, at, false, false);
+    } else {
+        machine.step = Step::WriteWord { at, word, then };
+    }
+}
+
+/// Asks to write a value.
+#[tactic(auto, unfolding(m68k_decode::specs::Run::write, m68k_decode::specs::Run::write_word))]
+pub fn write(context: &Context, machine: &mut Machine, size: Size, at: u32, value: u32, then: Then)
+    ensures { meaning context.now machine.new ≡ write (run_of context.now machine.old) size at value (written then context.now.fetched.instr (run_of context.now machine.old)) }
+{
+    machine.step = match size {
+        Size::Byte => Step::WriteByte {
+            at,
+            byte: (value & 0xff) as u16,
+            then,
+        },
+        _ if at & 1 == 1 => {
+            fault(context, machine, at, false, false);
+            return;
+        }
+        Size::Word => Step::WriteWord {
+            at,
+            word: (value & 0xffff) as u16,
+            then,
+        },
+        Size::Long => Step::WriteHigh {
+            at,
+            high: (value >> 16) as u16,
+            low: (value & 0xffff) as u16,
+            then,
+        },
+    };
+}
+
+/// The value in a register or in the instruction, cut to a size.
+#[tactic(auto, unfolding(m68k_decode::specs::Run::load))]
+pub fn held(regs: &CpuRegs, size: Size, place: Place68) -> u32
+    ensures { (t : Run) (program : Bool) (k : ℕ → Prog) → t.regs ≡ regs.now → is_memory place ≡ false → load t size program place k ≡ k result }
+{
+    match place {
+        Place68::Data { reg } => low_part(size, regs.data(reg)),
+        Place68::Address { reg } => low_part(size, regs.address(reg)),
+        Place68::Value { value } => low_part(size, value),
+        Place68::Memory { .. } => 0,
+    }
+}
+
+/// A number cut to a size.
+pub fn low_part(size: Size, number: u32) -> u32
+    ensures { result ≡ low size number }
+{
+    match size {
+        Size::Byte => number & 0xff,
+        Size::Word => number & 0xffff,
+        Size::Long => number,
+    }
+}
+
+/// A data register's number with another low byte, low word or whole.
+#[tactic(auto, unfolding(m68k_decode::specs::Run::merged))]
+pub fn merged(size: Size, old: u32, value: u32) -> u32
+    ensures { result ≡ merged size old value }
+{
+    match size {
+        Size::Byte => old - (old & 0xff) + (value & 0xff),
+        Size::Word => old - (old & 0xffff) + (value & 0xffff),
+        Size::Long => value,
+    }
+}
+
+/// The address behind a byte, word or long.
+pub fn address_after(size: Size, at: u32) -> u32
+    ensures { result ≡ address_after size at }
+{
+    at.wrapping_add(width(size))
+}
+
+/// The address of a byte, word or long before another.
+pub fn address_before(size: Size, at: u32) -> u32
+    ensures { result ≡ address_before size at }
+{
+    at.wrapping_sub(width(size))
+}
+
+/// How many bytes a size has.
+fn width(size: Size) -> u32
+    ensures bytes { result ≡ width_of size }
+    ensures small { result ≤ 4 }
+{
+    match size {
+        Size::Byte => 1,
+        Size::Word => 2,
+        Size::Long => 4,
+    }
+}
+
+/// Stores a result, and ends.
+#[tactic(auto, unfolding(m68k_decode::specs::Run::store))]
+pub fn store(
+    context: &Context,
+    machine: &mut Machine,
+    size: Size,
+    place: Place68,
+    value: u32,
+    clocks: u32,
+)
+    ensures { meaning context.now machine.new ≡ store (run_of context.now machine.old) size place value clocks }
+{
+    match place {
+        Place68::Data { reg } => {
+            let merged = merged(size, machine.regs.data(reg), value);
+            machine.regs.set_data(reg, merged);
+            end(machine, clocks);
+        }
+        Place68::Address { reg } => {
+            machine.regs.set_address(reg, value);
+            end(machine, clocks);
+        }
+        Place68::Value { .. } => end(machine, clocks),
+        Place68::Memory { at } => write(context, machine, size, at, value, Then::End { clocks }),
+    }
+}

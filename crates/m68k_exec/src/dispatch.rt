@@ -1,0 +1,210 @@
+//! What follows an access.
+
+ghost use Rattle.std.specs.Prelude.{◌≡◌, ◌≤◌, ◌<◌, ◌+◌, ◌*◌, ◌/◌, ◌%◌};
+ghost use Rattle.m68k_decode.specs.Access.{Prog};
+ghost use Rattle.m68k_decode.specs.Run.{at_place, moved};
+ghost use Rattle.m68k_decode.specs.Walk.{refused, permitted, execute, opcode_read};
+ghost use Rattle.m68k_exec.specs.Meaning.{meaning, run_of, rest, fetched, valued, written, placed, role_mode, role_size, follow};
+
+use crate::access::{end, fetch, finish, read_low, write_word};
+use crate::entries::{end_reset, handle, push, take_stack};
+use crate::fetched::Fetched;
+use crate::flow::{
+    branch, control, exchange, jump, move_usp, own, own_word, resolve_control, resumed, resuming,
+    returned, returning, system, trap, unlink, unlinked,
+};
+use crate::general::{compute, dest, general, resolve_dest, resolve_source};
+use crate::lists::{gather, loaded, resolve_list, scatter, store_next};
+use crate::state::{Context, Machine, Part, Role, Step, Then, Use};
+use crate::status::needs_supervisor;
+use m68k_decode::{Instr, Trap};
+
+/// An exception in place of the instruction.
+#[tactic(auto, unfolding(m68k_decode::specs::Walk::refused))]
+fn refuse(context: &Context, machine: &mut Machine, kind: Trap)
+    ensures { meaning context.now machine.new ≡ refused kind (run_of context.now machine.old) }
+{
+    machine.regs = context.start;
+    trap(machine, kind);
+}
+
+/// An instruction, after its opcode.
+#[tactic(auto, unfolding(m68k_decode::specs::Walk::permitted))]
+fn permit(context: &Context, machine: &mut Machine)
+    ensures { meaning context.now machine.new ≡ permitted context.now.fetched.instr (run_of context.now machine.old) }
+{
+    match context.fetched.instr {
+        Instr::Movep { .. }
+        | Instr::MovemToMemory { .. }
+        | Instr::MovemToRegisters { .. }
+        | Instr::LinkUnlk { which: 0, .. }
+        | Instr::Dbcc { .. } => own_word(context, machine),
+        Instr::Pea { .. } | Instr::JsrJmp { .. } | Instr::Lea { .. } => control(context, machine),
+        Instr::LinkUnlk { r, .. } => unlink(context, machine, r),
+        Instr::ResetNopStopRte { which } => system(context, machine, which),
+        Instr::RtsTrapvRtr { which } => returning(context, machine, which),
+        Instr::Branch { which, c, d8 } => branch(context, machine, which, c, d8),
+        Instr::MoveUsp { d, r } => {
+            move_usp(&mut machine.regs, d, r);
+            finish(context, machine, 0);
+        }
+        Instr::Exg { x, o, y } => {
+            exchange(&mut machine.regs, x, o, y);
+            finish(context, machine, 0);
+        }
+        Instr::Trap { v } => trap(machine, Trap::Number { v }),
+        Instr::Illegal => refuse(context, machine, Trap::Illegal),
+        Instr::LineA => refuse(context, machine, Trap::LineA),
+        Instr::LineF => refuse(context, machine, Trap::LineF),
+        _ => general(context, machine),
+    }
+}
+
+/// An instruction, if it is not the supervisor's alone.
+#[tactic(auto, unfolding(m68k_decode::specs::Walk::execute))]
+fn execute(context: &Context, machine: &mut Machine)
+    ensures { meaning context.now machine.new ≡ execute context.now.fetched.instr (run_of context.now machine.old) }
+{
+    if needs_supervisor(&context.fetched.instr) && !machine.regs.is_supervisor() {
+        refuse(context, machine, Trap::Privilege);
+    } else {
+        permit(context, machine);
+    }
+}
+
+/// The opcode is read: the context takes it.
+#[tactic(auto, unfolding(m68k_decode::specs::Walk::opcode_read))]
+fn begin_row(context: &mut Context, machine: &mut Machine, opcode: u16)
+    ensures start { context.new.start ≡ context.old.start }
+    ensures walk { meaning context.new machine.new ≡ opcode_read opcode (run_of context.old machine.old) }
+{
+    context.fetched = Fetched::new(opcode);
+    context.taking = false;
+    execute(context, machine);
+}
+
+/// The place of a role is known by its words.
+fn resolve(context: &Context, machine: &mut Machine, role: Role, pc: u32, high: u16, low: u16)
+    ensures { meaning context.now machine.new ≡ at_place (run_of context.now machine.old) (role_mode role context.now.fetched.instr) (role_size role context.now.fetched.instr) pc high low (placed role context.now.fetched.instr) }
+{
+    match role {
+        Role::Source => resolve_source(context, machine, pc, high, low),
+        Role::Dest { value } => resolve_dest(context, machine, value, pc, high, low),
+        Role::Control => resolve_control(context, machine, pc, high, low),
+        Role::List { mask } => resolve_list(context, machine, mask, pc, high, low),
+    }
+}
+
+/// A word of the program is read; `pc` was its address.
+fn take_word(context: &mut Context, machine: &mut Machine, part: Part, pc: u32, word: u16)
+    ensures start { context.new.start ≡ context.old.start }
+    ensures walk { meaning context.new machine.new ≡ fetched part context.old.fetched.instr pc word (run_of context.old machine.old) }
+{
+    match part {
+        Part::Opcode => begin_row(context, machine, word),
+        Part::Own => own(context, machine, word),
+        Part::One { role } => resolve(context, machine, role, pc, word, 0),
+        Part::High { role } => fetch(
+            context,
+            machine,
+            Part::Low {
+                role,
+                pc,
+                high: word,
+            },
+        ),
+        Part::Low { role, pc, high } => resolve(context, machine, role, pc, high, word),
+    }
+}
+
+/// A value is read.
+fn take_value(context: &Context, machine: &mut Machine, into: Use, value: u32)
+    ensures { meaning context.now machine.new ≡ valued into context.now.fetched.instr (run_of context.now machine.old) value }
+{
+    match into {
+        Use::Source => dest(context, machine, value),
+        Use::Old {
+            value: source,
+            place,
+        } => compute(context, machine, source, place, value),
+        Use::Return => returned(context, machine, value),
+        Use::Status => resuming(context, machine, value),
+        Use::Resume { status } => resumed(context, machine, status, value),
+        Use::Unlink => unlinked(context, machine, value),
+        Use::Gather {
+            at,
+            left,
+            value: before,
+        } => {
+            let joined = before.wrapping_mul(0x100).wrapping_add(value);
+            gather(context, machine, at, left, joined);
+        }
+        Use::Load { at, number, left } => loaded(context, machine, at, number, left, value),
+        Use::Handler { clocks } => handle(context, machine, clocks, value),
+        Use::Stack => take_stack(context, machine, value),
+        Use::Begin { ssp } => end_reset(context, machine, ssp, value),
+    }
+}
+
+/// A write is made.
+fn go_on(context: &Context, machine: &mut Machine, then: Then)
+    ensures { meaning context.now machine.new ≡ written then context.now.fetched.instr (run_of context.now machine.old) }
+{
+    match then {
+        Then::End { clocks } => end(machine, clocks),
+        Then::Jump { at } => jump(context, machine, at, 0),
+        Then::Store { at, left } => store_next(context, machine, at, left),
+        Then::Scatter { at, left, value } => scatter(context, machine, at, left, value),
+    }
+}
+
+/// Goes on with the word of an access.
+pub fn resume(context: &mut Context, machine: &mut Machine, word: u16)
+    ensures start { context.new.start ≡ context.old.start }
+    ensures walk { meaning context.new machine.new ≡ follow (meaning context.old machine.old) word }
+{
+    match machine.step {
+        Step::Fetch { part } => {
+            let pc = machine.regs.pc;
+            machine.regs.pc = pc.wrapping_add(2);
+            take_word(context, machine, part, pc, word);
+        }
+        Step::ReadByte { at, into } => {
+            let value = if at & 1 == 1 { word & 0xff } else { word >> 8 };
+            take_value(context, machine, into, u32::from(value));
+        }
+        Step::ReadWord { into, .. } => take_value(context, machine, into, u32::from(word)),
+        Step::ReadHigh { at, program, into } => read_low(
+            context,
+            machine,
+            program,
+            at.wrapping_add(2),
+            word,
+            into,
+        ),
+        Step::ReadLow { high, into, .. } => take_value(
+            context,
+            machine,
+            into,
+            u32::from(high) * 0x1_0000 + u32::from(word),
+        ),
+        Step::WriteByte { then, .. } | Step::WriteWord { then, .. } => go_on(
+            context, machine, then,
+        ),
+        Step::WriteHigh { at, low, then, .. } => write_word(
+            context,
+            machine,
+            at.wrapping_add(2),
+            low,
+            then,
+        ),
+        Step::Push {
+            at,
+            next,
+            kind,
+            ea,
+            ..
+        } => push(context, machine, kind, ea, at, next),
+        Step::Ended { .. } | Step::Broken { .. } | Step::Halted => {}
+    }
+}

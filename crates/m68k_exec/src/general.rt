@@ -1,0 +1,204 @@
+//! The rows with a source, a destination and a result.
+
+ghost use Rattle.std.specs.Prelude.{◌≡◌, ◌≤◌, false};
+ghost use Rattle.m68k_decode.specs.Run.{at_place, load, place, store};
+ghost use Rattle.m68k_decode.specs.RowData.{dest_size, source_size, source_mode, dest_mode};
+ghost use Rattle.m68k_decode.specs.General.{completed, compute, with_dest, dest, with_source, general};
+ghost use Rattle.m68k_exec.specs.Meaning.{meaning, run_of};
+
+use crate::access::{fetch, held, read, store};
+use crate::operation::{operation, status_after, trap, trap_ea};
+use crate::row_data::{
+    constant, count, dest_mode, dest_size, has_dest, has_source, is_program, source_mode,
+    source_size, takes_old, target,
+};
+use crate::state::{Context, Machine, Part, Role, Step, Use};
+use m68k_decode::{Place68, Trap, Under};
+use m68k_ea::{extension_words, resolve};
+
+/// The result is known: it is stored, or an exception begins.
+#[tactic(auto, unfolding(m68k_decode::specs::General::completed))]
+fn complete(
+    context: &Context,
+    machine: &mut Machine,
+    trap: Option<Trap>,
+    place: Place68,
+    value: u32,
+    clocks: u32,
+)
+    ensures { meaning context.now machine.new ≡ completed trap context.now.fetched.instr place value clocks (run_of context.now machine.old) }
+{
+    let instr = context.fetched.instr;
+    if let Some(kind) = trap {
+        machine.step = Step::Broken {
+            under: Under::Entry {
+                kind,
+                ea: trap_ea(&instr),
+                taking: false,
+            },
+        };
+        return;
+    }
+    store(
+        context,
+        machine,
+        dest_size(&instr),
+        target(&instr, place),
+        value,
+        clocks,
+    );
+}
+
+/// Source and old value are known.
+#[tactic(auto, unfolding(m68k_decode::specs::General::compute))]
+pub fn compute(context: &Context, machine: &mut Machine, value: u32, place: Place68, old: u32)
+    ensures { meaning context.now machine.new ≡ compute context.now.fetched.instr value place old (run_of context.now machine.old) }
+{
+    let instr = context.fetched.instr;
+    let sr = machine.regs.sr;
+    let outcome = operation(&instr, value, old, sr);
+    let clocks = context.fetched.clocks(count(&instr, value, sr));
+    machine.regs.sr = status_after(&instr, value, outcome.flags, sr);
+    complete(
+        context,
+        machine,
+        trap(&instr, value, old),
+        place,
+        outcome.value,
+        clocks,
+    );
+}
+
+/// Takes the old value of the destination.
+#[tactic(auto, unfolding(m68k_decode::specs::Run::load))]
+fn load_old(context: &Context, machine: &mut Machine, value: u32, place: Place68)
+    ensures { meaning context.now machine.new ≡ load (run_of context.now machine.old) (dest_size context.now.fetched.instr) false place (λ old. compute context.now.fetched.instr value place old (run_of context.now machine.old)) }
+{
+    let size = dest_size(&context.fetched.instr);
+    match place {
+        Place68::Memory { at } => read(
+            context,
+            machine,
+            size,
+            false,
+            at,
+            Use::Old { value, place },
+        ),
+        _ => {
+            let old = held(&machine.regs, size, place);
+            compute(context, machine, value, place, old);
+        }
+    }
+}
+
+/// The place of the destination is known.
+#[tactic(auto, unfolding(m68k_decode::specs::General::with_dest))]
+pub fn with_dest(context: &Context, machine: &mut Machine, value: u32, place: Place68)
+    ensures { meaning context.now machine.new ≡ with_dest context.now.fetched.instr value place (run_of context.now machine.old) }
+{
+    if takes_old(&context.fetched.instr) {
+        load_old(context, machine, value, place);
+    } else {
+        compute(context, machine, value, place, 0);
+    }
+}
+
+/// Goes on with the words of the destination's mode.
+#[tactic(auto, unfolding(m68k_decode::specs::Run::at_place))]
+pub fn resolve_dest(
+    context: &Context,
+    machine: &mut Machine,
+    value: u32,
+    pc: u32,
+    high: u16,
+    low: u16,
+)
+    ensures { meaning context.now machine.new ≡ at_place (run_of context.now machine.old) (dest_mode context.now.fetched.instr) (dest_size context.now.fetched.instr) pc high low (λ p t. with_dest context.now.fetched.instr value p t) }
+{
+    let mode = dest_mode(&context.fetched.instr);
+    let size = dest_size(&context.fetched.instr);
+    let place = resolve(&mode, &mut machine.regs, &[high, low], pc, size);
+    with_dest(context, machine, value, place);
+}
+
+/// The source is known.
+#[tactic(auto, unfolding(m68k_decode::specs::General::dest, m68k_decode::specs::Run::place))]
+pub fn dest(context: &Context, machine: &mut Machine, value: u32)
+    ensures { meaning context.now machine.new ≡ dest context.now.fetched.instr value (run_of context.now machine.old) }
+{
+    let instr = context.fetched.instr;
+    if !has_dest(&instr) {
+        compute(context, machine, value, Place68::Value { value: 0 }, 0);
+        return;
+    }
+    match extension_words(&dest_mode(&instr), dest_size(&instr)) {
+        0 => {
+            let pc = machine.regs.pc;
+            resolve_dest(context, machine, value, pc, 0, 0);
+        }
+        1 => fetch(
+            context,
+            machine,
+            Part::One {
+                role: Role::Dest { value },
+            },
+        ),
+        _ => fetch(
+            context,
+            machine,
+            Part::High {
+                role: Role::Dest { value },
+            },
+        ),
+    }
+}
+
+/// The place of the source is known.
+#[tactic(auto, unfolding(m68k_decode::specs::General::with_source, m68k_decode::specs::Run::load))]
+pub fn with_source(context: &Context, machine: &mut Machine, place: Place68)
+    ensures { meaning context.now machine.new ≡ with_source context.now.fetched.instr place (run_of context.now machine.old) }
+{
+    let instr = context.fetched.instr;
+    let size = source_size(&instr);
+    match place {
+        Place68::Memory { at } => {
+            let program = is_program(source_mode(&instr));
+            read(context, machine, size, program, at, Use::Source);
+        }
+        _ => {
+            let value = held(&machine.regs, size, place);
+            dest(context, machine, value);
+        }
+    }
+}
+
+/// Goes on with the words of the source's mode.
+#[tactic(auto, unfolding(m68k_decode::specs::Run::at_place))]
+pub fn resolve_source(context: &Context, machine: &mut Machine, pc: u32, high: u16, low: u16)
+    ensures { meaning context.now machine.new ≡ at_place (run_of context.now machine.old) (source_mode context.now.fetched.instr) (source_size context.now.fetched.instr) pc high low (λ p t. with_source context.now.fetched.instr p t) }
+{
+    let mode = source_mode(&context.fetched.instr);
+    let size = source_size(&context.fetched.instr);
+    let place = resolve(&mode, &mut machine.regs, &[high, low], pc, size);
+    with_source(context, machine, place);
+}
+
+/// A row with a source, a destination and a result, after its opcode.
+#[tactic(auto, unfolding(m68k_decode::specs::General::general, m68k_decode::specs::Run::place))]
+pub fn general(context: &Context, machine: &mut Machine)
+    ensures { meaning context.now machine.new ≡ general context.now.fetched.instr (run_of context.now machine.old) }
+{
+    let instr = context.fetched.instr;
+    if !has_source(&instr) {
+        dest(context, machine, constant(&instr));
+        return;
+    }
+    match extension_words(&source_mode(&instr), source_size(&instr)) {
+        0 => {
+            let pc = machine.regs.pc;
+            resolve_source(context, machine, pc, 0, 0);
+        }
+        1 => fetch(context, machine, Part::One { role: Role::Source }),
+        _ => fetch(context, machine, Part::High { role: Role::Source }),
+    }
+}

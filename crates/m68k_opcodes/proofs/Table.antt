@@ -1,0 +1,294 @@
+-- What is computed for each line of opcodes, that is for each first four bits, and what follows from it: the code's way to
+-- take an opcode apart agrees with the table of instructions, and no opcode is in two rows.
+use Rattle.std.proofs.Common.{◌≡◌, ◌≤◌, ◌<◌, ℕ, suc, zero, ◌+◌, ◌-◌, ◌*◌, ◌/◌, ◌%◌, ◌^◌, ◌==◌, bit_and}
+use Rattle.std.proofs.Common.{Bool, true, false, ◌&&◌, if◌then◌else◌, List, [], ◌∷◌, ◌++◌, length}
+use Rattle.std.proofs.Common.{refl, ap, sym, ◌∙◌, subst, inl, inr, get_or, arith, eqb-true}
+use Rattle.std.proofs.lemmas.Bool.{cases_eq, eqb-false}
+use Rattle.std.proofs.lemmas.Nat.{and_shr, and_mask, shr-shr}
+use Rattle.m68k_opcodes.specs.declared.instr.Instr.{Instr}
+use Rattle.m68k_opcodes.specs.Clocks.{Clocks, Always, Counted, Outcomes, Exception}
+use Rattle.m68k_opcodes.specs.Text.{mask, value, fits}
+use Rattle.m68k_opcodes.specs.Row.{Row, no_row, in_row, joined, taking, first, made, taken}
+use Rattle.m68k_opcodes.specs.Table.{groups, rows, decode_of, clocks_at, rows_at}
+use Rattle.m68k_opcodes.specs.Table.{rows_0, rows_move, rows_4, rows_5, rows_6, rows_7, rows_8}
+use Rattle.m68k_opcodes.specs.Table.{rows_9, rows_A, rows_B, rows_C, rows_D, rows_E, rows_F}
+use Rattle.m68k_opcodes.specs.Timing.{timing}
+use Rattle.m68k_opcodes.proofs.Keys.{key, same, same_sound, same_key}
+
+-- ---- the rows of a line
+
+-- A pattern fixes the first digits, and they are those of d: four digits at q = 0, two at q = 2.
+abbrev pub fixes : ℕ → ℕ → Row → Bool
+fixes q d r = if mask r.text / 2 ^ (12 + q) == 65535 / 2 ^ (12 + q) then value r.text / 2 ^ (12 + q) == d else false
+
+abbrev pub all_fix : ℕ → ℕ → List Row → Bool
+all_fix q d [] = true
+all_fix q d (r ∷ rs) = if fixes q d r then all_fix q d rs else false
+
+if_both : (a b : Bool) → (if a then b else false) ≡ true → (a ≡ true) × (b ≡ true)
+if_both true b h = (refl, h)
+if_both false b h = cc
+
+first_digits : (q d : ℕ) (r : Row) (n : ℕ) → fixes q d r ≡ true → n < 65536 → fits r.text n ≡ true → n / 4096 / 2 ^ q ≡ d
+first_digits q d r n fixed below here =
+    let p = if_both (mask r.text / 2 ^ (12 + q) == 65535 / 2 ^ (12 + q)) (value r.text / 2 ^ (12 + q) == d) fixed in
+    let digits : mask r.text / 2 ^ (12 + q) ≡ 65535 / 2 ^ (12 + q) = eqb-true _ _ p.0 in
+    let theirs : value r.text / 2 ^ (12 + q) ≡ d = eqb-true _ _ p.1 in
+    let whole : bit_and n (mask r.text) ≡ value r.text = eqb-true _ _ here in
+    let high : bit_and n (mask r.text) / 2 ^ (12 + q) ≡ bit_and (n / 2 ^ (12 + q)) (mask r.text / 2 ^ (12 + q)) = and_shr n (mask r.text) (12 + q) in
+    let all : bit_and n 65535 / 2 ^ (12 + q) ≡ bit_and (n / 2 ^ (12 + q)) (65535 / 2 ^ (12 + q)) = and_shr n 65535 (12 + q) in
+    let low : bit_and n 65535 ≡ n % 65536 = and_mask n 16 in
+    let kept : n % 65536 ≡ n = omega arith in
+    let shifted : n / 4096 / 2 ^ q ≡ n / 2 ^ (12 + q) = shr-shr n 12 q in
+    let a : n / 2 ^ (12 + q) ≡ bit_and (n / 2 ^ (12 + q)) (65535 / 2 ^ (12 + q)) = ap (λ m. m / 2 ^ (12 + q)) (sym (low ∙ kept)) ∙ all in
+    let b : value r.text / 2 ^ (12 + q) ≡ bit_and (n / 2 ^ (12 + q)) (65535 / 2 ^ (12 + q)) =
+    ap (λ m. m / 2 ^ (12 + q)) (sym whole) ∙ high ∙ ap (λ m. bit_and (n / 2 ^ (12 + q)) m) digits in
+    shifted ∙ a ∙ sym b ∙ theirs
+
+fits_not : (q d : ℕ) (r : Row) (n : ℕ) → fixes q d r ≡ true → n < 65536 → (n / 4096 / 2 ^ q == d) ≡ false → fits r.text n ≡ false
+fits_not q d r n fixed below other =
+    let P : Bool → Type 0 = λ b. fits r.text n ≡ b → b ≡ false in
+    let split : (b : Bool) → P b =
+    (λ b. elim b as P [
+      | true ↦ λ here. absurd (eqb-false _ _ other (first_digits q d r n fixed below here))
+      | false ↦ λ here. refl
+    ]) in
+    split (fits r.text n) refl
+
+in_row_not : (q d : ℕ) (r : Row) (n : ℕ) → fixes q d r ≡ true → n < 65536 → (n / 4096 / 2 ^ q == d) ≡ false → in_row r n ≡ false
+in_row_not q d r n fixed below other = rw (fits_not q d r n fixed below other) refl
+
+takes_none : (q d : ℕ) (rs rest : List Row) (n : ℕ) → all_fix q d rs ≡ true → n < 65536 → (n / 4096 / 2 ^ q == d) ≡ false
+    → taking (rs ++ rest) n ≡ taking rest n
+takes_none q d [] rest n h below other = refl
+takes_none q d (r ∷ rs) rest n h below other =
+    let p = if_both (fixes q d r) (all_fix q d rs) h in
+    rw (in_row_not q d r n p.0 below other) (takes_none q d rs rest n p.1 below other)
+
+-- rows before the same rows
+taking_after : (rs a b : List Row) (n : ℕ) → taking a n ≡ taking b n → taking (rs ++ a) n ≡ taking (rs ++ b) n
+taking_after [] a b n h = h
+taking_after (r ∷ rs) a b n h =
+    let P : Bool → Type 0 = λ t. (if t then r ∷ taking (rs ++ a) n else taking (rs ++ a) n) ≡ (if t then r ∷ taking (rs ++ b) n else taking (rs ++ b) n) in
+    let rest : taking (rs ++ a) n ≡ taking (rs ++ b) n = taking_after rs a b n h in
+    let split : (t : Bool) → P t = (λ t. elim t as P [ true ↦ ap (λ l. r ∷ l) rest | false ↦ rest ]) in
+    split (in_row r n)
+
+-- the first digits that the patterns of each list fix
+pub record Digits : Type 0 where
+  pub q : ℕ
+  pub d : ℕ
+
+abbrev pub Fixed : List Digits → List (List Row) → Type 0
+Fixed [] [] = Unit {0}
+Fixed [] (g ∷ gs) = ⊥
+Fixed (k ∷ ks) [] = ⊥
+Fixed (k ∷ ks) (g ∷ gs) = (all_fix k.q k.d g ≡ true) × Fixed ks gs
+
+-- `count` lists, behind the first `before`
+abbrev pub window : ℕ → ℕ → List (List Row) → List (List Row)
+window before count [] = []
+window zero zero (g ∷ gs) = []
+window zero (suc count) (g ∷ gs) = g ∷ window zero count gs
+window (suc before) count (g ∷ gs) = window before count gs
+
+-- the others begin otherwise than the line
+abbrev pub only : ℕ → ℕ → ℕ → List Digits → Bool
+only line before count [] = true
+only line zero zero (k ∷ ks) = if line / 2 ^ k.q == k.d then false else only line zero zero ks
+only line zero (suc count) (k ∷ ks) = only line zero count ks
+only line (suc before) count (k ∷ ks) = if line / 2 ^ k.q == k.d then false else only line before count ks
+
+if_neither : (a b : Bool) → (if a then false else b) ≡ true → (a ≡ false) × (b ≡ true)
+if_neither true b h = cc
+if_neither false b h = (refl, h)
+
+nothing_left : (ks : List Digits) (gs : List (List Row)) (n : ℕ) → Fixed ks gs → n < 65536 → only (n / 4096) zero zero ks ≡ true → [] ≡ taking (joined gs) n
+nothing_left [] [] n f below h = refl
+nothing_left [] (g ∷ gs) n f below h = absurd f
+nothing_left (k ∷ ks) [] n f below h = absurd f
+nothing_left (k ∷ ks) (g ∷ gs) n f below h =
+    let p = if_neither (n / 4096 / 2 ^ k.q == k.d) (only (n / 4096) zero zero ks) h in
+    nothing_left ks gs n f.1 below p.1 ∙ sym (takes_none k.q k.d g (joined gs) n f.0 below p.0)
+
+taking_of_line : (before count : ℕ) (ks : List Digits) (gs : List (List Row)) (n : ℕ) → Fixed ks gs → n < 65536
+    → only (n / 4096) before count ks ≡ true → taking (joined (window before count gs)) n ≡ taking (joined gs) n
+taking_of_line before count [] [] n f below h = refl
+taking_of_line before count [] (g ∷ gs) n f below h = absurd f
+taking_of_line before count (k ∷ ks) [] n f below h = absurd f
+taking_of_line zero zero (k ∷ ks) (g ∷ gs) n f below h =
+    let p = if_neither (n / 4096 / 2 ^ k.q == k.d) (only (n / 4096) zero zero ks) h in
+    nothing_left ks gs n f.1 below p.1 ∙ sym (takes_none k.q k.d g (joined gs) n f.0 below p.0)
+taking_of_line zero (suc count) (k ∷ ks) (g ∷ gs) n f below h =
+    taking_after g (joined (window zero count gs)) (joined gs) n (taking_of_line zero count ks gs n f.1 below h)
+taking_of_line (suc before) count (k ∷ ks) (g ∷ gs) n f below h =
+    let p = if_neither (n / 4096 / 2 ^ k.q == k.d) (only (n / 4096) before count ks) h in
+    taking_of_line before count ks gs n f.1 below p.1 ∙ sym (takes_none k.q k.d g (joined gs) n f.0 below p.0)
+
+-- ---- what is computed
+
+abbrev pub clocks_key : Clocks → List ℕ
+clocks_key (Always t) = 0 ∷ t ∷ []
+clocks_key (Counted t each) = 1 ∷ t ∷ each ∷ []
+clocks_key (Outcomes ts) = 2 ∷ ts
+clocks_key Exception = 3 ∷ []
+
+abbrev pub clocks_of_key : List ℕ → Clocks
+clocks_of_key [] = Exception
+clocks_of_key (k ∷ l) =
+    if k == 0 then Always (get_or l 0 0)
+    else (if k == 1 then Counted (get_or l 0 0) (get_or l 1 0) else (if k == 2 then Outcomes l else Exception))
+
+pub clocks_back : (c : Clocks) → clocks_of_key (clocks_key c) ≡ c
+clocks_back (Always t) = refl
+clocks_back (Counted t each) = refl
+clocks_back (Outcomes ts) = refl
+clocks_back Exception = refl
+
+pub same_clocks : (c d : Clocks) → same (clocks_key c) (clocks_key d) ≡ true → c ≡ d
+same_clocks c d h =
+    sym (clocks_back c) ∙ ap clocks_of_key (same_sound (clocks_key c) (clocks_key d) h) ∙ clocks_back d
+
+-- an instruction and its clocks are those of a row at an opcode
+abbrev pub agrees : Instr → Row → ℕ → Bool
+agrees i r n = same (key i) (key (made r n)) && same (clocks_key (timing i)) (clocks_key (taken r n))
+
+abbrev pub all_below : ℕ → (ℕ → Bool) → Bool
+all_below zero p = true
+all_below (suc n) p = if p n then all_below n p else false
+
+pub from_all : (n : ℕ) (p : ℕ → Bool) → all_below n p ≡ true → (k : ℕ) → k < n → p k ≡ true
+from_all zero p e k h = absurd (omega arith)
+from_all (suc n) p e k h =
+    let P : Bool → Type 0 = λ b. p n ≡ b → (if b then all_below n p else false) ≡ true → p k ≡ true in
+    let split : (b : Bool) → P b =
+    (λ b. elim b as P [
+      | true ↦ λ here rest.
+          elim (cases_eq k n) [
+            | inl same ↦ (let s : k ≡ n = same in rw s here)
+            | inr other ↦ (let o : k ≡ n → ⊥ = other in from_all n p rest k (omega arith))
+          ]
+      | false ↦ λ here rest. cc
+    ]) in
+    split (p n) refl e
+
+-- the same of the rows that take an opcode, of which there is one or none
+abbrev pub agrees_with : Instr → List Row → ℕ → Bool
+agrees_with i [] n = agrees i no_row n
+agrees_with i (r ∷ []) n = agrees i r n
+agrees_with i (r ∷ s ∷ rs) n = false
+
+-- all opcodes of a line
+abbrev pub agrees_at : ℕ → (ℕ → Instr) → List Row → ℕ → Bool
+agrees_at base f rs k = agrees_with (f (base + k)) (taking rs (base + k)) (base + k)
+
+abbrev pub line_agrees : ℕ → (ℕ → Instr) → List Row → Bool
+line_agrees base f rs = all_below 4096 (agrees_at base f rs)
+
+-- ---- what follows
+
+pub both : (a b : Bool) → a && b ≡ true → (a ≡ true) × (b ≡ true)
+both true true h = (refl, refl)
+both true false h = cc
+both false b h = cc
+
+-- what the code makes of an opcode is what the rows that take it make of it, with their clocks
+pub record Agrees (i : Instr) (rs : List Row) (n : ℕ) : Type 0 where
+  pub instr : i ≡ made (first rs) n
+  pub clocks : timing i ≡ taken (first rs) n
+  pub single : length rs ≤ 1
+
+with_row : (i : Instr) (r : Row) (n : ℕ) → agrees i r n ≡ true → (i ≡ made r n) × (timing i ≡ taken r n)
+with_row i r n h =
+    let instr : Bool = same (key i) (key (made r n)) in
+    let clocks : Bool = same (clocks_key (timing i)) (clocks_key (taken r n)) in
+    let p : (instr ≡ true) × (clocks ≡ true) = both instr clocks h in
+    (same_key i (made r n) p.0, same_clocks (timing i) (taken r n) p.1)
+
+agrees_sound : (i : Instr) (rs : List Row) (n : ℕ) → agrees_with i rs n ≡ true → Agrees i rs n
+agrees_sound i [] n h =
+    let p = with_row i no_row n h in record { instr = p.0; clocks = p.1; single = omega arith }
+agrees_sound i (r ∷ []) n h =
+    let p = with_row i r n h in record { instr = p.0; clocks = p.1; single = omega arith }
+agrees_sound i (r ∷ s ∷ rs) n h = cc
+
+at_line : (line : ℕ) (f : ℕ → Instr) (rs : List Row) → line_agrees (4096 * line) f rs ≡ true → (n : ℕ) → n / 4096 ≡ line → Agrees (f n) (taking rs n) n
+at_line line f rs test n h =
+    let k : ℕ = n - 4096 * line in
+    let e : 4096 * line + k ≡ n = omega arith in
+    let below : k < 4096 = omega arith in
+    let P : ℕ → Type 0 = λ m. Agrees (f m) (taking rs m) m in
+    subst P e (agrees_sound _ _ _ (from_all 4096 (agrees_at (4096 * line) f rs) test k below))
+
+-- ---- the table
+
+abbrev pub digits : ℕ → ℕ → Digits
+digits q d = record { q = q; d = d }
+
+abbrev pub table_digits : List Digits
+table_digits =
+    digits 0 0 ∷ digits 2 0 ∷ digits 0 4 ∷ digits 0 5 ∷ digits 0 6 ∷ digits 0 7 ∷ digits 0 8
+    ∷ digits 0 9 ∷ digits 0 10 ∷ digits 0 11 ∷ digits 0 12 ∷ digits 0 13 ∷ digits 0 14 ∷ digits 0 15 ∷ []
+
+fix_0 : all_fix 0 0 rows_0 ≡ true
+fix_0 = refl
+
+fix_move : all_fix 2 0 rows_move ≡ true
+fix_move = refl
+
+fix_4 : all_fix 0 4 rows_4 ≡ true
+fix_4 = refl
+
+fix_5 : all_fix 0 5 rows_5 ≡ true
+fix_5 = refl
+
+fix_6 : all_fix 0 6 rows_6 ≡ true
+fix_6 = refl
+
+fix_7 : all_fix 0 7 rows_7 ≡ true
+fix_7 = refl
+
+fix_8 : all_fix 0 8 rows_8 ≡ true
+fix_8 = refl
+
+fix_9 : all_fix 0 9 rows_9 ≡ true
+fix_9 = refl
+
+fix_A : all_fix 0 10 rows_A ≡ true
+fix_A = refl
+
+fix_B : all_fix 0 11 rows_B ≡ true
+fix_B = refl
+
+fix_C : all_fix 0 12 rows_C ≡ true
+fix_C = refl
+
+fix_D : all_fix 0 13 rows_D ≡ true
+fix_D = refl
+
+fix_E : all_fix 0 14 rows_E ≡ true
+fix_E = refl
+
+fix_F : all_fix 0 15 rows_F ≡ true
+fix_F = refl
+
+table_fixed : Fixed table_digits groups
+table_fixed =
+    (fix_0, (fix_move, (fix_4, (fix_5, (fix_6, (fix_7, (fix_8, (fix_9, (fix_A, (fix_B, (fix_C, (fix_D, (fix_E, (fix_F, tt))))))))))))))
+
+-- what the code makes of an opcode is the table's instruction, with the table's clocks, and by one row at most
+pub record Whole (i : Instr) (n : ℕ) : Type 0 where
+  pub instr : i ≡ decode_of n
+  pub clocks : clocks_at n ≡ timing i
+  pub one_row : rows_at n ≤ 1
+
+pub whole : (line : ℕ) (f : ℕ → Instr) (before count : ℕ) → line < 16 → only line before count table_digits ≡ true
+    → line_agrees (4096 * line) f (joined (window before count groups)) ≡ true → (n : ℕ) → n / 4096 ≡ line → Whole (f n) n
+unfolding decode_of clocks_at rows_at
+whole line f before count small alone test n h =
+    let below : n < 65536 = omega arith in
+    let here : Agrees (f n) (taking (joined (window before count groups)) n) n = at_line line f (joined (window before count groups)) test n h in
+    let P : ℕ → Type 0 = λ l. only l before count table_digits ≡ true in
+    let Q : List Row → Type 0 = λ l. Agrees (f n) l n in
+    let there : Agrees (f n) (taking rows n) n = subst Q (taking_of_line before count table_digits groups n table_fixed below (subst P (sym h) alone)) here in
+    record { instr = there.instr; clocks = sym there.clocks; one_row = there.single }

@@ -1,0 +1,9 @@
+pub mod Text
+pub mod Modes
+pub mod Clocks
+pub mod Letters
+pub mod Row
+pub mod Table
+pub mod Lines
+pub mod Parts
+pub mod Timing

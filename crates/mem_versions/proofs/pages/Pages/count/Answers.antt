@@ -1,0 +1,9 @@
+-- Each page has 256 words.
+use Rattle.std.proofs.Common.{length, ap, arith}
+use Rattle.std.specs.Arc.{arc_value}
+use Rattle.mem_versions.proofs.PagesLaws.{length-joined}
+use Rattle.mem_versions.proofs.pages.Pages.count.Goals as goal
+
+pub returns-clause-size : goal.returns-clause-size
+returns-clause-size c =
+    omega (arith, ap length c.self.view_is, length-joined arc_value c.self.inside.list.items c.self.invariant.1)

@@ -1,0 +1,149 @@
+//! The writes of a view, page by page in order of address and then of happening.
+
+ghost use Rattle.std.specs.Prelude.{◌≡◌, ◌==◌, ◌+◌, ◌-◌, ◌*◌, ◌/◌, ◌^◌, ◌<◌, ◌≤◌, ℕ, length, take, drop, filter, IfOk};
+ghost use Rattle.std.specs.List.Sorted.{IsNonDecreasingBy};
+ghost use Rattle.mem_versions.specs.declared.write.Write.{Write as WriteValue};
+ghost use Rattle.mem_versions.specs.MemoryAt.{writes_to, page_writes};
+ghost use Rattle.mem_versions.specs.History.{word_before, IsInOrder, IsStart, AreStarts};
+
+use crate::pages::{PAGE, PAGES};
+use crate::steps::Steps;
+use crate::write::Write;
+use ocs_base::OutOfMemory;
+use std::alloc::Global;
+use std::marker::Model;
+use std::sync::ledger::Ledger;
+
+/// Writes in order of place, those to one place in order of happening, and where those to each page
+/// begin.
+#[derive(Drop)]
+pub struct History {
+    writes: Vec<Write>,
+    starts: Vec<usize>,
+}
+
+impl Model for History {
+    ghost use Rattle.std.specs.Prelude.{List};
+    ghost use Rattle.mem_versions.specs.declared.write.Write.{Write as WriteValue};
+    ghost use Rattle.mem_versions.specs.History.{IsInOrder, AreStarts};
+
+    ghost Value = { List WriteValue };
+
+    ghost view = { λ h. h.writes.items };
+
+    ghost invariant = { λ h. IsInOrder h.writes.items × AreStarts h.writes.items h.starts.items };
+}
+
+impl History {
+    /// The history of writes that are given in order of happening.
+    pub fn new(alloc: Global, writes: &[Write]) -> Result<History, OutOfMemory>
+        requires { IsNonDecreasingBy (λ (write : WriteValue). write.clock) writes.now }
+        ensures same { IfOk result (λ history. (place : ℕ) → writes_to place history ≡ writes_to place writes.now) }
+        ensures count { IfOk result (λ history. length history ≡ length writes.now) }
+    {
+        let writes = sorted_writes(alloc, writes)?;
+        let starts = page_starts(alloc, &writes)?;
+        Ok(History { writes, starts })
+    }
+
+    /// The word of the last write to a place of a clock below `clock`, or `word` where there is none. A
+    /// step is a look at a kept write.
+    pub fn word_before<L: Ledger>(
+        &self,
+        place: u32,
+        clock: u64,
+        word: u16,
+        steps: &mut Steps<L>,
+    ) -> u16
+        requires { place < 262144 }
+        ensures word { result ≡ word_before place clock self.now word }
+        ensures cost { 2 ^ (steps.new - steps.old) ≤ 2 * page_writes (place / 256) self.now + 1 }
+    {
+        let writes = self.page(place as usize / PAGE);
+        last_before(writes, place, clock, word, steps)
+    }
+
+    /// The writes to a page.
+    fn page(&self, number: usize) -> &[Write]
+        requires { number < 1024 }
+        ensures writes { result.now ≡ filter (λ write. write.place / 256 == number) self.now }
+        ensures order { IsInOrder result.now }
+    {
+        part(&self.writes, self.starts[number], self.starts[number + 1])
+    }
+}
+
+/// The writes from one place of the list to another.
+fn part(writes: &[Write], start: usize, end: usize) -> &[Write]
+    requires order { start ≤ end }
+    requires within { end ≤ length writes.now }
+    ensures { result.now ≡ take (end - start) (drop start writes.now) }
+{
+    &writes[start..end]
+}
+
+/// The writes in order of place; those to one place stay in order.
+fn sorted_writes(alloc: Global, writes: &[Write]) -> Result<Vec<Write>, OutOfMemory>
+    requires { IsNonDecreasingBy (λ (write : WriteValue). write.clock) writes.now }
+    ensures order { IfOk result (λ list. IsInOrder list.items) }
+    ensures same { IfOk result (λ list. (place : ℕ) → writes_to place list.items ≡ writes_to place writes.now) }
+    ensures count { IfOk result (λ list. length list.items ≡ length writes.now) }
+{
+    let mut list = Vec::from_slice(alloc, writes)?;
+    list.sort_by_key(|write| write.place)?;
+    Ok(list)
+}
+
+/// Where the writes to each page begin, and where those to the last one end.
+fn page_starts(alloc: Global, writes: &[Write]) -> Result<Vec<usize>, OutOfMemory>
+    requires { IsInOrder writes.now }
+    ensures { IfOk result (λ starts. AreStarts writes.now starts.items) }
+{
+    let mut starts = Vec::with_capacity(alloc, PAGES + 1)?;
+    for page in 0..PAGES + 1 {
+        starts.push(page_start(writes, page))?;
+    }
+    Ok(starts)
+}
+
+/// Where the writes to a page begin.
+fn page_start(writes: &[Write], page: usize) -> usize
+    requires order { IsInOrder writes.now }
+    requires page { page < 1025 }
+    ensures { IsStart writes.now page result }
+{
+    let first = page * PAGE;
+    writes.partition_point(|write| (write.place as usize) < first)
+}
+
+/// The word of the last of the writes to a place of a clock below `clock`, or `word` where there is
+/// none, found by halving. A step is a look at a write.
+fn last_before<L: Ledger>(
+    writes: &[Write],
+    place: u32,
+    clock: u64,
+    word: u16,
+    steps: &mut Steps<L>,
+) -> u16
+    requires { IsInOrder writes.now }
+    ensures word { result ≡ word_before place clock writes.now word }
+    ensures cost { 2 ^ (steps.new - steps.old) ≤ 2 * length writes.now + 1 }
+{
+    let mut found = word;
+    let mut low = 0;
+    let mut high = writes.len();
+    while low < high {
+        let middle = low + (high - low) / 2;
+        steps.tick();
+        let write = writes[middle];
+        if write.place == place && write.clock < clock {
+            found = write.word;
+            low = middle + 1;
+        } else if write.place < place {
+            low = middle + 1;
+        } else {
+            high = middle;
+        }
+    }
+    found
+}
