@@ -4,3 +4,5 @@ pub mod HeadingLaws
 pub mod NextLaws
 pub mod EndLaws
 pub mod WriteLaws
+pub mod FetchLaws
+pub mod SlotLaws

@@ -1,5 +1,5 @@
 -- Denise's registers are those whose write has the effect of the picture.
-use Rattle.std.proofs.Common.{◌≡◌, ℕ, Bool, true, false, if◌then◌else◌, refl}
+use Rattle.std.proofs.Common.{◌≡◌, ℕ, Bool, true, false, refl}
 use Rattle.serial_model.specs.declared.registers.Effect.{Effect}
 use Rattle.serial_model.specs.declared.registers.Effect.TheVariants.{Kept, Nothing, Jump, Blit, Picture, Interrupt, Lof}
 use Rattle.serial_model.specs.declared.registers.Writing.{Writing}

@@ -3,6 +3,9 @@ pub mod RegisterTable
 pub mod Registers
 pub mod Copper
 pub mod Owner
+pub mod Window
+pub mod PlaneFetch
+pub mod SpriteFetch
 pub mod Picture
 pub mod State
 pub mod Write

@@ -4,6 +4,7 @@
 
 pub mod bus;
 pub mod copper;
+pub mod fetch;
 pub mod laws;
 pub mod picture;
 pub mod registers;
@@ -12,6 +13,7 @@ pub mod trace;
 
 pub use bus::{Ask, Half, Made, SideAsk};
 pub use copper::{CopperAct, CopperInstruction, CopperPhase, CopperState};
+pub use fetch::{PlaneAsk, SpriteAsk, SpriteKind};
 pub use picture::{Denise, Touch};
 pub use registers::{Effect, Live, Reading, Writing};
 pub use slots::{Owner, SlotState};
