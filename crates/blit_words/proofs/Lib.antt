@@ -1,0 +1,5 @@
+pub mod Numbers
+pub mod Choices
+pub mod Parities
+pub mod Filling
+pub mod Addresses

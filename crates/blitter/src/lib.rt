@@ -1,0 +1,78 @@
+//! The blitter: a blit of either kind, by LINE of BLTCON1.
+#![tactic(auto)]
+
+ghost use Rattle.std.specs.Prelude.{◌≡◌, ◌≢◌, ℕ, List, [], ◌∷◌, ◌++◌};
+ghost use Rattle.blit_words.specs.declared.blit.BlitRegs.{BlitRegs};
+ghost use Rattle.blit_words.specs.Blitter.{blit_ask, blit_zero, blit_end};
+
+use blit_words::is_set;
+pub use blit_words::{BlitRegs, SlotAsk};
+use blitter_area::AreaBlit;
+use blitter_line::LineBlit;
+
+/// A blit under way. It stands for its registers at the start and the answers that it was given: `StandsFor`.
+#[derive(Clone, Copy)]
+pub enum Blit {
+    Area(AreaBlit),
+    Line(LineBlit),
+}
+
+impl Blit {
+    ghost use Rattle.blitter.specs.StandsFor.{StandsFor, ForWhatItStands, slot_shown};
+
+    /// A blit that has had no answer yet: a line where LINE, bit 0 of BLTCON1, is set, else an area.
+    pub fn start(r: &BlitRegs) -> Blit
+        ensures { StandsFor result r.now [] }
+    {
+        if is_set(r.con1, 0) {
+            Blit::Line(LineBlit::start(r))
+        } else {
+            Blit::Area(AreaBlit::start(r))
+        }
+    }
+
+    /// What the blit does with its next slot. A write is asked for with its word; Done comes once all asks have answers.
+    pub fn next(&self) -> SlotAsk
+        ensures shown { result ≡ slot_shown self.now }
+        ensures ask { ForWhatItStands self.now (λ s ws. result ≡ blit_ask s ws) }
+    {
+        match self {
+            Blit::Area(blit) => blit.next(),
+            Blit::Line(blit) => blit.next(),
+        }
+    }
+
+    /// Carries out the ask that `next` tells, which is not Done: the slot was got. The word counts only for a read.
+    pub fn give(&mut self, word: u16)
+        requires { slot_shown self.old ≢ SlotAsk.Done }
+        ensures { ForWhatItStands self.old (λ s ws. StandsFor self.new s (ws ++ word ∷ [])) }
+    {
+        match self {
+            Blit::Area(blit) => blit.give(word),
+            Blit::Line(blit) => blit.give(word),
+        }
+    }
+
+    /// BZERO: whether the results so far are all 0.
+    pub fn zero(&self) -> bool
+        ensures { ForWhatItStands self.now (λ s ws. result ≡ blit_zero s ws) }
+    {
+        match self {
+            Blit::Area(blit) => blit.zero(),
+            Blit::Line(blit) => blit.zero(),
+        }
+    }
+
+    /// The registers as they are now; at the end these stay.
+    pub fn regs(&self) -> BlitRegs
+        ensures { ForWhatItStands self.now (λ s ws. result ≡ blit_end s ws) }
+    {
+        match self {
+            Blit::Area(blit) => blit.regs(),
+            Blit::Line(blit) => blit.regs(),
+        }
+    }
+}
+
+#[cfg(test)]
+mod tests;

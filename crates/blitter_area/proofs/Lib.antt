@@ -1,0 +1,6 @@
+pub mod Remainders
+pub mod Moves
+pub mod Rows
+pub mod Held
+pub mod Results
+pub mod Walking

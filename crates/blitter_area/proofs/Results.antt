@@ -1,0 +1,109 @@
+-- The result of a word by the data path is that by position, and so is what it leaves.
+use Rattle.std.proofs.Common.{◌≡◌, ℕ, suc, ◌+◌, ◌*◌, ◌/◌, ◌%◌, ◌<◌, Bool, true, false, if◌then◌else◌, List, sym, ap, ◌∙◌, refl, count_ones}
+use Rattle.std.proofs.lemmas.Nat.{div-mul-add, mod-mul-add}
+use Rattle.blit_words.specs.declared.blit.BlitRegs.{BlitRegs}
+use Rattle.blit_words.specs.declared.blit.WordAsk.TheVariants.{A, B, C}
+use Rattle.blit_words.specs.BlitWords.{masked_word, filled_word, one_if}
+use Rattle.blit_words.specs.Blit.{width_of}
+use Rattle.blit_words.specs.AreaBlit.{channel_word, masked_a, joined_word, ones_in_row, result_word, is_filling, is_exclusive}
+use Rattle.blit_words.specs.Parity.{is_carry}
+use Rattle.blit_words.proofs.Filling.{carry_more, filled_by_carry}
+use Rattle.blitter_area.specs.declared.data_path.Words.{Words}
+use Rattle.blitter_area.specs.declared.data_path.Past.{Past}
+use Rattle.blitter_area.specs.Data.{joined_by, mask_words, outcome_filled, outcome_plain, outcome_of}
+use Rattle.blitter_area.specs.Walk.{IsPast}
+
+-- the inputs of word c of row r
+pub record AreInputs (w : Words) (s : BlitRegs) (ws : List ℕ) (j : ℕ) : Type 0 where
+  pub of_a : w.a ≡ channel_word s ws A j
+  pub of_b : w.b ≡ channel_word s ws B j
+  pub of_c : w.c ≡ channel_word s ws C j
+
+masked_is : (s : BlitRegs) (ws : List ℕ) (r c : ℕ) (w : Words) → c < width_of s → AreInputs w s ws (r * width_of s + c)
+    → masked_word s.afwm s.alwm (width_of s) c w.a ≡ masked_a s ws (r * width_of s + c)
+unfolding masked_a
+masked_is s ws r c w inside inputs =
+    ap (λ (n : ℕ). masked_word s.afwm s.alwm (width_of s) c n) inputs.of_a
+    ∙ ap (λ (n : ℕ). masked_word s.afwm s.alwm (width_of s) n (channel_word s ws A (r * width_of s + c))) (sym (mod-mul-add r (width_of s) c inside))
+
+joined_is : (s : BlitRegs) (ws : List ℕ) (r c : ℕ) (w : Words) (p : Past) → c < width_of s
+    → AreInputs w s ws (r * width_of s + c)
+    → IsPast p s ws r c
+    → joined_by s p (mask_words s c w) ≡ joined_word s ws (r * width_of s + c)
+unfolding joined_by joined_word
+joined_is s ws r c w p inside inputs past =
+    let masked = masked_is s ws r c w inside inputs in
+    let a = past.of_a in
+    let b = past.of_b in
+    let own_b = inputs.of_b in
+    let own_c = inputs.of_c in
+    cc
+
+past_word : (f e : Bool) (p : Past) (w : Words) (n : ℕ)
+    → (if f then outcome_filled e p w n else outcome_plain p w n).word ≡ (if f then filled_word e (one_if p.carry) n else n)
+past_word true e p w n = refl
+past_word false e p w n = refl
+
+pub outcome_word : (s : BlitRegs) (ws : List ℕ) (r c : ℕ) (w : Words) (p : Past) → c < width_of s
+    → AreInputs w s ws (r * width_of s + c)
+    → IsPast p s ws r c
+    → (outcome_of s p c w).word ≡ result_word s ws (r * width_of s + c)
+unfolding result_word
+outcome_word s ws r c w p inside inputs past =
+    let j : ℕ = r * width_of s + c in
+    let joined = joined_is s ws r c w p inside inputs past in
+    let row = div-mul-add r (width_of s) c inside in
+    let column = mod-mul-add r (width_of s) c inside in
+    let ones : ones_in_row s ws r c ≡ ones_in_row s ws (j / width_of s) (j % width_of s) = cc in
+    past_word (is_filling s) (is_exclusive s) p (mask_words s c w) (joined_by s p (mask_words s c w))
+    ∙ elim (is_filling s) as (λ (f : Bool). (f ≡ true → p.carry ≡ is_carry (ones_in_row s ws r c))
+    → (if f then filled_word (is_exclusive s) (one_if p.carry) (joined_by s p (mask_words s c w)) else joined_by s p (mask_words s c w))
+    ≡ (if f then filled_word (is_exclusive s) (ones_in_row s ws (j / width_of s) (j % width_of s)) (joined_word s ws j) else joined_word s ws j)) [
+      | true ↦ (λ h.
+          ap (λ (b : Bool). filled_word (is_exclusive s) (one_if b) (joined_by s p (mask_words s c w))) (h refl)
+          ∙ filled_by_carry (is_exclusive s) (ones_in_row s ws r c) (joined_by s p (mask_words s c w))
+          ∙ ap (λ (n : ℕ). filled_word (is_exclusive s) n (joined_by s p (mask_words s c w))) ones
+          ∙ ap (λ (n : ℕ). filled_word (is_exclusive s) (ones_in_row s ws (j / width_of s) (j % width_of s)) n) joined)
+      | false ↦ (λ h. joined)
+    ] past.carry
+
+-- what a word leaves does not depend on the fill but for the carry
+past_a : (f e : Bool) (p : Past) (w : Words) (n : ℕ) → (if f then outcome_filled e p w n else outcome_plain p w n).past.a ≡ w.a
+past_a true e p w n = refl
+past_a false e p w n = refl
+
+pub outcome_a : (s : BlitRegs) (ws : List ℕ) (r c : ℕ) (w : Words) (p : Past) → c < width_of s → AreInputs w s ws (r * width_of s + c)
+    → (outcome_of s p c w).past.a ≡ masked_a s ws (r * width_of s + c)
+outcome_a s ws r c w p inside inputs =
+    past_a (is_filling s) (is_exclusive s) p (mask_words s c w) (joined_by s p (mask_words s c w)) ∙ masked_is s ws r c w inside inputs
+
+past_b : (f e : Bool) (p : Past) (w : Words) (n : ℕ) → (if f then outcome_filled e p w n else outcome_plain p w n).past.b ≡ w.b
+past_b true e p w n = refl
+past_b false e p w n = refl
+
+pub outcome_b : (s : BlitRegs) (ws : List ℕ) (r c : ℕ) (w : Words) (p : Past) → AreInputs w s ws (r * width_of s + c)
+    → (outcome_of s p c w).past.b ≡ channel_word s ws B (r * width_of s + c)
+outcome_b s ws r c w p inputs =
+    past_b (is_filling s) (is_exclusive s) p (mask_words s c w) (joined_by s p (mask_words s c w)) ∙ inputs.of_b
+
+past_carry : (f e : Bool) (p : Past) (w : Words) (n : ℕ) → f ≡ true
+    → (if f then outcome_filled e p w n else outcome_plain p w n).past.carry ≡ is_carry (one_if p.carry + count_ones n)
+past_carry true e p w n h = refl
+past_carry false e p w n h = cc
+
+pub outcome_carry : (s : BlitRegs) (ws : List ℕ) (r c : ℕ) (w : Words) (p : Past) → c < width_of s
+    → AreInputs w s ws (r * width_of s + c)
+    → IsPast p s ws r c
+    → is_filling s ≡ true
+    → (outcome_of s p c w).past.carry ≡ is_carry (ones_in_row s ws r (suc c))
+unfolding ones_in_row
+outcome_carry s ws r c w p inside inputs past filling =
+    let n : ℕ = ones_in_row s ws r c in
+    past_carry (is_filling s) (is_exclusive s) p (mask_words s c w) (joined_by s p (mask_words s c w)) filling
+    ∙ ap (λ (b : Bool). is_carry (one_if b + count_ones (joined_by s p (mask_words s c w)))) (past.carry filling)
+    ∙ carry_more n (count_ones (joined_by s p (mask_words s c w)))
+    ∙ ap (λ (k : ℕ). is_carry (n + count_ones k)) (joined_is s ws r c w p inside inputs past)
+
+pub first_carry : (b : Bool) → b ≡ is_carry (one_if b)
+first_carry true = refl
+first_carry false = refl

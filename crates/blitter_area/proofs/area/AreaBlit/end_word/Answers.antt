@@ -1,0 +1,44 @@
+use Rattle.std.proofs.Common.{arith, rules, ◌≡◌, ◌+◌, ◌<◌, ◌&&◌, ◌==◌, ap, refl}
+use Rattle.blit_words.specs.Blit.{width_of}
+use Rattle.blitter_area.specs.declared.data_path.Outcome.{Outcome}
+use Rattle.blitter_area.proofs.Walking.{ended_within, ended_over, height_most}
+use Rattle.blitter_area.proofs.area.AreaBlit.end_word.Goals as goal
+
+pub overflow_add-self-else-self-width : goal.overflow_add-self-else-self-width
+overflow_add-self-else-self-width c =
+    let low : c.args.self.now.start.size < 65536 = search rules in
+    let most = height_most c.args.self.now.start low in
+    let row = c.requires in
+    omega (arith, most, row)
+
+pub returns-then-self-width : goal.returns-then-self-width
+returns-then-self-width c = λ s ws h.
+    let b = c.args.self.now in
+    let is = c.outcome-outcome.ensures in
+    ended_within b _ s ws h (record {
+      start = refl;
+      words = refl;
+      place = refl;
+      zero = ap (λ (o : Outcome). b.zero && o.word == 0) is;
+      past_a = ap (λ (o : Outcome). o.past.a) is;
+      past_b = ap (λ (o : Outcome). o.past.b) is;
+    })
+    refl refl (c.step_word.ensures s b.row b.column h.pointers) (ap (λ (o : Outcome). o.past.carry) is)
+
+pub returns-else-self-width : goal.returns-else-self-width
+returns-else-self-width c = λ s ws h.
+    let b = c.args.self.now in
+    let is = c.outcome-outcome.ensures in
+    let width = ap width_of h.start in
+    let value = c.width.ensures.value in
+    let inside = b.column_inside in
+    let last : b.column + 1 ≡ width_of s = omega (arith, width, value, inside) in
+    ended_over b _ s ws h (record {
+      start = refl;
+      words = refl;
+      place = refl;
+      zero = ap (λ (o : Outcome). b.zero && o.word == 0) is;
+      past_a = ap (λ (o : Outcome). o.past.a) is;
+      past_b = ap (λ (o : Outcome). o.past.b) is;
+    })
+    last refl refl (c.step_row.ensures s b.row (b.column + 1) last (c.step_word.ensures s b.row b.column h.pointers)) c.is_set-fci.ensures

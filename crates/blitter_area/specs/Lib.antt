@@ -1,0 +1,4 @@
+pub mod Rows
+pub mod Pointing
+pub mod Data
+pub mod Walk

@@ -1,0 +1,189 @@
+//! An area blit from ask to ask.
+
+ghost use Rattle.std.specs.Prelude.{◌≡◌, ◌≢◌, ◌<◌, ℕ, List, [], ◌∷◌, ◌++◌, false};
+ghost use Rattle.blit_words.specs.declared.blit.BlitRegs.{BlitRegs};
+ghost use Rattle.blit_words.specs.Blit.{is_line, height_of, width_of, minterms_of};
+ghost use Rattle.blit_words.specs.AreaBlit.{asks_per_word};
+ghost use Rattle.blit_words.specs.Blitter.{blit_ask, blit_zero, blit_end};
+
+use crate::asks::{ask_at, asks};
+use crate::channel::Pointers;
+use crate::data_path::{Outcome, Past, Words, mix, width};
+use blit_words::{BlitRegs, Minterms, SlotAsk, WordAsk, height, is_set};
+
+/// An area blit under way. It stands for its registers at the start and the answers that it was given: `Stands`.
+///
+/// It keeps the place in the row of asks, the column and the row of the present word, the pointers of that word, the
+/// data registers, what the word before left, and whether all results were 0.
+#[derive(Clone, Copy)]
+pub struct AreaBlit {
+    pub(crate) start: BlitRegs,
+    pub(crate) minterms: Minterms,
+    pub(crate) pointers: Pointers,
+    pub(crate) words: Words,
+    pub(crate) past: Past,
+    pub(crate) zero: bool,
+    pub(crate) row: u16,
+    pub(crate) column: u16,
+    pub(crate) place: u16,
+    ghost lf_is: { minterms.lf ≡ minterms_of start },
+    ghost column_inside: { column < width_of start },
+}
+
+impl AreaBlit {
+    ghost use Rattle.blitter_area.specs.Walk.{Stands, ForWhatItStands, EndsWord, IsDoneAfterAll, shown, shown_ask, outcome_now, aptl_now};
+
+    /// A blit that has had no answer yet, of registers with LINE, bit 0 of BLTCON1, clear.
+    pub fn start(r: &BlitRegs) -> AreaBlit
+        requires { is_line r.now ≡ false }
+        ensures { Stands result r.now [] }
+    {
+        AreaBlit {
+            start: *r,
+            minterms: Minterms::of(r.con0 % 256),
+            pointers: Pointers::new(r),
+            words: Words {
+                a: r.adat,
+                b: r.bdat,
+                c: r.cdat,
+            },
+            past: Past {
+                a: 0,
+                b: 0,
+                carry: is_set(r.con1, 2),
+            },
+            zero: true,
+            row: 0,
+            column: 0,
+            place: 0,
+        }
+    }
+
+    /// What the blit does with its next slot. A write is asked for with its word. Done comes exactly where all asks
+    /// of all words have answers.
+    pub fn next(&self) -> SlotAsk
+        ensures shown { result ≡ shown self.now }
+        ensures ask { ForWhatItStands self.now (λ s ws. result ≡ blit_ask s ws) }
+        ensures done { ForWhatItStands self.now (λ s ws. IsDoneAfterAll result s ws) }
+    {
+        self.slot_now()
+    }
+
+    /// What it does with its next slot, by its own state.
+    fn slot_now(&self) -> SlotAsk
+        ensures { result ≡ shown self.now }
+    {
+        if self.row < height(&self.start) {
+            self.slot_ask(ask_at(&self.start, self.place))
+        } else {
+            SlotAsk::Done
+        }
+    }
+
+    /// What one of the asks of the present word does with its slot.
+    fn slot_ask(&self, ask: WordAsk) -> SlotAsk
+        ensures { result ≡ shown_ask self.now self.now.start ask }
+    {
+        match ask {
+            WordAsk::A => SlotAsk::Read {
+                at: self.pointers.a.at,
+            },
+            WordAsk::B => SlotAsk::Read {
+                at: self.pointers.b.at,
+            },
+            WordAsk::C => SlotAsk::Read {
+                at: self.pointers.c.at,
+            },
+            WordAsk::D => SlotAsk::Write {
+                at: self.pointers.d.at,
+                word: self.outcome().word,
+            },
+            WordAsk::Rest => SlotAsk::Rest,
+        }
+    }
+
+    /// Carries out the ask that `next` tells, which is not Done: the slot was got. The word counts only for a read.
+    pub fn give(&mut self, word: u16)
+        requires { shown self.old ≢ SlotAsk.Done }
+        ensures { ForWhatItStands self.old (λ s ws. Stands self.new s (ws ++ word ∷ [])) }
+    {
+        let ask = ask_at(&self.start, self.place);
+        self.words.take(ask, word);
+        if self.place < asks(&self.start) - 1 {
+            self.place += 1;
+        } else {
+            self.end_word();
+        }
+    }
+
+    /// BZERO: whether the results so far, after fill, are all 0. A result counts from its word's last ask on, also
+    /// where D is unused.
+    pub fn zero(&self) -> bool
+        ensures { ForWhatItStands self.now (λ s ws. result ≡ blit_zero s ws) }
+    {
+        self.zero
+    }
+
+    /// The registers as they are now; at the end these stay. Pointers are those of the present word, and data
+    /// registers have the words that were read last. BLTAPTL is the low word of A's pointer where A is used.
+    pub fn regs(&self) -> BlitRegs
+        ensures { ForWhatItStands self.now (λ s ws. result ≡ blit_end s ws) }
+    {
+        let mut regs = self.start;
+        regs.apt = self.pointers.a.at;
+        regs.bpt = self.pointers.b.at;
+        regs.cpt = self.pointers.c.at;
+        regs.dpt = self.pointers.d.at;
+        regs.aptl = self.low_pointer();
+        regs.adat = self.words.a;
+        regs.bdat = self.words.b;
+        regs.cdat = self.words.c;
+        regs
+    }
+
+    /// BLTAPTL: the low word of A's pointer, or the written word where A is unused.
+    fn low_pointer(&self) -> u16
+        ensures { result ≡ aptl_now self.now }
+    {
+        if is_set(self.start.con0, 11) {
+            (self.pointers.a.at.raw() % 65536) as u16
+        } else {
+            self.start.aptl
+        }
+    }
+
+    /// The result of the present word, once its inputs have their words, and what it leaves for the next.
+    fn outcome(&self) -> Outcome
+        ensures { result ≡ outcome_now self.now }
+    {
+        mix(
+            &self.start,
+            &self.minterms,
+            &self.words,
+            &self.past,
+            self.column,
+        )
+    }
+
+    /// All asks of the present word have answers: its result counts, and the next word begins. A row begins with the
+    /// carry FCI.
+    fn end_word(&mut self)
+        requires { self.old.row < height_of self.old.start }
+        ensures { EndsWord self.old self.new }
+    {
+        let outcome = self.outcome();
+        self.zero &= outcome.word == 0;
+        self.past = outcome.past;
+        self.place = 0;
+        self.pointers.step_word();
+        if self.column < width(&self.start) - 1 {
+            self.column += 1;
+        } else {
+            self.column = 0;
+            self.row += 1;
+            let fci = is_set(self.start.con1, 2);
+            self.past.carry = fci;
+            self.pointers.step_row();
+        }
+    }
+}
