@@ -64,7 +64,8 @@ pub scatter_none : (at value : ℕ) (s : Run) → scatter 0 at value s ≡ finis
 unfolding scatter
 scatter_none at value s = refl
 
-pub scatter_step : (n at value : ℕ) (s : Run) → 0 < n → scatter n at value s ≡ write s S.Byte at (value / 16777216) (scatter (n - 1) (word32 (at + 2)) (word32 (value * 256)) s)
+pub scatter_step : (n at value : ℕ) (s : Run) → 0 < n
+    → scatter n at value s ≡ write s S.Byte at (value / 16777216) (scatter (n - 1) (word32 (at + 2)) (word32 (value * 256)) s)
 unfolding scatter
 scatter_step zero at value s h = absurd (omega arith)
 scatter_step (suc n) at value s h =
@@ -75,7 +76,8 @@ pub gather_none : (i : Instr) (at value : ℕ) (s : Run) → gather i 0 at value
 unfolding gather
 gather_none i at value s = refl
 
-pub gather_step : (i : Instr) (n at value : ℕ) (s : Run) → 0 < n → gather i n at value s ≡ read s S.Byte false at (λ byte. gather i (n - 1) (word32 (at + 2)) (word32 (value * 256 + byte)) s)
+pub gather_step : (i : Instr) (n at value : ℕ) (s : Run) → 0 < n
+    → gather i n at value s ≡ read s S.Byte false at (λ byte. gather i (n - 1) (word32 (at + 2)) (word32 (value * 256 + byte)) s)
 unfolding gather
 gather_step i zero at value s h = absurd (omega arith)
 gather_step i (suc n) at value s h =

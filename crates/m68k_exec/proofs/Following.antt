@@ -28,23 +28,27 @@ after_more (Ask a k) (v ∷ ws) w = after_more (k v) ws w
 -- ---- what is settled after an access
 
 -- an end without idle clocks
-pub settled_end : (p : Prog) (r : CpuRegs) (u : Under) (ws : List ℕ) (level t : ℕ) (r' : CpuRegs) (u' : Under) → p ≡ End t r' u' → idle_clocks t (length ws) ≡ 0 → settled p r u ws level ≡ boundary (is_traced r u) r' u' level
+pub settled_end : (p : Prog) (r : CpuRegs) (u : Under) (ws : List ℕ) (level t : ℕ) (r' : CpuRegs) (u' : Under) → p ≡ End t r' u'
+    → idle_clocks t (length ws) ≡ 0 → settled p r u ws level ≡ boundary (is_traced r u) r' u' level
 unfolding settled
 settled_end p r u ws level t r' u' e none = rw (e, none) refl
 
 -- an end with idle clocks before it
-pub settled_idle : (p : Prog) (r : CpuRegs) (u : Under) (ws : List ℕ) (level t : ℕ) (r' : CpuRegs) (u' : Under) → p ≡ End t r' u' → idle_clocks t (length ws) ≢ 0 → settled p r u ws level ≡ stage r u ws
+pub settled_idle : (p : Prog) (r : CpuRegs) (u : Under) (ws : List ℕ) (level t : ℕ) (r' : CpuRegs) (u' : Under) → p ≡ End t r' u'
+    → idle_clocks t (length ws) ≢ 0 → settled p r u ws level ≡ stage r u ws
 unfolding settled
 settled_idle p r u ws level t r' u' e some =
     let not_none : (idle_clocks t (length ws) == 0) ≡ false = ne_eqb _ _ some in
     rw (e, not_none) refl
 
-pub settled_enter : (p : Prog) (r : CpuRegs) (u : Under) (ws : List ℕ) (level : ℕ) (r' : CpuRegs) (u' : Under) → p ≡ Enter r' u' → settled p r u ws level ≡ begin r' u'
+pub settled_enter : (p : Prog) (r : CpuRegs) (u : Under) (ws : List ℕ) (level : ℕ) (r' : CpuRegs) (u' : Under) → p ≡ Enter r' u'
+    → settled p r u ws level ≡ begin r' u'
 unfolding settled
 settled_enter p r u ws level r' u' e = rw e refl
 
 -- what waits for an access, and what is halted
-pub settled_rests : (step : Step) (i : Instr) (run : Run) (r : CpuRegs) (u : Under) (ws : List ℕ) (level : ℕ) → ((t : ℕ) (v : Under) → step ≡ T.Ended t v → ⊥) → ((v : Under) → step ≡ T.Broken v → ⊥) → settled (rest step i run) r u ws level ≡ stage r u ws
+pub settled_rests : (step : Step) (i : Instr) (run : Run) (r : CpuRegs) (u : Under) (ws : List ℕ) (level : ℕ) → ((t : ℕ) (v : Under) → step ≡ T.Ended t v → ⊥)
+    → ((v : Under) → step ≡ T.Broken v → ⊥) → settled (rest step i run) r u ws level ≡ stage r u ws
 unfolding settled
 settled_rests (T.Fetch part) i run r u ws level a b = refl
 settled_rests (T.ReadByte at into) i run r u ws level a b = refl
@@ -62,7 +66,8 @@ settled_rests T.Halted i run r u ws level a b = refl
 -- ---- what an answer makes of it
 
 -- an answer to what is no end settles what follows it
-answered_on : (step : Step) (i : Instr) (run : Run) (r : CpuRegs) (u : Under) (ws : List ℕ) (w level : ℕ) → ((t : ℕ) (v : Under) → step ≡ T.Ended t v → ⊥) → is_halted_step step ≡ false → answered (rest step i run) r u ws w level ≡ settled (follow (rest step i run) w) r u (ws ++ w ∷ []) level
+answered_on : (step : Step) (i : Instr) (run : Run) (r : CpuRegs) (u : Under) (ws : List ℕ) (w level : ℕ) → ((t : ℕ) (v : Under) → step ≡ T.Ended t v → ⊥)
+    → is_halted_step step ≡ false → answered (rest step i run) r u ws w level ≡ settled (follow (rest step i run) w) r u (ws ++ w ∷ []) level
 unfolding settled answered
 answered_on (T.Fetch part) i run r u ws w level a b = refl
 answered_on (T.ReadByte at into) i run r u ws w level a b = refl
@@ -77,18 +82,22 @@ answered_on (T.Ended t v) i run r u ws w level a b = absurd (a t v refl)
 answered_on (T.Broken v) i run r u ws w level a b = refl
 answered_on T.Halted i run r u ws w level a b = cc
 
-pub advance_on : (step : Step) (i : Instr) (run : Run) (r : CpuRegs) (u : Under) (ws : List ℕ) (w level : ℕ) → rest step i run ≡ after (program r u) ws → ((t : ℕ) (v : Under) → step ≡ T.Ended t v → ⊥) → is_halted_step step ≡ false → advance r u ws w level ≡ settled (after (program r u) (ws ++ w ∷ [])) r u (ws ++ w ∷ []) level
+pub advance_on : (step : Step) (i : Instr) (run : Run) (r : CpuRegs) (u : Under) (ws : List ℕ) (w level : ℕ) → rest step i run ≡ after (program r u) ws
+    → ((t : ℕ) (v : Under) → step ≡ T.Ended t v → ⊥) → is_halted_step step ≡ false
+    → advance r u ws w level ≡ settled (after (program r u) (ws ++ w ∷ [])) r u (ws ++ w ∷ []) level
 unfolding advance
 advance_on step i run r u ws w level same a b =
     rw (after_more (program r u) ws w, ← same) (answered_on step i run r u ws w level a b)
 
-pub advance_end : (r : CpuRegs) (u : Under) (ws : List ℕ) (w level t : ℕ) (r' : CpuRegs) (u' : Under) → after (program r u) ws ≡ End t r' u' → advance r u ws w level ≡ boundary (is_traced r u) r' u' level
+pub advance_end : (r : CpuRegs) (u : Under) (ws : List ℕ) (w level t : ℕ) (r' : CpuRegs) (u' : Under) → after (program r u) ws ≡ End t r' u'
+    → advance r u ws w level ≡ boundary (is_traced r u) r' u' level
 unfolding advance answered
 advance_end r u ws w level t r' u' e = rw e refl
 
 -- ---- what begins
 
-pub replaced_rests : (step : Step) (i : Instr) (run : Run) (r : CpuRegs) (u : Under) (k : CpuRegs → Under → Stage) → ((v : Under) → step ≡ T.Broken v → ⊥) → replaced (rest step i run) r u k ≡ stage r u []
+pub replaced_rests : (step : Step) (i : Instr) (run : Run) (r : CpuRegs) (u : Under) (k : CpuRegs → Under → Stage) → ((v : Under) → step ≡ T.Broken v → ⊥)
+    → replaced (rest step i run) r u k ≡ stage r u []
 replaced_rests (T.Fetch part) i run r u k b = refl
 replaced_rests (T.ReadByte at into) i run r u k b = refl
 replaced_rests (T.ReadWord at into) i run r u k b = refl

@@ -19,7 +19,8 @@ frame_short _ regs = omega arith
 pub within_frame : (kind : Trap) (regs : CpuRegs) (n w : ℕ) → slice_get (frame_of kind regs) n ≡ Some w → n < 7
 within_frame kind regs n w e = omega (arith, slice_get_within (frame_of kind regs) n w e, frame_short kind regs)
 
-pub pushes_word : (kind : Trap) (ea at n w : ℕ) (s : Run) (words : List ℕ) → slice_get words n ≡ Some w → pushes kind ea at (drop n words) s ≡ write_word s (address_before S.Word at) w (pushes kind ea (address_before S.Word at) (drop (n + 1) words) s)
+pub pushes_word : (kind : Trap) (ea at n w : ℕ) (s : Run) (words : List ℕ) → slice_get words n ≡ Some w
+    → pushes kind ea at (drop n words) s ≡ write_word s (address_before S.Word at) w (pushes kind ea (address_before S.Word at) (drop (n + 1) words) s)
 unfolding pushes
 pushes_word kind ea at n w s words e =
     let within : n < length words = slice_get_within words n w e in

@@ -15,7 +15,8 @@ use m68k_decode::{CpuRegs, Place68, Size, Trap, Under};
 /// An access to an odd address breaks off what is under way.
 #[tactic(auto, unfolding(m68k_decode::specs::Run::fault))]
 pub fn fault(context: &Context, machine: &mut Machine, at: u32, read: bool, program: bool)
-    ensures { meaning context.now machine.new ≡ fault (run_of context.now machine.old) at read program }
+    ensures { meaning context.now machine.new
+        ≡ fault (run_of context.now machine.old) at read program }
 {
     let pc = machine.regs.pc;
     machine.regs = context.start;
@@ -63,7 +64,9 @@ pub fn finish(context: &Context, machine: &mut Machine, extra: u32)
 /// Asks for the next word of the program.
 #[tactic(auto, unfolding(m68k_decode::specs::Run::fetch, m68k_decode::specs::Run::read_word))]
 pub fn fetch(context: &Context, machine: &mut Machine, part: Part)
-    ensures { meaning context.now machine.new ≡ fetch (run_of context.now machine.old) (fetched part context.now.fetched.instr machine.old.regs.pc) }
+    ensures { meaning context.now machine.new
+        ≡ fetch (run_of context.now machine.old)
+        (fetched part context.now.fetched.instr machine.old.regs.pc) }
 {
     let pc = machine.regs.pc;
     if pc & 1 == 1 {
@@ -76,7 +79,9 @@ pub fn fetch(context: &Context, machine: &mut Machine, part: Part)
 /// Asks for a value in memory.
 #[tactic(auto, unfolding(m68k_decode::specs::Run::read, m68k_decode::specs::Run::read_word))]
 pub fn read(context: &Context, machine: &mut Machine, size: Size, program: bool, at: u32, into: Use)
-    ensures { meaning context.now machine.new ≡ read (run_of context.now machine.old) size program at (valued into context.now.fetched.instr (run_of context.now machine.old)) }
+    ensures { meaning context.now machine.new
+        ≡ read (run_of context.now machine.old) size program at
+        (valued into context.now.fetched.instr (run_of context.now machine.old)) }
 {
     machine.step = match size {
         Size::Byte => Step::ReadByte { at, into },
@@ -99,7 +104,10 @@ pub fn read_low(
     high: u16,
     into: Use,
 )
-    ensures { meaning context.now machine.new ≡ read_word (run_of context.now machine.old) program at (λ l. valued into context.now.fetched.instr (run_of context.now machine.old) (high * 65536 + l)) }
+    ensures { meaning context.now machine.new
+        ≡ read_word (run_of context.now machine.old) program at
+        (λ l. valued into context.now.fetched.instr (run_of context.now machine.old)
+        (high * 65536 + l)) }
 {
     if at & 1 == 1 {
         fault(context, machine, at, true, program);
@@ -111,7 +119,9 @@ pub fn read_low(
 /// Asks to write a word.
 #[tactic(auto, unfolding(m68k_decode::specs::Run::write_word))]
 pub fn write_word(context: &Context, machine: &mut Machine, at: u32, word: u16, then: Then)
-    ensures { meaning context.now machine.new ≡ write_word (run_of context.now machine.old) at word (written then context.now.fetched.instr (run_of context.now machine.old)) }
+    ensures { meaning context.now machine.new
+        ≡ write_word (run_of context.now machine.old) at word
+        (written then context.now.fetched.instr (run_of context.now machine.old)) }
 {
     if at & 1 == 1 {
         fault(context, machine, at, false, false);
@@ -123,7 +133,9 @@ pub fn write_word(context: &Context, machine: &mut Machine, at: u32, word: u16, 
 /// Asks to write a value.
 #[tactic(auto, unfolding(m68k_decode::specs::Run::write, m68k_decode::specs::Run::write_word))]
 pub fn write(context: &Context, machine: &mut Machine, size: Size, at: u32, value: u32, then: Then)
-    ensures { meaning context.now machine.new ≡ write (run_of context.now machine.old) size at value (written then context.now.fetched.instr (run_of context.now machine.old)) }
+    ensures { meaning context.now machine.new
+        ≡ write (run_of context.now machine.old) size at value
+        (written then context.now.fetched.instr (run_of context.now machine.old)) }
 {
     machine.step = match size {
         Size::Byte => Step::WriteByte {
@@ -151,8 +163,11 @@ pub fn write(context: &Context, machine: &mut Machine, size: Size, at: u32, valu
 
 /// The value in a register or in the instruction, cut to a size.
 #[tactic(auto, unfolding(m68k_decode::specs::Run::load))]
-pub fn held(regs: &CpuRegs, size: Size, place: Place68) -> u32
-    ensures { (t : Run) (program : Bool) (k : ℕ → Prog) → t.regs ≡ regs.now → is_memory place ≡ false → load t size program place k ≡ k result }
+pub fn held_value(regs: &CpuRegs, size: Size, place: Place68) -> u32
+    ensures { (t : Run) (program : Bool) (k : ℕ → Prog)
+        → t.regs ≡ regs.now
+        → is_memory place ≡ false
+        → load t size program place k ≡ k result }
 {
     match place {
         Place68::Data { reg } => low_part(size, regs.data(reg)),
@@ -175,7 +190,7 @@ pub fn low_part(size: Size, number: u32) -> u32
 
 /// A data register's number with another low byte, low word or whole.
 #[tactic(auto, unfolding(m68k_decode::specs::Run::merged))]
-pub fn merged(size: Size, old: u32, value: u32) -> u32
+pub fn merge(size: Size, old: u32, value: u32) -> u32
     ensures { result ≡ merged size old value }
 {
     match size {
@@ -221,11 +236,12 @@ pub fn store(
     value: u32,
     clocks: u32,
 )
-    ensures { meaning context.now machine.new ≡ store (run_of context.now machine.old) size place value clocks }
+    ensures { meaning context.now machine.new
+        ≡ store (run_of context.now machine.old) size place value clocks }
 {
     match place {
         Place68::Data { reg } => {
-            let merged = merged(size, machine.regs.data(reg), value);
+            let merged = merge(size, machine.regs.data(reg), value);
             machine.regs.set_data(reg, merged);
             end(machine, clocks);
         }

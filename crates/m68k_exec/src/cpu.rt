@@ -77,11 +77,11 @@ impl Cpu {
             pc: 0,
             sr: 0x2700,
         };
-        Cpu::begun(regs, Under::Reset)
+        Cpu::at_begin(regs, Under::Reset)
     }
 
     /// The processor as something begins.
-    fn begun(regs: CpuRegs, under: Under) -> Cpu
+    fn at_begin(regs: CpuRegs, under: Under) -> Cpu
         ensures { Stands result regs under [] }
     {
         let traced = traces(&regs, &under);
@@ -107,7 +107,9 @@ impl Cpu {
     /// What it does next: an access, or idle clocks, or nothing any more. A read of a byte asks for its whole word.
     #[tactic(auto, unfolding(m68k_decode::specs::Walk::next))]
     pub fn ask(&self) -> Ask
-        ensures next { (r : CpuRegs) (u : Under) (ws : List ℕ) → Stands self.now r u ws → result ≡ wanted (next r u ws) }
+        ensures next { (r : CpuRegs) (u : Under) (ws : List ℕ)
+            → Stands self.now r u ws
+            → result ≡ wanted (next r u ws) }
         ensures halted { is_halted self.now ≡ true → result ≡ A.Halted }
     {
         match self.machine.step {
@@ -155,7 +157,9 @@ impl Cpu {
     pub fn answer(&mut self, word: u16, level: u8) -> Option<u8>
         requires level { level ≤ 7 }
         requires asks { is_halted self.old ≡ false }
-        ensures { (r : CpuRegs) (u : Under) (ws : List ℕ) → Stands self.old r u ws → Reaches self.new result (advance r u ws word level) }
+        ensures { (r : CpuRegs) (u : Under) (ws : List ℕ)
+            → Stands self.old r u ws
+            → Reaches self.new result (advance r u ws word level) }
     {
         if let Step::Ended { under, .. } = self.machine.step {
             return self.end(under, level);
@@ -166,7 +170,9 @@ impl Cpu {
 
     /// Goes on with the word of an access.
     fn complete(&mut self, word: u16)
-        ensures { (r : CpuRegs) (u : Under) (ws : List ℕ) → Stands self.old r u ws → Stands self.new r u (ws ++ word ∷ []) }
+        ensures { (r : CpuRegs) (u : Under) (ws : List ℕ)
+            → Stands self.old r u ws
+            → Stands self.new r u (ws ++ word ∷ []) }
     {
         self.done = self.done.saturating_add(1);
         resume(&mut self.context, &mut self.machine, word);
@@ -174,7 +180,9 @@ impl Cpu {
 
     /// Begins what follows an access, if it does.
     fn settle(&mut self, level: u8) -> Option<u8>
-        ensures { (r : CpuRegs) (u : Under) (ws : List ℕ) → Stands self.old r u ws → Reaches self.new result (settled (after (program r u) ws) r u ws level) }
+        ensures { (r : CpuRegs) (u : Under) (ws : List ℕ)
+            → Stands self.old r u ws
+            → Reaches self.new result (settled (after (program r u) ws) r u ws level) }
     {
         match self.machine.step {
             Step::Ended { clocks, under } => {
@@ -194,7 +202,8 @@ impl Cpu {
     /// An end: a trace, an interrupt, or what is under way next.
     #[tactic(auto, unfolding(m68k_decode::specs::Walk::boundary))]
     fn end(&mut self, under: Under, level: u8) -> Option<u8>
-        ensures { Reaches self.new result (boundary self.old.traced self.old.machine.regs under level) }
+        ensures { Reaches self.new result
+            (boundary self.old.traced self.old.machine.regs under level) }
     {
         let taking = is_taking(&under);
         if self.traced {

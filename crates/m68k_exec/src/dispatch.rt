@@ -10,11 +10,11 @@ use crate::access::{end, fetch, finish, read_low, write_word};
 use crate::entries::{end_reset, handle, push, take_stack};
 use crate::fetched::Fetched;
 use crate::flow::{
-    branch, control, exchange, jump, move_usp, own, own_word, resolve_control, resumed, resuming,
-    returned, returning, system, trap, unlink, unlinked,
+    branch, control, exchange, finish_unlink, jump, move_usp, own_word, read_resume_pc,
+    resolve_control, resume_at, return_to, start_return, system, trap, unlink, use_own_word,
 };
-use crate::general::{compute, dest, general, resolve_dest, resolve_source};
-use crate::lists::{gather, loaded, resolve_list, scatter, store_next};
+use crate::general::{compute, dest, resolve_dest, resolve_source, start_general};
+use crate::lists::{gather, resolve_list, scatter, store_next, take_loaded};
 use crate::state::{Context, Machine, Part, Role, Step, Then, Use};
 use crate::status::needs_supervisor;
 use m68k_decode::{Instr, Trap};
@@ -31,7 +31,8 @@ fn refuse(context: &Context, machine: &mut Machine, kind: Trap)
 /// An instruction, after its opcode.
 #[tactic(auto, unfolding(m68k_decode::specs::Walk::permitted))]
 fn permit(context: &Context, machine: &mut Machine)
-    ensures { meaning context.now machine.new ≡ permitted context.now.fetched.instr (run_of context.now machine.old) }
+    ensures { meaning context.now machine.new
+        ≡ permitted context.now.fetched.instr (run_of context.now machine.old) }
 {
     match context.fetched.instr {
         Instr::Movep { .. }
@@ -42,7 +43,7 @@ fn permit(context: &Context, machine: &mut Machine)
         Instr::Pea { .. } | Instr::JsrJmp { .. } | Instr::Lea { .. } => control(context, machine),
         Instr::LinkUnlk { r, .. } => unlink(context, machine, r),
         Instr::ResetNopStopRte { which } => system(context, machine, which),
-        Instr::RtsTrapvRtr { which } => returning(context, machine, which),
+        Instr::RtsTrapvRtr { which } => start_return(context, machine, which),
         Instr::Branch { which, c, d8 } => branch(context, machine, which, c, d8),
         Instr::MoveUsp { d, r } => {
             move_usp(&mut machine.regs, d, r);
@@ -56,14 +57,15 @@ fn permit(context: &Context, machine: &mut Machine)
         Instr::Illegal => refuse(context, machine, Trap::Illegal),
         Instr::LineA => refuse(context, machine, Trap::LineA),
         Instr::LineF => refuse(context, machine, Trap::LineF),
-        _ => general(context, machine),
+        _ => start_general(context, machine),
     }
 }
 
 /// An instruction, if it is not the supervisor's alone.
 #[tactic(auto, unfolding(m68k_decode::specs::Walk::execute))]
 fn execute(context: &Context, machine: &mut Machine)
-    ensures { meaning context.now machine.new ≡ execute context.now.fetched.instr (run_of context.now machine.old) }
+    ensures { meaning context.now machine.new
+        ≡ execute context.now.fetched.instr (run_of context.now machine.old) }
 {
     if needs_supervisor(&context.fetched.instr) && !machine.regs.is_supervisor() {
         refuse(context, machine, Trap::Privilege);
@@ -76,7 +78,8 @@ fn execute(context: &Context, machine: &mut Machine)
 #[tactic(auto, unfolding(m68k_decode::specs::Walk::opcode_read))]
 fn begin_row(context: &mut Context, machine: &mut Machine, opcode: u16)
     ensures start { context.new.start ≡ context.old.start }
-    ensures walk { meaning context.new machine.new ≡ opcode_read opcode (run_of context.old machine.old) }
+    ensures walk { meaning context.new machine.new
+        ≡ opcode_read opcode (run_of context.old machine.old) }
 {
     context.fetched = Fetched::new(opcode);
     context.taking = false;
@@ -85,7 +88,10 @@ fn begin_row(context: &mut Context, machine: &mut Machine, opcode: u16)
 
 /// The place of a role is known by its words.
 fn resolve(context: &Context, machine: &mut Machine, role: Role, pc: u32, high: u16, low: u16)
-    ensures { meaning context.now machine.new ≡ at_place (run_of context.now machine.old) (role_mode role context.now.fetched.instr) (role_size role context.now.fetched.instr) pc high low (placed role context.now.fetched.instr) }
+    ensures { meaning context.now machine.new
+        ≡ at_place (run_of context.now machine.old) (role_mode role context.now.fetched.instr)
+        (role_size role context.now.fetched.instr) pc high low
+        (placed role context.now.fetched.instr) }
 {
     match role {
         Role::Source => resolve_source(context, machine, pc, high, low),
@@ -98,11 +104,12 @@ fn resolve(context: &Context, machine: &mut Machine, role: Role, pc: u32, high: 
 /// A word of the program is read; `pc` was its address.
 fn take_word(context: &mut Context, machine: &mut Machine, part: Part, pc: u32, word: u16)
     ensures start { context.new.start ≡ context.old.start }
-    ensures walk { meaning context.new machine.new ≡ fetched part context.old.fetched.instr pc word (run_of context.old machine.old) }
+    ensures walk { meaning context.new machine.new
+        ≡ fetched part context.old.fetched.instr pc word (run_of context.old machine.old) }
 {
     match part {
         Part::Opcode => begin_row(context, machine, word),
-        Part::Own => own(context, machine, word),
+        Part::Own => use_own_word(context, machine, word),
         Part::One { role } => resolve(context, machine, role, pc, word, 0),
         Part::High { role } => fetch(
             context,
@@ -119,7 +126,8 @@ fn take_word(context: &mut Context, machine: &mut Machine, part: Part, pc: u32, 
 
 /// A value is read.
 fn take_value(context: &Context, machine: &mut Machine, into: Use, value: u32)
-    ensures { meaning context.now machine.new ≡ valued into context.now.fetched.instr (run_of context.now machine.old) value }
+    ensures { meaning context.now machine.new
+        ≡ valued into context.now.fetched.instr (run_of context.now machine.old) value }
 {
     match into {
         Use::Source => dest(context, machine, value),
@@ -127,10 +135,10 @@ fn take_value(context: &Context, machine: &mut Machine, into: Use, value: u32)
             value: source,
             place,
         } => compute(context, machine, source, place, value),
-        Use::Return => returned(context, machine, value),
-        Use::Status => resuming(context, machine, value),
-        Use::Resume { status } => resumed(context, machine, status, value),
-        Use::Unlink => unlinked(context, machine, value),
+        Use::Return => return_to(context, machine, value),
+        Use::Status => read_resume_pc(context, machine, value),
+        Use::Resume { status } => resume_at(context, machine, status, value),
+        Use::Unlink => finish_unlink(context, machine, value),
         Use::Gather {
             at,
             left,
@@ -139,7 +147,7 @@ fn take_value(context: &Context, machine: &mut Machine, into: Use, value: u32)
             let joined = before.wrapping_mul(0x100).wrapping_add(value);
             gather(context, machine, at, left, joined);
         }
-        Use::Load { at, number, left } => loaded(context, machine, at, number, left, value),
+        Use::Load { at, number, left } => take_loaded(context, machine, at, number, left, value),
         Use::Handler { clocks } => handle(context, machine, clocks, value),
         Use::Stack => take_stack(context, machine, value),
         Use::Begin { ssp } => end_reset(context, machine, ssp, value),
@@ -148,7 +156,8 @@ fn take_value(context: &Context, machine: &mut Machine, into: Use, value: u32)
 
 /// A write is made.
 fn go_on(context: &Context, machine: &mut Machine, then: Then)
-    ensures { meaning context.now machine.new ≡ written then context.now.fetched.instr (run_of context.now machine.old) }
+    ensures { meaning context.now machine.new
+        ≡ written then context.now.fetched.instr (run_of context.now machine.old) }
 {
     match then {
         Then::End { clocks } => end(machine, clocks),

@@ -117,7 +117,10 @@ fn write_frame_word(
     word: u16,
     next: u8,
 )
-    ensures { meaning context.now machine.new ≡ write_word (run_of context.now machine.old) at word (pushes kind ea at (drop next (frame_of kind context.now.start)) (run_of context.now machine.old)) }
+    ensures { meaning context.now machine.new
+        ≡ write_word (run_of context.now machine.old) at word
+        (pushes kind ea at (drop next (frame_of kind context.now.start))
+        (run_of context.now machine.old)) }
 {
     if at & 1 == 1 {
         fault(context, machine, at, false, false);
@@ -135,7 +138,9 @@ fn write_frame_word(
 /// Goes on with the frame, of which `next` words are written.
 #[tactic(auto, using(crate::proofs::Pushing::pushes_word, crate::proofs::Pushing::pushes_end, crate::proofs::Pushing::within_frame))]
 pub fn push(context: &Context, machine: &mut Machine, kind: Trap, ea: u8, at: u32, next: u8)
-    ensures { meaning context.now machine.new ≡ pushes kind ea at (drop next (frame_of kind context.now.start)) (run_of context.now machine.old) }
+    ensures { meaning context.now machine.new
+        ≡ pushes kind ea at (drop next (frame_of kind context.now.start))
+        (run_of context.now machine.old) }
 {
     let Some(word) = frame_word(&kind, &context.start, next) else {
         read_vector(context, machine, kind, ea, at);

@@ -11,8 +11,8 @@ ghost use Rattle.m68k_exec.specs.declared.state.Context.{Context};
 ghost use Rattle.m68k_exec.specs.declared.state.Machine.{Machine};
 ghost use Rattle.m68k_exec.specs.Meaning.{meaning, run_of, written};
 
-use crate::access::{address_after, address_before, fetch, finish, merged, read, write};
-use crate::lists::{several, spread};
+use crate::access::{address_after, address_before, fetch, finish, merge, read, write};
+use crate::lists::{spread, start_list};
 use crate::row_data::{extended_byte, extended_word};
 use crate::state::{Context, Machine, Part, Role, Step, Then, Use};
 use crate::status::{condition, flags, kept_status, with_code};
@@ -29,7 +29,9 @@ fn lower_stack(regs: &mut CpuRegs)
 
 /// Puts a long where the stack pointer points.
 fn write_on_stack(context: &Context, machine: &mut Machine, value: u32, then: Then)
-    ensures { meaning context.now machine.new ≡ written_on_stack (run_of context.now machine.old) value (written then context.now.fetched.instr (run_of context.now machine.old)) }
+    ensures { meaning context.now machine.new
+        ≡ written_on_stack (run_of context.now machine.old) value
+        (written then context.now.fetched.instr (run_of context.now machine.old)) }
 {
     let top = machine.regs.address(7);
     write(context, machine, Size::Long, top, value, then);
@@ -48,7 +50,8 @@ fn call(context: &Context, machine: &mut Machine, at: u32)
 /// Goes on at an address, and ends.
 pub fn jump(context: &Context, machine: &mut Machine, at: u32, extra: u32)
     requires { extra ≤ 63 }
-    ensures { meaning context.now machine.new ≡ finish extra (jumped at (run_of context.now machine.old)) }
+    ensures { meaning context.now machine.new
+        ≡ finish extra (jumped at (run_of context.now machine.old)) }
 {
     machine.regs.pc = at;
     finish(context, machine, extra);
@@ -57,7 +60,9 @@ pub fn jump(context: &Context, machine: &mut Machine, at: u32, extra: u32)
 /// Puts an address on the stack, and ends.
 #[tactic(auto, unfolding(m68k_decode::specs::Run::finish))]
 fn push_address(context: &Context, machine: &mut Machine, at: u32)
-    ensures { meaning context.now machine.new ≡ written_on_stack (lowered (run_of context.now machine.old)) at (finish 0 (lowered (run_of context.now machine.old))) }
+    ensures { meaning context.now machine.new
+        ≡ written_on_stack (lowered (run_of context.now machine.old)) at
+        (finish 0 (lowered (run_of context.now machine.old))) }
 {
     lower_stack(&mut machine.regs);
     let clocks = context.fetched.clocks(0);
@@ -67,7 +72,8 @@ fn push_address(context: &Context, machine: &mut Machine, at: u32)
 /// The address of JSR, JMP, LEA and PEA is known.
 #[tactic(auto, unfolding(m68k_decode::specs::Flow::addressed_at))]
 fn take_address(context: &Context, machine: &mut Machine, at: u32)
-    ensures { meaning context.now machine.new ≡ addressed_at context.now.fetched.instr at (run_of context.now machine.old) }
+    ensures { meaning context.now machine.new
+        ≡ addressed_at context.now.fetched.instr at (run_of context.now machine.old) }
 {
     match context.fetched.instr {
         Instr::JsrJmp { which: 0, .. } => call(context, machine, at),
@@ -84,7 +90,8 @@ fn take_address(context: &Context, machine: &mut Machine, at: u32)
 /// The place of JSR, JMP, LEA and PEA is known.
 #[tactic(auto, unfolding(m68k_decode::specs::Flow::addressed))]
 fn address(context: &Context, machine: &mut Machine, place: Place68)
-    ensures { meaning context.now machine.new ≡ addressed context.now.fetched.instr place (run_of context.now machine.old) }
+    ensures { meaning context.now machine.new
+        ≡ addressed context.now.fetched.instr place (run_of context.now machine.old) }
 {
     match place {
         Place68::Memory { at } => take_address(context, machine, at),
@@ -106,7 +113,9 @@ fn control_mode(instr: &Instr) -> Mode
 /// Goes on with the words of that mode.
 #[tactic(auto, unfolding(m68k_decode::specs::Run::at_place))]
 pub fn resolve_control(context: &Context, machine: &mut Machine, pc: u32, high: u16, low: u16)
-    ensures { meaning context.now machine.new ≡ at_place (run_of context.now machine.old) (control_mode context.now.fetched.instr) S.Long pc high low (λ p t. addressed context.now.fetched.instr p t) }
+    ensures { meaning context.now machine.new
+        ≡ at_place (run_of context.now machine.old) (control_mode context.now.fetched.instr) S.Long
+        pc high low (λ p t. addressed context.now.fetched.instr p t) }
 {
     let mode = control_mode(&context.fetched.instr);
     let place = resolve(&mode, &mut machine.regs, &[high, low], pc, Size::Long);
@@ -116,7 +125,8 @@ pub fn resolve_control(context: &Context, machine: &mut Machine, pc: u32, high: 
 /// JSR, JMP, LEA and PEA, after the opcode.
 #[tactic(auto, unfolding(m68k_decode::specs::Flow::control, m68k_decode::specs::Run::place))]
 pub fn control(context: &Context, machine: &mut Machine)
-    ensures { meaning context.now machine.new ≡ control context.now.fetched.instr (run_of context.now machine.old) }
+    ensures { meaning context.now machine.new
+        ≡ control context.now.fetched.instr (run_of context.now machine.old) }
 {
     match extension_words(&control_mode(&context.fetched.instr), Size::Long) {
         0 => {
@@ -158,7 +168,8 @@ fn take_branch(
     miss: u32,
 )
     requires { miss ≤ 63 }
-    ensures { meaning context.now machine.new ≡ branched which c displacement miss (run_of context.now machine.old) }
+    ensures { meaning context.now machine.new
+        ≡ branched which c displacement miss (run_of context.now machine.old) }
 {
     let target = branch_target(context.start.pc, displacement);
     if which == 1 {
@@ -175,14 +186,15 @@ fn count_down(regs: &mut CpuRegs, r: u8)
     ensures { regs.new ≡ counted_down r regs.old }
 {
     let counter = regs.data(r);
-    let lowered = merged(Size::Word, counter, counter % 0x1_0000 + 0xffff);
+    let lowered = merge(Size::Word, counter, counter % 0x1_0000 + 0xffff);
     regs.set_data(r, lowered);
 }
 
 /// The displacement of DBcc is known.
 #[tactic(auto, unfolding(m68k_decode::specs::Flow::counted))]
 fn count(context: &Context, machine: &mut Machine, c: u8, r: u8, displacement: u16)
-    ensures { meaning context.now machine.new ≡ counted c r displacement (run_of context.now machine.old) }
+    ensures { meaning context.now machine.new
+        ≡ counted c r displacement (run_of context.now machine.old) }
 {
     if condition(c, flags(machine.regs.sr)) {
         finish(context, machine, 0);
@@ -230,8 +242,9 @@ fn link(context: &Context, machine: &mut Machine, r: u8, displacement: u16)
 
 /// The long where UNLK's register points is read.
 #[tactic(auto, unfolding(m68k_decode::specs::Flow::unlinked))]
-pub fn unlinked(context: &Context, machine: &mut Machine, value: u32)
-    ensures { meaning context.now machine.new ≡ unlinked context.now.fetched.instr value (run_of context.now machine.old) }
+pub fn finish_unlink(context: &Context, machine: &mut Machine, value: u32)
+    ensures { meaning context.now machine.new
+        ≡ unlinked context.now.fetched.instr value (run_of context.now machine.old) }
 {
     if let Instr::LinkUnlk { r, .. } = context.fetched.instr {
         let stack = address_after(Size::Long, machine.regs.address(r));
@@ -244,7 +257,8 @@ pub fn unlinked(context: &Context, machine: &mut Machine, value: u32)
 /// UNLK, after the opcode.
 #[tactic(auto, unfolding(m68k_decode::specs::Flow::unlink))]
 pub fn unlink(context: &Context, machine: &mut Machine, r: u8)
-    ensures { meaning context.now machine.new ≡ unlink context.now.fetched.instr r (run_of context.now machine.old) }
+    ensures { meaning context.now machine.new
+        ≡ unlink context.now.fetched.instr r (run_of context.now machine.old) }
 {
     let at = machine.regs.address(r);
     read(context, machine, Size::Long, false, at, Use::Unlink);
@@ -260,7 +274,7 @@ fn raise_stack(regs: &mut CpuRegs, bytes: u32)
 
 /// The PC of RTS is read.
 #[tactic(auto, unfolding(m68k_decode::specs::Flow::returned))]
-pub fn returned(context: &Context, machine: &mut Machine, pc: u32)
+pub fn return_to(context: &Context, machine: &mut Machine, pc: u32)
     ensures { meaning context.now machine.new ≡ returned pc (run_of context.now machine.old) }
 {
     raise_stack(&mut machine.regs, 4);
@@ -269,8 +283,9 @@ pub fn returned(context: &Context, machine: &mut Machine, pc: u32)
 
 /// The PC of RTE and RTR is read.
 #[tactic(auto, unfolding(m68k_decode::specs::Flow::resumed))]
-pub fn resumed(context: &Context, machine: &mut Machine, word: u16, pc: u32)
-    ensures { meaning context.now machine.new ≡ resumed context.now.fetched.instr word pc (run_of context.now machine.old) }
+pub fn resume_at(context: &Context, machine: &mut Machine, word: u16, pc: u32)
+    ensures { meaning context.now machine.new
+        ≡ resumed context.now.fetched.instr word pc (run_of context.now machine.old) }
 {
     let sr = match context.fetched.instr {
         Instr::ResetNopStopRte { .. } => kept_status(word),
@@ -283,8 +298,9 @@ pub fn resumed(context: &Context, machine: &mut Machine, word: u16, pc: u32)
 
 /// The word for SR or CCR is read.
 #[tactic(auto, unfolding(m68k_decode::specs::Flow::resuming))]
-pub fn resuming(context: &Context, machine: &mut Machine, word: u32)
-    ensures { meaning context.now machine.new ≡ resuming context.now.fetched.instr word (run_of context.now machine.old) }
+pub fn read_resume_pc(context: &Context, machine: &mut Machine, word: u32)
+    ensures { meaning context.now machine.new
+        ≡ resuming context.now.fetched.instr word (run_of context.now machine.old) }
 {
     let status = (word % 0x1_0000) as u16;
     let at = address_after(Size::Word, machine.regs.address(7));
@@ -301,7 +317,8 @@ pub fn resuming(context: &Context, machine: &mut Machine, word: u32)
 /// RTE and RTR, after the opcode.
 #[tactic(auto, unfolding(m68k_decode::specs::Flow::resume))]
 fn resume(context: &Context, machine: &mut Machine)
-    ensures { meaning context.now machine.new ≡ resume context.now.fetched.instr (run_of context.now machine.old) }
+    ensures { meaning context.now machine.new
+        ≡ resume context.now.fetched.instr (run_of context.now machine.old) }
 {
     let at = machine.regs.address(7);
     read(context, machine, Size::Word, false, at, Use::Status);
@@ -321,12 +338,13 @@ fn stop(context: &Context, machine: &mut Machine, word: u16)
 
 /// The word of a row that has one behind its opcode is known.
 #[tactic(auto, unfolding(m68k_decode::specs::Flow::own))]
-pub fn own(context: &Context, machine: &mut Machine, word: u16)
-    ensures { meaning context.now machine.new ≡ own context.now.fetched.instr word (run_of context.now machine.old) }
+pub fn use_own_word(context: &Context, machine: &mut Machine, word: u16)
+    ensures { meaning context.now machine.new
+        ≡ own context.now.fetched.instr word (run_of context.now machine.old) }
 {
     match context.fetched.instr {
         Instr::Movep { .. } => spread(context, machine, word),
-        Instr::MovemToMemory { .. } | Instr::MovemToRegisters { .. } => several(
+        Instr::MovemToMemory { .. } | Instr::MovemToRegisters { .. } => start_list(
             context, machine, word,
         ),
         Instr::LinkUnlk { r, .. } => link(context, machine, r, word),
@@ -347,7 +365,8 @@ pub fn own(context: &Context, machine: &mut Machine, word: u16)
 /// Asks for that word.
 #[tactic(auto, unfolding(m68k_decode::specs::Flow::own_word))]
 pub fn own_word(context: &Context, machine: &mut Machine)
-    ensures { meaning context.now machine.new ≡ own_word context.now.fetched.instr (run_of context.now machine.old) }
+    ensures { meaning context.now machine.new
+        ≡ own_word context.now.fetched.instr (run_of context.now machine.old) }
 {
     fetch(context, machine, Part::Own);
 }
@@ -355,7 +374,8 @@ pub fn own_word(context: &Context, machine: &mut Machine)
 /// RESET, NOP, STOP and RTE.
 #[tactic(auto, unfolding(m68k_decode::specs::Flow::system))]
 pub fn system(context: &Context, machine: &mut Machine, which: u8)
-    ensures { meaning context.now machine.new ≡ system context.now.fetched.instr which (run_of context.now machine.old) }
+    ensures { meaning context.now machine.new
+        ≡ system context.now.fetched.instr which (run_of context.now machine.old) }
 {
     match which {
         2 => own_word(context, machine),
@@ -366,8 +386,9 @@ pub fn system(context: &Context, machine: &mut Machine, which: u8)
 
 /// RTS, TRAPV and RTR.
 #[tactic(auto, unfolding(m68k_decode::specs::Flow::returning))]
-pub fn returning(context: &Context, machine: &mut Machine, which: u8)
-    ensures { meaning context.now machine.new ≡ returning context.now.fetched.instr which (run_of context.now machine.old) }
+pub fn start_return(context: &Context, machine: &mut Machine, which: u8)
+    ensures { meaning context.now machine.new
+        ≡ returning context.now.fetched.instr which (run_of context.now machine.old) }
 {
     if which == 0 {
         let at = machine.regs.address(7);
@@ -430,7 +451,8 @@ pub fn exchange(regs: &mut CpuRegs, x: u8, o: u8, y: u8)
 /// A branch, after the opcode.
 #[tactic(auto, unfolding(m68k_decode::specs::Flow::branch))]
 pub fn branch(context: &Context, machine: &mut Machine, which: u8, c: u8, d8: u8)
-    ensures { meaning context.now machine.new ≡ branch context.now.fetched.instr which c d8 (run_of context.now machine.old) }
+    ensures { meaning context.now machine.new
+        ≡ branch context.now.fetched.instr which c d8 (run_of context.now machine.old) }
 {
     if d8 == 0 {
         own_word(context, machine);

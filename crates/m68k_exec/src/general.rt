@@ -6,7 +6,7 @@ ghost use Rattle.m68k_decode.specs.RowData.{dest_size, source_size, source_mode,
 ghost use Rattle.m68k_decode.specs.General.{completed, compute, with_dest, dest, with_source, general};
 ghost use Rattle.m68k_exec.specs.Meaning.{meaning, run_of};
 
-use crate::access::{fetch, held, read, store};
+use crate::access::{fetch, held_value, read, store};
 use crate::operation::{operation, status_after, trap, trap_ea};
 use crate::row_data::{
     constant, count, dest_mode, dest_size, has_dest, has_source, is_program, source_mode,
@@ -26,7 +26,9 @@ fn complete(
     value: u32,
     clocks: u32,
 )
-    ensures { meaning context.now machine.new ≡ completed trap context.now.fetched.instr place value clocks (run_of context.now machine.old) }
+    ensures { meaning context.now machine.new
+        ≡ completed trap context.now.fetched.instr place value clocks
+        (run_of context.now machine.old) }
 {
     let instr = context.fetched.instr;
     if let Some(kind) = trap {
@@ -52,7 +54,8 @@ fn complete(
 /// Source and old value are known.
 #[tactic(auto, unfolding(m68k_decode::specs::General::compute))]
 pub fn compute(context: &Context, machine: &mut Machine, value: u32, place: Place68, old: u32)
-    ensures { meaning context.now machine.new ≡ compute context.now.fetched.instr value place old (run_of context.now machine.old) }
+    ensures { meaning context.now machine.new
+        ≡ compute context.now.fetched.instr value place old (run_of context.now machine.old) }
 {
     let instr = context.fetched.instr;
     let sr = machine.regs.sr;
@@ -72,7 +75,10 @@ pub fn compute(context: &Context, machine: &mut Machine, value: u32, place: Plac
 /// Takes the old value of the destination.
 #[tactic(auto, unfolding(m68k_decode::specs::Run::load))]
 fn load_old(context: &Context, machine: &mut Machine, value: u32, place: Place68)
-    ensures { meaning context.now machine.new ≡ load (run_of context.now machine.old) (dest_size context.now.fetched.instr) false place (λ old. compute context.now.fetched.instr value place old (run_of context.now machine.old)) }
+    ensures { meaning context.now machine.new
+        ≡ load (run_of context.now machine.old) (dest_size context.now.fetched.instr) false place
+        (λ old. compute context.now.fetched.instr value place old
+        (run_of context.now machine.old)) }
 {
     let size = dest_size(&context.fetched.instr);
     match place {
@@ -85,7 +91,7 @@ fn load_old(context: &Context, machine: &mut Machine, value: u32, place: Place68
             Use::Old { value, place },
         ),
         _ => {
-            let old = held(&machine.regs, size, place);
+            let old = held_value(&machine.regs, size, place);
             compute(context, machine, value, place, old);
         }
     }
@@ -94,7 +100,8 @@ fn load_old(context: &Context, machine: &mut Machine, value: u32, place: Place68
 /// The place of the destination is known.
 #[tactic(auto, unfolding(m68k_decode::specs::General::with_dest))]
 pub fn with_dest(context: &Context, machine: &mut Machine, value: u32, place: Place68)
-    ensures { meaning context.now machine.new ≡ with_dest context.now.fetched.instr value place (run_of context.now machine.old) }
+    ensures { meaning context.now machine.new
+        ≡ with_dest context.now.fetched.instr value place (run_of context.now machine.old) }
 {
     if takes_old(&context.fetched.instr) {
         load_old(context, machine, value, place);
@@ -113,7 +120,10 @@ pub fn resolve_dest(
     high: u16,
     low: u16,
 )
-    ensures { meaning context.now machine.new ≡ at_place (run_of context.now machine.old) (dest_mode context.now.fetched.instr) (dest_size context.now.fetched.instr) pc high low (λ p t. with_dest context.now.fetched.instr value p t) }
+    ensures { meaning context.now machine.new
+        ≡ at_place (run_of context.now machine.old) (dest_mode context.now.fetched.instr)
+        (dest_size context.now.fetched.instr) pc high low
+        (λ p t. with_dest context.now.fetched.instr value p t) }
 {
     let mode = dest_mode(&context.fetched.instr);
     let size = dest_size(&context.fetched.instr);
@@ -124,7 +134,8 @@ pub fn resolve_dest(
 /// The source is known.
 #[tactic(auto, unfolding(m68k_decode::specs::General::dest, m68k_decode::specs::Run::place))]
 pub fn dest(context: &Context, machine: &mut Machine, value: u32)
-    ensures { meaning context.now machine.new ≡ dest context.now.fetched.instr value (run_of context.now machine.old) }
+    ensures { meaning context.now machine.new
+        ≡ dest context.now.fetched.instr value (run_of context.now machine.old) }
 {
     let instr = context.fetched.instr;
     if !has_dest(&instr) {
@@ -156,7 +167,8 @@ pub fn dest(context: &Context, machine: &mut Machine, value: u32)
 /// The place of the source is known.
 #[tactic(auto, unfolding(m68k_decode::specs::General::with_source, m68k_decode::specs::Run::load))]
 pub fn with_source(context: &Context, machine: &mut Machine, place: Place68)
-    ensures { meaning context.now machine.new ≡ with_source context.now.fetched.instr place (run_of context.now machine.old) }
+    ensures { meaning context.now machine.new
+        ≡ with_source context.now.fetched.instr place (run_of context.now machine.old) }
 {
     let instr = context.fetched.instr;
     let size = source_size(&instr);
@@ -166,7 +178,7 @@ pub fn with_source(context: &Context, machine: &mut Machine, place: Place68)
             read(context, machine, size, program, at, Use::Source);
         }
         _ => {
-            let value = held(&machine.regs, size, place);
+            let value = held_value(&machine.regs, size, place);
             dest(context, machine, value);
         }
     }
@@ -175,7 +187,10 @@ pub fn with_source(context: &Context, machine: &mut Machine, place: Place68)
 /// Goes on with the words of the source's mode.
 #[tactic(auto, unfolding(m68k_decode::specs::Run::at_place))]
 pub fn resolve_source(context: &Context, machine: &mut Machine, pc: u32, high: u16, low: u16)
-    ensures { meaning context.now machine.new ≡ at_place (run_of context.now machine.old) (source_mode context.now.fetched.instr) (source_size context.now.fetched.instr) pc high low (λ p t. with_source context.now.fetched.instr p t) }
+    ensures { meaning context.now machine.new
+        ≡ at_place (run_of context.now machine.old) (source_mode context.now.fetched.instr)
+        (source_size context.now.fetched.instr) pc high low
+        (λ p t. with_source context.now.fetched.instr p t) }
 {
     let mode = source_mode(&context.fetched.instr);
     let size = source_size(&context.fetched.instr);
@@ -185,8 +200,9 @@ pub fn resolve_source(context: &Context, machine: &mut Machine, pc: u32, high: u
 
 /// A row with a source, a destination and a result, after its opcode.
 #[tactic(auto, unfolding(m68k_decode::specs::General::general, m68k_decode::specs::Run::place))]
-pub fn general(context: &Context, machine: &mut Machine)
-    ensures { meaning context.now machine.new ≡ general context.now.fetched.instr (run_of context.now machine.old) }
+pub fn start_general(context: &Context, machine: &mut Machine)
+    ensures { meaning context.now machine.new
+        ≡ general context.now.fetched.instr (run_of context.now machine.old) }
 {
     let instr = context.fetched.instr;
     if !has_source(&instr) {

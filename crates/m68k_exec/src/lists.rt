@@ -7,8 +7,8 @@ ghost use Rattle.m68k_decode.specs.RowData.{extended};
 ghost use Rattle.m68k_decode.specs.Lists.{list_mode, list_size, is_downward, unstepped, numbers, register_of, with_register, stored_number, stored_at, stored_next, list_end, list_ended, stores, loads, listing, several, scatter, gathered, gather, bytes_moved, spread};
 ghost use Rattle.m68k_exec.specs.Meaning.{meaning, run_of, numbers_left, taken};
 
-use crate::access::{address_after, address_before, fetch, finish, merged, read, write};
-use crate::row_data::{extended, extended_word, is_program, ones};
+use crate::access::{address_after, address_before, fetch, finish, merge, read, write};
+use crate::row_data::{extend, extended_word, is_program, ones};
 use crate::state::{Context, Left, Machine, Part, Role, Then, Use};
 use m68k_decode::{CpuRegs, Instr, Mode, Place68, Size};
 use m68k_ea::{extension_words, resolve};
@@ -45,7 +45,7 @@ fn is_downward(mode: Mode) -> bool
 
 /// The mode that gives the first address.
 #[tactic(auto, unfolding(m68k_decode::specs::Lists::unstepped))]
-fn unstepped(mode: Mode) -> Mode
+fn without_step(mode: Mode) -> Mode
     ensures { result ≡ unstepped mode }
 {
     match mode {
@@ -145,7 +145,8 @@ fn take(left: &mut Left) -> Option<u8>
 /// The end of MOVEM.
 #[tactic(auto, unfolding(m68k_decode::specs::Lists::list_ended, m68k_decode::specs::Lists::list_end))]
 fn end_list(context: &Context, machine: &mut Machine, mask: u16, at: u32)
-    ensures { meaning context.now machine.new ≡ list_ended context.now.fetched.instr mask at (run_of context.now machine.old) }
+    ensures { meaning context.now machine.new
+        ≡ list_ended context.now.fetched.instr mask at (run_of context.now machine.old) }
 {
     if let Mode::Post { reg } | Mode::Pre { reg } = list_mode(&context.fetched.instr) {
         machine.regs.set_address(reg, at);
@@ -156,7 +157,9 @@ fn end_list(context: &Context, machine: &mut Machine, mask: u16, at: u32)
 /// Stores the next register.
 #[tactic(auto, unfolding(m68k_decode::specs::Lists::stores))]
 pub fn store_next(context: &Context, machine: &mut Machine, at: u32, left: Left)
-    ensures { meaning context.now machine.new ≡ stores context.now.fetched.instr left.mask at (numbers_left left) (run_of context.now machine.old) }
+    ensures { meaning context.now machine.new
+        ≡ stores context.now.fetched.instr left.mask at (numbers_left left)
+        (run_of context.now machine.old) }
 {
     let mut left = left;
     let Some(number) = take(&mut left) else {
@@ -183,7 +186,9 @@ pub fn store_next(context: &Context, machine: &mut Machine, at: u32, left: Left)
 /// Loads the next register.
 #[tactic(auto, unfolding(m68k_decode::specs::Lists::loads))]
 fn load_next(context: &Context, machine: &mut Machine, at: u32, left: Left)
-    ensures { meaning context.now machine.new ≡ loads context.now.fetched.instr left.mask at (numbers_left left) (run_of context.now machine.old) }
+    ensures { meaning context.now machine.new
+        ≡ loads context.now.fetched.instr left.mask at (numbers_left left)
+        (run_of context.now machine.old) }
 {
     let mut left = left;
     let Some(number) = take(&mut left) else {
@@ -201,18 +206,29 @@ fn load_next(context: &Context, machine: &mut Machine, at: u32, left: Left)
 }
 
 /// A register of MOVEM has been read.
-pub fn loaded(context: &Context, machine: &mut Machine, at: u32, number: u8, left: Left, value: u32)
-    ensures { meaning context.now machine.new ≡ loads context.now.fetched.instr left.mask at (numbers_left left) (with_regs (run_of context.now machine.old) (with_register machine.old.regs number (extended (list_size context.now.fetched.instr) value))) }
+pub fn take_loaded(
+    context: &Context,
+    machine: &mut Machine,
+    at: u32,
+    number: u8,
+    left: Left,
+    value: u32,
+)
+    ensures { meaning context.now machine.new
+        ≡ loads context.now.fetched.instr left.mask at (numbers_left left)
+        (with_regs (run_of context.now machine.old) (with_register machine.old.regs number
+        (extended (list_size context.now.fetched.instr) value))) }
 {
     let size = list_size(&context.fetched.instr);
-    set_register(&mut machine.regs, number, extended(size, value));
+    set_register(&mut machine.regs, number, extend(size, value));
     load_next(context, machine, at, left);
 }
 
 /// The first address is known.
 #[tactic(auto, unfolding(m68k_decode::specs::Lists::listing))]
 pub fn list(context: &Context, machine: &mut Machine, mask: u16, place: Place68)
-    ensures { meaning context.now machine.new ≡ listing context.now.fetched.instr mask place (run_of context.now machine.old) }
+    ensures { meaning context.now machine.new
+        ≡ listing context.now.fetched.instr mask place (run_of context.now machine.old) }
 {
     match (context.fetched.instr, place) {
         (Instr::MovemToMemory { .. }, Place68::Memory { at }) => store_next(
@@ -236,9 +252,12 @@ pub fn resolve_list(
     high: u16,
     low: u16,
 )
-    ensures { meaning context.now machine.new ≡ at_place (run_of context.now machine.old) (unstepped (list_mode context.now.fetched.instr)) (list_size context.now.fetched.instr) pc high low (λ p t. listing context.now.fetched.instr mask p t) }
+    ensures { meaning context.now machine.new
+        ≡ at_place (run_of context.now machine.old)
+        (unstepped (list_mode context.now.fetched.instr)) (list_size context.now.fetched.instr)
+        pc high low (λ p t. listing context.now.fetched.instr mask p t) }
 {
-    let mode = unstepped(list_mode(&context.fetched.instr));
+    let mode = without_step(list_mode(&context.fetched.instr));
     let size = list_size(&context.fetched.instr);
     let place = resolve(&mode, &mut machine.regs, &[high, low], pc, size);
     list(context, machine, mask, place);
@@ -246,11 +265,12 @@ pub fn resolve_list(
 
 /// The mask of MOVEM is known.
 #[tactic(auto, unfolding(m68k_decode::specs::Lists::several, m68k_decode::specs::Run::place))]
-pub fn several(context: &Context, machine: &mut Machine, mask: u16)
-    ensures { meaning context.now machine.new ≡ several context.now.fetched.instr mask (run_of context.now machine.old) }
+pub fn start_list(context: &Context, machine: &mut Machine, mask: u16)
+    ensures { meaning context.now machine.new
+        ≡ several context.now.fetched.instr mask (run_of context.now machine.old) }
 {
     let instr = context.fetched.instr;
-    match extension_words(&unstepped(list_mode(&instr)), list_size(&instr)) {
+    match extension_words(&without_step(list_mode(&instr)), list_size(&instr)) {
         0 => {
             let pc = machine.regs.pc;
             resolve_list(context, machine, mask, pc, 0, 0);
@@ -275,7 +295,8 @@ pub fn several(context: &Context, machine: &mut Machine, mask: u16)
 /// Writes the next of MOVEP's bytes, the top one of a number.
 #[tactic(auto, using(crate::proofs::Counting::scatter_none, crate::proofs::Counting::scatter_step))]
 pub fn scatter(context: &Context, machine: &mut Machine, at: u32, left: u8, value: u32)
-    ensures { meaning context.now machine.new ≡ scatter left at value (run_of context.now machine.old) }
+    ensures { meaning context.now machine.new
+        ≡ scatter left at value (run_of context.now machine.old) }
 {
     if left == 0 {
         finish(context, machine, 0);
@@ -291,12 +312,13 @@ pub fn scatter(context: &Context, machine: &mut Machine, at: u32, left: u8, valu
 
 /// The bytes for MOVEP's register have been read.
 #[tactic(auto, unfolding(m68k_decode::specs::Lists::gathered))]
-fn gathered(context: &Context, machine: &mut Machine, value: u32)
-    ensures { meaning context.now machine.new ≡ gathered context.now.fetched.instr value (run_of context.now machine.old) }
+fn finish_gather(context: &Context, machine: &mut Machine, value: u32)
+    ensures { meaning context.now machine.new
+        ≡ gathered context.now.fetched.instr value (run_of context.now machine.old) }
 {
     if let Instr::Movep { r, o, .. } = context.fetched.instr {
         let size = if o == 0 { Size::Word } else { Size::Long };
-        let whole = merged(size, machine.regs.data(r), value);
+        let whole = merge(size, machine.regs.data(r), value);
         machine.regs.set_data(r, whole);
     }
     finish(context, machine, 0);
@@ -305,10 +327,11 @@ fn gathered(context: &Context, machine: &mut Machine, value: u32)
 /// Reads the next of MOVEP's bytes.
 #[tactic(auto, using(crate::proofs::Counting::gather_none, crate::proofs::Counting::gather_step))]
 pub fn gather(context: &Context, machine: &mut Machine, at: u32, left: u8, value: u32)
-    ensures { meaning context.now machine.new ≡ gather context.now.fetched.instr left at value (run_of context.now machine.old) }
+    ensures { meaning context.now machine.new
+        ≡ gather context.now.fetched.instr left at value (run_of context.now machine.old) }
 {
     if left == 0 {
-        gathered(context, machine, value);
+        finish_gather(context, machine, value);
         return;
     }
     let into = Use::Gather {
@@ -321,7 +344,8 @@ pub fn gather(context: &Context, machine: &mut Machine, at: u32, left: u8, value
 
 /// The first address of MOVEP is known.
 fn move_bytes(context: &Context, machine: &mut Machine, r: u8, o: u8, at: u32)
-    ensures { meaning context.now machine.new ≡ bytes_moved context.now.fetched.instr r o at (run_of context.now machine.old) }
+    ensures { meaning context.now machine.new
+        ≡ bytes_moved context.now.fetched.instr r o at (run_of context.now machine.old) }
 {
     let value = machine.regs.data(r);
     match o {
@@ -335,7 +359,8 @@ fn move_bytes(context: &Context, machine: &mut Machine, r: u8, o: u8, at: u32)
 /// The displacement of MOVEP is known.
 #[tactic(auto, unfolding(m68k_decode::specs::Lists::spread))]
 pub fn spread(context: &Context, machine: &mut Machine, displacement: u16)
-    ensures { meaning context.now machine.new ≡ spread context.now.fetched.instr displacement (run_of context.now machine.old) }
+    ensures { meaning context.now machine.new
+        ≡ spread context.now.fetched.instr displacement (run_of context.now machine.old) }
 {
     let Instr::Movep { r, o, a } = context.fetched.instr else {
         finish(context, machine, 0);

@@ -6,7 +6,7 @@ ghost use Rattle.m68k_opcodes.specs.declared.operand.Size.TheVariants as S;
 ghost use Rattle.m68k_decode.specs.Results.{signed, low};
 ghost use Rattle.m68k_decode.specs.RowData.{bit_size, logical, sum_or_difference, immediate_result, bit_result, unary_result, memory_result, quick_result, left_shift, right_shift, shift_result, division, arithmetic_of, result_of, unflagged, status_logical, status_after, is_outside, word_of, trap_of, trap_ea};
 
-use crate::row_data::{bit_size, extended};
+use crate::row_data::{bit_size, extend};
 use crate::status::{condition, flags, kept_status, with_code, with_flags};
 use m68k_alu::{
     op_abcd, op_add, op_addx, op_and, op_asl, op_asr, op_bchg, op_bclr, op_bset, op_btst, op_chk,
@@ -17,14 +17,14 @@ use m68k_alu::{
 use m68k_decode::{Flags, Instr, Mode, Outcome, Size, Trap, ea};
 
 /// A value with the flags as they are.
-fn unflagged(value: u32, flags: Flags) -> Outcome
+fn keep_flags(value: u32, flags: Flags) -> Outcome
     ensures { result ≡ unflagged value flags }
 {
     Outcome { value, flags }
 }
 
 /// OR, AND, EOR by their place.
-fn logical(which: u8, size: Size, a: u32, b: u32, f: Flags) -> Outcome
+fn logic_result(which: u8, size: Size, a: u32, b: u32, f: Flags) -> Outcome
     ensures { result ≡ logical which size a b f }
 {
     match which {
@@ -46,7 +46,7 @@ fn sum_or_difference(adds: bool, size: Size, a: u32, b: u32, f: Flags) -> Outcom
 }
 
 /// ORI, ANDI, SUBI, ADDI, EORI by their place.
-fn immediate(which: u8, size: Size, a: u32, b: u32, f: Flags) -> Outcome
+fn immediate_result(which: u8, size: Size, a: u32, b: u32, f: Flags) -> Outcome
     ensures { result ≡ immediate_result which size a b f }
 {
     match which {
@@ -99,7 +99,7 @@ fn quick(adds: bool, mode: Mode, size: Size, a: u32, b: u32, f: Flags) -> Outcom
     ensures { result ≡ quick_result adds mode size a b f }
 {
     match mode {
-        Mode::An { .. } => unflagged(sum_or_difference(adds, Size::Long, a, b, f).value, f),
+        Mode::An { .. } => keep_flags(sum_or_difference(adds, Size::Long, a, b, f).value, f),
         _ => sum_or_difference(adds, size, a, b, f),
     }
 }
@@ -144,7 +144,7 @@ fn division(which: u8, a: u32, b: u32, f: Flags) -> Outcome
     ensures { result ≡ division which a b f }
 {
     if b & 0xffff == 0 {
-        return unflagged(a, Flags { c: false, ..f });
+        return keep_flags(a, Flags { c: false, ..f });
     }
     if which == 0 {
         op_divu(Size::Long, a, b, f)
@@ -160,29 +160,29 @@ pub fn operation(instr: &Instr, value: u32, old: u32, sr: u16) -> Outcome
 {
     let f = flags(sr);
     match *instr {
-        Instr::Immediate { which, size, .. } => immediate(which, size, old, value, f),
+        Instr::Immediate { which, size, .. } => immediate_result(which, size, old, value, f),
         Instr::BitDynamic { which, mode, .. } | Instr::BitStatic { which, mode, .. } => {
             bit(which, bit_size(mode), old, value, f)
         }
         Instr::Move { size, .. } => op_move(size, value, 0, f),
         Instr::Moveq { .. } => op_move(Size::Long, value, 0, f),
-        Instr::Movea { size, .. } => unflagged(extended(size, value), f),
+        Instr::Movea { size, .. } => keep_flags(extend(size, value), f),
         Instr::Unary { which, size, .. } => unary(which, size, old, f),
-        Instr::MoveFromSr { .. } => unflagged(u32::from(sr), f),
+        Instr::MoveFromSr { .. } => keep_flags(u32::from(sr), f),
         Instr::Nbcd { .. } => op_nbcd(Size::Byte, old, 0, f),
         Instr::Swap { .. } => op_swap(Size::Long, old, 0, f),
         Instr::Ext { size, .. } => op_ext(size, old, 0, f),
         Instr::Tst { size, .. } => op_tst(size, old, 0, f),
         Instr::Tas { .. } => op_tas(Size::Byte, old, 0, f),
         Instr::Chk { .. } => op_chk(Size::Word, old, value, f),
-        Instr::Scc { c, .. } => unflagged(if condition(c, f) { 0xff } else { 0 }, f),
-        _ => arithmetic(instr, value, old, f),
+        Instr::Scc { c, .. } => keep_flags(if condition(c, f) { 0xff } else { 0 }, f),
+        _ => arithmetic_result(instr, value, old, f),
     }
 }
 
 /// The result and the flags of sums, differences, comparisons, products and shifts.
 #[tactic(auto, unfolding(m68k_decode::specs::RowData::arithmetic_of))]
-fn arithmetic(instr: &Instr, value: u32, old: u32, f: Flags) -> Outcome
+fn arithmetic_result(instr: &Instr, value: u32, old: u32, f: Flags) -> Outcome
     ensures { result ≡ arithmetic_of instr.now value old f }
 {
     match *instr {
@@ -192,7 +192,7 @@ fn arithmetic(instr: &Instr, value: u32, old: u32, f: Flags) -> Outcome
             mode,
             ..
         } => quick(which == 0, mode, size, old, value, f),
-        Instr::OrAndToDn { which, size, .. } => logical(which, size, old, value, f),
+        Instr::OrAndToDn { which, size, .. } => logic_result(which, size, old, value, f),
         Instr::SubAddToDn { which, size, .. } => sum_or_difference(which == 1, size, old, value, f),
         Instr::ToMemory { which, size, .. } => to_memory(which, size, old, value, f),
         Instr::Cmpi { size, .. } | Instr::Cmp { size, .. } | Instr::Cmpm { size, .. } => op_cmp(
@@ -200,12 +200,12 @@ fn arithmetic(instr: &Instr, value: u32, old: u32, f: Flags) -> Outcome
         ),
         Instr::Eor { size, .. } => op_eor(size, old, value, f),
         Instr::SubaAdda { which, size, .. } => {
-            unflagged(
-                sum_or_difference(which == 1, Size::Long, old, extended(size, value), f).value,
+            keep_flags(
+                sum_or_difference(which == 1, Size::Long, old, extend(size, value), f).value,
                 f,
             )
         }
-        Instr::Cmpa { size, .. } => op_cmp(Size::Long, old, extended(size, value), f),
+        Instr::Cmpa { size, .. } => op_cmp(Size::Long, old, extend(size, value), f),
         Instr::SubxAddx { which: 1, size, .. } => op_addx(size, old, value, f),
         Instr::SubxAddx { size, .. } => op_subx(size, old, value, f),
         Instr::SbcdAbcd { which: 1, .. } => op_abcd(Size::Byte, old, value, f),
@@ -215,7 +215,7 @@ fn arithmetic(instr: &Instr, value: u32, old: u32, f: Flags) -> Outcome
         Instr::DivuDivs { which, .. } => division(which, old, value, f),
         Instr::ShiftRegister { d, t, size, .. } => shift(d, t, size, old, value, f),
         Instr::ShiftMemory { d, t, .. } => shift(d, t, Size::Word, old, value, f),
-        _ => unflagged(0, f),
+        _ => keep_flags(0, f),
     }
 }
 

@@ -288,7 +288,7 @@ pub fn target(instr: &Instr, place: Place68) -> Place68
 }
 
 /// A word with its sign as a long; a long as it is.
-pub fn extended(size: Size, value: u32) -> u32
+pub fn extend(size: Size, value: u32) -> u32
     ensures { result ≡ extended size value }
 {
     match size {

@@ -30,7 +30,8 @@ fn one_if(flag: bool) -> u16
 
 /// The flags as the low five bits of a word.
 fn code(f: Flags) -> u16
-    ensures value { result ≡ 16 * one_if f.x + 8 * one_if f.n + 4 * one_if f.z + 2 * one_if f.v + one_if f.c }
+    ensures value { result
+        ≡ 16 * one_if f.x + 8 * one_if f.n + 4 * one_if f.z + 2 * one_if f.v + one_if f.c }
     ensures small { result ≤ 31 }
 {
     16 * one_if(f.x) + 8 * one_if(f.n) + 4 * one_if(f.z) + 2 * one_if(f.v) + one_if(f.c)
@@ -114,7 +115,7 @@ pub fn mask(sr: u16) -> u8
 }
 
 /// The status register with S set.
-fn supervised(sr: u16) -> u16
+fn with_supervisor(sr: u16) -> u16
     requires { sr < 32768 }
     ensures value { result ≡ supervised sr }
     ensures below { result < 40960 }
@@ -136,7 +137,7 @@ fn with_mask(sr: u16, level: u8) -> u16
 pub fn entered_status(kind: &Trap, sr: u16) -> u16
     ensures { result ≡ entered_status kind.now sr }
 {
-    let entered = supervised(sr & 0x7fff);
+    let entered = with_supervisor(sr & 0x7fff);
     if let Trap::Interrupt { level } = *kind {
         return with_mask(entered, level);
     }
