@@ -2,6 +2,7 @@
 
 use ocs_base::OutOfMemory;
 use ocs_io::WriteRefusal;
+use thiserror::Error;
 
 /// One of the files that a run writes.
 #[derive(Clone, Copy, PartialEq, Eq, Debug)]
@@ -13,9 +14,11 @@ pub enum OutFile {
 
 /// Why files were not created or written. `Failed`: the outside refused a create or an append of this
 /// file, and its count of write faults rose.
-#[derive(Clone, Copy, PartialEq, Eq, Debug)]
+#[derive(Clone, Copy, PartialEq, Eq, Debug, Error)]
 pub enum WriteFault {
+    #[error("the outside refused to write a file")]
     Failed { file: OutFile },
+    #[error("out of memory")]
     OutOfMemory,
 }
 

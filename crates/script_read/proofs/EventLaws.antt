@@ -67,7 +67,8 @@ both false b h = (h, absurd (cc h))
 
 AllDigits-lower : (bytes : List ℕ) → all_bytes is_lower_hex bytes ≡ true → AllDigits 16 bytes
 AllDigits-lower [] lower = tt
-AllDigits-lower (b ∷ bytes) lower = let parts = both (is_lower_hex b) (all_bytes is_lower_hex bytes) lower in (lower_digit b parts.0, AllDigits-lower bytes parts.1)
+AllDigits-lower (b ∷ bytes) lower = let parts = both (is_lower_hex b) (all_bytes is_lower_hex bytes) lower in
+    (lower_digit b parts.0, AllDigits-lower bytes parts.1)
 
 chosen : (b : Bool) (v n : ℕ) → (if b then Some v else None) ≡ Some n → (b ≡ true) × (v ≡ n)
 chosen true v n h = (refl, cc)
@@ -100,7 +101,8 @@ no_tests n refused = step (n % 2 == 0) (nat_lt n 512) refl refl
     step true false e f = refl
     step false b e f = refl
 
-pub kept-register : (n : ℕ) (answer : Option Reg) → (IsSome answer ↔ ((n % 2 ≡ 0) × (n < 512))) → IfSome answer (λ reg. reg.offset ≡ n) → answer ≡ kept_register (Some n)
+pub kept-register : (n : ℕ) (answer : Option Reg) → (IsSome answer ↔ ((n % 2 ≡ 0) × (n < 512))) → IfSome answer (λ reg. reg.offset ≡ n)
+    → answer ≡ kept_register (Some n)
 kept-register n None there offset = sym (ap (λ t. if t then Some (register_of n) else None) (no_tests n (λ both. absurd (cc (there.1 both)))))
 kept-register n (Some reg) there offset =
     let is = there.0 refl in
@@ -110,20 +112,24 @@ pub register_named-none : (text : List ℕ) → None ≡ hex_number 3 text → N
 unfolding register_named
 register_named-none text e = ap kept_register e
 
-pub register_named-some : (text : List ℕ) (n : ℕ) (answer : Option Reg) → Some n ≡ hex_number 3 text → (IsSome answer ↔ ((n % 2 ≡ 0) × (n < 512))) → IfSome answer (λ reg. reg.offset ≡ n) → answer ≡ register_named text
+pub register_named-some : (text : List ℕ) (n : ℕ) (answer : Option Reg) → Some n ≡ hex_number 3 text → (IsSome answer ↔ ((n % 2 ≡ 0) × (n < 512)))
+    → IfSome answer (λ reg. reg.offset ≡ n) → answer ≡ register_named text
 unfolding register_named
 register_named-some text n answer e there offset = kept-register n answer there offset ∙ ap kept_register e
 
 -- the acts, from what is read of their words
-pub poke-read : (words : List (List ℕ)) (first second : List ℕ) (reg : Option Reg) (word : Option ℕ) → words ≡ first ∷ second ∷ [] → reg ≡ register_named first → word ≡ hex_number 4 second → poke_with reg word ≡ poke_of words
+pub poke-read : (words : List (List ℕ)) (first second : List ℕ) (reg : Option Reg) (word : Option ℕ) → words ≡ first ∷ second ∷ []
+    → reg ≡ register_named first → word ≡ hex_number 4 second → poke_with reg word ≡ poke_of words
 unfolding poke_of
 poke-read words first second reg word is r w = (λ i. poke_with (r i) (w i)) ∙ ap poke_of (sym is)
 
-pub joy-read : (words : List (List ℕ)) (first second : List ℕ) (port word : Option ℕ) → words ≡ first ∷ second ∷ [] → port ≡ below 2 first → word ≡ hex_number 4 second → joy_with port word ≡ joy_of words
+pub joy-read : (words : List (List ℕ)) (first second : List ℕ) (port word : Option ℕ) → words ≡ first ∷ second ∷ [] → port ≡ below 2 first
+    → word ≡ hex_number 4 second → joy_with port word ≡ joy_of words
 unfolding joy_of
 joy-read words first second port word is r w = (λ i. joy_with (r i) (w i)) ∙ ap joy_of (sym is)
 
-pub fire-read : (words : List (List ℕ)) (first second : List ℕ) (port down : Option ℕ) → words ≡ first ∷ second ∷ [] → port ≡ below 2 first → down ≡ below 2 second → fire_with port down ≡ fire_of words
+pub fire-read : (words : List (List ℕ)) (first second : List ℕ) (port down : Option ℕ) → words ≡ first ∷ second ∷ [] → port ≡ below 2 first
+    → down ≡ below 2 second → fire_with port down ≡ fire_of words
 unfolding fire_of
 fire-read words first second port down is r w = (λ i. fire_with (r i) (w i)) ∙ ap fire_of (sym is)
 
@@ -136,7 +142,8 @@ unfolding key_of
 key-read words first code is r = ap key_with r ∙ ap key_of (sym is)
 
 -- an event, from what is read of its words
-pub event-read : (frames : ℕ) (line at frame v h verb : List ℕ) (args : List (List ℕ)) (f l c : Option ℕ) (act : Option Act) → words_of line ≡ at ∷ frame ∷ v ∷ h ∷ verb ∷ args → bytes_eq at (codes "at") ≡ true
+pub event-read : (frames : ℕ) (line at frame v h verb : List ℕ) (args : List (List ℕ)) (f l c : Option ℕ) (act : Option Act)
+    → words_of line ≡ at ∷ frame ∷ v ∷ h ∷ verb ∷ args → bytes_eq at (codes "at") ≡ true
     → f ≡ below frames frame → l ≡ below 312 v → c ≡ below 227 h → act ≡ act_of verb args → timed f l c act ≡ event_of frames line
 unfolding event_of event_in
 event-read frames line at frame v h verb args f l c act is named ff ll cc' aa =
@@ -144,7 +151,8 @@ event-read frames line at frame v h verb args f l c act is named ff ll cc' aa =
     ∙ ap (λ b. if b then timed (below frames frame) (below 312 v) (below 227 h) (act_of verb args) else None) (sym named)
     ∙ ap (event_in frames) (sym is)
 
-pub event-other : (frames : ℕ) (line at frame v h verb : List ℕ) (args : List (List ℕ)) → words_of line ≡ at ∷ frame ∷ v ∷ h ∷ verb ∷ args → bytes_eq at (codes "at") ≡ false → None ≡ event_of frames line
+pub event-other : (frames : ℕ) (line at frame v h verb : List ℕ) (args : List (List ℕ)) → words_of line ≡ at ∷ frame ∷ v ∷ h ∷ verb ∷ args
+    → bytes_eq at (codes "at") ≡ false → None ≡ event_of frames line
 unfolding event_of event_in
 event-other frames line at frame v h verb args is other =
     ap (λ b. if b then timed (below frames frame) (below 312 v) (below 227 h) (act_of verb args) else None) (sym other)

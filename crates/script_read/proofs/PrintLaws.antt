@@ -18,7 +18,8 @@ pub Extends-more : (old new part : List ℕ) → new ≡ old ++ part → Extends
 Extends-more old new part e = record { part = part; is = e }
 
 pub Extends-trans : (old mid new : List ℕ) → Extends old mid → Extends mid new → Extends old new
-Extends-trans old mid new first second = record { part = first.part ++ second.part; is = second.is ∙ ap (λ m. m ++ second.part) first.is ∙ append_assoc old first.part second.part }
+Extends-trans old mid new first second =
+    record { part = first.part ++ second.part; is = second.is ∙ ap (λ m. m ++ second.part) first.is ∙ append_assoc old first.part second.part }
 
 take-front : (old part : List ℕ) → take (length old) (old ++ part) ≡ old
 take-front [] part = refl
@@ -36,11 +37,13 @@ steps-2 = two_steps
 pub steps-3 : (a b c d p q r : List ℕ) → b ≡ a ++ p → c ≡ b ++ q → d ≡ c ++ r → d ≡ a ++ (p ++ (q ++ r))
 steps-3 a b c d p q r first second third = steps-2 a b d p (q ++ r) first (two_steps b c d q r second third)
 
-pub steps-6 : (a b c d e f g p q r s t u : List ℕ) → b ≡ a ++ p → c ≡ b ++ q → d ≡ c ++ r → e ≡ d ++ s → f ≡ e ++ t → g ≡ f ++ u → g ≡ a ++ (p ++ (q ++ (r ++ (s ++ (t ++ u)))))
+pub steps-6 : (a b c d e f g p q r s t u : List ℕ) → b ≡ a ++ p → c ≡ b ++ q → d ≡ c ++ r → e ≡ d ++ s → f ≡ e ++ t → g ≡ f ++ u
+    → g ≡ a ++ (p ++ (q ++ (r ++ (s ++ (t ++ u)))))
 steps-6 a b c d e f g p q r s t u one two three four five six =
     steps-3 a b c g p q (r ++ (s ++ (t ++ u))) one two (steps-3 c d e g r s (t ++ u) three four (two_steps e f g t u five six))
 
-pub poke-text : (act : Act) (reg : Reg) (word n : ℕ) → act ≡ Poke reg word → n ≡ reg.offset → codes " poke" ++ ((32 ∷ hex_text 3 n) ++ (32 ∷ hex_text 4 word)) ≡ spaced (act_words act)
+pub poke-text : (act : Act) (reg : Reg) (word n : ℕ) → act ≡ Poke reg word → n ≡ reg.offset
+    → codes " poke" ++ ((32 ∷ hex_text 3 n) ++ (32 ∷ hex_text 4 word)) ≡ spaced (act_words act)
 unfolding spaced act_words
 poke-text act reg word n is same =
     ap (λ m. codes " poke" ++ ((32 ∷ hex_text 3 m) ++ (32 ∷ hex_text 4 word))) same
@@ -60,7 +63,8 @@ joy-text act port word is =
     ap (λ t. codes " joy" ++ (32 ∷ (decimal port ++ (32 ∷ t)))) (sym (append-nil (hex_text 4 word)))
     ∙ ap (λ a. spaced (act_words a)) (sym is)
 
-pub fire-text : (act : Act) (port : ℕ) (down : Bool) (n : ℕ) → act ≡ Fire port down → n ≡ digit_of down → codes " fire" ++ ((32 ∷ decimal port) ++ (32 ∷ decimal n)) ≡ spaced (act_words act)
+pub fire-text : (act : Act) (port : ℕ) (down : Bool) (n : ℕ) → act ≡ Fire port down → n ≡ digit_of down
+    → codes " fire" ++ ((32 ∷ decimal port) ++ (32 ∷ decimal n)) ≡ spaced (act_words act)
 unfolding spaced act_words
 fire-text act port down n is same =
     ap (λ m. codes " fire" ++ ((32 ∷ decimal port) ++ (32 ∷ decimal m))) same
@@ -73,7 +77,8 @@ key-text act code is =
     ap (λ t. codes " key" ++ (32 ∷ t)) (sym (append-nil (hex_text 2 code)))
     ∙ ap (λ a. spaced (act_words a)) (sym is)
 
-pub event-text : (at : At) → codes "at" ++ ((32 ∷ decimal at.frame) ++ ((32 ∷ decimal at.v) ++ ((32 ∷ decimal at.h) ++ (spaced (act_words at.act) ++ 10 ∷ [])))) ≡ event_text at
+pub event-text : (at : At)
+    → codes "at" ++ ((32 ∷ decimal at.frame) ++ ((32 ∷ decimal at.v) ++ ((32 ∷ decimal at.h) ++ (spaced (act_words at.act) ++ 10 ∷ [])))) ≡ event_text at
 unfolding event_text line_text line_of spaced
 event-text at = simp append_assoc
 
@@ -90,10 +95,12 @@ pub AllHaveWords-push : (events : List At) (at : At) → AllHaveWords events →
 AllHaveWords-push [] at all fits = (fits, tt)
 AllHaveWords-push (first ∷ events) at all fits = (all.0, AllHaveWords-push events at all.1 fits)
 
-pub AllHaveWords-more : (events : List At) (i : ℕ) (d : At) → i < length events → AllHaveWords (take i events) → HasWords (get_or events i d).act → AllHaveWords (take (i + 1) events)
+pub AllHaveWords-more : (events : List At) (i : ℕ) (d : At) → i < length events → AllHaveWords (take i events) → HasWords (get_or events i d).act
+    → AllHaveWords (take (i + 1) events)
 AllHaveWords-more events i d lt all fits = subst AllHaveWords (sym (take_more events i d lt)) (AllHaveWords-push (take i events) (get_or events i d) all fits)
 
-pub event-more : (old now new : List ℕ) (events : List At) (i : ℕ) (at : At) → i < length events → at ≡ get_or events i at → now ≡ old ++ flat_map event_text (take i events) → new ≡ now ++ event_text at
+pub event-more : (old now new : List ℕ) (events : List At) (i : ℕ) (at : At) → i < length events → at ≡ get_or events i at
+    → now ≡ old ++ flat_map event_text (take i events) → new ≡ now ++ event_text at
     → new ≡ old ++ flat_map event_text (take (i + 1) events)
 event-more old now new events i at lt is first second =
     second ∙ ap (λ t. t ++ event_text at) first ∙ append_assoc old (flat_map event_text (take i events)) (event_text at)

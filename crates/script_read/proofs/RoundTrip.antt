@@ -38,7 +38,8 @@ join false b x y = x
 
 above-append : (c : ℕ) (xs ys : List ℕ) → above c xs ≡ true → above c ys ≡ true → above c (xs ++ ys) ≡ true
 above-append c [] ys first second = second
-above-append c (b ∷ xs) ys first second = let parts = both (nat_lt c b) (above c xs) first in join (nat_lt c b) (above c (xs ++ ys)) parts.0 (above-append c xs ys parts.1 second)
+above-append c (b ∷ xs) ys first second = let parts = both (nat_lt c b) (above c xs) first in
+    join (nat_lt c b) (above c (xs ++ ys)) parts.0 (above-append c xs ys parts.1 second)
 
 above-lower : (xs : List ℕ) → above 32 xs ≡ true → above 10 xs ≡ true
 above-lower [] high = refl
@@ -85,18 +86,22 @@ length-hex_text (suc k) n = omega (arith, length-hex_text k n)
 
 -- cutting what was joined
 
-split-plain : (c : ℕ) (word rest : List ℕ) → above c word ≡ true → slice_split (λ (b : ℕ). b == c) (word ++ c ∷ rest) ≡ word ∷ slice_split (λ (b : ℕ). b == c) rest
-split-plain c [] rest plain = ap (λ t. cond t ([] ∷ slice_split (λ (b : ℕ). b == c) rest) (onto_first c (slice_split (λ (b : ℕ). b == c) rest))) (eq-eqb c c refl)
+split-plain : (c : ℕ) (word rest : List ℕ) → above c word ≡ true
+    → slice_split (λ (b : ℕ). b == c) (word ++ c ∷ rest) ≡ word ∷ slice_split (λ (b : ℕ). b == c) rest
+split-plain c [] rest plain =
+    ap (λ t. cond t ([] ∷ slice_split (λ (b : ℕ). b == c) rest) (onto_first c (slice_split (λ (b : ℕ). b == c) rest))) (eq-eqb c c refl)
 split-plain c (b ∷ word) rest plain =
     let parts = both (nat_lt c b) (above c word) plain in
-    ap (λ t. cond t ([] ∷ slice_split (λ (d : ℕ). d == c) (word ++ c ∷ rest)) (onto_first b (slice_split (λ (d : ℕ). d == c) (word ++ c ∷ rest)))) (ne_eqb b c (λ e. omega (arith, ltb-true c b parts.0)))
+    ap (λ t. cond t ([] ∷ slice_split (λ (d : ℕ). d == c) (word ++ c ∷ rest)) (onto_first b (slice_split (λ (d : ℕ). d == c) (word ++ c ∷ rest))))
+    (ne_eqb b c (λ e. omega (arith, ltb-true c b parts.0)))
     ∙ ap (onto_first b) (split-plain c word rest parts.1)
 
 split-last : (c : ℕ) (word : List ℕ) → above c word ≡ true → slice_split (λ (b : ℕ). b == c) word ≡ word ∷ []
 split-last c [] plain = refl
 split-last c (b ∷ word) plain =
     let parts = both (nat_lt c b) (above c word) plain in
-    ap (λ t. cond t ([] ∷ slice_split (λ (d : ℕ). d == c) word) (onto_first b (slice_split (λ (d : ℕ). d == c) word))) (ne_eqb b c (λ e. omega (arith, ltb-true c b parts.0)))
+    ap (λ t. cond t ([] ∷ slice_split (λ (d : ℕ). d == c) word) (onto_first b (slice_split (λ (d : ℕ). d == c) word)))
+    (ne_eqb b c (λ e. omega (arith, ltb-true c b parts.0)))
     ∙ ap (onto_first b) (split-last c word parts.1)
 
 words_of-line : (first : List ℕ) (words : List (List ℕ)) → above 32 first ≡ true → AreAbove words → words_of (line_of first words) ≡ first ∷ words
@@ -108,11 +113,14 @@ lines_of-line : (line rest : List ℕ) → above 10 line ≡ true → lines_of (
 unfolding lines_of without_empty_last
 lines_of-line line rest plain =
     ap without_empty_last (split-plain 10 line rest plain)
-    ∙ kept-more line (slice_split (λ (b : ℕ). b == 10) rest) (without_empty_last (slice_split (λ (b : ℕ). b == 10) rest)) (omega (arith, length-slice_split (λ (b : ℕ). b == 10) rest))
+    ∙ kept-more line (slice_split (λ (b : ℕ). b == 10) rest) (without_empty_last (slice_split (λ (b : ℕ). b == 10) rest))
+    (omega (arith, length-slice_split (λ (b : ℕ). b == 10) rest))
 
-lines_of-text : (first : List ℕ) (words : List (List ℕ)) (rest : List ℕ) → above 32 first ≡ true → AreAbove words → lines_of (line_text first words ++ rest) ≡ line_of first words ∷ lines_of rest
+lines_of-text : (first : List ℕ) (words : List (List ℕ)) (rest : List ℕ) → above 32 first ≡ true → AreAbove words
+    → lines_of (line_text first words ++ rest) ≡ line_of first words ∷ lines_of rest
 unfolding line_text
-lines_of-text first words rest one all = ap lines_of (append_assoc (line_of first words) (10 ∷ []) rest) ∙ lines_of-line (line_of first words) rest (above-line first words one all)
+lines_of-text first words rest one all = ap lines_of (append_assoc (line_of first words) (10 ∷ []) rest)
+    ∙ lines_of-line (line_of first words) rest (above-line first words one all)
 
 -- numbers
 
@@ -123,7 +131,8 @@ below-decimal limit n small fits = ap (kept_below limit) (dec_of-decimal n fits)
 hex_number-hex_text : (digits n : ℕ) → 1 ≤ digits → digits ≤ 4 → n < 16 ^ digits → hex_number digits (hex_text digits n) ≡ Some n
 unfolding hex_number
 hex_number-hex_text digits n few many fits =
-    ap (λ b. if b then hex_of (hex_text digits n) else None) (eq-eqb (length (hex_text digits n)) digits (length-hex_text digits n)) ∙ hex_of-hex_text digits n few many fits
+    ap (λ b. if b then hex_of (hex_text digits n) else None) (eq-eqb (length (hex_text digits n)) digits (length-hex_text digits n))
+    ∙ hex_of-hex_text digits n few many fits
 
 register_named-hex_text : (reg : Reg) → register_named (hex_text 3 reg.offset) ≡ Some reg
 unfolding register_named
@@ -151,26 +160,35 @@ AreAbove-act (Key code) port = (refl, (above-hex_text 2 code, tt))
 
 AreAbove-time : (frames : ℕ) (at : At) → frames ≤ 1000 → IsInLimits frames at → AreAbove (time_words at)
 unfolding AreAbove
-AreAbove-time frames at most limits = (above-decimal at.frame (omega (arith, limits.frame)), (above-decimal at.v (omega (arith, limits.line)), (above-decimal at.h (omega (arith, limits.clock)), AreAbove-act at.act limits.port)))
+AreAbove-time frames at most limits = (
+  above-decimal at.frame (omega (arith, limits.frame)),
+  (above-decimal at.v (omega (arith, limits.line)), (above-decimal at.h (omega (arith, limits.clock)), AreAbove-act at.act limits.port)),
+)
 
 event_in-act : (frames : ℕ) (at f v h : List ℕ) (act : Act) → bytes_eq at (codes "at") ≡ true → HasPort act → HasWords act
     → event_in frames (at ∷ f ∷ v ∷ h ∷ act_words act) ≡ timed (below frames f) (below 312 v) (below 227 h) (Some act)
 unfolding event_in act_words act_of poke_of peek_of joy_of fire_of key_of
 event_in-act frames at f v h (Poke reg word) named port fits =
-    ap (λ b. if b then timed (below frames f) (below 312 v) (below 227 h) (poke_with (register_named (hex_text 3 reg.offset)) (hex_number 4 (hex_text 4 word))) else None) named
-    ∙ (λ i. timed (below frames f) (below 312 v) (below 227 h) (poke_with (register_named-hex_text reg i) (hex_number-hex_text 4 word (omega arith) (omega arith) (omega (arith, fits)) i)))
+    ap (λ b. if b then timed (below frames f) (below 312 v) (below 227 h)
+    (poke_with (register_named (hex_text 3 reg.offset)) (hex_number 4 (hex_text 4 word))) else None) named
+    ∙ (λ i. timed (below frames f) (below 312 v) (below 227 h)
+    (poke_with (register_named-hex_text reg i) (hex_number-hex_text 4 word (omega arith) (omega arith) (omega (arith, fits)) i)))
 event_in-act frames at f v h (Peek reg) named port fits =
     ap (λ b. if b then timed (below frames f) (below 312 v) (below 227 h) (peek_with (register_named (hex_text 3 reg.offset))) else None) named
     ∙ (λ i. timed (below frames f) (below 312 v) (below 227 h) (peek_with (register_named-hex_text reg i)))
 event_in-act frames at f v h (Joy port word) named low fits =
     ap (λ b. if b then timed (below frames f) (below 312 v) (below 227 h) (joy_with (below 2 (decimal port)) (hex_number 4 (hex_text 4 word))) else None) named
-    ∙ (λ i. timed (below frames f) (below 312 v) (below 227 h) (joy_with (below-decimal 2 port (omega (arith, low)) (omega (arith, low)) i) (hex_number-hex_text 4 word (omega arith) (omega arith) (omega (arith, fits)) i)))
+    ∙ (λ i. timed (below frames f) (below 312 v) (below 227 h)
+    (joy_with (below-decimal 2 port (omega (arith, low)) (omega (arith, low)) i)
+    (hex_number-hex_text 4 word (omega arith) (omega arith) (omega (arith, fits)) i)))
 event_in-act frames at f v h (Fire port true) named low fits =
     ap (λ b. if b then timed (below frames f) (below 312 v) (below 227 h) (fire_with (below 2 (decimal port)) (below 2 (decimal 1))) else None) named
-    ∙ (λ i. timed (below frames f) (below 312 v) (below 227 h) (fire_with (below-decimal 2 port (omega (arith, low)) (omega (arith, low)) i) (below-decimal 2 1 (omega arith) (omega arith) i)))
+    ∙ (λ i. timed (below frames f) (below 312 v) (below 227 h)
+    (fire_with (below-decimal 2 port (omega (arith, low)) (omega (arith, low)) i) (below-decimal 2 1 (omega arith) (omega arith) i)))
 event_in-act frames at f v h (Fire port false) named low fits =
     ap (λ b. if b then timed (below frames f) (below 312 v) (below 227 h) (fire_with (below 2 (decimal port)) (below 2 (decimal 0))) else None) named
-    ∙ (λ i. timed (below frames f) (below 312 v) (below 227 h) (fire_with (below-decimal 2 port (omega (arith, low)) (omega (arith, low)) i) (below-decimal 2 0 (omega arith) (omega arith) i)))
+    ∙ (λ i. timed (below frames f) (below 312 v) (below 227 h)
+    (fire_with (below-decimal 2 port (omega (arith, low)) (omega (arith, low)) i) (below-decimal 2 0 (omega arith) (omega arith) i)))
 event_in-act frames at f v h (Key code) named port fits =
     ap (λ b. if b then timed (below frames f) (below 312 v) (below 227 h) (key_with (hex_number 2 (hex_text 2 code))) else None) named
     ∙ (λ i. timed (below frames f) (below 312 v) (below 227 h) (key_with (hex_number-hex_text 2 code (omega arith) (omega arith) (omega (arith, fits)) i)))
@@ -183,7 +201,9 @@ unfolding event_of
 event_of-line frames at most limits fits =
     ap (event_in frames) (words_of-line (codes "at") (time_words at) refl (AreAbove-time frames at most limits))
     ∙ event_in-act frames (codes "at") (decimal at.frame) (decimal at.v) (decimal at.h) at.act refl limits.port fits
-    ∙ (λ i. timed (below-decimal frames at.frame limits.frame (omega (arith, limits.frame)) i) (below-decimal 312 at.v (omega (arith, limits.line)) (omega (arith, limits.line)) i) (below-decimal 227 at.h (omega (arith, limits.clock)) (omega (arith, limits.clock)) i) (Some at.act))
+    ∙ (λ i. timed (below-decimal frames at.frame limits.frame (omega (arith, limits.frame)) i)
+    (below-decimal 312 at.v (omega (arith, limits.line)) (omega (arith, limits.line)) i)
+    (below-decimal 227 at.h (omega (arith, limits.clock)) (omega (arith, limits.clock)) i) (Some at.act))
 
 no_end : (at : At) → bytes_eq (event_line at) (codes "end") ≡ false
 unfolding line_of
@@ -191,24 +211,35 @@ no_end at = refl
 
 -- the lines after the third
 
-body-events : (head : ScriptValue) (events : List At) (number before : ℕ) → head.frames ≤ 1000 → head.events ≡ [] → AreInLimits head.frames events → AllHaveWords events → AreFrom before events → AreInOrder events → number + length events ≤ 100000
+body-events : (head : ScriptValue) (events : List At) (number before : ℕ) → head.frames ≤ 1000 → head.events ≡ [] → AreInLimits head.frames events
+    → AllHaveWords events → AreFrom before events → AreInOrder events → number + length events ≤ 100000
     → body_of head number before (map event_line events ++ codes "end" ∷ []) ≡ Good (record head { events = events })
 unfolding body_of body_line
 body-events head [] number before most none limits words from order few =
-    ap (λ b. from_line (if b then Err Lines else Ok None) number (after_end head (number + 1) []) (λ at. body_of head (number + 1) (time_of at) [])) (le-ltb 100000 number (omega arith))
+    ap (λ b. from_line (if b then Err Lines else Ok None) number (after_end head (number + 1) []) (λ at. body_of head (number + 1) (time_of at) []))
+    (le-ltb 100000 number (omega arith))
     ∙ ap (λ events. Good (record head { events = events })) none
 body-events head (at ∷ events) number before most none limits words from order few =
-    ap (λ b. from_line (if b then Err Lines else (if bytes_eq (event_line at) (codes "end") then Ok None else in_order before (event_of head.frames (event_line at)))) number (after_end head (number + 1) (map event_line events ++ codes "end" ∷ [])) (λ e. body_of head (number + 1) (time_of e) (map event_line events ++ codes "end" ∷ []))) (le-ltb 100000 number (omega arith))
-    ∙ ap (λ b. from_line (if b then Ok None else in_order before (event_of head.frames (event_line at))) number (after_end head (number + 1) (map event_line events ++ codes "end" ∷ [])) (λ e. body_of head (number + 1) (time_of e) (map event_line events ++ codes "end" ∷ []))) (no_end at)
-    ∙ ap (λ event. from_line (in_order before event) number (after_end head (number + 1) (map event_line events ++ codes "end" ∷ [])) (λ e. body_of head (number + 1) (time_of e) (map event_line events ++ codes "end" ∷ []))) (event_of-line head.frames at most limits.0 words.0)
-    ∙ ap (λ b. from_line (if b then Err Order else Ok (Some at)) number (after_end head (number + 1) (map event_line events ++ codes "end" ∷ [])) (λ e. body_of head (number + 1) (time_of e) (map event_line events ++ codes "end" ∷ []))) (le-ltb (time_of at) before from.0)
+    ap (λ b. from_line (if b then Err Lines else
+    (if bytes_eq (event_line at) (codes "end") then Ok None else in_order before (event_of head.frames (event_line at)))) number
+    (after_end head (number + 1) (map event_line events ++ codes "end" ∷ []))
+    (λ e. body_of head (number + 1) (time_of e) (map event_line events ++ codes "end" ∷ []))) (le-ltb 100000 number (omega arith))
+    ∙ ap (λ b. from_line (if b then Ok None else in_order before (event_of head.frames (event_line at))) number
+    (after_end head (number + 1) (map event_line events ++ codes "end" ∷ []))
+    (λ e. body_of head (number + 1) (time_of e) (map event_line events ++ codes "end" ∷ []))) (no_end at)
+    ∙ ap (λ event. from_line (in_order before event) number (after_end head (number + 1) (map event_line events ++ codes "end" ∷ []))
+    (λ e. body_of head (number + 1) (time_of e) (map event_line events ++ codes "end" ∷ []))) (event_of-line head.frames at most limits.0 words.0)
+    ∙ ap (λ b. from_line (if b then Err Order else Ok (Some at)) number (after_end head (number + 1) (map event_line events ++ codes "end" ∷ []))
+    (λ e. body_of head (number + 1) (time_of e) (map event_line events ++ codes "end" ∷ []))) (le-ltb (time_of at) before from.0)
     ∙ ap (with_event at) (body-events head events (number + 1) (time_of at) most none limits.1 words.1 order.0 order.1 (omega arith))
 
 lines-end : lines_of (line_text (codes "end") []) ≡ codes "end" ∷ []
 unfolding AreAbove line_of line_text spaced
-lines-end = ap lines_of (sym (append-nil (line_text (codes "end") []))) ∙ lines_of-text (codes "end") [] [] refl tt ∙ ap (λ lines. codes "end" ∷ lines) lines-empty
+lines-end = ap lines_of (sym (append-nil (line_text (codes "end") []))) ∙ lines_of-text (codes "end") [] [] refl tt
+    ∙ ap (λ lines. codes "end" ∷ lines) lines-empty
 
-lines-events : (frames : ℕ) (events : List At) → frames ≤ 1000 → AreInLimits frames events → lines_of (flat_map event_text events ++ line_text (codes "end") []) ≡ map event_line events ++ codes "end" ∷ []
+lines-events : (frames : ℕ) (events : List At) → frames ≤ 1000 → AreInLimits frames events
+    → lines_of (flat_map event_text events ++ line_text (codes "end") []) ≡ map event_line events ++ codes "end" ∷ []
 unfolding event_text
 lines-events frames [] most limits = lines-end
 lines-events frames (at ∷ events) most limits =
@@ -223,10 +254,31 @@ short-decimal n small = length-decimal-le 3 n (omega arith) (omega arith) (omega
 
 size-act : (act : Act) → HasPort act → length (spaced (act_words act)) ≤ 14
 unfolding spaced act_words
-size-act (Poke reg word) port = omega (arith, length-append (hex_text 3 reg.offset) (spaced (hex_text 4 word ∷ [])), length-append (hex_text 4 word) [], length-hex_text 3 reg.offset, length-hex_text 4 word)
+size-act (Poke reg word) port =
+    omega (
+      arith,
+      length-append (hex_text 3 reg.offset) (spaced (hex_text 4 word ∷ [])),
+      length-append (hex_text 4 word) [],
+      length-hex_text 3 reg.offset,
+      length-hex_text 4 word,
+    )
 size-act (Peek reg) port = omega (arith, length-append (hex_text 3 reg.offset) [], length-hex_text 3 reg.offset)
-size-act (Joy port word) low = omega (arith, length-append (decimal port) (spaced (hex_text 4 word ∷ [])), length-append (hex_text 4 word) [], short-decimal port (omega (arith, low)), length-hex_text 4 word)
-size-act (Fire port down) low = omega (arith, length-append (decimal port) (spaced (decimal (digit_of down) ∷ [])), length-append (decimal (digit_of down)) [], short-decimal port (omega (arith, low)), short-decimal (digit_of down) (digit_small down))
+size-act (Joy port word) low =
+    omega (
+      arith,
+      length-append (decimal port) (spaced (hex_text 4 word ∷ [])),
+      length-append (hex_text 4 word) [],
+      short-decimal port (omega (arith, low)),
+      length-hex_text 4 word,
+    )
+size-act (Fire port down) low =
+    omega (
+      arith,
+      length-append (decimal port) (spaced (decimal (digit_of down) ∷ [])),
+      length-append (decimal (digit_of down)) [],
+      short-decimal port (omega (arith, low)),
+      short-decimal (digit_of down) (digit_small down),
+    )
   where
     digit_small : (b : Bool) → digit_of b < 1000
     digit_small true = omega arith
@@ -251,12 +303,25 @@ size-event frames at most limits =
 
 size-events : (frames : ℕ) (events : List At) → frames ≤ 1000 → AreInLimits frames events → length (flat_map event_text events) ≤ 29 * length events
 size-events frames [] most limits = omega arith
-size-events frames (at ∷ events) most limits = omega (arith, length-append (event_text at) (flat_map event_text events), size-event frames at most limits.0, size-events frames events most limits.1)
+size-events frames (at ∷ events) most limits =
+    omega (arith, length-append (event_text at) (flat_map event_text events), size-event frames at most limits.0, size-events frames events most limits.1)
 
 size-head : (cpu : Bool) (frames : ℕ) → frames ≤ 1000 → length (head_text cpu frames) ≤ 30
 unfolding head_text line_text line_of spaced
-size-head true frames most = omega (arith, length-append ((102 ∷ 114 ∷ 97 ∷ 109 ∷ 101 ∷ 115 ∷ 32 ∷ (decimal frames ++ []))) (10 ∷ []), length-append (decimal frames) [], length-decimal-le 4 frames (omega arith) (omega arith) (omega arith))
-size-head false frames most = omega (arith, length-append ((102 ∷ 114 ∷ 97 ∷ 109 ∷ 101 ∷ 115 ∷ 32 ∷ (decimal frames ++ []))) (10 ∷ []), length-append (decimal frames) [], length-decimal-le 4 frames (omega arith) (omega arith) (omega arith))
+size-head true frames most =
+    omega (
+      arith,
+      length-append ((102 ∷ 114 ∷ 97 ∷ 109 ∷ 101 ∷ 115 ∷ 32 ∷ (decimal frames ++ []))) (10 ∷ []),
+      length-append (decimal frames) [],
+      length-decimal-le 4 frames (omega arith) (omega arith) (omega arith),
+    )
+size-head false frames most =
+    omega (
+      arith,
+      length-append ((102 ∷ 114 ∷ 97 ∷ 109 ∷ 101 ∷ 115 ∷ 32 ∷ (decimal frames ++ []))) (10 ∷ []),
+      length-append (decimal frames) [],
+      length-decimal-le 4 frames (omega arith) (omega arith) (omega arith),
+    )
 
 size-end : length (line_text (codes "end") []) ≡ 4
 unfolding line_text line_of spaced
@@ -284,15 +349,20 @@ ocs_line : line_of (codes "ocs") (codes "1" ∷ []) ≡ codes "ocs 1"
 unfolding line_of spaced
 ocs_line = refl
 
-lines-head : (cpu : Bool) (frames : ℕ) (rest : List ℕ) → frames ≤ 1000 → lines_of (head_text cpu frames ++ rest) ≡ codes "ocs 1" ∷ line_of (codes "cpu") (cpu_word cpu ∷ []) ∷ line_of (codes "frames") (decimal frames ∷ []) ∷ lines_of rest
+lines-head : (cpu : Bool) (frames : ℕ) (rest : List ℕ) → frames ≤ 1000
+    → lines_of (head_text cpu frames ++ rest)
+    ≡ codes "ocs 1" ∷ line_of (codes "cpu") (cpu_word cpu ∷ []) ∷ line_of (codes "frames") (decimal frames ∷ []) ∷ lines_of rest
 unfolding head_text AreAbove
 lines-head cpu frames rest most =
-    ap lines_of (append_assoc (line_text (codes "ocs") (codes "1" ∷ [])) (line_text (codes "cpu") (cpu_word cpu ∷ []) ++ line_text (codes "frames") (decimal frames ∷ [])) rest)
-    ∙ lines_of-text (codes "ocs") (codes "1" ∷ []) ((line_text (codes "cpu") (cpu_word cpu ∷ []) ++ line_text (codes "frames") (decimal frames ∷ [])) ++ rest) refl (refl, tt)
+    ap lines_of (append_assoc (line_text (codes "ocs") (codes "1" ∷ []))
+    (line_text (codes "cpu") (cpu_word cpu ∷ []) ++ line_text (codes "frames") (decimal frames ∷ [])) rest)
+    ∙ lines_of-text (codes "ocs") (codes "1" ∷ [])
+    ((line_text (codes "cpu") (cpu_word cpu ∷ []) ++ line_text (codes "frames") (decimal frames ∷ [])) ++ rest) refl (refl, tt)
     ∙ ap (λ lines. line_of (codes "ocs") (codes "1" ∷ []) ∷ lines)
     (ap lines_of (append_assoc (line_text (codes "cpu") (cpu_word cpu ∷ [])) (line_text (codes "frames") (decimal frames ∷ [])) rest)
     ∙ lines_of-text (codes "cpu") (cpu_word cpu ∷ []) (line_text (codes "frames") (decimal frames ∷ []) ++ rest) refl (plain_cpu cpu, tt)
-    ∙ ap (λ lines. line_of (codes "cpu") (cpu_word cpu ∷ []) ∷ lines) (lines_of-text (codes "frames") (decimal frames ∷ []) rest refl (above-decimal frames (omega arith), tt)))
+    ∙ ap (λ lines. line_of (codes "cpu") (cpu_word cpu ∷ []) ∷ lines)
+    (lines_of-text (codes "frames") (decimal frames ∷ []) rest refl (above-decimal frames (omega arith), tt)))
     ∙ ap (λ line. line ∷ line_of (codes "cpu") (cpu_word cpu ∷ []) ∷ line_of (codes "frames") (decimal frames ∷ []) ∷ lines_of rest) first_line
   where
     plain_cpu : (b : Bool) → above 32 (cpu_word b) ≡ true
@@ -315,12 +385,18 @@ frames_in-line frames least most =
     ∙ (λ i. if le-leb 1 frames least i && le-leb frames 1000 most i then Some frames else None)
 
 -- the text that is printed of a script is read as the script
-pub script_of-script_text : (script : ScriptValue) → IsRunnable script → length script.events ≤ 99996 → AllHaveWords script.events → script_of (script_text script) ≡ Good script
+pub script_of-script_text : (script : ScriptValue) → IsRunnable script → length script.events ≤ 99996 → AllHaveWords script.events
+    → script_of (script_text script) ≡ Good script
 unfolding script_of from_header from_cpu from_frames script_text
 script_of-script_text script runnable few words =
-    ap (λ b. if b then Bad 0 Long else from_header (lines_of (script_text script))) (le-ltb 4194304 (length (script_text script)) (size-script script runnable few))
+    ap (λ b. if b then Bad 0 Long else from_header (lines_of (script_text script)))
+    (le-ltb 4194304 (length (script_text script)) (size-script script runnable few))
     ∙ ap from_header (lines-head script.cpu script.frames (flat_map event_text script.events ++ line_text (codes "end") []) runnable.most)
-    ∙ ap (with_cpu (line_of (codes "frames") (decimal script.frames ∷ []) ∷ lines_of (flat_map event_text script.events ++ line_text (codes "end") []))) (cpu_in-line script.cpu)
-    ∙ ap (with_frames script.cpu (lines_of (flat_map event_text script.events ++ line_text (codes "end") []))) (frames_in-line script.frames runnable.least runnable.most)
-    ∙ ap (body_of (record { cpu = script.cpu; frames = script.frames; events = [] }) 4 0) (lines-events script.frames script.events runnable.most runnable.limits)
-    ∙ body-events (record { cpu = script.cpu; frames = script.frames; events = [] }) script.events 4 0 runnable.most refl runnable.limits words (AreFrom-zero script.events) runnable.order (omega arith)
+    ∙ ap (with_cpu (line_of (codes "frames") (decimal script.frames ∷ []) ∷ lines_of (flat_map event_text script.events ++ line_text (codes "end") [])))
+    (cpu_in-line script.cpu)
+    ∙ ap (with_frames script.cpu (lines_of (flat_map event_text script.events ++ line_text (codes "end") [])))
+    (frames_in-line script.frames runnable.least runnable.most)
+    ∙ ap (body_of (record { cpu = script.cpu; frames = script.frames; events = [] }) 4 0)
+    (lines-events script.frames script.events runnable.most runnable.limits)
+    ∙ body-events (record { cpu = script.cpu; frames = script.frames; events = [] }) script.events 4 0 runnable.most refl runnable.limits words
+    (AreFrom-zero script.events) runnable.order (omega arith)

@@ -97,12 +97,14 @@ HasPort-act verb words =
     (either HasPort (bytes_eq verb (codes "fire")) _ _ (HasPort-fire words)
     (either HasPort (bytes_eq verb (codes "key")) (key_of words) None (HasPort-key words) tt))))
 
-IsInLimits-timed : (frames : ℕ) (f v h : Option ℕ) (act : Option Act) → IfSome f (λ n. n < frames) → IfSome v (λ n. n < 312) → IfSome h (λ n. n < 227) → IfSome act HasPort → IfSome (timed f v h act) (IsInLimits frames)
+IsInLimits-timed : (frames : ℕ) (f v h : Option ℕ) (act : Option Act) → IfSome f (λ n. n < frames) → IfSome v (λ n. n < 312) → IfSome h (λ n. n < 227)
+    → IfSome act HasPort → IfSome (timed f v h act) (IsInLimits frames)
 IsInLimits-timed frames None v h act ff vv hh aa = tt
 IsInLimits-timed frames (Some f) None h act ff vv hh aa = tt
 IsInLimits-timed frames (Some f) (Some v) None act ff vv hh aa = tt
 IsInLimits-timed frames (Some f) (Some v) (Some h) None ff vv hh aa = tt
-IsInLimits-timed frames (Some f) (Some v) (Some h) (Some act) ff vv hh aa = record { frame = ff; line = omega (arith, vv); clock = omega (arith, hh); port = aa }
+IsInLimits-timed frames (Some f) (Some v) (Some h) (Some act) ff vv hh aa =
+    record { frame = ff; line = omega (arith, vv); clock = omega (arith, hh); port = aa }
 
 IsInLimits-words : (frames : ℕ) (words : List (List ℕ)) → IfSome (event_in frames words) (IsInLimits frames)
 unfolding event_in
@@ -113,7 +115,8 @@ IsInLimits-words frames (a ∷ b ∷ c ∷ []) = tt
 IsInLimits-words frames (a ∷ b ∷ c ∷ d ∷ []) = tt
 IsInLimits-words frames (a ∷ b ∷ c ∷ d ∷ e ∷ words) =
     either (IsInLimits frames) (bytes_eq a (codes "at")) (timed (below frames b) (below 312 c) (below 227 d) (act_of e words)) None
-    (IsInLimits-timed frames (below frames b) (below 312 c) (below 227 d) (act_of e words) (below-lt frames b) (below-lt 312 c) (below-lt 227 d) (HasPort-act e words)) tt
+    (IsInLimits-timed frames (below frames b) (below 312 c) (below 227 d) (act_of e words) (below-lt frames b) (below-lt 312 c) (below-lt 227 d)
+    (HasPort-act e words)) tt
 
 -- a line that gives an event gives one in the limits that is no earlier
 record IsNext (frames before : ℕ) (at : At) : Type 0 where
@@ -129,7 +132,8 @@ IsNext-line : (frames number before : ℕ) (line : List ℕ) → some_next frame
 unfolding body_line event_of some_next
 IsNext-line frames number before line = first (nat_lt 100000 number) (bytes_eq line (codes "end")) refl
   where
-    tested : (at : At) (b : Bool) → nat_lt (time_of at) before ≡ b → IsInLimits frames at → some_next frames number before (if b then Err Order else Ok (Some at))
+    tested : (at : At) (b : Bool) → nat_lt (time_of at) before ≡ b → IsInLimits frames at
+        → some_next frames number before (if b then Err Order else Ok (Some at))
     tested at true e limits = tt
     tested at false e limits = record { limits = limits; later = ltb-false (time_of at) before e }
 
@@ -137,7 +141,8 @@ IsNext-line frames number before line = first (nat_lt 100000 number) (bytes_eq l
     ordered None limits = tt
     ordered (Some at) limits = tested at (nat_lt (time_of at) before) refl limits
 
-    first : (past ended : Bool) → nat_lt 100000 number ≡ past → some_next frames number before (if past then Err Lines else (if ended then Ok None else in_order before (event_in frames (words_of line))))
+    first : (past ended : Bool) → nat_lt 100000 number ≡ past
+        → some_next frames number before (if past then Err Lines else (if ended then Ok None else in_order before (event_in frames (words_of line))))
     first true ended e = tt
     first false true e = ltb-false 100000 number e
     first false false e = ordered (event_in frames (words_of line)) (IsInLimits-words frames (words_of line))
@@ -158,11 +163,13 @@ good_follows : ScriptValue → ℕ → ℕ → Verdict → Type 0
 good_follows head number before (Good script) = Follows head number before script
 good_follows head number before (Bad line kind) = Unit {0}
 
-Follows-body : (head : ScriptValue) (number before : ℕ) (lines : List (List ℕ)) → head.events ≡ [] → good_follows head number before (body_of head number before lines)
+Follows-body : (head : ScriptValue) (number before : ℕ) (lines : List (List ℕ)) → head.events ≡ []
+    → good_follows head number before (body_of head number before lines)
 unfolding body_of good_follows some_next
 Follows-body head number before [] none = tt
 Follows-body head number before (line ∷ lines) none =
-    by_line (body_line head.frames number before line) (IsNext-line head.frames number before line) (λ at. Follows-body head (number + 1) (time_of at) lines none)
+    by_line (body_line head.frames number before line) (IsNext-line head.frames number before line)
+    (λ at. Follows-body head (number + 1) (time_of at) lines none)
   where
     empty : (events : List At) → events ≡ [] → number ≤ 100000 → Follows head number before (record head { events = events })
     empty [] e few = record { frames = refl; limits = tt; from = tt; order = tt; count = omega arith }
@@ -172,7 +179,8 @@ Follows-body head number before (line ∷ lines) none =
     ended [] few = empty head.events none few
     ended (extra ∷ rest) few = tt
 
-    more : (at : At) (verdict : Verdict) → IsNext head.frames before at → good_follows head (number + 1) (time_of at) verdict → good_follows head number before (with_event at verdict)
+    more : (at : At) (verdict : Verdict) → IsNext head.frames before at → good_follows head (number + 1) (time_of at) verdict
+        → good_follows head number before (with_event at verdict)
     more at (Bad n kind) next follows = tt
     more at (Good script) next follows = record {
       frames = follows.frames;
@@ -182,7 +190,8 @@ Follows-body head number before (line ∷ lines) none =
       count = omega (arith, follows.count);
     }
 
-    by_line : (answer : Result (Option At) BadKind) → some_next head.frames number before answer → ((at : At) → good_follows head (number + 1) (time_of at) (body_of head (number + 1) (time_of at) lines))
+    by_line : (answer : Result (Option At) BadKind) → some_next head.frames number before answer
+        → ((at : At) → good_follows head (number + 1) (time_of at) (body_of head (number + 1) (time_of at) lines))
         → good_follows head number before (from_line answer number (after_end head (number + 1) lines) (λ at. body_of head (number + 1) (time_of at) lines))
     by_line (Err kind) next rest = tt
     by_line (Ok None) next rest = ended lines next
@@ -192,7 +201,8 @@ good_runnable : Verdict → Type 0
 good_runnable (Good script) = IsPrintable script
 good_runnable (Bad number kind) = Unit {0}
 
-IsRunnable-body : (cpu : Bool) (frames : ℕ) (verdict : Verdict) → 1 ≤ frames → frames ≤ 1000 → good_follows (record { cpu = cpu; frames = frames; events = [] }) 4 0 verdict → good_runnable verdict
+IsRunnable-body : (cpu : Bool) (frames : ℕ) (verdict : Verdict) → 1 ≤ frames → frames ≤ 1000
+    → good_follows (record { cpu = cpu; frames = frames; events = [] }) 4 0 verdict → good_runnable verdict
 unfolding good_follows good_runnable
 IsRunnable-body cpu frames (Bad number kind) least most follows = tt
 IsRunnable-body cpu frames (Good script) least most follows = record {
@@ -211,7 +221,8 @@ IsRunnable-count None cpu lines = tt
 IsRunnable-count (Some n) cpu lines = tested (nat_le 1 n) (nat_le n 1000) refl refl
   where
     tested : (a b : Bool) → nat_le 1 n ≡ a → nat_le n 1000 ≡ b → good_runnable (with_frames cpu lines (if a && b then Some n else None))
-    tested true true e f = IsRunnable-body cpu n (body_of (record { cpu = cpu; frames = n; events = [] }) 4 0 lines) (leb-true 1 n e) (leb-true n 1000 f) (Follows-body (record { cpu = cpu; frames = n; events = [] }) 4 0 lines refl)
+    tested true true e f = IsRunnable-body cpu n (body_of (record { cpu = cpu; frames = n; events = [] }) 4 0 lines) (leb-true 1 n e) (leb-true n 1000 f)
+        (Follows-body (record { cpu = cpu; frames = n; events = [] }) 4 0 lines refl)
     tested true false e f = tt
     tested false b e f = tt
 

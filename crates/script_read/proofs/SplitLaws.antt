@@ -24,12 +24,15 @@ split_whole : (p : ℕ → Bool) (text : List ℕ) → length text ≤ position_
 split_whole p [] le = refl
 split_whole p (b ∷ text) le = step (p b) (split_whole p text) le
   where
-    step : (t : Bool) → (length text ≤ position_or_len p text → slice_split p text ≡ text ∷ []) → suc (length text) ≤ cond (not t) (1 + position_or_len p text) 0 → cond t ([] ∷ slice_split p text) (onto_first b (slice_split p text)) ≡ (b ∷ text) ∷ []
+    step : (t : Bool) → (length text ≤ position_or_len p text → slice_split p text ≡ text ∷ [])
+        → suc (length text) ≤ cond (not t) (1 + position_or_len p text) 0
+        → cond t ([] ∷ slice_split p text) (onto_first b (slice_split p text)) ≡ (b ∷ text) ∷ []
     step true more le = absurd (omega arith)
     step false more le = ap (onto_first b) (more (omega arith))
 
 split-none : (p : ℕ → Bool) (text : List ℕ) → None ≡ position p text → slice_split p text ≡ text ∷ []
-split-none p text e = split_whole p text (ltb-false (position_or_len p text) (length text) (unchosen (nat_lt (position_or_len p text) (length text)) (position_or_len p text) (sym e)))
+split-none p text e = split_whole p text
+    (ltb-false (position_or_len p text) (length text) (unchosen (nat_lt (position_or_len p text) (length text)) (position_or_len p text) (sym e)))
 
 pub words-some : (line : List ℕ) (at : ℕ) → Some at ≡ position (λ b. b == 32) line → words_of line ≡ take at line ∷ words_of (drop (at + 1) line)
 unfolding words_of
@@ -67,13 +70,15 @@ after_cut : (text : List ℕ) (at : ℕ) → take (length text - (at + 1)) (drop
 after_cut text at = take_all (length text - (at + 1)) (drop (at + 1) text) (omega (arith, length-drop (at + 1) text))
 
 pub next-line : (text : List ℕ) (at : ℕ) → at < length text → Some at ≡ position (λ b. b == 10) text
-    → (lines_of text ≡ take at text ∷ lines_of (take (length text - (at + 1)) (drop (at + 1) text))) × (length (take (length text - (at + 1)) (drop (at + 1) text)) < length text)
+    → (lines_of text ≡ take at text ∷ lines_of (take (length text - (at + 1)) (drop (at + 1) text))) ×
+    (length (take (length text - (at + 1)) (drop (at + 1) text)) < length text)
 next-line text at within e = (
   lines-some text at e ∙ ap (λ rest. take at text ∷ lines_of rest) (sym (after_cut text at)),
   omega (arith, ap length (after_cut text at), length-drop (at + 1) text),
 )
 
-pub next-word : (line : List ℕ) (at : ℕ) → Some at ≡ position (λ b. b == 32) line → words_of line ≡ take at line ∷ words_of (take (length line - (at + 1)) (drop (at + 1) line))
+pub next-word : (line : List ℕ) (at : ℕ) → Some at ≡ position (λ b. b == 32) line
+    → words_of line ≡ take at line ∷ words_of (take (length line - (at + 1)) (drop (at + 1) line))
 next-word line at e = words-some line at e ∙ ap (λ rest. take at line ∷ words_of rest) (sym (after_cut line at))
 
 pub no-line : (text : List ℕ) → length text ≡ 0 → lines_of text ≡ []

@@ -38,7 +38,8 @@ abbrev pub cpu_word : Bool → List ℕ
 cpu_word cpu = if cpu then codes "on" else codes "off"
 
 unfoldable pub head_text : Bool → ℕ → List ℕ
-head_text cpu frames = line_text (codes "ocs") (codes "1" ∷ []) ++ (line_text (codes "cpu") (cpu_word cpu ∷ []) ++ line_text (codes "frames") (decimal frames ∷ []))
+head_text cpu frames = line_text (codes "ocs") (codes "1" ∷ [])
+    ++ (line_text (codes "cpu") (cpu_word cpu ∷ []) ++ line_text (codes "frames") (decimal frames ∷ []))
 
 -- three lines, a line for each event, and the end line
 unfoldable pub script_text : ScriptValue → List ℕ

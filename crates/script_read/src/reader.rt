@@ -124,7 +124,9 @@ fn frame_count(text: &[u8]) -> Option<u32>
 /// Reads from the fourth line on.
 #[tactic(auto, using(crate::proofs::BodyLaws::body_laws))]
 fn read_body(alloc: Global, cpu: bool, frames: u32, text: &[u8]) -> Result<Script, ScriptFault>
-    ensures { ReadsAs (body_of (record { cpu = cpu; frames = frames; events = [] }) 4 0 (lines_of text.now)) result }
+    ensures { ReadsAs
+        (body_of (record { cpu = cpu; frames = frames; events = [] }) 4 0 (lines_of text.now))
+        result }
 {
     let mut script = Script::new(alloc, cpu, frames);
     let mut number = 4;
