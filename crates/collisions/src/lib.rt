@@ -46,7 +46,8 @@ fn is_pair_there(con: u16, values: &[u8; 8], pair: usize) -> bool
 
 /// The collisions of a playfield with the four pairs.
 fn with_pairs(playfield: bool, a: bool, b: bool, c: bool, d: bool) -> u16
-    ensures { result ≡ number_of ((playfield && a) ∷ (playfield && b) ∷ (playfield && c) ∷ (playfield && d) ∷ []) }
+    ensures { result ≡ number_of ((playfield && a) ∷ (playfield && b)
+        ∷ (playfield && c) ∷ (playfield && d) ∷ []) }
 {
     (playfield & a) as u16
         + 2 * (playfield & b) as u16
@@ -56,7 +57,8 @@ fn with_pairs(playfield: bool, a: bool, b: bool, c: bool, d: bool) -> u16
 
 /// The collisions of the pairs with one another.
 fn among_pairs(a: bool, b: bool, c: bool, d: bool) -> u16
-    ensures { result ≡ number_of ((a && b) ∷ (a && c) ∷ (a && d) ∷ (b && c) ∷ (b && d) ∷ (c && d) ∷ []) }
+    ensures { result ≡ number_of ((a && b) ∷ (a && c) ∷ (a && d)
+        ∷ (b && c) ∷ (b && d) ∷ (c && d) ∷ []) }
 {
     (a & b) as u16
         + 2 * (a & c) as u16

@@ -39,7 +39,14 @@ impl Model for Chip {
 
     ghost Value = { ChipValue };
 
-    ghost view = { λ c. record { last = c.last; base = c.base; writes = c.writes.items; words = c.words; newest = c.newest; reads = c.reads } };
+    ghost view = { λ c. record {
+      last = c.last;
+      base = c.base;
+      writes = c.writes.items;
+      words = c.words;
+      newest = c.newest;
+      reads = c.reads;
+    } };
 
     ghost invariant = { λ c. IsSound c.base c.words c.writes.items c.newest };
 }
@@ -136,7 +143,8 @@ impl Chip {
         byte: u8,
     ) -> Result<(), OutOfMemory>
         requires { self.old.newest ≤ now.0 }
-        ensures ok { OnOk result (self.new ≡ after_write self.old now.0 at (with_half (word_at self.old at) high byte)) }
+        ensures ok { OnOk result (self.new
+            ≡ after_write self.old now.0 at (with_half (word_at self.old at) high byte)) }
         ensures refused { OnErr result (self.new ≡ self.old) }
     {
         let word = half_replaced(self.words.word(at.value as usize / 2), high, byte);

@@ -38,7 +38,8 @@ impl History {
     /// The history of writes that are given in order of happening.
     pub fn new(alloc: Global, writes: &[Write]) -> Result<History, OutOfMemory>
         requires { IsNonDecreasingBy (λ (write : WriteValue). write.clock) writes.now }
-        ensures same { IfOk result (λ history. (place : ℕ) → writes_to place history ≡ writes_to place writes.now) }
+        ensures same { IfOk result (λ history. (place : ℕ)
+            → writes_to place history ≡ writes_to place writes.now) }
         ensures count { IfOk result (λ history. length history ≡ length writes.now) }
     {
         let writes = sorted_writes(alloc, writes)?;
@@ -86,7 +87,8 @@ fn part(writes: &[Write], start: usize, end: usize) -> &[Write]
 fn sorted_writes(alloc: Global, writes: &[Write]) -> Result<Vec<Write>, OutOfMemory>
     requires { IsNonDecreasingBy (λ (write : WriteValue). write.clock) writes.now }
     ensures order { IfOk result (λ list. IsInOrder list.items) }
-    ensures same { IfOk result (λ list. (place : ℕ) → writes_to place list.items ≡ writes_to place writes.now) }
+    ensures same { IfOk result (λ list. (place : ℕ)
+        → writes_to place list.items ≡ writes_to place writes.now) }
     ensures count { IfOk result (λ list. length list.items ≡ length writes.now) }
 {
     let mut list = Vec::from_slice(alloc, writes)?;

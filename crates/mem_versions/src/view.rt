@@ -71,7 +71,8 @@ impl MemView {
     pub fn at_counted<L: Ledger>(&self, c: Clock, a: Addr, steps: &mut Steps<L>) -> u16
         requires { Covers self.now c.0 }
         ensures word { result ≡ word_then self.now c.0 a }
-        ensures cost { 2 ^ (steps.new - steps.old) ≤ 2 * page_writes (word_index a / 256) self.now.writes + 1 }
+        ensures cost { 2 ^ (steps.new - steps.old)
+            ≤ 2 * page_writes (word_index a / 256) self.now.writes + 1 }
     {
         let place = a.value / 2;
         let word = self.base.word(place as usize);

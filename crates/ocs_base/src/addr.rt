@@ -49,7 +49,8 @@ impl Addr {
     /// The address so many bytes on, or back where `bytes` is negative, modulo the span.
     pub fn step(self, bytes: i32) -> Addr
         requires { IsEven bytes }
-        ensures value { pos result.value ≡ int_rem_euclid (pos self.value +ℤ bytes) (pos (span_of self)) }
+        ensures value { pos result.value
+            ≡ int_rem_euclid (pos self.value +ℤ bytes) (pos (span_of self)) }
         ensures span { span_of result ≡ span_of self }
     {
         let moved = (self.value as i64 + bytes as i64).rem_euclid(SPAN as i64);

@@ -66,7 +66,8 @@ impl Script {
 
     /// Appends an event. After a refusal the script is as before.
     pub fn push(&mut self, at: At) -> Result<(), OutOfMemory>
-        ensures ok { OnOk result (self.new ≡ record self.old { events = self.old.events ++ at ∷ [] }) }
+        ensures ok { OnOk result (self.new
+            ≡ record self.old { events = self.old.events ++ at ∷ [] }) }
         ensures refused { OnErr result (self.new ≡ self.old) }
     {
         self.events.push(at)?;

@@ -43,7 +43,8 @@ due_events-later frames place b next e events q on on_next is later =
     grind (arith, nat_tests)
 
 -- an event that is not due at a place that it is not before: none of these is due, and all are later
-pub due_events-none : (frames : ℕ) (b : Beam) (events : List At) → AreFrom (place_of b + 1) events → AreInLimits frames events → IsOnScreen b → due_events b events ≡ []
+pub due_events-none : (frames : ℕ) (b : Beam) (events : List At) → AreFrom (place_of b + 1) events → AreInLimits frames events → IsOnScreen b
+    → due_events b events ≡ []
 unfolding due_events
 due_events-none frames b [] from limits on = refl
 due_events-none frames b (e ∷ events) from limits on =

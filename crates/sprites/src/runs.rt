@@ -48,7 +48,8 @@ impl Runs {
     /// The words of sprite `sprite`, 0 to 7, begin to run at position `x`.
     pub fn start(&mut self, sprite: u8, x: u16, word_a: u16, word_b: u16)
         requires { sprite < 8 }
-        ensures { self.new ≡ slice_set self.old sprite (Some (record { x = x; word_a = word_a; word_b = word_b })) }
+        ensures { self.new ≡ slice_set self.old sprite
+            (Some (record { x = x; word_a = word_a; word_b = word_b })) }
     {
         self.starts[sprite as usize] = Some(Start { x, word_a, word_b });
     }

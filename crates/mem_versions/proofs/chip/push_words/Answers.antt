@@ -12,7 +12,8 @@ loop-rest-preserved c =
     let pushed : c.push.new.self.items ≡ into ++ (256 * get_or rest 0 0 + get_or rest 1 0) ∷ [] =
     c.in_ok-push.ensures.items ∙ ap (λ (w : ℕ). into ++ w ∷ []) word
     in
-    ap (λ (items : List ℕ). items ++ words (take (length rest - 2) (drop 2 rest))) pushed ∙ words-more into rest c.in-len2-up.len_at_least ∙ c.loop-rest.invariant
+    ap (λ (items : List ℕ). items ++ words (take (length rest - 2) (drop 2 rest))) pushed ∙ words-more into rest c.in-len2-up.len_at_least
+    ∙ c.loop-rest.invariant
 
 pub returns : goal.returns
 returns c =

@@ -20,9 +20,11 @@ loop-low-preserved-then-write-clock g c =
       higher = c.loop-low.invariant.higher;
       counted = omega arith;
       halves =
-          halves-next c.args.steps.now c.loop-low.steps c.tick.new.self (high - low) (high - (middle + 1)) (length writes) c.loop-low.invariant.counted c.tick.ensures c.loop-low.invariant.halves
+          halves-next c.args.steps.now c.loop-low.steps c.tick.new.self (high - low) (high - (middle + 1)) (length writes)
+          c.loop-low.invariant.counted c.tick.ensures c.loop-low.invariant.halves
           (omega arith);
-      cost = cost-next c.args.steps.now c.loop-low.steps c.tick.new.self (high - low) (length writes) c.loop-low.invariant.counted c.tick.ensures c.loop-low.invariant.halves (omega arith);
+      cost = cost-next c.args.steps.now c.loop-low.steps c.tick.new.self (high - low) (length writes) c.loop-low.invariant.counted c.tick.ensures
+          c.loop-low.invariant.halves (omega arith);
     }
 
 pub loop-low-preserved-then-write-place-2 : goal.loop-low-preserved-then-write-place-2
@@ -42,9 +44,11 @@ loop-low-preserved-then-write-place-2 g c =
       higher = c.loop-low.invariant.higher;
       counted = omega arith;
       halves =
-          halves-next c.args.steps.now c.loop-low.steps c.tick.new.self (high - low) (high - (middle + 1)) (length writes) c.loop-low.invariant.counted c.tick.ensures c.loop-low.invariant.halves
+          halves-next c.args.steps.now c.loop-low.steps c.tick.new.self (high - low) (high - (middle + 1)) (length writes)
+          c.loop-low.invariant.counted c.tick.ensures c.loop-low.invariant.halves
           (omega arith);
-      cost = cost-next c.args.steps.now c.loop-low.steps c.tick.new.self (high - low) (length writes) c.loop-low.invariant.counted c.tick.ensures c.loop-low.invariant.halves (omega arith);
+      cost = cost-next c.args.steps.now c.loop-low.steps c.tick.new.self (high - low) (length writes) c.loop-low.invariant.counted c.tick.ensures
+          c.loop-low.invariant.halves (omega arith);
     }
 
 pub loop-low-preserved : goal.loop-low-preserved
@@ -68,11 +72,14 @@ loop-low-preserved g c =
       higher = late-from c.args.place c.args.clock writes middle d c.requires within c.if-write-place-2.false late;
       counted = omega arith;
       halves =
-          halves-next c.args.steps.now c.loop-low.steps c.tick.new.self (high - low) (middle - low) (length writes) c.loop-low.invariant.counted c.tick.ensures c.loop-low.invariant.halves (omega arith);
-      cost = cost-next c.args.steps.now c.loop-low.steps c.tick.new.self (high - low) (length writes) c.loop-low.invariant.counted c.tick.ensures c.loop-low.invariant.halves (omega arith);
+          halves-next c.args.steps.now c.loop-low.steps c.tick.new.self (high - low) (middle - low) (length writes) c.loop-low.invariant.counted
+          c.tick.ensures c.loop-low.invariant.halves (omega arith);
+      cost = cost-next c.args.steps.now c.loop-low.steps c.tick.new.self (high - low) (length writes) c.loop-low.invariant.counted c.tick.ensures
+          c.loop-low.invariant.halves (omega arith);
     }
 
 pub returns-clause-word : goal.returns-clause-word
 returns-clause-word g c =
-    word_before-end c.args.place c.args.clock c.args.writes.now c.args.word c.loop-low.found c.loop-low.low c.loop-low.high c.loop-low-test.false c.loop-low.invariant.found
+    word_before-end c.args.place c.args.clock c.args.writes.now c.args.word c.loop-low.found c.loop-low.low c.loop-low.high c.loop-low-test.false
+    c.loop-low.invariant.found
     c.loop-low.invariant.higher

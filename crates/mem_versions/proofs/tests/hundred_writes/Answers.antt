@@ -7,4 +7,10 @@ use Rattle.mem_versions.proofs.tests.hundred_writes.Goals as goal
 pub returns-clause-few : goal.returns-clause-few
 returns-clause-few c =
     let writes = c.loop-k.chip.writes in
-    omega (arith, c.in_ok-view.ensures.view.count, length-filter (λ (w : Write). nat_lt w.clock 200) writes, count_by-le-length (λ (w : Write). nat_lt w.clock 200) writes)
+    omega (
+      arith,
+      c.in_ok-view.ensures.view.count,
+      length-filter (λ (w : Write). nat_lt w.clock 200) writes,
+      count_by-le-length
+          (λ (w : Write). nat_lt w.clock 200) writes,
+    )

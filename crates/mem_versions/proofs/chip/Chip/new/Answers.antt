@@ -11,5 +11,6 @@ new-requires c =
 pub invariant_of-result : goal.invariant_of-result
 invariant_of-result c =
     IsSound-new c.in_ok-base.base c.in_ok-words.words c.new-2.result.items
-    (ap length (c.in_ok-base.ensures ∙ c.in_ok-words.ensures ∙ c.deref.ensures.value ∙ c.in_ok-image_words.ensures) ∙ length-memory_of c.args.image.now c.requires.most)
+    (ap length (c.in_ok-base.ensures ∙ c.in_ok-words.ensures ∙ c.deref.ensures.value ∙ c.in_ok-image_words.ensures)
+    ∙ length-memory_of c.args.image.now c.requires.most)
     (sym c.in_ok-base.ensures) c.new-2.ensures.items
