@@ -104,8 +104,8 @@ module _ {R J D : Type 0} (jr : R → ℕ → J → Type 0) (dr : R → ℕ → 
 
   pub opens : (slots id : ℕ) (me : Seated R J D) (j : ℕ) → me.0.role ≡ Front → me.0.opened ≡ j → me.0.published ≡ 0 → j < 16
       → Allows (BoardRule jr dr run) slots id me j (λ x. x) (TellsOpening (step slots j 0 0 none) me)
-  opens slots id me j role opened none_yet near s b deep at _ = let r = as_front jr dr run s id me.0 b at role in opens_goes s id me.0 r.1 slots j
-      me.1 r.0 at opened none_yet near
+  opens slots id me j role opened none_yet near s b deep at _ =
+      let r = as_front jr dr run s id me.0 b at role in opens_goes s id me.0 r.1 slots j me.1 r.0 at opened none_yet near
 
   pub watches : (slots id : ℕ) (me : Seated R J D) (place : ℕ) → me.0.role ≡ Front → place ≡ me.0.collected % 16 → me.0.collected < me.0.published
       → Allows (BoardRule jr dr run) slots id me place (λ x. x) (TellsWatch (step slots place 0 0 none) me)
@@ -117,8 +117,8 @@ module _ {R J D : Type 0} (jr : R → ℕ → J → Type 0) (dr : R → ℕ → 
         unmoved jr dr run v s r place id me.1 v w w at (leads s id v w first.0 at) r.role refl refl refl refl refl
             (λ e. ⊎_elim (λ (old : v.noted ≡ true). r.seen_drawn old)
             (λ (new : eqb (word % 4) 3 ≡ true). let c : ℕ = v.collected in let ok = r.each_cell (c % 16) (mod-lt c (omega arith)) in
-            let is = drawn_word (r.cells (c % 16)).0 word (r.cells (c % 16)).1 (ap (λ (z : ℕ). get_or s.words z 0) lies ∙ ok.shows)
-            (eqb-true (word % 4) 3 new) in
+            let is = drawn_word (r.cells (c % 16)).0 word (r.cells (c % 16)).1
+            (ap (λ (z : ℕ). get_or s.words z 0) lies ∙ ok.shows) (eqb-true (word % 4) 3 new) in
             let here = outstanding_here jr dr run v s r c (le_refl c) some_out in (some_out, (is.0, λ i. (here i, is.1 i))))
             (or_true v.noted (eqb (word % 4) 3) e))
             record { role_same = refl; hand_same = refl; claim_same = refl; done_same = refl; joined_same = refl }
@@ -201,12 +201,12 @@ module _ {R J D : Type 0} (jr : R → ℕ → J → Type 0) (dr : R → ℕ → 
       → me.0.published ≡ n → n < me.0.collected + 16
       → place ≡ n % 16 → new ≡ 256 * n + 1 → n < 2 ^ 32 → RightFor jr me.0.run n job → me.1 ≡ (place, Some (Job job)) ∷ more
       → Allows (BoardRule jr dr run) slots id me place (λ _. new) (λ _. TellsOffer (step slots place new 0 none) me new)
-  offers slots id me place n new job more role opened number room lies next small right out s b deep at _ = let first = as_front jr dr run s id me.0 b
-      at role in let v : View R = me.0 in
+  offers slots id me place n new job more role opened number room lies next small right out s b deep at _ =
+      let first = as_front jr dr run s id me.0 b at role in let v : View R = me.0 in
       let same = run_is first.1.cells id v role (first.1.each_seat id v at) right.0 right.1 in
       subst (λ c. Goes jr dr run s place id (v, c) (λ _. TellsOffer (step slots place new 0 none) (v, c) new) new) (sym out)
-      (offers_goes s id v first.1 slots place new job more first.0 at opened (omega arith) (lies
-      ∙ ap (λ (z : ℕ). z % 16) (sym number)) (omega arith) (omega arith)
+      (offers_goes s id v first.1 slots place new job more first.0 at opened (omega arith)
+      (lies ∙ ap (λ (z : ℕ). z % 16) (sym number)) (omega arith) (omega arith)
       (subst (λ (z : R × ℕ). jr z.0 z.1 job) (λ i. (same i, sym number i)) right.2))
 
   collects_goes : (s : St) (id : ℕ) (v : View R) (r : Ruled jr dr run v s) (slots place new : ℕ) (cs : List (ℕ × Slot J D)) → id ≡ 0

@@ -39,7 +39,7 @@ fn sum_changes_sign(size: Size, a: u32, b: u32, extend: bool, value: u32) -> boo
 }
 
 /// The sum of two numbers of the size and the extend bit. `zero`: Z may be set.
-fn added(size: Size, a: u32, b: u32, extend: bool, zero: bool) -> Outcome
+fn add_with_carry(size: Size, a: u32, b: u32, extend: bool, zero: bool) -> Outcome
     requires left { a < span size }
     requires right { b < span size }
     ensures { result ≡ sum_of size a b extend zero }
@@ -86,7 +86,7 @@ fn difference_changes_sign(size: Size, a: u32, b: u32, extend: bool, value: u32)
 }
 
 /// What is left of a number of the size without another and the extend bit. `zero`: Z may be set.
-fn subtracted(size: Size, a: u32, b: u32, extend: bool, zero: bool) -> Outcome
+fn subtract_with_borrow(size: Size, a: u32, b: u32, extend: bool, zero: bool) -> Outcome
     requires left { a < span size }
     requires right { b < span size }
     ensures { result ≡ difference_of size a b extend zero }
@@ -109,21 +109,21 @@ fn subtracted(size: Size, a: u32, b: u32, extend: bool, zero: bool) -> Outcome
 pub fn op_add(size: Size, a: u32, b: u32, f: Flags) -> Outcome
     ensures { result ≡ add_of size a b f }
 {
-    added(size, low_part(size, a), low_part(size, b), false, true)
+    add_with_carry(size, low_part(size, a), low_part(size, b), false, true)
 }
 
 /// SUB, SUBI and SUBQ.
 pub fn op_sub(size: Size, a: u32, b: u32, f: Flags) -> Outcome
     ensures { result ≡ sub_of size a b f }
 {
-    subtracted(size, low_part(size, a), low_part(size, b), false, true)
+    subtract_with_borrow(size, low_part(size, a), low_part(size, b), false, true)
 }
 
 /// NEG.
 pub fn op_neg(size: Size, a: u32, b: u32, f: Flags) -> Outcome
     ensures { result ≡ neg_of size a b f }
 {
-    subtracted(size, 0, low_part(size, a), false, true)
+    subtract_with_borrow(size, 0, low_part(size, a), false, true)
 }
 
 /// CMP, CMPA, CMPI and CMPM: the value is `a`.
@@ -144,21 +144,21 @@ pub fn op_cmp(size: Size, a: u32, b: u32, f: Flags) -> Outcome
 pub fn op_addx(size: Size, a: u32, b: u32, f: Flags) -> Outcome
     ensures { result ≡ addx_of size a b f }
 {
-    added(size, low_part(size, a), low_part(size, b), f.x, f.z)
+    add_with_carry(size, low_part(size, a), low_part(size, b), f.x, f.z)
 }
 
 /// SUBX, with Z as in ADDX.
 pub fn op_subx(size: Size, a: u32, b: u32, f: Flags) -> Outcome
     ensures { result ≡ subx_of size a b f }
 {
-    subtracted(size, low_part(size, a), low_part(size, b), f.x, f.z)
+    subtract_with_borrow(size, low_part(size, a), low_part(size, b), f.x, f.z)
 }
 
 /// NEGX, with Z as in ADDX.
 pub fn op_negx(size: Size, a: u32, b: u32, f: Flags) -> Outcome
     ensures { result ≡ negx_of size a b f }
 {
-    subtracted(size, 0, low_part(size, a), f.x, f.z)
+    subtract_with_borrow(size, 0, low_part(size, a), f.x, f.z)
 }
 
 /// What CHK makes of N.

@@ -28,7 +28,7 @@ fn is_bit_set(number: u32, place: u32) -> bool
 
 /// The number with the bit at a place set.
 #[tactic(auto, using(crate::proofs::SingleBits::set_by_mask))]
-fn bit_set(number: u32, place: u32) -> u32
+fn set_bit(number: u32, place: u32) -> u32
     requires { place < 32 }
     ensures { result ≡ with_bit number place }
 {
@@ -37,7 +37,7 @@ fn bit_set(number: u32, place: u32) -> u32
 
 /// The number with the bit at a place clear.
 #[tactic(auto, using(crate::proofs::SingleBits::cleared_by_mask))]
-fn bit_cleared(number: u32, place: u32) -> u32
+fn clear_bit(number: u32, place: u32) -> u32
     requires { place < 32 }
     ensures { result ≡ without_bit number place }
 {
@@ -46,7 +46,7 @@ fn bit_cleared(number: u32, place: u32) -> u32
 
 /// The number with the bit at a place changed.
 #[tactic(auto, using(crate::proofs::SingleBits::changed_by_mask))]
-fn bit_changed(number: u32, place: u32) -> u32
+fn change_bit(number: u32, place: u32) -> u32
     requires { place < 32 }
     ensures { result ≡ changed_bit number place }
 {
@@ -54,7 +54,7 @@ fn bit_changed(number: u32, place: u32) -> u32
 }
 
 /// Z is the contrary of the bit before; the other flags stay.
-fn tested(value: u32, before: bool, f: Flags) -> Outcome
+fn test_outcome(value: u32, before: bool, f: Flags) -> Outcome
     ensures { result ≡ bit_outcome value before f }
 {
     Outcome {
@@ -68,7 +68,7 @@ pub fn op_btst(size: Size, a: u32, b: u32, f: Flags) -> Outcome
     ensures { result ≡ btst_of size a b f }
 {
     let (value, place) = (low_part(size, a), place_of(size, b));
-    tested(value, is_bit_set(value, place), f)
+    test_outcome(value, is_bit_set(value, place), f)
 }
 
 /// BCHG.
@@ -76,7 +76,7 @@ pub fn op_bchg(size: Size, a: u32, b: u32, f: Flags) -> Outcome
     ensures { result ≡ bchg_of size a b f }
 {
     let (value, place) = (low_part(size, a), place_of(size, b));
-    tested(bit_changed(value, place), is_bit_set(value, place), f)
+    test_outcome(change_bit(value, place), is_bit_set(value, place), f)
 }
 
 /// BCLR.
@@ -84,7 +84,7 @@ pub fn op_bclr(size: Size, a: u32, b: u32, f: Flags) -> Outcome
     ensures { result ≡ bclr_of size a b f }
 {
     let (value, place) = (low_part(size, a), place_of(size, b));
-    tested(bit_cleared(value, place), is_bit_set(value, place), f)
+    test_outcome(clear_bit(value, place), is_bit_set(value, place), f)
 }
 
 /// BSET.
@@ -92,5 +92,5 @@ pub fn op_bset(size: Size, a: u32, b: u32, f: Flags) -> Outcome
     ensures { result ≡ bset_of size a b f }
 {
     let (value, place) = (low_part(size, a), place_of(size, b));
-    tested(bit_set(value, place), is_bit_set(value, place), f)
+    test_outcome(set_bit(value, place), is_bit_set(value, place), f)
 }

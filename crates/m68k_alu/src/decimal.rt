@@ -22,7 +22,7 @@ fn decimal_outcome(value: u32, carry: bool, f: Flags) -> Outcome
 }
 
 /// The sum of two bytes, with its low digit made decimal.
-fn low_digit_adjusted(a: u32, b: u32, extend: bool) -> u32
+fn adjusted_sum(a: u32, b: u32, extend: bool) -> u32
     requires left { a < 256 }
     requires right { b < 256 }
     ensures { result ≡ digits_adjusted a b extend }
@@ -40,7 +40,7 @@ fn low_digit_adjusted(a: u32, b: u32, extend: bool) -> u32
 pub fn op_abcd(size: Size, a: u32, b: u32, f: Flags) -> Outcome
     ensures { result ≡ abcd_of size a b f }
 {
-    let sum = low_digit_adjusted(low_part(Size::Byte, a), low_part(Size::Byte, b), f.x);
+    let sum = adjusted_sum(low_part(Size::Byte, a), low_part(Size::Byte, b), f.x);
     let carry = sum > 0x9f;
     let adjusted = if carry { sum + 0x60 } else { sum };
     decimal_outcome(adjusted & 0xff, carry, f)
@@ -56,7 +56,7 @@ fn less(a: u32, b: u32, extend: bool) -> i64
 }
 
 /// The difference of two bytes, with its low digit made decimal.
-fn difference_adjusted(a: u32, b: u32, extend: bool) -> i64
+fn adjusted_difference(a: u32, b: u32, extend: bool) -> i64
     requires left { a < 256 }
     requires right { b < 256 }
     ensures { result ≡ less_adjusted a b extend }
@@ -75,7 +75,7 @@ pub fn op_sbcd(size: Size, a: u32, b: u32, f: Flags) -> Outcome
 {
     let (from, taken) = (low_part(Size::Byte, a), low_part(Size::Byte, b));
     let borrow = less(from, taken, f.x) < 0;
-    let difference = difference_adjusted(from, taken, f.x);
+    let difference = adjusted_difference(from, taken, f.x);
     let adjusted = if borrow {
         difference - 0x60
     } else {

@@ -70,7 +70,7 @@ pub fn op_ext(size: Size, a: u32, b: u32, f: Flags) -> Outcome
 
 /// The words of a long, the low one first.
 #[tactic(auto, using(crate::proofs::Words::words_joined))]
-fn words_swapped(long: u32) -> u32
+fn swap_words(long: u32) -> u32
     ensures { result ≡ long % 65536 * 65536 + long / 65536 % 65536 }
 {
     (long << 16) | (long >> 16)
@@ -78,7 +78,7 @@ fn words_swapped(long: u32) -> u32
 
 /// A byte with its top bit set.
 #[tactic(auto, using(crate::proofs::Words::byte_with_top_bit))]
-fn top_bit_set(byte: u32) -> u32
+fn set_top_bit(byte: u32) -> u32
     requires { byte < 256 }
     ensures { result ≡ byte % 128 + 128 }
 {
@@ -89,7 +89,7 @@ fn top_bit_set(byte: u32) -> u32
 pub fn op_swap(size: Size, a: u32, b: u32, f: Flags) -> Outcome
     ensures { result ≡ swap_of size a b f }
 {
-    plain_outcome(Size::Long, words_swapped(a), f)
+    plain_outcome(Size::Long, swap_words(a), f)
 }
 
 /// TAS: a byte is tested and its top bit is set. The size says nothing.
@@ -99,7 +99,7 @@ pub fn op_tas(size: Size, a: u32, b: u32, f: Flags) -> Outcome
     let byte = low_part(Size::Byte, a);
     let tested = plain_outcome(Size::Byte, byte, f);
     Outcome {
-        value: top_bit_set(byte),
+        value: set_top_bit(byte),
         ..tested
     }
 }

@@ -55,7 +55,7 @@ fn divided_outcome(quotient: u32, remainder: u32, f: Flags) -> Outcome
 }
 
 /// The quotient is no word: V is set, C is clear, the value and the other flags stay.
-fn overflowed(a: u32, f: Flags) -> Outcome
+fn overflow_outcome(a: u32, f: Flags) -> Outcome
     ensures { result ≡ not_divided a f }
 {
     Outcome {
@@ -79,7 +79,7 @@ pub fn op_divu(size: Size, a: u32, b: u32, f: Flags) -> Outcome
     if quotient <= 0xffff {
         divided_outcome(quotient, a % divisor, f)
     } else {
-        overflowed(a, f)
+        overflow_outcome(a, f)
     }
 }
 
@@ -126,6 +126,6 @@ pub fn op_divs(size: Size, a: u32, b: u32, f: Flags) -> Outcome
             f,
         )
     } else {
-        overflowed(a, f)
+        overflow_outcome(a, f)
     }
 }

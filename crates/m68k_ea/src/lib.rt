@@ -49,10 +49,10 @@ pub fn resolve(mode: &Mode, regs: &mut CpuRegs, words: &[u16], pc: u32, size: Si
         Mode::Post { reg } => post(regs, reg, size),
         Mode::Pre { reg } => pre(regs, reg, size),
         Mode::Disp { reg } => Place68::Memory {
-            at: displaced(regs.address(reg), words[0]),
+            at: displacement_address(regs.address(reg), words[0]),
         },
         Mode::Index { reg } => Place68::Memory {
-            at: indexed(regs, regs.address(reg), words[0]),
+            at: index_address(regs, regs.address(reg), words[0]),
         },
         Mode::Short => Place68::Memory {
             at: extended_word(words[0]),
@@ -61,10 +61,10 @@ pub fn resolve(mode: &Mode, regs: &mut CpuRegs, words: &[u16], pc: u32, size: Si
             at: long(words[0], words[1]),
         },
         Mode::PcDisp => Place68::Memory {
-            at: displaced(pc, words[0]),
+            at: displacement_address(pc, words[0]),
         },
         Mode::PcIndex => Place68::Memory {
-            at: indexed(regs, pc, words[0]),
+            at: index_address(regs, pc, words[0]),
         },
         Mode::Imm => Place68::Value {
             value: immediate(words, size),
@@ -106,14 +106,14 @@ fn step(size: Size, reg: u8) -> u32
 }
 
 /// An address and a displacement with its sign.
-fn displaced(base: u32, word: u16) -> u32
+fn displacement_address(base: u32, word: u16) -> u32
     ensures { result ≡ displaced base word }
 {
     base.wrapping_add(extended_word(word))
 }
 
 /// An address, the index and the displacement of an extension word.
-fn indexed(regs: &CpuRegs, base: u32, word: u16) -> u32
+fn index_address(regs: &CpuRegs, base: u32, word: u16) -> u32
     ensures { result ≡ indexed regs.now base word }
 {
     base.wrapping_add(index(regs, word))

@@ -2,7 +2,7 @@
 
 ghost use Rattle.std.specs.Prelude.{◌≡◌, ◌≤◌, ◌<◌, ◌+◌, ◌*◌, ◌/◌, ◌%◌};
 ghost use Rattle.m68k_decode.specs.Access.{Prog};
-ghost use Rattle.m68k_decode.specs.Run.{at_place, moved};
+ghost use Rattle.m68k_decode.specs.Run.{at_place, moved, half_at};
 ghost use Rattle.m68k_decode.specs.Walk.{refused, permitted, execute, opcode_read};
 ghost use Rattle.m68k_exec.specs.Meaning.{meaning, run_of, rest, fetched, valued, written, placed, role_mode, role_size, follow};
 
@@ -124,6 +124,33 @@ fn take_word(context: &mut Context, machine: &mut Machine, part: Part, pc: u32, 
     }
 }
 
+/// The next word of the program is read: the PC goes beyond it.
+fn take_next_word(context: &mut Context, machine: &mut Machine, part: Part, word: u16)
+    ensures start { context.new.start ≡ context.old.start }
+    ensures walk { meaning context.new machine.new
+        ≡ fetched part context.old.fetched.instr machine.old.regs.pc word
+        (moved (run_of context.old machine.old)) }
+{
+    let pc = machine.regs.pc;
+    machine.regs.pc = pc.wrapping_add(2);
+    take_word(context, machine, part, pc, word);
+}
+
+/// The byte of a word that is at an address: the low one where the address is odd.
+fn byte_at(at: u32, word: u16) -> u32
+    ensures { result ≡ half_at at word }
+{
+    let byte = if at & 1 == 1 { word & 0xff } else { word >> 8 };
+    u32::from(byte)
+}
+
+/// A long of two words.
+fn long_of(high: u16, low: u16) -> u32
+    ensures { result ≡ high * 65536 + low }
+{
+    u32::from(high) * 0x1_0000 + u32::from(low)
+}
+
 /// A value is read.
 fn take_value(context: &Context, machine: &mut Machine, into: Use, value: u32)
     ensures { meaning context.now machine.new
@@ -173,15 +200,8 @@ pub fn resume(context: &mut Context, machine: &mut Machine, word: u16)
     ensures walk { meaning context.new machine.new ≡ follow (meaning context.old machine.old) word }
 {
     match machine.step {
-        Step::Fetch { part } => {
-            let pc = machine.regs.pc;
-            machine.regs.pc = pc.wrapping_add(2);
-            take_word(context, machine, part, pc, word);
-        }
-        Step::ReadByte { at, into } => {
-            let value = if at & 1 == 1 { word & 0xff } else { word >> 8 };
-            take_value(context, machine, into, u32::from(value));
-        }
+        Step::Fetch { part } => take_next_word(context, machine, part, word),
+        Step::ReadByte { at, into } => take_value(context, machine, into, byte_at(at, word)),
         Step::ReadWord { into, .. } => take_value(context, machine, into, u32::from(word)),
         Step::ReadHigh { at, program, into } => read_low(
             context,
@@ -191,12 +211,7 @@ pub fn resume(context: &mut Context, machine: &mut Machine, word: u16)
             word,
             into,
         ),
-        Step::ReadLow { high, into, .. } => take_value(
-            context,
-            machine,
-            into,
-            u32::from(high) * 0x1_0000 + u32::from(word),
-        ),
+        Step::ReadLow { high, into, .. } => take_value(context, machine, into, long_of(high, word)),
         Step::WriteByte { then, .. } | Step::WriteWord { then, .. } => go_on(
             context, machine, then,
         ),

@@ -7,6 +7,7 @@ ghost use Rattle.m68k_opcodes.specs.declared.operand.Size.TheVariants as S;
 ghost use Rattle.m68k_decode.specs.Registers.{extended_word, extended_byte};
 ghost use Rattle.m68k_decode.specs.RowData.{bit_size, dest_size, source_size, has_source, source_mode, pair_mode, eight_if_zero, constant, has_dest, dest_mode, takes_old, writes, target, extended, ones, turns, count_of, is_outside, trap_of, trap_ea};
 ghost use Rattle.m68k_decode.specs.General.{is_program};
+ghost use Rattle.m68k_exec.specs.RegisterRows.{register_dest};
 
 use crate::status::{condition, flags};
 use m68k_decode::{Instr, Mode, Place68, Size, Trap, ea};
@@ -188,8 +189,33 @@ pub fn has_dest(instr: &Instr) -> bool
     )
 }
 
+/// The destination of the rows that name it by a register; none at the others.
+#[tactic(auto, unfolding(crate::specs::RegisterRows::register_dest))]
+fn register_dest(instr: &Instr) -> Mode
+    ensures { result ≡ register_dest instr.now }
+{
+    match *instr {
+        Instr::Movea { r, .. } | Instr::SubaAdda { r, .. } | Instr::Cmpa { r, .. } => Mode::An {
+            reg: r,
+        },
+        Instr::Swap { r }
+        | Instr::Ext { r, .. }
+        | Instr::Chk { r, .. }
+        | Instr::Moveq { r, .. }
+        | Instr::OrAndToDn { r, .. }
+        | Instr::SubAddToDn { r, .. }
+        | Instr::Cmp { r, .. }
+        | Instr::MuluMuls { r, .. }
+        | Instr::DivuDivs { r, .. }
+        | Instr::ShiftRegister { r, .. } => Mode::Dn { reg: r },
+        Instr::Cmpm { x, .. } => Mode::Post { reg: x },
+        Instr::SubxAddx { m, x, .. } | Instr::SbcdAbcd { m, x, .. } => pair_mode(m, x),
+        _ => Mode::Imm,
+    }
+}
+
 /// The destination operand.
-#[tactic(auto, unfolding(m68k_decode::specs::RowData::dest_mode))]
+#[tactic(auto, unfolding(m68k_decode::specs::RowData::dest_mode, crate::specs::RegisterRows::register_dest))]
 pub fn dest_mode(instr: &Instr) -> Mode
     ensures { result ≡ dest_mode instr.now }
 {
@@ -209,40 +235,7 @@ pub fn dest_mode(instr: &Instr) -> Mode
         | Instr::Eor { mode, .. }
         | Instr::ShiftMemory { mode, .. } => mode,
         Instr::Move { dest, .. } => dest,
-        Instr::Movea { r, .. } | Instr::SubaAdda { r, .. } | Instr::Cmpa { r, .. } => Mode::An {
-            reg: r,
-        },
-        Instr::Swap { r }
-        | Instr::Ext { r, .. }
-        | Instr::Chk { r, .. }
-        | Instr::Moveq { r, .. }
-        | Instr::OrAndToDn { r, .. }
-        | Instr::SubAddToDn { r, .. }
-        | Instr::Cmp { r, .. }
-        | Instr::MuluMuls { r, .. }
-        | Instr::DivuDivs { r, .. }
-        | Instr::ShiftRegister { r, .. } => Mode::Dn { reg: r },
-        Instr::Cmpm { x, .. } => Mode::Post { reg: x },
-        Instr::SubxAddx { m, x, .. } | Instr::SbcdAbcd { m, x, .. } => pair_mode(m, x),
-        Instr::ImmediateToStatus { .. }
-        | Instr::Movep { .. }
-        | Instr::MoveToStatus { .. }
-        | Instr::Pea { .. }
-        | Instr::MovemToMemory { .. }
-        | Instr::MovemToRegisters { .. }
-        | Instr::Trap { .. }
-        | Instr::LinkUnlk { .. }
-        | Instr::MoveUsp { .. }
-        | Instr::ResetNopStopRte { .. }
-        | Instr::RtsTrapvRtr { .. }
-        | Instr::JsrJmp { .. }
-        | Instr::Lea { .. }
-        | Instr::Dbcc { .. }
-        | Instr::Branch { .. }
-        | Instr::Exg { .. }
-        | Instr::Illegal
-        | Instr::LineA
-        | Instr::LineF => Mode::Imm,
+        _ => register_dest(instr),
     }
 }
 

@@ -47,19 +47,19 @@ filter-back p xs n fails passes =
     ∙ filter-all p (drop n xs) (All-back (λ x. p x ≡ true) xs n passes))
 
 -- the elements from one index to another, where these pass and no other does
-pub filter-middle : {X : Type 0} (p : X → Bool) (xs : List X) (start end : ℕ) → start ≤ end → ((k : ℕ) (d : X) → k < start → k < length xs
-    → p (get_or xs k d) ≡ false) →
-    ((k : ℕ) (d : X) → start ≤ k → k < end → k < length xs → p (get_or xs k d) ≡ true) → ((k : ℕ) (d : X) → end ≤ k → k < length xs
-    → p (get_or xs k d) ≡ false) →
-    take (end - start) (drop start xs) ≡ filter p xs
+pub filter-middle : {X : Type 0} (p : X → Bool) (xs : List X) (start end : ℕ) → start ≤ end
+    → ((k : ℕ) (d : X) → k < start → k < length xs → p (get_or xs k d) ≡ false)
+    → ((k : ℕ) (d : X) → start ≤ k → k < end → k < length xs → p (get_or xs k d) ≡ true)
+    → ((k : ℕ) (d : X) → end ≤ k → k < length xs → p (get_or xs k d) ≡ false)
+    → take (end - start) (drop start xs) ≡ filter p xs
 filter-middle p xs start end order lower passes higher =
     let rest = drop start xs in
     let front : take (end - start) rest ≡ filter p rest =
     filter-front p rest (end - start)
-    (λ k d inside within. let whole : start + k < length xs = omega (arith, length-drop start xs) in rw (get_or-drop start xs k d)
-    (passes (start + k) d (omega arith) (omega arith) whole))
-    (λ k d outside within. let whole : start + k < length xs = omega (arith, length-drop start xs) in rw (get_or-drop start xs k d)
-    (higher (start + k) d (omega arith) whole))
+    (λ k d inside within. let whole : start + k < length xs = omega (arith, length-drop start xs)
+    in rw (get_or-drop start xs k d) (passes (start + k) d (omega arith) (omega arith) whole))
+    (λ k d outside within. let whole : start + k < length xs = omega (arith, length-drop start xs)
+    in rw (get_or-drop start xs k d) (higher (start + k) d (omega arith) whole))
     in
     front
     ∙ sym (ap (filter p) (sym (take-append-drop start xs)) ∙ filter-append p (take start xs) rest

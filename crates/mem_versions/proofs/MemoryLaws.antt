@@ -50,11 +50,11 @@ pub get_or-memory_at : (clock place : ℕ) (writes : List Write) (words : List �
     get_or (memory_at clock words writes) place 0 ≡ word_before place clock writes (get_or words place 0)
 get_or-memory_at clock place [] words within = refl
 get_or-memory_at clock place (w ∷ ws) words within =
-    one-change (nat_lt w.clock clock) (w.place == place) w place clock (writes_below clock ws) ws words within refl (λ now inside. get_or-memory_at
-    clock place ws now inside)
+    one-change (nat_lt w.clock clock) (w.place == place) w place clock (writes_below clock ws) ws words within refl
+    (λ now inside. get_or-memory_at clock place ws now inside)
 
-pub word_before-append : (place clock : ℕ) (xs ys : List Write) (word : ℕ) → word_before place clock (xs ++ ys) word ≡ word_before place clock ys
-    (word_before place clock xs word)
+pub word_before-append : (place clock : ℕ) (xs ys : List Write) (word : ℕ)
+    → word_before place clock (xs ++ ys) word ≡ word_before place clock ys (word_before place clock xs word)
 word_before-append place clock [] ys word = refl
 word_before-append place clock (w ∷ ws) ys word = word_before-append place clock ws ys (cond ((w.place == place) && nat_lt w.clock clock) w.word word)
 
@@ -84,8 +84,8 @@ and-second true b both = both
 and-second false b both = cc
 
 -- where the writes to each place are those below a clock, so is the memory at each clock up to it
-pub memory_at-same : (now clock : ℕ) (kept writes : List Write) (words : List ℕ) → clock ≤ now → ((place : ℕ) → writes_to place kept
-    ≡ writes_to place (writes_below now writes)) →
+pub memory_at-same : (now clock : ℕ) (kept writes : List Write) (words : List ℕ) → clock ≤ now
+    → ((place : ℕ) → writes_to place kept ≡ writes_to place (writes_below now writes)) →
     memory_at clock words kept ≡ memory_at clock words writes
 memory_at-same now clock kept writes words early same =
     same_number_lists (memory_at clock words kept) (memory_at clock words writes)
@@ -127,8 +127,8 @@ IsSound-write base words after writes grown newest w sound later inside made mor
       stamped =
           IsNonDecreasingBy-push (λ w. w.clock) writes w sound.stamped
           (λ d some. let last : (get_or writes (length writes - 1) d).clock ≤ newest = sound.until (length writes - 1) d (omega arith) in omega arith);
-      until = All-push (λ v. v.clock ≤ w.clock) writes w (All-weaker (λ v. v.clock ≤ newest) (λ v. v.clock ≤ w.clock) (λ v old. omega arith) writes
-          sound.until) (omega arith);
+      until = All-push (λ v. v.clock ≤ w.clock) writes w
+          (All-weaker (λ v. v.clock ≤ newest) (λ v. v.clock ≤ w.clock) (λ v old. omega arith) writes sound.until) (omega arith);
     })
 
 -- after a cut behind so many writes
@@ -158,6 +158,6 @@ IsViewOf-made chip now view from to base writes count =
       base = base;
       writes = writes;
       count = count;
-      memory = λ clock early. ap (λ (words : List ℕ). memory_at clock words view.writes) base ∙ memory_at-same now clock view.writes chip.writes
-          chip.base early writes;
+      memory = λ clock early. ap (λ (words : List ℕ). memory_at clock words view.writes) base
+          ∙ memory_at-same now clock view.writes chip.writes chip.base early writes;
     }

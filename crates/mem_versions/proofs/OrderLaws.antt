@@ -21,8 +21,8 @@ Precedes v w = (v.place ≤ w.place) × (v.place ≡ w.place → v.clock ≤ w.c
 Precedes-trans : (u v w : Write) → Precedes u v → Precedes v w → Precedes u w
 Precedes-trans u v w first second = (
   omega arith,
-  λ same. let one : u.place ≡ v.place = omega arith in let two : v.place ≡ w.place = omega arith
-      in let a : u.clock ≤ v.clock = first.1 one in let b : v.clock ≤ w.clock = second.1 two in omega arith,
+  λ same. let one : u.place ≡ v.place = omega arith in let two : v.place ≡ w.place = omega arith in
+      let a : u.clock ≤ v.clock = first.1 one in let b : v.clock ≤ w.clock = second.1 two in omega arith,
 )
 
 far : (writes : List Write) → ((k : ℕ) (d : Write) → k + 1 < length writes → Precedes (get_or writes k d) (get_or writes (k + 1) d)) →
@@ -56,8 +56,8 @@ IsInOrder-sorted writes list rising sorted stable i j d order within =
     i (j - i) j d (omega arith) within
 
 -- it keeps the writes to each place in their order
-pub writes_to-sorted : (writes list : List Write) → IsStableByKey (λ (w : Write). w.place) nat_cmp writes list → (place : ℕ) → writes_to place list
-    ≡ writes_to place writes
+pub writes_to-sorted : (writes list : List Write) → IsStableByKey (λ (w : Write). w.place) nat_cmp writes list → (place : ℕ)
+    → writes_to place list ≡ writes_to place writes
 writes_to-sorted writes list stable place =
     let x : Write = record { clock = 0; place = place; word = 0 } in
     let lt : Write → Write → Bool = λ v w. is_lt (nat_cmp v.place w.place) in
@@ -72,10 +72,10 @@ pub IsInOrder-part : (writes : List Write) (start count : ℕ) → IsInOrder wri
 IsInOrder-part writes start count order i j d le within =
     let inside : j < count = omega (arith, length-take count (drop start writes)) in
     let whole : start + j < length writes = omega (arith, length-take count (drop start writes), length-drop start writes) in
-    let at_i : get_or (take count (drop start writes)) i d ≡ get_or writes (start + i) d = get_or-take count (drop start writes) i d (omega arith)
-    ∙ get_or-drop start writes i d in
-    let at_j : get_or (take count (drop start writes)) j d ≡ get_or writes (start + j) d = get_or-take count (drop start writes) j d inside
-    ∙ get_or-drop start writes j d in
+    let at_i : get_or (take count (drop start writes)) i d ≡ get_or writes (start + i) d =
+    get_or-take count (drop start writes) i d (omega arith) ∙ get_or-drop start writes i d in
+    let at_j : get_or (take count (drop start writes)) j d ≡ get_or writes (start + j) d =
+    get_or-take count (drop start writes) j d inside ∙ get_or-drop start writes j d in
     let P : Write → Type 0 = λ v. Precedes v (get_or (take count (drop start writes)) j d) in
     let Q : Write → Type 0 = λ w. Precedes (get_or writes (start + i) d) w in
     subst P (sym at_i) (subst Q (sym at_j) (order (start + i) (start + j) d (omega arith) whole))
@@ -130,5 +130,6 @@ same-page place clock w counts = from_place (first (w.place == place) (nat_lt w.
     first false b both = both
 
     from_place : (w.place == place) ≡ true → (w.place / 256 == place / 256) ≡ true
-    from_place here = let is : w.place ≡ place = grind (arith, nat_tests) in let page : w.place / 256 ≡ place / 256 = ap (λ k. k / 256) is
-        in grind (arith, nat_tests)
+    from_place here =
+        let is : w.place ≡ place = grind (arith, nat_tests) in
+        let page : w.place / 256 ≡ place / 256 = ap (λ k. k / 256) is in grind (arith, nat_tests)

@@ -46,8 +46,8 @@ joined-set f (p ∷ ps) (suc n) place j w q d each within small at made =
     ∙ sym (set-append_right (f p) (flat_map f ps) 256 place w here (omega arith))
 
 -- a page that has the words of the one before it changes nothing
-pub joined-same : {X : Type 0} (f : X → List ℕ) (ps : List X) (n : ℕ) (q d : X) → n < length ps → f q ≡ f (get_or ps n d) → flat_map f (set ps n q)
-    ≡ flat_map f ps
+pub joined-same : {X : Type 0} (f : X → List ℕ) (ps : List X) (n : ℕ) (q d : X) → n < length ps → f q ≡ f (get_or ps n d)
+    → flat_map f (set ps n q) ≡ flat_map f ps
 joined-same f [] n q d within same = absurd (omega arith)
 joined-same f (p ∷ ps) zero q d within same = ap (λ (page : List ℕ). page ++ flat_map f ps) same
 joined-same f (p ∷ ps) (suc n) q d within same = ap (λ (rest : List ℕ). f p ++ rest) (joined-same f ps n q d (omega arith) same)

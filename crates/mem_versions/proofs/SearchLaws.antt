@@ -33,13 +33,13 @@ word_before-late place clock (w ∷ ws) word late =
     ∙ word_before-late place clock ws word (All-tail (IsLate place clock) w ws late)
 
 -- the last of some writes counts
-pub word_before-last : (place clock : ℕ) (writes : List Write) (word i : ℕ) (d : Write) → i < length writes → (get_or writes i d).place ≡ place
-    → (get_or writes i d).clock < clock →
+pub word_before-last : (place clock : ℕ) (writes : List Write) (word i : ℕ) (d : Write) → i < length writes
+    → (get_or writes i d).place ≡ place → (get_or writes i d).clock < clock →
     (get_or writes i d).word ≡ word_before place clock (take (i + 1) writes) word
 word_before-last place clock writes word i d within here early =
     let w = get_or writes i d in
-    let counts : ((w.place == place) && nat_lt w.clock clock) ≡ true = both (w.place == place) (nat_lt w.clock clock) (grind (arith, nat_tests))
-    (grind (arith, nat_tests)) in
+    let counts : ((w.place == place) && nat_lt w.clock clock) ≡ true =
+    both (w.place == place) (nat_lt w.clock clock) (grind (arith, nat_tests)) (grind (arith, nat_tests)) in
     sym (ap (λ (ws : List Write). word_before place clock ws word) (take_more writes i d within)
     ∙ word_before-append place clock (take i writes) (w ∷ []) word
     ∙ ap (λ (b : Bool). cond b w.word (word_before place clock (take i writes) word)) counts)
@@ -49,12 +49,12 @@ word_before-last place clock writes word i d within here early =
     both false b one two = one
 
 -- the first writes, of which the last has a lower place
-pub word_before-lower : (place clock : ℕ) (writes : List Write) (word found low i : ℕ) (d : Write) → IsInOrder writes → low ≤ i → i < length writes
-    → (get_or writes i d).place < place →
+pub word_before-lower : (place clock : ℕ) (writes : List Write) (word found low i : ℕ) (d : Write)
+    → IsInOrder writes → low ≤ i → i < length writes → (get_or writes i d).place < place →
     found ≡ word_before place clock (take low writes) word → found ≡ word_before place clock (take (i + 1) writes) word
 word_before-lower place clock writes word found low i d order le within lower before =
-    before ∙ word_before-late place clock (take low writes) word (late low (omega arith)) ∙ sym (word_before-late place clock (take (i + 1) writes)
-    word (late (i + 1) (omega arith)))
+    before ∙ word_before-late place clock (take low writes) word (late low (omega arith))
+    ∙ sym (word_before-late place clock (take (i + 1) writes) word (late (i + 1) (omega arith)))
   where
     late : (n : ℕ) → n ≤ i + 1 → All (IsLate place clock) (take n writes)
     late n small =
@@ -66,8 +66,8 @@ word_before-lower place clock writes word found low i d order le within lower be
         absurd (omega arith))
 
 -- the writes from one on that comes late
-pub late-from : (place clock : ℕ) (writes : List Write) (i : ℕ) (d : Write) → IsInOrder writes → i < length writes → place ≤ (get_or writes i d).place
-    → IsLate place clock (get_or writes i d) →
+pub late-from : (place clock : ℕ) (writes : List Write) (i : ℕ) (d : Write) → IsInOrder writes → i < length writes
+    → place ≤ (get_or writes i d).place → IsLate place clock (get_or writes i d) →
     (k : ℕ) (e : Write) → i ≤ k → k < length writes → IsLate place clock (get_or writes k e)
 late-from place clock writes i d order within higher late k e from inside here =
     let same : get_or writes i e ≡ get_or writes i d = get_or_default writes i e d within in
@@ -85,8 +85,8 @@ pub word_before-end : (place clock : ℕ) (writes : List Write) (word found low 
     ((k : ℕ) (d : Write) → high ≤ k → k < length writes → IsLate place clock (get_or writes k d)) → found ≡ word_before place clock writes word
 word_before-end place clock writes word found low high over before late =
     before
-    ∙ sym (word_before-late place clock (drop low writes) (word_before place clock (take low writes) word) (All-back (IsLate place clock) writes low
-    (λ k d from inside. late k d (omega arith) inside)))
+    ∙ sym (word_before-late place clock (drop low writes) (word_before place clock (take low writes) word)
+    (All-back (IsLate place clock) writes low (λ k d from inside. late k d (omega arith) inside)))
     ∙ sym (word_before-append place clock (take low writes) (drop low writes) word)
     ∙ ap (λ (ws : List Write). word_before place clock ws word) (take-append-drop low writes)
 

@@ -4,8 +4,8 @@ use Rattle.std.proofs.lemmas.List.{take_all, append-nil, length-replicate}
 use Rattle.ocs_base.specs.Memory.{words, memory_of}
 
 -- the words of a text of two bytes and more: its first word, and those of the rest
-pub words-more : (before rest : List ℕ) → 2 ≤ length rest → (before ++ (256 * get_or rest 0 0 + get_or rest 1 0) ∷ []) ++ words
-    (take (length rest - 2) (drop 2 rest)) ≡ before ++ words rest
+pub words-more : (before rest : List ℕ) → 2 ≤ length rest
+    → (before ++ (256 * get_or rest 0 0 + get_or rest 1 0) ∷ []) ++ words (take (length rest - 2) (drop 2 rest)) ≡ before ++ words rest
 unfolding words
 words-more before [] two = absurd (omega arith)
 words-more before (a ∷ []) two = absurd (omega arith)
@@ -40,6 +40,5 @@ length-memory_of image fits =
       arith,
       length-append (words image) (replicate (262144 - length image / 2) 0),
       length-words image,
-      length-replicate {A = ℕ}
-          (262144 - length image / 2) 0,
+      length-replicate {A = ℕ} (262144 - length image / 2) 0,
     )

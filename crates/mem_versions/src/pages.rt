@@ -34,7 +34,8 @@ impl Model for Pages {
 
     ghost view = { λ p. flat_map arc_value p.list.items };
 
-    ghost invariant = { λ p. (length p.list.items ≡ 1024) × All (λ page. length (arc_value page) ≡ 256) p.list.items };
+    ghost invariant = { λ p. (length p.list.items ≡ 1024)
+        × All (λ page. length (arc_value page) ≡ 256) p.list.items };
 }
 
 impl Pages {

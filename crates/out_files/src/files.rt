@@ -43,7 +43,11 @@ impl Model for OutFiles {
     ghost Value = { OutFilesValue };
 
     ghost view = { λ f. record {
-      names = record { frames = string_bytes f.frames_name; trace = string_bytes f.trace_name; memory = string_bytes f.memory_name };
+      names = record {
+        frames = string_bytes f.frames_name;
+        trace = string_bytes f.trace_name;
+        memory = string_bytes f.memory_name;
+      };
       frames = f.frames.items;
       trace = f.trace.items;
       given = f.given;
@@ -51,7 +55,11 @@ impl Model for OutFiles {
 
     ghost invariant = { λ f. record {
       within : f.given < frame_bytes;
-      different : AreDifferent (record { frames = string_bytes f.frames_name; trace = string_bytes f.trace_name; memory = string_bytes f.memory_name });
+      different : AreDifferent (record {
+        frames = string_bytes f.frames_name;
+        trace = string_bytes f.trace_name;
+        memory = string_bytes f.memory_name;
+      });
     } };
 }
 
@@ -66,7 +74,11 @@ impl OutFiles {
         requires frames_memory { string_bytes frames ≢ string_bytes memory }
         requires trace_memory { string_bytes trace ≢ string_bytes memory }
         ensures { result ≡ record {
-          names = record { frames = string_bytes frames; trace = string_bytes trace; memory = string_bytes memory };
+          names = record {
+            frames = string_bytes frames;
+            trace = string_bytes trace;
+            memory = string_bytes memory;
+          };
           frames = [];
           trace = [];
           given = 0;

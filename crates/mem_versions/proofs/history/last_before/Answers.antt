@@ -23,8 +23,8 @@ loop-low-preserved-then-write-clock g c =
           halves-next c.args.steps.now c.loop-low.steps c.tick.new.self (high - low) (high - (middle + 1)) (length writes)
           c.loop-low.invariant.counted c.tick.ensures c.loop-low.invariant.halves
           (omega arith);
-      cost = cost-next c.args.steps.now c.loop-low.steps c.tick.new.self (high - low) (length writes) c.loop-low.invariant.counted c.tick.ensures
-          c.loop-low.invariant.halves (omega arith);
+      cost = cost-next c.args.steps.now c.loop-low.steps c.tick.new.self (high - low) (length writes)
+          c.loop-low.invariant.counted c.tick.ensures c.loop-low.invariant.halves (omega arith);
     }
 
 pub loop-low-preserved-then-write-place-2 : goal.loop-low-preserved-then-write-place-2
@@ -47,8 +47,8 @@ loop-low-preserved-then-write-place-2 g c =
           halves-next c.args.steps.now c.loop-low.steps c.tick.new.self (high - low) (high - (middle + 1)) (length writes)
           c.loop-low.invariant.counted c.tick.ensures c.loop-low.invariant.halves
           (omega arith);
-      cost = cost-next c.args.steps.now c.loop-low.steps c.tick.new.self (high - low) (length writes) c.loop-low.invariant.counted c.tick.ensures
-          c.loop-low.invariant.halves (omega arith);
+      cost = cost-next c.args.steps.now c.loop-low.steps c.tick.new.self (high - low) (length writes)
+          c.loop-low.invariant.counted c.tick.ensures c.loop-low.invariant.halves (omega arith);
     }
 
 pub loop-low-preserved : goal.loop-low-preserved
@@ -72,10 +72,10 @@ loop-low-preserved g c =
       higher = late-from c.args.place c.args.clock writes middle d c.requires within c.if-write-place-2.false late;
       counted = omega arith;
       halves =
-          halves-next c.args.steps.now c.loop-low.steps c.tick.new.self (high - low) (middle - low) (length writes) c.loop-low.invariant.counted
-          c.tick.ensures c.loop-low.invariant.halves (omega arith);
-      cost = cost-next c.args.steps.now c.loop-low.steps c.tick.new.self (high - low) (length writes) c.loop-low.invariant.counted c.tick.ensures
-          c.loop-low.invariant.halves (omega arith);
+          halves-next c.args.steps.now c.loop-low.steps c.tick.new.self (high - low) (middle - low) (length writes)
+          c.loop-low.invariant.counted c.tick.ensures c.loop-low.invariant.halves (omega arith);
+      cost = cost-next c.args.steps.now c.loop-low.steps c.tick.new.self (high - low) (length writes)
+          c.loop-low.invariant.counted c.tick.ensures c.loop-low.invariant.halves (omega arith);
     }
 
 pub returns-clause-word : goal.returns-clause-word

@@ -11,6 +11,5 @@ returns-clause-few c =
       arith,
       c.in_ok-view.ensures.view.count,
       length-filter (λ (w : Write). nat_lt w.clock 200) writes,
-      count_by-le-length
-          (λ (w : Write). nat_lt w.clock 200) writes,
+      count_by-le-length (λ (w : Write). nat_lt w.clock 200) writes,
     )

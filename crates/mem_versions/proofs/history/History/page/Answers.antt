@@ -12,16 +12,16 @@ part-requires-clause-order c =
     let starts = c.self.inside.starts.items in
     let n = c.args.number in
     let begin : IsStart writes n c.index.result.now = start-at writes starts n c.index.result.now c.self.invariant.1 (omega arith) c.index.ensures in
-    let stop : IsStart writes (n + 1) c.index-2.result.now = start-at writes starts (n + 1) c.index-2.result.now c.self.invariant.1 (omega arith)
-    c.index-2.ensures in
+    let stop : IsStart writes (n + 1) c.index-2.result.now =
+    start-at writes starts (n + 1) c.index-2.result.now c.self.invariant.1 (omega arith) c.index-2.ensures in
     starts-rise writes n c.index.result.now c.index-2.result.now begin stop
 
 pub part-requires-clause-within : goal.part-requires-clause-within
 part-requires-clause-within c =
     let writes = c.self.inside.writes.items in
     let n = c.args.number in
-    let stop : IsStart writes (n + 1) c.index-2.result.now = start-at writes c.self.inside.starts.items (n + 1) c.index-2.result.now
-    c.self.invariant.1 (omega arith) c.index-2.ensures in
+    let stop : IsStart writes (n + 1) c.index-2.result.now =
+    start-at writes c.self.inside.starts.items (n + 1) c.index-2.result.now c.self.invariant.1 (omega arith) c.index-2.ensures in
     rw c.deref.ensures.value stop.within
 
 pub returns-clause-writes : goal.returns-clause-writes
@@ -41,7 +41,7 @@ returns-clause-order c =
     let writes = c.self.inside.writes.items in
     let a = c.index.result.now in
     let b = c.index-2.result.now in
-    let is : take (b - a) (drop a writes) ≡ c.part.result.now = sym (c.part.ensures ∙ ap (λ (ws : List Write). take (b - a) (drop a ws))
-    c.deref.ensures.value) in
+    let is : take (b - a) (drop a writes) ≡ c.part.result.now =
+    sym (c.part.ensures ∙ ap (λ (ws : List Write). take (b - a) (drop a ws)) c.deref.ensures.value) in
     let P : List Write → Type 0 = λ ws. IsInOrder ws in
     subst P is (IsInOrder-part writes a (b - a) c.self.invariant.0)

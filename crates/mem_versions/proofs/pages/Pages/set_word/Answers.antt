@@ -26,6 +26,6 @@ returns-clause-refused c =
     let pages = c.self.inside.list.items in
     let within : place / 256 < length pages = omega arith in
     on_err_weaker c.write_word.result
-    (λ same. joined-same arc_value pages (place / 256) c.write_word.new.page c.index_mut.result.now within (same
-    ∙ ap arc_value c.index_mut.ensures.value) ∙ c.self.view_is)
+    (λ same. joined-same arc_value pages (place / 256) c.write_word.new.page c.index_mut.result.now within
+    (same ∙ ap arc_value c.index_mut.ensures.value) ∙ c.self.view_is)
     c.write_word.ensures.refused
