@@ -73,6 +73,7 @@ impl Fetcher {
     pub fn step(&mut self, beam: &Beam, regs: &mut Regs) -> Option<PlaneAsk>
         ensures units { (units : List ℕ) → self.old ≡ last_unit units →
             self.new ≡ last_unit (units_at beam.now regs.old units) }
+        ensures begun { IsLastUnit self.new }
         ensures ask { result ≡ plane_ask beam.now.h regs.old self.new }
         ensures moved { regs.new ≡ move_planes beam.now.h self.new regs.old }
     {

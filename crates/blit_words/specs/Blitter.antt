@@ -1,38 +1,22 @@
 -- A blit of either kind: from the registers that start it to the registers that it leaves.
-use Rattle.std.specs.Prelude.{ℕ, Bool, if◌then◌else◌, List}
-use Rattle.std.specs.Int.{w16, cast_signed}
+use Rattle.std.specs.Prelude.{ℕ, Bool, true, false, if◌then◌else◌, List}
 use Rattle.blit_words.specs.declared.blit.BlitRegs.{BlitRegs}
 use Rattle.blit_words.specs.declared.blit.SlotAsk.{SlotAsk}
-use Rattle.serial_model.specs.Registers.{kept_word, with_word, pointer_at, with_pointer}
+use Rattle.blit_words.specs.declared.blit.SlotAsk.TheVariants.{Read, Write, Rest, Done}
 use Rattle.blit_words.specs.Blit.{is_line}
 use Rattle.blit_words.specs.AreaBlit.{area_ask, area_zero, area_end}
 use Rattle.blit_words.specs.LineBlit.{line_ask, line_zero, line_end}
 
--- the registers with which a blit starts, from the kept words
-unfoldable pub blit_start : List ℕ → BlitRegs
-blit_start registers = record {
-  con0 = kept_word registers 0x40;
-  con1 = kept_word registers 0x42;
-  afwm = kept_word registers 0x44;
-  alwm = kept_word registers 0x46;
-  size = kept_word registers 0x58;
-  adat = kept_word registers 0x74;
-  bdat = kept_word registers 0x72;
-  cdat = kept_word registers 0x70;
-  amod = cast_signed w16 (kept_word registers 0x64);
-  bmod = cast_signed w16 (kept_word registers 0x62);
-  cmod = cast_signed w16 (kept_word registers 0x60);
-  dmod = cast_signed w16 (kept_word registers 0x66);
-  apt = pointer_at registers 0x50;
-  bpt = pointer_at registers 0x4c;
-  cpt = pointer_at registers 0x48;
-  dpt = pointer_at registers 0x54;
-  aptl = kept_word registers 0x52;
-}
-
 -- the ask of a blit after these answers; LINE, bit 0 of BLTCON1, makes it a line
 unfoldable pub blit_ask : BlitRegs → List ℕ → SlotAsk
 blit_ask s ws = if is_line s then line_ask s ws else area_ask s ws
+
+-- a blit that asks for no slot any more has ended
+abbrev pub is_done : SlotAsk → Bool
+is_done (Read at) = false
+is_done (Write at word) = false
+is_done Rest = false
+is_done Done = true
 
 -- BZERO, which is 1 from the start on
 unfoldable pub blit_zero : BlitRegs → List ℕ → Bool
@@ -41,17 +25,3 @@ blit_zero s ws = if is_line s then line_zero s ws else area_zero s ws
 -- the registers that it leaves when all its asks have answers
 unfoldable pub blit_end : BlitRegs → List ℕ → BlitRegs
 blit_end s ws = if is_line s then line_end s ws else area_end s ws
-
--- the kept words with these pointers and data registers; the other registers are as they were
-abbrev pub with_blit_pointers : BlitRegs → List ℕ → List ℕ
-with_blit_pointers e registers =
-    with_word
-    (with_pointer (with_pointer (with_pointer (with_pointer registers 0x48 e.cpt.value) 0x4c e.bpt.value) 0x50 e.apt.value) 0x54 e.dpt.value)
-    0x52
-    e.aptl
-
-abbrev pub with_blit_data : BlitRegs → List ℕ → List ℕ
-with_blit_data e registers = with_word (with_word (with_word registers 0x70 e.cdat) 0x72 e.bdat) 0x74 e.adat
-
-unfoldable pub with_blit : BlitRegs → List ℕ → List ℕ
-with_blit e registers = with_blit_data e (with_blit_pointers e registers)

@@ -3,7 +3,7 @@
 
 ghost use Rattle.std.specs.Prelude.{◌≡◌, ◌≢◌, ℕ, List, [], ◌∷◌, ◌++◌};
 ghost use Rattle.blit_words.specs.declared.blit.BlitRegs.{BlitRegs};
-ghost use Rattle.blit_words.specs.Blitter.{blit_ask, blit_zero, blit_end};
+ghost use Rattle.blit_words.specs.Blitter.{blit_ask, is_done as done_of, blit_zero, blit_end};
 
 use blit_words::is_set;
 pub use blit_words::{BlitRegs, SlotAsk};
@@ -40,6 +40,14 @@ impl Blit {
             Blit::Area(blit) => blit.next(),
             Blit::Line(blit) => blit.next(),
         }
+    }
+
+    /// Whether the blit has ended: no ask is left.
+    pub fn is_done(&self) -> bool
+        ensures shown { result ≡ done_of (slot_shown self.now) }
+        ensures ask { ForWhatItStands self.now (λ s ws. result ≡ done_of (blit_ask s ws)) }
+    {
+        matches!(self.next(), SlotAsk::Done)
     }
 
     /// Carries out the ask that `next` tells, which is not Done: the slot was got. The word counts only for a read.

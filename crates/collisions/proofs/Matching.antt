@@ -52,8 +52,9 @@ planes_of_one con b =
     let h : bit_at (con / 64) 4 ≡ bit_at con 10 = omega arith in
     rw (low, any-at con b 0, third, fifth, shifted con b 0 0 6 a refl, shifted con b 2 2 8 e refl, shifted con b 4 4 10 h refl)
     (three_planes (bit_at con 6) (bit_at con 0) (bit_at b 0) (bit_at con 8) (bit_at con 2) (bit_at b 2) (bit_at con 10) (bit_at con 4) (bit_at b 4)
-    (bit_at-lt con 6) (bit_at-lt con 0) (bit_at-lt b 0) (bit_at-lt con 8) (bit_at-lt con 2) (bit_at-lt b 2) (bit_at-lt con 10) (bit_at-lt con 4)
-    (bit_at-lt b 4))
+    (bit_at-lt con 6) (bit_at-lt con 0) (bit_at-lt b 0)
+    (bit_at-lt con 8) (bit_at-lt con 2) (bit_at-lt b 2)
+    (bit_at-lt con 10) (bit_at-lt con 4) (bit_at-lt b 4))
 
 -- a number times two is none where it is none
 twice_is_none : (n : ℕ) → nat_eq (n * 2) 0 ≡ nat_eq n 0
@@ -70,19 +71,20 @@ planes_of_two con b =
     let h : bit_at (con / 64) 5 ≡ bit_at con 11 = omega arith in
     low ∙ (rw (any-at con b 1, third, fifth, shifted con b 1 1 7 a refl, shifted con b 3 3 9 e refl, shifted con b 5 5 11 h refl)
     (three_planes (bit_at con 7) (bit_at con 1) (bit_at b 1) (bit_at con 9) (bit_at con 3) (bit_at b 3) (bit_at con 11) (bit_at con 5) (bit_at b 5)
-    (bit_at-lt con 7) (bit_at-lt con 1) (bit_at-lt b 1) (bit_at-lt con 9) (bit_at-lt con 3) (bit_at-lt b 3) (bit_at-lt con 11) (bit_at-lt con 5)
-    (bit_at-lt b 5)))
+    (bit_at-lt con 7) (bit_at-lt con 1) (bit_at-lt b 1)
+    (bit_at-lt con 9) (bit_at-lt con 3) (bit_at-lt b 3)
+    (bit_at-lt con 11) (bit_at-lt con 5) (bit_at-lt b 5)))
 
 pub one_matches : (con b : ℕ) →
-    nat_eq (bit_and (bit_or (bit_or (bit_and (con / 64) (bit_xor con b)) (bit_and (con / 64) (bit_xor con b) / 4)) (bit_and (con / 64) (bit_xor con b)
-    / 16)) 1) 0
+    nat_eq (bit_and (bit_or (bit_or (bit_and (con / 64) (bit_xor con b)) (bit_and (con / 64) (bit_xor con b) / 4))
+    (bit_and (con / 64) (bit_xor con b) / 16)) 1) 0
     ≡ playfield_matches con b 1
 unfolding any_against against
 one_matches con b = planes_of_one con b
 
 pub two_matches : (con b : ℕ) →
-    nat_eq (bit_and (bit_or (bit_or (bit_and (con / 64) (bit_xor con b)) (bit_and (con / 64) (bit_xor con b) / 4)) (bit_and (con / 64) (bit_xor con b)
-    / 16)) 2) 0
+    nat_eq (bit_and (bit_or (bit_or (bit_and (con / 64) (bit_xor con b)) (bit_and (con / 64) (bit_xor con b) / 4))
+    (bit_and (con / 64) (bit_xor con b) / 16)) 2) 0
     ≡ playfield_matches con b 2
 unfolding any_against against
 two_matches con b = planes_of_two con b

@@ -24,8 +24,24 @@ pub fn clx(con: u16, bits: u8, values: &[u8; 8]) -> u16
         + 512 * among_pairs(a, b, c, d)
 }
 
-/// Whether each of the two playfields matches.
-fn playfields(con: u16, bits: u8) -> (bool, bool)
+/// Whether the playfields of a pixel inside the display window collide with one another: both
+/// match. That is bit 0 of its collision bits, and the only one that can be set where no sprite
+/// shows (Hardware Reference Manual, collision detection).
+///
+/// `con` is CLXCON, and `bits` has plane p as its bit p - 1.
+pub fn do_playfields_meet(con: u16, bits: u8) -> bool
+    ensures { result ≡ (playfield_matches con bits 1 && playfield_matches con bits 2) }
+{
+    let (one, two) = playfields(con, bits);
+    one & two
+}
+
+/// Whether each of the two playfields of a pixel matches, playfield 1 of planes 1, 3 and 5 and
+/// playfield 2 of planes 2, 4 and 6: its planes that CLXCON enables show the wanted bits (Hardware
+/// Reference Manual, collision detection).
+///
+/// `con` is CLXCON, and `bits` has plane p as its bit p - 1.
+pub fn playfields(con: u16, bits: u8) -> (bool, bool)
     ensures one { result.0 ≡ playfield_matches con bits 1 }
     ensures two { result.1 ≡ playfield_matches con bits 2 }
 {

@@ -3,7 +3,6 @@ pub mod ChipsLaws
 pub mod EndLaws
 pub mod InputLaws
 pub mod KeptLaws
-pub mod PictureLaws
 pub mod RunLaws
 pub mod StepLaws
 pub mod TextLaws
@@ -12,3 +11,5 @@ pub mod TopLaws
 pub mod TraceLaws
 pub mod GrowthLaws
 pub mod PrefixLaws
+pub mod WriteLaws
+pub mod BlitLaws

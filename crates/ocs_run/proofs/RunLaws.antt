@@ -1,5 +1,6 @@
 -- The run over plain values: its start, its turns, its end and its stops.
-use Rattle.std.proofs.Common.{◌≡◌, ℕ, suc, ◌+◌, ◌<◌, ◌≤◌, true, false, List, [], ◌++◌, Option, Result, Ok, Err, OnOk, IfErr, IsErrAnd, arith, refl, ap, ◌∙◌, sym, subst, append-nil, add-one, inl, inr, ◌∷◌, lit<}
+use Rattle.std.proofs.Common.{◌≡◌, ℕ, suc, ◌+◌, ◌<◌, ◌≤◌, false, List, [], ◌++◌, Option, Result, Ok, Err, OnOk, OnErr, IfErr, IsErrAnd, arith, refl, ap, ◌∙◌, sym, subst, add-one, inl, inr, ◌∷◌, lit<}
+use Rattle.std.proofs.lemmas.Bool.{false≢true}
 use Rattle.std.proofs.lemmas.Bool.{cases_eq}
 use Rattle.ocs_base.specs.Limits.{IsRunnable, AreFrom}
 use Rattle.ocs_base.specs.Script.{ScriptValue}
@@ -21,19 +22,20 @@ use Rattle.serial_model.specs.Tick.{start_clock, count_timers, show_pixels, made
 use Rattle.serial_model.proofs.EndLaws.{frames_are_whole}
 use Rattle.ocs_run.specs.Prefix.{LeavesPrefixes}
 use Rattle.ocs_run.proofs.PrefixLaws.{LeavesPrefixes-parts, LeavesPrefixes-before, LeavesPrefixes-end, LeavesPrefixes-all}
-use Rattle.ocs_run.specs.Picture.{IsPictureOf}
-use Rattle.ocs_run.specs.Run.{HasFiles, HasParts, HasEndParts, StopsUnbuilt, state_before_access, HasCreated, LeavesAfter}
+use Rattle.ocs_run.specs.Chips.{IsChipsOf}
+use Rattle.painter.specs.Painter.{IsPainterOf}
+use Rattle.ocs_run.specs.Run.{HasFiles, HasParts, HasEndParts, state_before_access, HasCreated, LeavesAfter}
 use Rattle.ocs_run.specs.Fault.{of_tick, of_write}
 use Rattle.ocs_run.specs.declared.fault.RunFault.{RunFault}
 use Rattle.ocs_run.specs.declared.fault.RunFault.TheVariants.{Write, OutOfMemory as NoRoomToRun, NotBuilt}
-use Rattle.out_files.specs.Answers.{CreateAnswers, with_empty, in_order}
+use Rattle.out_files.specs.Answers.{CreateAnswers}
 use Rattle.ocs_run.specs.declared.foreground.TickFault.{TickFault}
 use Rattle.ocs_run.specs.declared.foreground.TickFault.TheVariants.{OutOfMemory as NoRoomToTick, NotBuilt as TickNotBuilt}
 use Rattle.out_files.specs.declared.fault.OutFile.{OutFile}
 use Rattle.out_files.specs.declared.fault.WriteFault.{WriteFault}
 use Rattle.out_files.specs.declared.fault.WriteFault.TheVariants.{Failed, OutOfMemory as NoRoomToWrite}
-use Rattle.ocs_run.specs.Steps.{Written, HasText, Stands, Makes, HasNext, Meets, StopsAt}
-use Rattle.ocs_run.specs.Underway.{IsReset, IsUnderway, IsInStep, Flushes, Runs, StandsBefore, Stopped, IsStoppedBy, LeavesRun, StopsFinish, Finishes, IsFresh}
+use Rattle.ocs_run.specs.Steps.{Written, HasText, Stands, Makes, KeepsTime, HasNext, Meets, StopsAt}
+use Rattle.ocs_run.specs.Underway.{IsReset, IsUnderway, IsInStep, Flushes, ForgetsWrites, Runs, StandsBefore, Stopped, IsStoppedBy, LeavesRun, StopsFinish, Finishes, IsFresh}
 use Rattle.ocs_run.specs.declared.foreground.Foreground.{Foreground}
 
 -- a tick looks at the events that are due, and at no others
@@ -58,12 +60,55 @@ Flushes-none fore files = record {
   t = refl;
   beam = refl;
   memory = refl;
+  time = λ before. before;
   chips = refl;
   picture = refl;
   clx = refl;
   names = refl;
   files = λ base pixels lines so_far. so_far;
 }
+
+-- what the memory forgets is not looked at
+pub Flushes-forgot : (old mid new : Foreground) (before after : Option Files) → ForgetsWrites old mid → Flushes mid new before after
+    → Flushes old new before after
+unfolding StayTogether
+Flushes-forgot old mid new before after forgot flushes =
+    let has : Flushes (record old { chip = mid.chip }) new before after = subst (λ f. Flushes f new before after) forgot.same flushes in
+    let keeps : KeepsTime old (record old { chip = mid.chip }) = subst (λ f. KeepsTime old f) forgot.same forgot.time in
+    record {
+      t = has.t;
+      beam = has.beam;
+      memory = has.memory ∙ forgot.words;
+      time = λ first. has.time (keeps first);
+      chips = has.chips;
+      picture = has.picture;
+      clx = has.clx;
+      names = has.names;
+      files = has.files;
+    }
+
+-- where nothing was appended each file has the part that it had
+LeavesParts-none : (out : OutFilesValue) (files : Option Files) → LeavesParts out files files []
+unfolding LeavesParts
+LeavesParts-none out files base pixels lines so_far = record {
+  frames = so_far.frames;
+  trace = so_far.trace;
+  bytes = [];
+  frames_rest = out.frames;
+  trace_rest = out.trace;
+  bytes_rest = [];
+  held = so_far.held;
+  frames_part = so_far.pixels_given;
+  trace_part = so_far.lines_given;
+  bytes_part = refl;
+}
+
+pub if_err_parts : {A B : Type 0} (r : Result A B) (out : OutFilesValue) (files : Option Files) → OnErr r (LeavesParts out files files [])
+if_err_parts (Ok v) out files = tt
+if_err_parts (Err f) out files = LeavesParts-none out files
+
+pub ForgetsWrites-out : (old mid : Foreground) → ForgetsWrites old mid → mid.out ≡ old.out
+ForgetsWrites-out old mid forgot = ap (λ (f : Foreground). f.out) forgot.same
 
 -- pending text and files, from what the foreground stands for and back
 together : (fore : Foreground) (written : Written) (s : State) (base files : Option Files) → Stands fore written s
@@ -90,7 +135,7 @@ IsUnderway-start image script base files out fore frames trace given begins is =
         t = refl;
         beam = sym is.beam;
         memory = sym is.memory;
-        chips = sym is.chips;
+        chips = is.chips;
         picture = is.picture;
         clx = sym is.clx;
         text = record {
@@ -134,14 +179,16 @@ IsUnderway-more image script base files left old new so same going makes meets c
           (let o : n ≡ t → ⊥ = other in omega arith)
     ]
 
-pub IsInStep-start : (script : ScriptValue) (fore : Foreground) → IsRunnable script → fore.t ≡ 0 → fore.beam ≡ first_place → IsInStep script script.events fore
-IsInStep-start script fore good count place =
+pub IsInStep-start : (script : ScriptValue) (fore : Foreground) → IsRunnable script → fore.t ≡ 0 → fore.beam ≡ first_place
+    → fore.chip.newest ≡ 0 → IsInStep script script.events fore
+IsInStep-start script fore good count place newest =
     subst (λ b. IsInStep script script.events (record fore { beam = b })) (sym place)
     (subst (λ n. IsInStep script script.events (record fore { t = n; beam = first_place })) (sym count) (record {
       screen = record { line = lit< {m = 0} {n = 313} tt; clock = lit< {m = 0} {n = 227} tt };
       count = omega arith;
       frame = omega (arith, good.least);
       queue = record { frames = script.frames; queue = record { from = all_from script.events; order = good.order; limits = good.limits } };
+      time = omega (arith, newest);
       same = λ b on later. refl;
     }))
   where
@@ -163,6 +210,7 @@ IsInStep-tick script left rest old new step going next = record {
   count = omega (arith, step.count, next.later, next.count);
   frame = omega (arith, next.one);
   queue = next.queue;
+  time = next.time;
   same = λ b on later.
       let old_later : place_of old.beam < place_of b = omega (arith, next.later) in
       step.same b on (omega arith) ∙ next.same b on old_later;
@@ -180,8 +228,8 @@ IsUnderway-flush image script base before after old new flushes so =
       t = so.stands.t ∙ sym flushes.t;
       beam = so.stands.beam ∙ sym flushes.beam;
       memory = so.stands.memory ∙ sym flushes.memory;
-      chips = so.stands.chips ∙ sym flushes.chips;
-      picture = subst (λ p. IsPictureOf p s.picture) (sym flushes.picture) so.stands.picture;
+      chips = subst (λ c. IsChipsOf c s.chips) (sym flushes.chips) so.stands.chips;
+      picture = subst (λ p. IsPainterOf p s.picture) (sym flushes.picture) so.stands.picture;
       clx = so.stands.clx ∙ sym flushes.clx;
       text = record { frames = now.pixels_given; given = now.place; trace = now.lines_given };
     } in
@@ -201,6 +249,7 @@ IsInStep-flush script left before after old new flushes step =
       count = step.count;
       frame = step.frame;
       queue = step.queue;
+      time = subst (λ n. new.chip.newest ≤ n) flushes.t (flushes.time step.time);
       same = step.same;
     }))
 
@@ -255,26 +304,6 @@ StandsBefore-here image script base files left old new step going stops so =
         lines_given = text.trace;
         place = text.given;
       };
-    }
-
--- what was pending there was appended, or a part of it
-pub StopsUnbuilt-flushed : (image : List ℕ) (script : ScriptValue) (base before after : Option Files) (old new : Foreground)
-    → Flushes old new before after → new.out ≡ all_given old.out → StandsBefore image script base before old
-    → StopsUnbuilt image script old.out.names base after
-unfolding StayTogether
-StopsUnbuilt-flushed image script base before after old new flushes empty stands =
-    let s : State = state_before_access image script stands.clocks in
-    let now : AreTogether new.out base after s.shown s.trace = flushes.files base s.shown s.trace stands.text in
-    let frames : now.frames ≡ frames_text s.shown =
-    sym (append-nil now.frames) ∙ ap (λ l. now.frames ++ l) (sym (ap (λ o. o.frames) empty)) ∙ now.pixels_given in
-    let trace : now.trace ≡ trace_text s.trace =
-    sym (append-nil now.trace) ∙ ap (λ l. now.trace ++ l) (sym (ap (λ o. o.trace) empty)) ∙ now.lines_given in
-    record {
-      clocks = stands.clocks;
-      meets = stands.meets;
-      files = now.held ∙ ap (λ ns. three_files ns base now.frames now.trace []) flushes.names
-          ∙ ap (λ l. three_files old.out.names base l now.trace []) frames
-          ∙ ap (λ l. three_files old.out.names base (frames_text s.shown) l []) trace;
     }
 
 pub LeavesPrefixes-refused : (image : List ℕ) (script : ScriptValue) (base before after : Option Files) (fore : Foreground)
@@ -372,9 +401,9 @@ LeavesRun-room script old new before after given is stopped image base so =
 pub LeavesRun-flushed : (script : ScriptValue) (first old new : Foreground) (before now after : Option Files) → old.out.names ≡ first.out.names
     → IsStoppedBy NotBuilt script first old before now → Flushes old new now after → new.out ≡ all_given old.out
     → LeavesRun NotBuilt script first before after
+unfolding meets_unbuilt
 LeavesRun-flushed script first old new before now after names stopped flushes empty image base so =
-    subst (λ ns. StopsUnbuilt image script ns base after) names
-    (StopsUnbuilt-flushed image script base now after old new flushes empty (stopped image base so))
+    absurd (false≢true (stopped image base so).meets.unbuilt)
 
 pub LeavesRun-refused : (script : ScriptValue) (first old : Foreground) (before now after : Option Files) (f : WriteFault) (fault : RunFault)
     → old.out.names ≡ first.out.names → IsStoppedBy NotBuilt script first old before now → LeavesParts old.out now after []
@@ -435,6 +464,7 @@ IsReset-created image out created fore reset same = record {
   t = reset.t;
   beam = reset.beam;
   memory = reset.memory;
+  newest = reset.newest;
   chips = reset.chips;
   picture = reset.picture;
   clx = reset.clx;

@@ -1,16 +1,17 @@
 -- The steps of the foreground over plain values.
-use Rattle.std.proofs.Common.{◌≡◌, ℕ, ◌+◌, ◌%◌, Bool, true, false, ◌==◌, if◌then◌else◌, List, [], ◌∷◌, ◌++◌, length, Some, None, bit_or, arith, refl, ap, subst, inl, inr, ◌∙◌, sym, append_assoc, append-nil, length-append}
-use Rattle.std.specs.Int.Bits.{or_zero_r}
+use Rattle.std.proofs.Common.{◌≡◌, ℕ, ◌+◌, ◌%◌, ◌≤◌, Bool, true, false, ◌==◌, if◌then◌else◌, List, [], ◌∷◌, ◌++◌, length, Some, None, bit_or, arith, refl, ap, subst, inl, inr, ◌∙◌, sym, append_assoc, append-nil, length-append}
 use Rattle.std.proofs.lemmas.Bool.Decides.{nat_tests}
 use Rattle.std.proofs.lemmas.Grind.{flat_map-append}
 use Rattle.ocs_base.specs.declared.script.System.TheVariants.{Pal}
+use Rattle.mem_versions.specs.Chip.{ChipValue, after_reads, after_write}
+use Rattle.ocs_base.specs.declared.addr.Addr.{Addr}
 use Rattle.ocs_base.specs.declared.beam.Beam.{Beam}
 use Rattle.ocs_base.specs.declared.reg.Reg.{Reg}
 use Rattle.ocs_base.specs.declared.script.At.{At}
+use Rattle.serial_model.specs.declared.bus.Half.TheVariants.{Both}
 use Rattle.serial_model.specs.declared.bus.Made.{Made}
 use Rattle.serial_model.specs.declared.bus.Made.TheVariants as M
 use Rattle.serial_model.specs.declared.bus.SideAsk.TheVariants as S
-use Rattle.serial_model.specs.declared.copper.CopperAct.{CopperAct}
 use Rattle.serial_model.specs.declared.picture.Denise.{Denise}
 use Rattle.serial_model.specs.declared.picture.Touch.TheVariants.{Set}
 use Rattle.serial_model.specs.declared.registers.Effect.{Effect}
@@ -18,29 +19,29 @@ use Rattle.serial_model.specs.declared.registers.Effect.TheVariants.{Kept, Nothi
 use Rattle.serial_model.specs.declared.trace.Source.{Source}
 use Rattle.serial_model.specs.declared.trace.TraceLine.{TraceLine}
 use Rattle.serial_model.specs.declared.trace.TraceLine.TheVariants.{Wrote, Peeked}
-use Rattle.serial_model.specs.Beam.{IsOnScreen, place_of}
-use Rattle.serial_model.specs.Bus.{ask_at, answer_to, answer_chips, made_by_copper, made_by_ask}
+use Rattle.serial_model.specs.Beam.{IsOnScreen, place_of, is_visible}
+use Rattle.serial_model.specs.Built.{is_unbuilt}
 use Rattle.serial_model.specs.Events.{is_due, due_events, do_events, made_by_act}
-use Rattle.serial_model.specs.Made.{word_of, chips_after, lof_after, memory_after, touch_of, clx_after, lines_of, state_after}
+use Rattle.serial_model.specs.Made.{chips_after, word_of, lof_after, memory_after, touch_of, clx_after, lines_of, state_after}
 use Rattle.serial_model.specs.Outputs.{with_headings, frames_text, frame_bytes}
-use Rattle.serial_model.specs.Picture.{pixels, step_of, touch_if_any, set_picture}
+use Rattle.serial_model.specs.Picture.{pixel_bytes, pixels, step_of, after_step, clear_line, touch_if_any, plane_latch, sprite_data, set_picture}
 use Rattle.serial_model.specs.Registers.{effect_of, is_picture_register}
-use Rattle.serial_model.specs.State.{State, read_word}
+use Rattle.serial_model.specs.State.{Chips, State, read_word}
 use Rattle.serial_model.specs.Tick.{start_clock, start_chips, show_pixels, run_script, made_of, answer_state, make_access}
 use Rattle.serial_model.specs.TraceText.{line_text, trace_text}
 use Rattle.serial_model.specs.Write.{write_chips, write_lof, lof_of}
 use Rattle.serial_model.proofs.HeadingLaws.{with_headings-append, with_headings-place}
 use Rattle.serial_model.proofs.EventLaws.{IsQueue, due_events-more, due_events-later, due_events-none, IsQueue-more, IsQueue-end, IsQueue-empty}
 use Rattle.serial_model.proofs.WriteLaws.{is_picture_effect, picture_register}
+use Rattle.ocs_run.proofs.WriteLaws.{picture_open, lof_open}
 use Rattle.out_files.specs.OutFiles.{OutFilesValue, with_line}
+use Rattle.ocs_run.specs.Chips.{WorkingChips, IsChipsOf, HasAccessed}
 use Rattle.ocs_run.specs.Out.{Shows, Tells}
-use Rattle.ocs_run.specs.Picture.{IsPictureOf}
-use Rattle.ocs_run.specs.Steps.{Written, HasText, Stands, Makes, Answers, Does, HasDone, IsLeft, IsSamePlace, KeepsPlace, word_for}
+use Rattle.painter.specs.Painter.{IsPainterOf}
+use Rattle.ocs_run.specs.Steps.{Written, HasText, Stands, Makes, WritesRegister, KeepsTime, Does, HasDone, IsLeft, IsSamePlace, KeepsPlace, Accesses}
 use Rattle.ocs_run.specs.declared.foreground.Foreground.{Foreground}
-use Rattle.ocs_run.specs.declared.picture.Picture.{Picture as PictureNow}
-use Rattle.ocs_run.proofs.PictureLaws.{IsPictureOf-cleared, IsPictureOf-stepped}
+use Rattle.painter.specs.declared.painter.Painter.{Painter}
 use Rattle.ocs_run.proofs.TraceLaws.{Tells-line, Tells-none}
-use Rattle.ocs_run.proofs.AskLaws.{made-act}
 
 -- what is shown goes to the end of the text
 shown-text : (written before after shown piece : List ℕ) (given : ℕ) → written ++ before ≡ frames_text shown → given % frame_bytes ≡ length shown % frame_bytes
@@ -92,63 +93,71 @@ HasText-told written s old new lines is tells = record {
 }
 
 -- first step
-pub Makes-started : (old new : Foreground) → new ≡ record old { chips = new.chips } → new.chips ≡ start_chips old.beam old.chips
+pub Makes-started : (old new : Foreground) → new ≡ record old { chips = new.chips; picture = new.picture }
+    → ((c : Chips) → IsChipsOf old.chips c → IsChipsOf new.chips (start_chips old.beam c))
+    → ((p : Denise) → IsPainterOf old.picture p → IsPainterOf new.picture (clear_line old.beam p))
     → Makes start_clock old new
-Makes-started old new same chips written s is =
-    let now : Stands (record old { chips = new.chips }) written (start_clock s) = record {
+Makes-started old new same chips picture written s is =
+    let now : Stands (record old { chips = new.chips; picture = new.picture }) written (start_clock s) = record {
       t = is.t;
       beam = is.beam;
       memory = is.memory;
-      chips = ap (λ b. start_chips b s.chips) is.beam ∙ ap (λ c. start_chips old.beam c) is.chips ∙ sym chips;
-      picture = IsPictureOf-cleared old.picture s.beam s.picture is.picture;
+      chips = subst (λ b. IsChipsOf new.chips (start_chips b s.chips)) (sym is.beam) (chips s.chips is.chips);
+      picture = subst (λ b. IsPainterOf new.picture (clear_line b s.picture)) (sym is.beam) (picture s.picture is.picture);
       clx = is.clx;
       text = record { frames = is.text.frames; given = is.text.given; trace = is.text.trace };
     } in
     subst (λ f. Stands f written (start_clock s)) (sym same) now
 
--- fourth step: the pixels go to the text, and no collision is gathered yet
-no_bits : (n : ℕ) → bit_or n 0 ≡ n
-no_bits n = or_zero_r n
-
-pub Makes-shown : (old new : Foreground) → new ≡ record old { out = new.out }
-    → ((p : Denise) → IsPictureOf old.picture p → Shows (pixels Pal old.beam.v old.beam.h p) old.out new.out)
+-- fourth step: the pixels go to the text, and their collisions are gathered
+pub Makes-shown : (old new : Foreground) → new ≡ record old { picture = new.picture; clx = new.clx; out = new.out }
+    → ((p : Denise) → IsPainterOf old.picture p → Shows (pixels Pal old.beam.v old.beam.h p) old.out new.out)
+    → ((p : Denise) → IsPainterOf old.picture p → IsPainterOf new.picture (after_step (step_of Pal old.beam.v old.beam.h p) p))
+    → ((p : Denise) → IsPainterOf old.picture p → new.clx ≡ bit_or old.clx (step_of Pal old.beam.v old.beam.h p).clx)
     → Makes (show_pixels Pal) old new
 unfolding step_of
-Makes-shown old new same shows written s is =
+Makes-shown old new same shows held clx written s is =
     let piece : Shows (pixels Pal s.beam.v s.beam.h s.picture) old.out new.out =
     subst (λ (b : Beam). Shows (pixels Pal b.v b.h s.picture) old.out new.out) (sym is.beam) (shows s.picture is.picture) in
     let text : HasText new.out written (record s { shown = s.shown ++ pixels Pal s.beam.v s.beam.h s.picture }) =
     HasText-shown written s old.out new.out (pixels Pal s.beam.v s.beam.h s.picture) is.text piece in
-    let now : Stands (record old { out = new.out }) written (show_pixels Pal s) = record {
+    let now : Stands (record old { picture = new.picture; clx = new.clx; out = new.out }) written (show_pixels Pal s) = record {
       t = is.t;
       beam = is.beam;
       memory = is.memory;
       chips = is.chips;
-      picture = IsPictureOf-stepped old.picture s.picture is.picture (step_of Pal s.beam.v s.beam.h s.picture);
-      clx = no_bits s.clx ∙ is.clx;
+      picture = subst (λ (b : Beam). IsPainterOf new.picture (after_step (step_of Pal b.v b.h s.picture) s.picture)) (sym is.beam)
+          (held s.picture is.picture);
+      clx = ap (λ x. bit_or x (step_of Pal s.beam.v s.beam.h s.picture).clx) is.clx
+          ∙ ap (λ (b : Beam). bit_or old.clx (step_of Pal b.v b.h s.picture).clx) is.beam ∙ sym (clx s.picture is.picture);
       text = record { frames = text.frames; given = text.given; trace = text.trace };
     } in
     subst (λ f. Stands f written (show_pixels Pal s)) (sym same) now
 
+-- the pixels of a clock that is not visible are none
+pub Shows-hidden : (v h : ℕ) (p : Denise) (out : OutFilesValue) → is_visible Pal v h ≡ false → Shows (pixels Pal v h p) out out
+Shows-hidden v h p out hidden =
+    let all : List ℕ = pixel_bytes v h 0 p ++ (pixel_bytes v h 1 p ++ (pixel_bytes v h 2 p ++ pixel_bytes v h 3 p)) in
+    inr (ap (λ b. if b then all else []) hidden, refl)
+
 -- what is made is done to the state too
 pub Makes-does : (made : Made) (old new : Foreground) → Does made old new → Makes (state_after made) old new
 Makes-does made old new does written s is =
-    let lines : lines_of s.beam s.clx s.chips made ≡ lines_of old.beam old.clx old.chips made =
-    ap (λ b. lines_of b s.clx s.chips made) is.beam ∙ ap (λ x. lines_of old.beam x s.chips made) is.clx
-    ∙ ap (λ c. lines_of old.beam old.clx c made) is.chips in
+    let lines : lines_of s.beam s.clx s.chips made ≡ lines_of old.beam old.clx s.chips made =
+    ap (λ b. lines_of b s.clx s.chips made) is.beam ∙ ap (λ x. lines_of old.beam x s.chips made) is.clx in
     let told : Tells (lines_of s.beam s.clx s.chips made) old.out new.out =
-    subst (λ ls. Tells ls old.out new.out) (sym lines) does.out in
+    subst (λ ls. Tells ls old.out new.out) (sym lines) (does.out s.chips is.chips) in
     let text : HasText new.out written (record s { trace = s.trace ++ lines_of s.beam s.clx s.chips made }) =
     HasText-told written s old.out new.out (lines_of s.beam s.clx s.chips made) is.text told in
-    let touched : IsPictureOf new.picture (touch_if_any s.beam.h (word_of s.memory) (touch_of made) s.picture) =
-    subst (λ m. IsPictureOf new.picture (touch_if_any s.beam.h (word_of m) (touch_of made) s.picture)) (sym is.memory)
-    (subst (λ (b : Beam). IsPictureOf new.picture (touch_if_any b.h (word_of old.chip.words) (touch_of made) s.picture)) (sym is.beam)
+    let touched : IsPainterOf new.picture (touch_if_any s.beam.h (word_of s.memory) (touch_of made) s.picture) =
+    subst (λ m. IsPainterOf new.picture (touch_if_any s.beam.h (word_of m) (touch_of made) s.picture)) (sym is.memory)
+    (subst (λ (b : Beam). IsPainterOf new.picture (touch_if_any b.h (word_of old.chip.words) (touch_of made) s.picture)) (sym is.beam)
     (does.picture s.picture is.picture)) in
     record {
       t = is.t ∙ sym does.t;
       beam = ap (λ (b : Beam). record b { lof = lof_after made b.lof }) is.beam ∙ sym does.beam;
       memory = ap (λ m. memory_after made m) is.memory ∙ sym does.memory;
-      chips = ap (λ c. chips_after made c) is.chips ∙ sym does.chips;
+      chips = does.chips s.chips is.chips;
       picture = touched;
       clx = ap (λ x. clx_after made x) is.clx ∙ sym does.clx;
       text = record { frames = text.frames; given = text.given; trace = text.trace };
@@ -162,54 +171,77 @@ pub KeepsPlace-does : (made : Made) (old new : Foreground) → Does made old new
 KeepsPlace-does made old new does = record {
   beam = does.beam ∙ ap (λ (b : Beam). record old.beam { lof = b.lof }) (sym does.beam);
   t = does.t;
-  names = does.out.names;
+  time = does.time;
+  names = does.names;
 }
 
 pub KeepsPlace-more : (a b c : Foreground) → KeepsPlace a b → KeepsPlace b c → KeepsPlace a c
 KeepsPlace-more a b c first second = record {
   beam = second.beam ∙ ap (λ (x : Beam). record x { lof = c.beam.lof }) first.beam;
   t = second.t ∙ first.t;
+  time = λ before. second.time (first.time before);
   names = second.names ∙ first.names;
 }
 
-pub KeepsPlace-answers : (act : CopperAct) (old new : Foreground) → Answers act old new → KeepsPlace old new
-KeepsPlace-answers act old new answers = record {
-  beam = same_place-eq old.beam new.beam answers.beam;
-  t = answers.t;
-  names = ap (λ (o : OutFilesValue). o.names) answers.out;
+-- fifth step: the chips have their answers, and what the access makes is the machine's
+pub record HasMade (made : Made) (old mid : Foreground) : Type 0 where
+  pub same : mid ≡ record old { chip = mid.chip; chips = mid.chips }
+  pub memory : mid.chip.words ≡ old.chip.words
+  pub newest : mid.chip.newest ≡ old.chip.newest
+  pub access : (c : Chips) → IsChipsOf old.chips c → HasAccessed old.beam c old.chip.words made mid.chips
+
+pub HasMade-by : (made : Made) (old : Foreground) (chip : ChipValue) (chips : WorkingChips) → chip ≡ record old.chip { reads = chip.reads }
+    → ((c : Chips) → IsChipsOf old.chips c → HasAccessed old.beam c old.chip.words made chips)
+    → HasMade made old (record old { chip = chip; chips = chips })
+HasMade-by made old chip chips same access = record {
+  same = refl;
+  memory = ap (λ (c : ChipValue). c.words) same;
+  newest = ap (λ (c : ChipValue). c.newest) same;
+  access = access;
 }
 
--- fifth step: the chips have their answers
-Makes-answers : (act : CopperAct) (old new : Foreground) → Answers act old new → Makes (answer_state S.Nothing) old new
-Makes-answers act old new answers written s is = record {
-  t = is.t ∙ sym answers.t;
-  beam = is.beam ∙ sym answers.beam;
-  memory = is.memory ∙ sym answers.memory;
-  chips =
-      ap (λ b. answer_chips b (ask_at S.Nothing b s.chips) (answer_to (ask_at S.Nothing b s.chips) s.memory) s.chips) is.beam
-      ∙ ap (λ c. answer_chips old.beam (ask_at S.Nothing old.beam c) (answer_to (ask_at S.Nothing old.beam c) s.memory) c) is.chips
-      ∙ ap (λ m. answer_chips old.beam (ask_at S.Nothing old.beam old.chips) (answer_to (ask_at S.Nothing old.beam old.chips) m) old.chips) is.memory
-      ∙ sym answers.chips;
-  picture = subst (λ p. IsPictureOf p s.picture) (sym answers.picture) is.picture;
-  clx = is.clx ∙ sym answers.clx;
-  text = (let same : HasText old.out written (answer_state S.Nothing s) = record { frames = is.text.frames; given = is.text.given; trace = is.text.trace } in
-      subst (λ o. HasText o written (answer_state S.Nothing s)) (sym answers.out) same);
-}
+pub KeepsPlace-made : (made : Made) (old mid : Foreground) → HasMade made old mid → KeepsPlace old mid
+KeepsPlace-made made old mid has =
+    subst (λ f. KeepsPlace old f) (sym has.same) (record {
+      beam = same_place-eq old.beam old.beam refl;
+      t = refl;
+      time = λ before. subst (λ n. n ≤ old.t) (sym has.newest) before;
+      names = refl;
+    })
 
--- what the access makes is what the Copper's step makes
-pub act-stands : (old new : Foreground) (act : CopperAct) (written : Written) (s : State) → Answers act old new → Stands old written s
-    → made_of S.Nothing s ≡ made_by_copper act
-act-stands old new act written s answers is =
-    ap (λ b. made_by_ask (ask_at S.Nothing b s.chips) (answer_to (ask_at S.Nothing b s.chips) s.memory) s.chips) is.beam
-    ∙ ap (λ c. made_by_ask (ask_at S.Nothing old.beam c) (answer_to (ask_at S.Nothing old.beam c) s.memory) c) is.chips
-    ∙ ap (λ m. made_by_ask (ask_at S.Nothing old.beam old.chips) (answer_to (ask_at S.Nothing old.beam old.chips) m) old.chips) is.memory
-    ∙ made-act old.beam (word_for old) old.chips ∙ ap (λ a. made_by_copper a) (sym answers.made)
+accessed : (made : Made) (old mid : Foreground) → HasMade made old mid → (written : Written) (s : State) → Stands old written s
+    → HasAccessed s.beam s.chips s.memory made mid.chips
+accessed made old mid has written s is =
+    subst (λ b. HasAccessed b s.chips s.memory made mid.chips) (sym is.beam)
+    (subst (λ m. HasAccessed old.beam s.chips m made mid.chips) (sym is.memory) (has.access s.chips is.chips))
 
-pub Makes-accessed : (old mid new : Foreground) (act : CopperAct) → Answers act old mid → Does (made_by_copper act) mid new
+pub made-stands : (made : Made) (old mid : Foreground) → HasMade made old mid → (written : Written) (s : State) → Stands old written s
+    → made ≡ made_of S.Nothing s
+made-stands made old mid has written s is = (accessed made old mid has written s is).makes
+
+Makes-answers : (made : Made) (old mid : Foreground) → HasMade made old mid → Makes (answer_state S.Nothing) old mid
+Makes-answers made old mid has written s is =
+    let now : Stands (record old { chip = mid.chip; chips = mid.chips }) written (answer_state S.Nothing s) = record {
+      t = is.t;
+      beam = is.beam;
+      memory = is.memory ∙ sym has.memory;
+      chips = (accessed made old mid has written s is).chips;
+      picture = is.picture;
+      clx = is.clx;
+      text = record { frames = is.text.frames; given = is.text.given; trace = is.text.trace };
+    } in
+    subst (λ f. Stands f written (answer_state S.Nothing s)) (sym has.same) now
+
+pub Makes-accessed : (old mid new : Foreground) (made : Made) → HasMade made old mid → Does made mid new
     → Makes (make_access S.Nothing) old new
-Makes-accessed old mid new act answers does written s is =
-    subst (λ m. Stands new written (state_after m (answer_state S.Nothing s))) (sym (act-stands old mid act written s answers is))
-    (Makes-does (made_by_copper act) mid new does written (answer_state S.Nothing s) (Makes-answers act old mid answers written s is))
+Makes-accessed old mid new made has does written s is =
+    subst (λ m. Stands new written (state_after m (answer_state S.Nothing s))) (made-stands made old mid has written s is)
+    (Makes-does made mid new does written (answer_state S.Nothing s) (Makes-answers made old mid has written s is))
+
+pub Accesses-made : (old mid : Foreground) (made : Made) (answer : Bool) → HasMade made old mid → is_unbuilt made ≡ answer
+    → Accesses answer old
+Accesses-made old mid made answer has is written s stands =
+    ap is_unbuilt (sym (made-stands made old mid has written s stands)) ∙ is
 
 -- a write, by its effect
 abbrev pub touch_by : Effect → ℕ → Reg → ℕ → Denise → Denise
@@ -220,28 +252,128 @@ touch-write : (touches : Bool) (h : ℕ) (word_at : ℕ → ℕ) (reg : Reg) (wo
 touch-write true h word_at reg word p = refl
 touch-write false h word_at reg word p = refl
 
-pub Does-write : (reg : Reg) (word : ℕ) (by : Source) (old new : Foreground) (effect : Effect) → effect ≡ effect_of false reg.offset word
-    → new.t ≡ old.t → new.beam ≡ record old.beam { lof = lof_of effect old.beam.lof } → new.chip.words ≡ old.chip.words
-    → new.chips ≡ write_chips reg.offset word old.chips
-    → ((p : Denise) → IsPictureOf old.picture p → IsPictureOf new.picture (touch_by effect old.beam.h reg word p))
-    → new.clx ≡ old.clx → new.out ≡ with_line old.out (Wrote old.beam reg word by) → Does (M.Wrote reg word (Some by)) old new
+pub WritesRegister-by : (reg : Reg) (word : ℕ) (busy : Bool) (old new : Foreground) (effect : Effect) → effect ≡ effect_of busy reg.offset word
+    → new.t ≡ old.t → new.beam ≡ record old.beam { lof = lof_of effect old.beam.lof } → new.chip ≡ old.chip
+    → ((c : Chips) → IsChipsOf old.chips c → IsChipsOf new.chips (write_chips reg.offset word c))
+    → ((p : Denise) → IsPainterOf old.picture p → IsPainterOf new.picture (touch_by effect old.beam.h reg word p))
+    → new.clx ≡ old.clx → new.out ≡ old.out → WritesRegister reg word old new
 unfolding write_lof
-Does-write reg word by old new effect is t beam memory chips picture clx out = record {
+WritesRegister-by reg word busy old new effect is t beam chip chips picture clx out = record {
   t = t;
-  beam = beam ∙ ap (λ e. record old.beam { lof = lof_of e old.beam.lof }) is;
-  memory = memory;
+  beam = beam ∙ ap (λ e. record old.beam { lof = lof_of e old.beam.lof }) is
+      ∙ ap (λ l. record old.beam { lof = l }) (lof_open busy reg word old.beam.lof);
+  chip = chip;
   chips = chips;
   picture = λ p stands.
       let kind : is_picture_effect effect ≡ is_picture_register reg.offset =
-      ap (λ e. is_picture_effect e) is ∙ sym (picture_register reg.offset word) in
+      ap (λ e. is_picture_effect e) is ∙ picture_open busy reg word ∙ sym (picture_register reg.offset word) in
       let same : touch_by effect old.beam.h reg word p
       ≡ touch_if_any old.beam.h (word_of old.chip.words) (if is_picture_register reg.offset then Some (Set reg word) else None) p =
       ap (λ b. if b then set_picture old.beam.h reg.offset word p else p) kind
       ∙ touch-write (is_picture_register reg.offset) old.beam.h (word_of old.chip.words) reg word p in
-      subst (λ q. IsPictureOf new.picture q) same (picture p stands);
+      subst (λ q. IsPainterOf new.picture q) same (picture p stands);
   clx = clx;
-  out = Tells-line old.out new.out (Wrote old.beam reg word by) out;
+  out = out;
 }
+
+same_time : (old new : Foreground) → new.chip ≡ old.chip → new.t ≡ old.t → KeepsTime old new
+same_time old new chip t before =
+    subst (λ n. new.chip.newest ≤ n) (sym t) (subst (λ (c : ChipValue). c.newest ≤ old.t) (sym chip) before)
+
+-- with its line, where there is someone to name, the write is done
+pub Does-write : (reg : Reg) (word : ℕ) (by : Source) (old told new : Foreground) → told ≡ record old { out = told.out }
+    → told.out ≡ with_line old.out (Wrote old.beam reg word by) → WritesRegister reg word told new → Does (M.Wrote reg word (Some by)) old new
+Does-write reg word by old told new same line writes =
+    let has : WritesRegister reg word (record old { out = told.out }) new = subst (λ f. WritesRegister reg word f new) same writes in
+    record {
+      t = has.t;
+      beam = has.beam;
+      memory = ap (λ (c : ChipValue). c.words) has.chip;
+      time = same_time old new has.chip has.t;
+      chips = has.chips;
+      picture = has.picture;
+      clx = has.clx;
+      names = ap (λ (o : OutFilesValue). o.names) has.out ∙ ap (λ (o : OutFilesValue). o.names) line;
+      out = λ c is. subst (λ o. Tells (Wrote old.beam reg word by ∷ []) old.out o) (sym has.out)
+          (Tells-line old.out told.out (Wrote old.beam reg word by) line);
+    }
+
+pub Does-quietly : (reg : Reg) (word : ℕ) (old new : Foreground) → WritesRegister reg word old new → Does (M.Wrote reg word None) old new
+Does-quietly reg word old new has = record {
+  t = has.t;
+  beam = has.beam;
+  memory = ap (λ (c : ChipValue). c.words) has.chip;
+  time = same_time old new has.chip has.t;
+  chips = has.chips;
+  picture = has.picture;
+  clx = has.clx;
+  names = ap (λ (o : OutFilesValue). o.names) has.out;
+  out = λ c is. subst (λ o. Tells [] old.out o) (sym has.out) (Tells-none old.out);
+}
+
+-- what only fills one of Denise's registers with the word at an address
+record Fills (made : Made) (offset : ℕ) (at : Addr) : Type 0 where
+  touch : (h : ℕ) (word_at : ℕ → ℕ) (p : Denise) → set_picture h offset (word_at at.value) p ≡ touch_if_any h word_at (touch_of made) p
+  chips : (c : Chips) → c ≡ chips_after made c
+  lof : (lof : Bool) → lof ≡ lof_after made lof
+  memory : (memory : List ℕ) → memory ≡ memory_after made memory
+  clx : (clx : ℕ) → clx ≡ clx_after made clx
+  lines : (b : Beam) (clx : ℕ) (c : Chips) → [] ≡ lines_of b clx c made
+
+Does-filled : (made : Made) (at : Addr) (word offset : ℕ) (old new : Foreground) → Fills made offset at
+    → new ≡ record old { chip = new.chip; picture = new.picture } → new.chip ≡ after_reads old.chip 1
+    → word ≡ word_of old.chip.words at.value
+    → ((p : Denise) → IsPainterOf old.picture p → IsPainterOf new.picture (set_picture old.beam.h offset word p))
+    → Does made old new
+Does-filled made at word offset old new fills same words is picture =
+    let now : Does made old (record old { chip = new.chip; picture = new.picture }) = record {
+      t = refl;
+      beam = ap (λ l. record old.beam { lof = l }) (fills.lof old.beam.lof);
+      memory = ap (λ (c : ChipValue). c.words) words ∙ fills.memory old.chip.words;
+      time = λ before. subst (λ (c : ChipValue). c.newest ≤ old.t) (sym words) before;
+      chips = λ c stands. subst (λ x. IsChipsOf old.chips x) (fills.chips c) stands;
+      picture = λ p stands.
+          subst (λ q. IsPainterOf new.picture q) (fills.touch old.beam.h (word_of old.chip.words) p)
+          (subst (λ w. IsPainterOf new.picture (set_picture old.beam.h offset w p)) is (picture p stands));
+      clx = fills.clx old.clx;
+      names = refl;
+      out = λ c stands. subst (λ ls. Tells ls old.out old.out) (fills.lines old.beam old.clx c) (Tells-none old.out);
+    } in
+    subst (λ f. Does made old f) (sym same) now
+
+-- a word fills the latch of a plane
+pub Does-plane : (plane : ℕ) (at : Addr) (word offset : ℕ) (old new : Foreground)
+    → new ≡ record old { chip = new.chip; picture = new.picture } → new.chip ≡ after_reads old.chip 1
+    → word ≡ word_of old.chip.words at.value → offset ≡ plane_latch plane
+    → ((p : Denise) → IsPainterOf old.picture p → IsPainterOf new.picture (set_picture old.beam.h offset word p))
+    → Does (M.Plane plane at) old new
+Does-plane plane at word offset old new same words is place picture =
+    Does-filled (M.Plane plane at) at word offset old new
+    (subst (λ o. Fills (M.Plane plane at) o at) (sym place) (record {
+      touch = λ h word_at p. refl;
+      chips = λ c. refl;
+      lof = λ lof. refl;
+      memory = λ memory. refl;
+      clx = λ clx. refl;
+      lines = λ b clx c. refl;
+    })) same words is picture
+
+-- or the data of a sprite
+pub Does-sprite : (sprite : ℕ) (second : Bool) (at : Addr) (word offset : ℕ) (old new : Foreground)
+    → new ≡ record old { chip = new.chip; picture = new.picture } → new.chip ≡ after_reads old.chip 1
+    → word ≡ word_of old.chip.words at.value → offset ≡ sprite_data sprite second
+    → ((p : Denise) → IsPainterOf old.picture p → IsPainterOf new.picture (set_picture old.beam.h offset word p))
+    → Does (M.Sprite sprite second at) old new
+Does-sprite sprite second at word offset old new same words is place picture =
+    Does-filled (M.Sprite sprite second at) at word offset old new
+    (subst (λ o. Fills (M.Sprite sprite second at) o at) (sym place) (record {
+      touch = λ h word_at p. refl;
+      chips = λ c. refl;
+      lof = λ lof. refl;
+      memory = λ memory. refl;
+      clx = λ clx. refl;
+      lines = λ b clx c. refl;
+    })) same words is picture
 
 -- an effect that is neither the picture's nor LOF's
 pub other_lof : (effect : Effect) (b : Beam) → (effect ≡ Picture → ⊥) → ((long : Bool) → effect ≡ Lof long → ⊥)
@@ -254,8 +386,8 @@ other_lof Picture b picture lof = absurd (picture refl)
 other_lof Interrupt b picture lof = refl
 other_lof (Lof long) b picture lof = absurd (lof long refl)
 
-pub other_picture : (effect : Effect) (h : ℕ) (reg : Reg) (word : ℕ) (now : PictureNow) (p : Denise) → (effect ≡ Picture → ⊥)
-    → IsPictureOf now p → IsPictureOf now (touch_by effect h reg word p)
+pub other_picture : (effect : Effect) (h : ℕ) (reg : Reg) (word : ℕ) (now : Painter) (p : Denise) → (effect ≡ Picture → ⊥)
+    → IsPainterOf now p → IsPainterOf now (touch_by effect h reg word p)
 other_picture Kept h reg word now p picture is = is
 other_picture Nothing h reg word now p picture is = is
 other_picture (Jump list) h reg word now p picture is = is
@@ -264,16 +396,35 @@ other_picture Picture h reg word now p picture is = absurd (picture refl)
 other_picture Interrupt h reg word now p picture is = is
 other_picture (Lof long) h reg word now p picture is = is
 
+-- a word was stored
+pub Does-store : (at : Addr) (word : ℕ) (old new : Foreground) → new ≡ record old { chip = new.chip }
+    → new.chip ≡ after_write old.chip old.t at word → Does (M.Stored at Both word) old new
+Does-store at word old new same stored =
+    let now : Does (M.Stored at Both word) old (record old { chip = new.chip }) = record {
+      t = refl;
+      beam = refl;
+      memory = ap (λ (c : ChipValue). c.words) stored;
+      time = λ before. subst (λ (c : ChipValue). c.newest ≤ old.t) (sym stored) (omega arith);
+      chips = λ c stands. stands;
+      picture = λ p stands. stands;
+      clx = refl;
+      names = refl;
+      out = λ c stands. Tells-none old.out;
+    } in
+    subst (λ f. Does (M.Stored at Both word) old f) (sym same) now
+
 -- nothing was made
 pub does_none : (fore : Foreground) → Does M.Nothing fore fore
 does_none fore = record {
   t = refl;
   beam = refl;
   memory = refl;
-  chips = refl;
+  time = λ before. before;
+  chips = λ c stands. stands;
   picture = λ p stands. stands;
   clx = refl;
-  out = Tells-none fore.out;
+  names = refl;
+  out = λ c stands. Tells-none fore.out;
 }
 
 -- a read of CLXDAT clears the bits, and no other
@@ -286,23 +437,27 @@ clx_kept offset clx not = grind (arith, nat_tests)
 -- a register was read
 pub Does-read : (reg : Reg) (by : Source) (old new : Foreground) → new ≡ record old { clx = new.clx; out = new.out }
     → new.clx ≡ (if reg.offset == 0x0e then 0 else old.clx)
-    → new.out ≡ with_line old.out (Peeked old.beam reg (read_word reg.offset old.beam old.clx old.chips) by) → Does (M.Read reg by) old new
-Does-read reg by old new same clx out =
+    → (word : ℕ) → ((c : Chips) → IsChipsOf old.chips c → word ≡ read_word reg.offset old.beam old.clx c)
+    → new.out ≡ with_line old.out (Peeked old.beam reg word by) → Does (M.Read reg by) old new
+Does-read reg by old new same clx word is out =
     let now : Does (M.Read reg by) old (record old { clx = new.clx; out = new.out }) = record {
       t = refl;
       beam = refl;
       memory = refl;
-      chips = refl;
+      time = λ before. before;
+      chips = λ c stands. stands;
       picture = λ p stands. stands;
       clx = clx;
-      out = Tells-line old.out new.out _ out;
+      names = ap (λ (o : OutFilesValue). o.names) out;
+      out = λ c stands. subst (λ w. Tells (Peeked old.beam reg w by ∷ []) old.out new.out) (is c stands)
+          (Tells-line old.out new.out (Peeked old.beam reg word by) out);
     } in
     subst (λ f. Does (M.Read reg by) old f) (sym same) now
 
 -- the events of a clock, one after another
 pub HasDone-start : (events : List At) (old : Foreground) → HasDone events events old old
 HasDone-start events old = record {
-  place = record { beam = refl; t = refl; names = refl };
+  place = record { beam = refl; t = refl; time = λ before. before; names = refl };
   rest = λ end makes. makes;
   later = λ later on after. refl;
 }

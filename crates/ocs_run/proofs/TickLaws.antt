@@ -1,21 +1,19 @@
 -- One colour clock of the foreground, from its steps.
-use Rattle.std.proofs.Common.{◌≡◌, ◌+◌, Bool, true, List, Result, Ok, Err, IsErrAnd, ap, ◌∙◌, sym, subst}
+use Rattle.std.proofs.Common.{◌≡◌, ◌+◌, ◌≤◌, arith, Bool, true, List, Result, Ok, Err, IsErrAnd, ap, ◌∙◌, sym, subst}
+use Rattle.mem_versions.specs.Chip.{ChipValue}
 use Rattle.ocs_base.specs.declared.beam.Beam.{Beam}
 use Rattle.ocs_base.specs.declared.script.At.{At}
 use Rattle.ocs_base.specs.declared.script.System.TheVariants.{Pal}
-use Rattle.serial_model.specs.declared.copper.CopperAct.{CopperAct}
 use Rattle.serial_model.specs.declared.bus.SideAsk.TheVariants as S
-use Rattle.serial_model.specs.Bus.{made_by_copper}
 use Rattle.serial_model.specs.Beam.{IsOnScreen, place_of, next_place}
-use Rattle.serial_model.specs.Built.{is_unbuilt, meets_unbuilt}
+use Rattle.serial_model.specs.Built.{meets_unbuilt}
 use Rattle.serial_model.specs.Tick.{start_clock, run_script, count_timers, show_pixels, make_access, run_processor, advance_beam, tick, before_access}
 use Rattle.serial_model.proofs.BeamLaws.{next_place-IsNext}
 use Rattle.serial_model.proofs.EventLaws.{AreFrom-next}
 use Rattle.out_files.specs.OutFiles.{OutFilesValue}
-use Rattle.ocs_run.specs.Steps.{HasText, Stands, Makes, Answers, KeepsPlace, Accesses, IsLeft, HasLater, Meets, StopsAt, HasNext}
+use Rattle.ocs_run.specs.Steps.{HasText, Stands, Makes, KeepsPlace, Accesses, IsLeft, HasLater, Meets, StopsAt, HasNext}
 use Rattle.ocs_run.specs.declared.foreground.Foreground.{Foreground}
 use Rattle.ocs_run.specs.declared.foreground.TickFault.{TickFault}
-use Rattle.ocs_run.proofs.StepLaws.{act-stands}
 
 pub Makes-tick : (events : List At) (f0 f1 f2 f3 f4 f5 f6 f7 : Foreground) → Makes start_clock f0 f1 → Makes (run_script events) f1 f2
     → Makes (count_timers 0) f2 f3 → Makes (show_pixels Pal) f3 f4 → Makes (make_access S.Nothing) f4 f5 → Makes run_processor f5 f6 → Makes advance_beam f6 f7
@@ -32,12 +30,6 @@ error_of d (Err f) = f
 pub handed_on : {A : Type 0} (r : Result A TickFault) (fault given : TickFault) → IsErrAnd r (λ f. f ≡ fault) → r ≡ Err given → fault ≡ given
 handed_on (Ok v) fault given is e = absurd is
 handed_on (Err f) fault given is e = sym is ∙ ap (λ r. error_of given r) e
-
--- what is done is built where what the Copper's step makes is
-pub Accesses-step : (old mid : Foreground) (act : CopperAct) (answer : Bool) → Answers act old mid → is_unbuilt (made_by_copper act) ≡ answer
-    → Accesses answer old
-Accesses-step old mid act answer answers is written s stands =
-    ap is_unbuilt (act-stands old mid act written s answers stands) ∙ is
 
 pub Meets-tick : (events : List At) (f0 f1 f2 f3 f4 : Foreground) (answer : Bool) → Makes start_clock f0 f1
     → Makes (run_script events) f1 f2 → Makes (count_timers 0) f2 f3 → Makes (show_pixels Pal) f3 f4 → Accesses answer f4
@@ -59,9 +51,9 @@ StopsAt-tick events f0 f1 f2 f3 f4 f5 m1 m2 m3 m4 accesses same kept = record {
 }
 
 pub HasNext-tick : (events left : List At) (f0 f6 f7 : Foreground) (lace : Bool) → IsOnScreen f0.beam → KeepsPlace f0 f6
-    → f7.beam ≡ next_place lace f6.beam → f7.t ≡ f6.t + 1 → f7.out.names ≡ f6.out.names
+    → f7.beam ≡ next_place lace f6.beam → f7.t ≡ f6.t + 1 → f7.out.names ≡ f6.out.names → f7.chip ≡ f6.chip → f0.chip.newest ≤ f0.t
     → IsLeft (place_of f0.beam + 1) left → HasLater f0.beam events left → HasNext events left f0 f7
-HasNext-tick events left f0 f6 f7 lace on kept next count names queue same =
+HasNext-tick events left f0 f6 f7 lace on kept next count names chip before queue same =
     let b : Beam = record f0.beam { lof = f6.beam.lof } in
     let on_b : IsOnScreen b = record { line = on.line; clock = on.clock } in
     let here : f7.beam ≡ next_place lace b = next ∙ ap (λ x. next_place lace x) kept.beam in
@@ -82,5 +74,11 @@ HasNext-tick events left f0 f6 f7 lace on kept next count names queue same =
         };
       };
       same = same;
+      time = (let now : f6.chip.newest ≤ f6.t = kept.time before in
+          subst (λ (c : ChipValue). c.newest ≤ f7.t) (sym chip) (omega (arith, count, now)));
       names = names ∙ kept.names;
     })
+
+-- the place of a clock stays on the screen through its steps
+pub IsOnScreen-kept : (old new : Foreground) → KeepsPlace old new → IsOnScreen old.beam → IsOnScreen new.beam
+IsOnScreen-kept old new kept on = subst IsOnScreen (sym kept.beam) (record { line = on.line; clock = on.clock })

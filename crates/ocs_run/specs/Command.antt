@@ -1,5 +1,5 @@
 -- What stands after a command.
-use Rattle.std.specs.Prelude.{◌≡◌, ℕ, Bool, true, false, not, ◌&&◌, ◌⊎◌, List, [], ◌∷◌, Option, Some, Result, Ok, Err}
+use Rattle.std.specs.Prelude.{◌≡◌, ℕ, Bool, true, false, not, ◌&&◌, List, [], ◌∷◌, Option, Some, Result, Ok, Err}
 use Rattle.ocs_base.specs.Script.{ScriptValue}
 use Rattle.ocs_base.specs.declared.script.At.{At}
 use Rattle.ocs_base.specs.declared.script.Act.{Act}
@@ -7,12 +7,11 @@ use Rattle.ocs_base.specs.declared.script.Act.TheVariants.{Poke, Peek, Joy, Fire
 use Rattle.ocs_io.specs.Answers.{WhereTold}
 use Rattle.ocs_io.specs.Place.{Files, Outside, Rose}
 use Rattle.out_files.specs.OutFiles.{OutNames, OutFilesValue}
-use Rattle.serial_model.specs.Built.{is_missing, is_unreadable}
 use Rattle.ocs_run.specs.declared.fault.Fault.{Fault}
 use Rattle.ocs_run.specs.declared.fault.Fault.TheVariants.{Usage, BadImage, BadScript, Unread, Unwritten, OutOfMemory, NotBuilt}
 use Rattle.ocs_run.specs.declared.fault.Input.TheVariants.{Image, Script}
 use Rattle.ocs_run.specs.Order.{OrderValue}
-use Rattle.ocs_run.specs.Run.{HasFiles, StopsUnbuilt}
+use Rattle.ocs_run.specs.Run.{HasFiles}
 use Rattle.ocs_run.specs.Prefix.{LeavesPrefixes}
 use Rattle.ocs_run.specs.Verdict.{Verdict, Usage as UsageVerdict, Absent, BadImage as BadImageVerdict, BadScript as BadScriptVerdict, Good, of_order}
 
@@ -20,10 +19,10 @@ use Rattle.ocs_run.specs.Verdict.{Verdict, Usage as UsageVerdict, Absent, BadIma
 abbrev pub out_names : OrderValue → OutNames
 out_names order = record { frames = order.frames; trace = order.trace; memory = order.memory }
 
--- what a script may do in the machine that is built so far: no processor, and pokes and peeks of built registers alone
+-- what a script may do in the machine that is built so far: no processor, and pokes and peeks alone
 abbrev pub is_built_act : Act → Bool
-is_built_act (Poke reg word) = not (is_missing reg.offset word)
-is_built_act (Peek reg) = not (is_unreadable reg.offset)
+is_built_act (Poke reg word) = true
+is_built_act (Peek reg) = true
 is_built_act (Joy port word) = false
 is_built_act (Fire port down) = false
 is_built_act (Key code) = false
@@ -60,8 +59,7 @@ RunAnswers order image script old new (Err (Unwritten file)) =
     × ((is_built_script script ≡ true) × LeavesPrefixes image script (out_names order) old.files new.files)
 RunAnswers order image script old new (Err OutOfMemory) = LeavesPrefixes image script (out_names order) old.files new.files
 RunAnswers order image script old new (Err NotBuilt) =
-    ((is_built_script script ≡ false) × (new.files ≡ old.files))
-    ⊎ ((is_built_script script ≡ true) × StopsUnbuilt image script (out_names order) old.files new.files)
+    (is_built_script script ≡ false) × (new.files ≡ old.files)
 
 -- done: the script is built, the three files are the texts of the run, whole, and every other file is as before
 abbrev pub IsDone : Verdict → Files → Option Files → Type 0
@@ -89,11 +87,10 @@ IsWanting (Absent name) files new = new ≡ Some files
 IsWanting BadImageVerdict files new = new ≡ Some files
 IsWanting (BadScriptVerdict line kind) files new = new ≡ Some files
 
--- something is not built: in the script, and then all files are as before, or at a clock of the run
+-- something in the script is not built, and then all files are as before
 abbrev pub IsUnbuilt : Verdict → Files → Option Files → Type 0
 IsUnbuilt (Good image script order) files new =
-    ((is_built_script script ≡ false) × (new ≡ Some files))
-    ⊎ ((is_built_script script ≡ true) × StopsUnbuilt image script (out_names order) (Some files) new)
+    (is_built_script script ≡ false) × (new ≡ Some files)
 IsUnbuilt UsageVerdict files new = ⊥
 IsUnbuilt (Absent name) files new = ⊥
 IsUnbuilt BadImageVerdict files new = ⊥

@@ -1,11 +1,10 @@
 pub mod Asked
 pub mod Command
-pub mod CopperAct
+pub mod Chips
 pub mod Fault
 pub mod Inputs
 pub mod Order
 pub mod Out
-pub mod Picture
 pub mod Prefix
 pub mod Run
 pub mod Steps

@@ -54,14 +54,6 @@ pub record MeetsUnbuilt (image : List ℕ) (script : ScriptValue) (clocks : ℕ)
 abbrev pub state_before_access : List ℕ → ScriptValue → ℕ → State
 state_before_access image script clocks = before_access Pal script.events (state_at image script clocks)
 
--- the run stopped at a clock that does something unbuilt: the frames file and the trace are the texts up to the access of
--- that clock, whole, the memory file is empty, and every other file is as before
-pub record StopsUnbuilt (image : List ℕ) (script : ScriptValue) (names : OutNames) (base new : Option Files) : Type 0 where
-  pub clocks : ℕ
-  pub meets : MeetsUnbuilt image script clocks
-  pub files : new ≡ (let s = state_before_access image script clocks in
-      three_files names base (frames_text s.shown) (trace_text s.trace) [])
-
 -- the first so many of the three files were created, and nothing else was done
 abbrev pub HasCreated : OutNames → Option Files → Option Files → Type 0
 HasCreated names base new = (created : ℕ) × (new ≡ with_empty (take created (in_order names)) base)
@@ -73,8 +65,8 @@ Remains image script names base new =
     ⊎ (((clocks : ℕ) × HasParts image script names base new clocks)
     ⊎ ((clocks : ℕ) × HasEndParts image script names base new clocks))
 
--- what stands after a whole run was stopped, by the fault
+-- what stands after a whole run was stopped, by the fault: nothing that a run does is unbuilt
 abbrev pub LeavesAfter : RunFault → List ℕ → ScriptValue → OutNames → Option Files → Option Files → Type 0
 LeavesAfter (Write file) image script names base new = LeavesPrefixes image script names base new
 LeavesAfter OutOfMemory image script names base new = LeavesPrefixes image script names base new
-LeavesAfter NotBuilt image script names base new = StopsUnbuilt image script names base new
+LeavesAfter NotBuilt image script names base new = ⊥

@@ -1,24 +1,25 @@
 -- What the working state of the clock loop stands for, and what its steps make.
-use Rattle.std.specs.Prelude.{◌≡◌, ℕ, ◌+◌, ◌-◌, ◌^◌, ◌%◌, ◌<◌, ◌≤◌, min, Bool, true, if◌then◌else◌, List, ◌++◌, length}
+use Rattle.std.specs.Prelude.{◌≡◌, ℕ, ◌+◌, ◌%◌, ◌<◌, ◌≤◌, Bool, true, List, ◌++◌, length, None}
 use Rattle.ocs_base.specs.declared.beam.Beam.{Beam}
 use Rattle.ocs_base.specs.declared.script.At.{At}
 use Rattle.ocs_base.specs.declared.script.System.TheVariants.{Pal}
+use Rattle.ocs_base.specs.declared.reg.Reg.{Reg}
 use Rattle.serial_model.specs.declared.bus.Made.{Made}
+use Rattle.serial_model.specs.declared.bus.Made.TheVariants as M
 use Rattle.serial_model.specs.declared.bus.SideAsk.TheVariants as S
-use Rattle.serial_model.specs.declared.copper.CopperAct.{CopperAct}
 use Rattle.serial_model.specs.declared.picture.Denise.{Denise}
 use Rattle.out_files.specs.OutFiles.{OutFilesValue}
-use Rattle.ocs_run.specs.CopperAct.{act_at}
+use Rattle.ocs_run.specs.Chips.{IsChipsOf}
 use Rattle.ocs_run.specs.Out.{Tells}
-use Rattle.ocs_run.specs.Picture.{IsPictureOf}
+use Rattle.painter.specs.Painter.{IsPainterOf}
 use Rattle.serial_model.specs.Beam.{IsOnScreen, place_of}
 use Rattle.serial_model.specs.Built.{is_unbuilt, meets_unbuilt}
-use Rattle.serial_model.specs.Bus.{ask_at, is_memory_read, answer_to, answer_chips}
 use Rattle.serial_model.specs.Events.{due_events, do_events}
 use Rattle.serial_model.specs.Made.{word_of, chips_after, lof_after, memory_after, touch_of, clx_after, lines_of}
 use Rattle.serial_model.specs.Outputs.{frames_text, frame_bytes}
 use Rattle.serial_model.specs.Picture.{touch_if_any}
-use Rattle.serial_model.specs.State.{State}
+use Rattle.serial_model.specs.State.{Chips, State}
+use Rattle.serial_model.specs.Write.{write_chips, write_lof}
 use Rattle.serial_model.specs.Tick.{made_of, before_access}
 use Rattle.serial_model.specs.TraceText.{trace_text}
 use Rattle.serial_model.proofs.EventLaws.{IsQueue}
@@ -41,8 +42,8 @@ pub record Stands (fore : Foreground) (written : Written) (s : State) : Type 0 w
   pub t : s.t ≡ fore.t
   pub beam : s.beam ≡ fore.beam
   pub memory : s.memory ≡ fore.chip.words
-  pub chips : s.chips ≡ fore.chips
-  pub picture : IsPictureOf fore.picture s.picture
+  pub chips : IsChipsOf fore.chips s.chips
+  pub picture : IsPainterOf fore.picture s.picture
   pub clx : s.clx ≡ fore.clx
   pub text : HasText fore.out written s
 
@@ -54,49 +55,40 @@ Makes step old new = (written : Written) (s : State) → Stands old written s �
 abbrev pub IsSamePlace : Beam → Beam → Type 0
 IsSamePlace old new = new ≡ record old { lof = new.lof }
 
+-- the newest clock of the memory stays one that is not later than now
+abbrev pub KeepsTime : Foreground → Foreground → Type 0
+KeepsTime old new = old.chip.newest ≤ old.t → new.chip.newest ≤ new.t
+
 -- the place of the beam, the count of clocks and the names of the files stay
 pub record KeepsPlace (old new : Foreground) : Type 0 where
   pub beam : IsSamePlace old.beam new.beam
   pub t : new.t ≡ old.t
+  pub time : KeepsTime old new
   pub names : new.out.names ≡ old.out.names
 
--- all stays, but for the count of reads, which rises where the ask reads memory
-pub record Reads (old new : Foreground) : Type 0 where
+-- a write reached the chips, and the picture or LOF; the trace has no line of it yet
+pub record WritesRegister (reg : Reg) (word : ℕ) (old new : Foreground) : Type 0 where
   pub t : new.t ≡ old.t
-  pub beam : new.beam ≡ old.beam
-  pub memory : new.chip.words ≡ old.chip.words
-  pub reads : new.chip.reads
-      ≡ (if is_memory_read (ask_at S.Nothing old.beam old.chips) then min (old.chip.reads + 1) (2 ^ 64 - 1) else old.chip.reads)
-  pub chips : new.chips ≡ old.chips
-  pub picture : new.picture ≡ old.picture
+  pub beam : new.beam ≡ record old.beam { lof = write_lof reg.offset word old.beam.lof }
+  pub chip : new.chip ≡ old.chip
+  pub chips : (c : Chips) → IsChipsOf old.chips c → IsChipsOf new.chips (write_chips reg.offset word c)
+  pub picture : (p : Denise) → IsPainterOf old.picture p → IsPainterOf new.picture
+      (touch_if_any old.beam.h (word_of old.chip.words) (touch_of (M.Wrote reg word None)) p)
   pub clx : new.clx ≡ old.clx
   pub out : new.out ≡ old.out
-
--- the ask of the clock that stands here, and the word that answers it
-abbrev pub word_for : Foreground → ℕ
-word_for fore = answer_to (ask_at S.Nothing fore.beam fore.chips) fore.chip.words
-
--- each chip has the answer of the clock's access, and the Copper's step makes this
-pub record Answers (act : CopperAct) (old new : Foreground) : Type 0 where
-  pub t : new.t ≡ old.t
-  pub beam : new.beam ≡ old.beam
-  pub memory : new.chip.words ≡ old.chip.words
-  pub chips : new.chips ≡ answer_chips old.beam (ask_at S.Nothing old.beam old.chips) (word_for old) old.chips
-  pub picture : new.picture ≡ old.picture
-  pub clx : new.clx ≡ old.clx
-  pub out : new.out ≡ old.out
-  pub made : act ≡ act_at old.beam (ask_at S.Nothing old.beam old.chips) (word_for old) old.chips
 
 -- what an access or an event makes was done
 pub record Does (made : Made) (old new : Foreground) : Type 0 where
   pub t : new.t ≡ old.t
   pub beam : new.beam ≡ record old.beam { lof = lof_after made old.beam.lof }
   pub memory : new.chip.words ≡ memory_after made old.chip.words
-  pub chips : new.chips ≡ chips_after made old.chips
-  pub picture : (p : Denise) → IsPictureOf old.picture p
-      → IsPictureOf new.picture (touch_if_any old.beam.h (word_of old.chip.words) (touch_of made) p)
+  pub time : KeepsTime old new
+  pub chips : (c : Chips) → IsChipsOf old.chips c → IsChipsOf new.chips (chips_after made c)
+  pub picture : (p : Denise) → IsPainterOf old.picture p
+      → IsPainterOf new.picture (touch_if_any old.beam.h (word_of old.chip.words) (touch_of made) p)
   pub clx : new.clx ≡ clx_after made old.clx
-  pub out : Tells (lines_of old.beam old.clx old.chips made) old.out new.out
+  pub names : new.out.names ≡ old.out.names
+  pub out : (c : Chips) → IsChipsOf old.chips c → Tells (lines_of old.beam old.clx c made) old.out new.out
 
 -- events that are none of them before the place, in order and in the limits of a run of some length
 pub record IsLeft (place : ℕ) (events : List At) : Type 0 where
@@ -138,4 +130,5 @@ pub record HasNext (events left : List At) (old new : Foreground) : Type 0 where
   pub count : new.t ≡ old.t + 1
   pub queue : IsLeft (place_of new.beam) left
   pub same : HasLater old.beam events left
+  pub time : new.chip.newest ≤ new.t
   pub names : new.out.names ≡ old.out.names

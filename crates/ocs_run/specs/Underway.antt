@@ -12,11 +12,12 @@ use Rattle.serial_model.specs.Beam.{IsOnScreen, place_of, first_place}
 use Rattle.serial_model.specs.Events.{due_events}
 use Rattle.serial_model.specs.Serial.{state_at}
 use Rattle.ocs_base.specs.declared.beam.Beam.{Beam}
-use Rattle.ocs_run.specs.Picture.{IsPictureOf}
+use Rattle.ocs_run.specs.Chips.{IsChipsOf}
+use Rattle.painter.specs.Painter.{IsPainterOf}
 use Rattle.ocs_run.specs.Run.{HasRun, HasParts, MeetsUnbuilt, state_before_access, HasFiles, LeavesAfter}
 use Rattle.ocs_run.specs.declared.fault.RunFault.{RunFault}
 use Rattle.ocs_run.specs.declared.fault.RunFault.TheVariants.{Write, OutOfMemory, NotBuilt}
-use Rattle.ocs_run.specs.Steps.{Written, Stands, IsLeft}
+use Rattle.ocs_run.specs.Steps.{Written, Stands, IsLeft, KeepsTime}
 use Rattle.ocs_run.specs.declared.foreground.Foreground.{Foreground}
 
 -- the working state at reset
@@ -24,8 +25,9 @@ pub record IsReset (image : List ℕ) (files : OutFilesValue) (fore : Foreground
   pub t : fore.t ≡ 0
   pub beam : fore.beam ≡ first_place
   pub memory : fore.chip.words ≡ memory_of image
-  pub chips : fore.chips ≡ reset_chips
-  pub picture : IsPictureOf fore.picture reset_picture
+  pub newest : fore.chip.newest ≡ 0
+  pub chips : IsChipsOf fore.chips reset_chips
+  pub picture : IsPainterOf fore.picture reset_picture
   pub clx : fore.clx ≡ 0
   pub out : fore.out ≡ files
 
@@ -42,6 +44,7 @@ pub record IsInStep (script : ScriptValue) (left : List At) (fore : Foreground) 
   pub count : fore.t ≤ place_of fore.beam
   pub frame : fore.beam.frame ≤ script.frames
   pub queue : IsLeft (place_of fore.beam) left
+  pub time : fore.chip.newest ≤ fore.t
   pub same : (b : Beam) → IsOnScreen b → place_of fore.beam ≤ place_of b → due_events b script.events ≡ due_events b left
 
 -- all but the pending text stays, and files and pending text stay together
@@ -49,11 +52,18 @@ pub record Flushes (old new : Foreground) (before after : Option Files) : Type 0
   pub t : new.t ≡ old.t
   pub beam : new.beam ≡ old.beam
   pub memory : new.chip.words ≡ old.chip.words
+  pub time : KeepsTime old new
   pub chips : new.chips ≡ old.chips
   pub picture : new.picture ≡ old.picture
   pub clx : new.clx ≡ old.clx
   pub names : new.out.names ≡ old.out.names
   pub files : StayTogether old.out new.out before after
+
+-- all but what the memory keeps of older words stays
+pub record ForgetsWrites (old new : Foreground) : Type 0 where
+  pub same : new ≡ record old { chip = new.chip }
+  pub words : new.chip.words ≡ old.chip.words
+  pub time : KeepsTime old new
 
 -- at the first clock of every 32nd line nothing is pending, so that what is pending stays below 70,000 pixel bytes
 abbrev pub HasNothingPending : Foreground → Type 0

@@ -6,7 +6,6 @@ ghost use Rattle.ocs_base.specs.Limits.{IsRunnable};
 ghost use Rattle.ocs_run.specs.Asked.{value_of, AreApart};
 ghost use Rattle.ocs_run.specs.Command.{OrderAnswers, is_built_script as built_script, are_built as all_built, is_built_act as built_act, out_names, IsOutOf, RunAnswers, KeepsSaid};
 
-use crate::built::{is_missing, is_unreadable};
 use crate::fault::Fault;
 use crate::inputs::{read_image, read_script_file};
 use crate::order::Order;
@@ -78,7 +77,7 @@ fn owned(alloc: Global, text: &str) -> Result<String, Fault>
     }
 }
 
-/// Whether all that the script does is built: no processor, and pokes and peeks of built registers alone.
+/// Whether all that the script does is built: no processor, and pokes and peeks alone.
 pub fn is_built_script(script: &Script) -> bool
     ensures { result ≡ built_script script.now }
 {
@@ -105,8 +104,7 @@ fn is_built_act(act: &Act) -> bool
     ensures { result ≡ built_act act.now }
 {
     match act {
-        Act::Poke { reg, word } => !is_missing(*reg, *word),
-        Act::Peek { reg } => !is_unreadable(*reg),
+        Act::Poke { .. } | Act::Peek { .. } => true,
         Act::Joy { .. } | Act::Fire { .. } | Act::Key { .. } => false,
     }
 }

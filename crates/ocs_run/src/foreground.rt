@@ -6,31 +6,36 @@ ghost use Rattle.serial_model.specs.declared.bus.Made.TheVariants as M;
 ghost use Rattle.serial_model.specs.declared.bus.SideAsk.{SideAsk};
 ghost use Rattle.serial_model.specs.Beam.{IsOnScreen, place_of, next_place};
 ghost use Rattle.serial_model.specs.Registers.{is_interlaced};
-ghost use Rattle.serial_model.specs.Bus.{ask_at, made_by_copper};
-ghost use Rattle.serial_model.specs.Built.{is_unbuilt as unbuilt};
+ghost use Rattle.serial_model.specs.Picture.{sprite_data};
 ghost use Rattle.serial_model.specs.Events.{is_due as due_at, made_by_act};
 ghost use Rattle.serial_model.specs.Tick.{start_clock, run_script as run_script_of, count_timers as count_timers_of};
 ghost use Rattle.serial_model.specs.Tick.{show_pixels, make_access, run_processor, advance_beam, tick as tick_of};
-ghost use Rattle.ocs_run.specs.Steps.{Makes, KeepsPlace, Reads, Answers, Does, Accesses, IsLeft, HasLater, Meets, StopsAt, HasNext, word_for};
+ghost use Rattle.ocs_run.specs.Chips.{CanDo};
+ghost use Rattle.ocs_run.specs.Steps.{Makes, KeepsPlace, WritesRegister, Does, Accesses, IsLeft, HasLater, Meets, StopsAt, HasNext};
 ghost use Rattle.ocs_io.specs.Place.{Rose, OnlyWrites, KeepsNames};
 ghost use Rattle.out_files.specs.OutFiles.{all_given};
 ghost use Rattle.out_files.specs.Answers.{NamesFile, AreGrowable};
 ghost use Rattle.out_files.specs.Together.{LeavesParts};
-ghost use Rattle.ocs_run.specs.Underway.{IsReset, Flushes, HasNothingPending};
+ghost use Rattle.ocs_run.specs.Underway.{IsReset, Flushes, ForgetsWrites, HasNothingPending};
 
-use crate::built::is_missing;
 use crate::chips::Chips;
-use crate::picture::Picture;
 use mem_versions::Chip;
-use ocs_base::{Act, At, Beam, OutOfMemory, Reg, System};
+use ocs_base::{Act, Addr, At, Beam, Clock, OutOfMemory, Reg, System};
 use ocs_io::Place;
 use out_files::{OutFiles, WriteFault};
+use painter::Painter;
 use reg_file::Effect;
-use serial_model::{Ask, CopperAct, Source, TraceLine};
+use serial_model::{Half, Made, Source, TraceLine};
 use std::alloc::Global;
 
 /// The collision bits.
 const CLXDAT: u16 = 0xe;
+
+/// So far before BPL1DAT lie the latches of the planes, by the number of the plane.
+const LATCHES: u16 = 0x10e;
+
+/// SPRxDATA of sprite 0; each sprite has eight bytes of registers.
+const SPR0DATA: u16 = 0x144;
 
 /// Why a colour clock was not done: want of memory, or an access that is not built.
 #[derive(Clone, Copy, PartialEq, Eq, Debug)]
@@ -56,7 +61,7 @@ pub struct Foreground {
     pub beam: Beam,
     pub chip: Chip,
     pub chips: Chips,
-    pub picture: Picture,
+    pub picture: Painter,
     pub clx: u16,
     pub out: OutFiles,
 }
@@ -73,16 +78,17 @@ impl Foreground {
             beam: beam::start(),
             chip,
             chips: Chips::reset(),
-            picture: Picture::reset(),
+            picture: Painter::reset(),
             clx: 0,
             out,
         })
     }
 
     /// Appends what is pending at the first clock of every 32nd line, which keeps it below 70,000 pixel
-    /// bytes.
+    /// bytes, and forgets once a field what was written to memory before.
     pub fn flush_lines<P: Place>(&mut self, place: &mut P) -> Result<(), WriteFault>
-        requires { AreGrowable (P.growable place.old) self.old.out.names }
+        requires growable { AreGrowable (P.growable place.old) self.old.out.names }
+        requires time { self.old.chip.newest ≤ self.old.t }
         ensures flushed { OnOk result
             (Flushes self.old self.new (P.outside place.old).files (P.outside place.new).files) }
         ensures small { OnOk result (HasNothingPending self.new) }
@@ -95,7 +101,21 @@ impl Foreground {
             (P.readable place.new) (P.growable place.new) }
     {
         if self.beam.h == 0 && self.beam.v % 32 == 0 {
+            self.forget_writes()?;
             return self.flush(place);
+        }
+        Ok(())
+    }
+
+    /// At the first lines of a field the memory forgets its older words: no view looks back yet, and what is kept
+    /// of its writes stays as much as a field makes.
+    fn forget_writes(&mut self) -> Result<(), OutOfMemory>
+        requires { self.old.chip.newest ≤ self.old.t }
+        ensures forgot { OnOk result (ForgetsWrites self.old self.new) }
+        ensures kept { OnErr result (self.new.out ≡ self.old.out) }
+    {
+        if self.beam.v == 0 {
+            let _view = self.chip.cut(Clock(self.t))?;
         }
         Ok(())
     }
@@ -117,12 +137,14 @@ impl Foreground {
         self.out.flush(place)
     }
 
-    /// First step: at a field's first clock the Copper starts.
+    /// First step: at a field's first clock the Copper starts, and at a line's first clock the picture forgets the
+    /// line before.
     pub fn start(&mut self)
         ensures step { Makes start_clock self.old self.new }
         ensures place { KeepsPlace self.old self.new }
     {
         self.chips.start(&self.beam);
+        self.picture.clear_line(&self.beam);
     }
 
     /// Second step: the events of this clock happen in their order. `events` are those that are left,
@@ -130,6 +152,7 @@ impl Foreground {
     pub fn run_script<'a>(&mut self, events: &'a [At]) -> Result<&'a [At], OutOfMemory>
         requires screen { IsOnScreen self.old.beam }
         requires queue { IsLeft (place_of self.old.beam) events.now }
+        requires time { self.old.chip.newest ≤ self.old.t }
         ensures step { OnOk result (Makes (run_script_of events.now) self.old self.new) }
         ensures place { OnOk result (KeepsPlace self.old self.new) }
         ensures left { IfOk result (λ left. IsLeft (place_of self.old.beam + 1) left.now) }
@@ -147,21 +170,52 @@ impl Foreground {
     }
 
     /// What an event does: a poke is a write to a register, a peek a read of one, and the trace tells both.
-    #[tactic(auto, using(crate::proofs::StepLaws::does_none))]
     fn act(&mut self, act: &Act) -> Result<(), OutOfMemory>
+        requires clock { self.old.beam.h ≤ 226 }
+        requires time { self.old.chip.newest ≤ self.old.t }
         ensures { OnOk result (Does (made_by_act act.now) self.old self.new) }
     {
-        match act {
-            Act::Poke { reg, word } => self.write(*reg, *word, Source::Script)?,
-            Act::Peek { reg } => self.peek(*reg)?,
-            Act::Joy { .. } | Act::Fire { .. } | Act::Key { .. } => {}
+        self.carry_out(&made_by(act))
+    }
+
+    /// What an access or an event makes is done.
+    #[inline(always)]
+    #[tactic(auto, using(crate::proofs::StepLaws::does_none))]
+    fn carry_out(&mut self, made: &Made) -> Result<(), OutOfMemory>
+        requires clock { self.old.beam.h ≤ 226 }
+        requires time { self.old.chip.newest ≤ self.old.t }
+        requires able { CanDo made.now }
+        ensures { OnOk result (Does made.now self.old self.new) }
+    {
+        match made {
+            Made::Wrote { reg, word, by } => self.write(*reg, *word, *by)?,
+            Made::Read { reg, by } => self.read(*reg, *by)?,
+            Made::Plane { plane, at } => self.fill_latch(*plane, *at),
+            Made::Sprite { sprite, second, at } => self.fill_sprite(*sprite, *second, *at),
+            Made::Stored { at, word, .. } => self.store(*at, *word)?,
+            Made::Nothing => {}
         }
         Ok(())
     }
 
-    /// A write to a register, which the trace tells: it reaches the chips, and the picture or LOF where the
-    /// register is one of Denise's or VPOSW.
-    fn write(&mut self, reg: Reg, word: u16, by: Source) -> Result<(), OutOfMemory>
+    /// A write to a register, which the trace tells where there is someone to name: it reaches the chips, and the
+    /// picture or LOF where the register is one of Denise's or VPOSW.
+    fn write(&mut self, reg: Reg, word: u16, by: Option<Source>) -> Result<(), OutOfMemory>
+        requires { self.old.beam.h ≤ 226 }
+        ensures { OnOk result (Does (M.Wrote reg word by) self.old self.new) }
+    {
+        match by {
+            Some(source) => self.write_with_line(reg, word, source),
+            None => {
+                self.write_register(reg, word);
+                Ok(())
+            }
+        }
+    }
+
+    /// A write to a register with its line of the trace.
+    fn write_with_line(&mut self, reg: Reg, word: u16, by: Source) -> Result<(), OutOfMemory>
+        requires { self.old.beam.h ≤ 226 }
         ensures { OnOk result (Does (M.Wrote reg word (Some by)) self.old self.new) }
     {
         self.out.line(TraceLine::Wrote {
@@ -170,29 +224,68 @@ impl Foreground {
             word,
             by,
         })?;
+        self.write_register(reg, word);
+        Ok(())
+    }
+
+    /// A write to a register, without its line of the trace.
+    fn write_register(&mut self, reg: Reg, word: u16)
+        requires { self.old.beam.h ≤ 226 }
+        ensures { WritesRegister reg word self.old self.new }
+    {
         match self.chips.poke(reg, word) {
             Effect::Picture => self.picture.set(self.beam.h, reg, word),
             Effect::Lof { long } => self.beam.lof = long,
             _ => {}
         }
-        Ok(())
     }
 
-    /// A read of a register by the script, which the trace tells. A read of CLXDAT clears the collision bits.
-    fn peek(&mut self, reg: Reg) -> Result<(), OutOfMemory>
-        ensures { OnOk result (Does (M.Read reg Source.Script) self.old self.new) }
+    /// A read of a register, which the trace tells. A read of CLXDAT clears the collision bits.
+    fn read(&mut self, reg: Reg, by: Source) -> Result<(), OutOfMemory>
+        ensures { OnOk result (Does (M.Read reg by) self.old self.new) }
     {
         let word = self.chips.peek(reg, &self.beam, self.clx);
         self.out.line(TraceLine::Peeked {
             beam: self.beam,
             reg,
             word,
-            by: Source::Script,
+            by,
         })?;
         if reg.offset == CLXDAT {
             self.clx = 0;
         }
         Ok(())
+    }
+
+    /// A word is stored in memory.
+    fn store(&mut self, at: Addr, word: u16) -> Result<(), OutOfMemory>
+        requires { self.old.chip.newest ≤ self.old.t }
+        ensures { OnOk result (Does (M.Stored at Half.Both word) self.old self.new) }
+    {
+        self.chip.write(Clock(self.t), at, word)?;
+        Ok(())
+    }
+
+    /// The word at an address fills the latch of a plane, 1 to 6.
+    fn fill_latch(&mut self, plane: u8, at: Addr)
+        requires clock { self.old.beam.h ≤ 226 }
+        requires plane { plane ≤ 6 }
+        ensures { Does (M.Plane plane at) self.old self.new }
+    {
+        let word = self.chip.read(at);
+        let latch = Reg::masked(LATCHES + 2 * plane as u16);
+        self.picture.set(self.beam.h, latch, word);
+    }
+
+    /// The word at an address fills SPRxDATA or, `second`, SPRxDATB of a sprite, 0 to 7.
+    fn fill_sprite(&mut self, sprite: u8, second: bool, at: Addr)
+        requires clock { self.old.beam.h ≤ 226 }
+        requires sprite { sprite ≤ 7 }
+        ensures { Does (M.Sprite sprite second at) self.old self.new }
+    {
+        let word = self.chip.read(at);
+        let data = data_register(sprite, second);
+        self.picture.set(self.beam.h, data, word);
     }
 
     /// Third step: the timers of the CIAs, which are not built yet.
@@ -201,60 +294,32 @@ impl Foreground {
         ensures place { KeepsPlace self.old self.new }
     {}
 
-    /// Fourth step: Denise shows the pixels of this clock.
+    /// Fourth step: Denise shows the pixels of this clock and gathers their collisions.
     pub fn show(&mut self) -> Result<(), OutOfMemory>
+        requires screen { IsOnScreen self.old.beam }
         ensures step { OnOk result (Makes (show_pixels System.Pal) self.old self.new) }
         ensures place { OnOk result (KeepsPlace self.old self.new) }
     {
-        self.picture.show(&self.beam, &mut self.out)?;
+        let mut pixels = [[0; 3]; 4];
+        if self.picture.show(&self.beam, &mut pixels, &mut self.clx) {
+            self.out.pixels(pixels.as_flattened())?;
+        }
         Ok(())
     }
 
     /// Fifth step: the owner of the slot makes its access, the chips have their answers, and what the access
     /// makes is done. `NotBuilt` comes exactly where that is not built, and then the output is as it was.
     pub fn access(&mut self) -> Result<(), TickFault>
+        requires screen { IsOnScreen self.old.beam }
+        requires time { self.old.chip.newest ≤ self.old.t }
         ensures step { OnOk result (Makes (make_access SideAsk.Nothing) self.old self.new) }
         ensures place { OnOk result (KeepsPlace self.old self.new) }
         ensures built { OnOk result (Accesses false self.old) }
         ensures unbuilt { result ≡ Err TickFault.NotBuilt → Accesses true self.old }
         ensures kept { result ≡ Err TickFault.NotBuilt → self.new.out ≡ self.old.out }
     {
-        let act = self.answer();
-        if is_unbuilt(&act) {
-            return Err(TickFault::NotBuilt);
-        }
-        self.carry_out(&act)?;
-        Ok(())
-    }
-
-    /// The word that answers the access of this clock, 0 where nothing is read.
-    fn fetch(&mut self, ask: &Ask) -> u16
-        requires { ask.now ≡ ask_at SideAsk.Nothing self.old.beam self.old.chips }
-        ensures word { result ≡ word_for self.old }
-        ensures reads { Reads self.old self.new }
-    {
-        match ask {
-            Ask::Copper { at } | Ask::Audio { at, .. } => self.chip.read(*at),
-            Ask::Free | Ask::Disk { .. } => 0,
-        }
-    }
-
-    /// The owner of the slot has its word, and the Copper takes its step. The answer is what that step makes.
-    fn answer(&mut self) -> CopperAct
-        ensures { Answers result self.old self.new }
-    {
-        let ask = self.chips.ask(&self.beam);
-        let word = self.fetch(&ask);
-        self.chips.answer(&self.beam, &ask, word)
-    }
-
-    /// What a step of the Copper made is done: a MOVE is a write to its register.
-    fn carry_out(&mut self, act: &CopperAct) -> Result<(), OutOfMemory>
-        ensures { OnOk result (Does (made_by_copper act.now) self.old self.new) }
-    {
-        if let CopperAct::Move { reg, word } = act {
-            self.write(*reg, *word, Source::Copper)?;
-        }
+        let made = self.chips.access(&self.beam, &mut self.chip);
+        self.carry_out(&made)?;
         Ok(())
     }
 
@@ -274,6 +339,7 @@ impl Foreground {
             ≡ next_place (is_interlaced self.old.chips.registers) self.old.beam }
         ensures count { self.new.t ≡ self.old.t + 1 }
         ensures names { self.new.out.names ≡ self.old.out.names }
+        ensures memory { self.new.chip ≡ self.old.chip }
     {
         beam::advance(&mut self.beam, self.chips.is_interlaced());
         self.t += 1;
@@ -287,6 +353,7 @@ impl Foreground {
         requires queue { IsLeft (place_of self.old.beam) events.now }
         requires frame { self.old.beam.frame + 1 < 2 ^ 32 }
         requires count { self.old.t + 1 < 2 ^ 64 }
+        requires time { self.old.chip.newest ≤ self.old.t }
         ensures step { OnOk result (Makes (tick_of System.Pal events.now) self.old self.new) }
         ensures built { OnOk result (Meets false events.now self.old) }
         ensures unbuilt { result ≡ Err TickFault.NotBuilt → StopsAt events.now self.old self.new }
@@ -310,12 +377,29 @@ fn is_due(beam: &Beam, event: &At) -> bool
     event.frame == beam.frame && event.v == beam.v && event.h == beam.h
 }
 
-/// Whether the write of a MOVE is not built.
-fn is_unbuilt(act: &CopperAct) -> bool
-    ensures { result ≡ unbuilt (made_by_copper act.now) }
+/// SPRxDATA or, `second`, SPRxDATB of a sprite, 0 to 7.
+fn data_register(sprite: u8, second: bool) -> Reg
+    requires { sprite ≤ 7 }
+    ensures { result.offset ≡ sprite_data sprite second }
+{
+    Reg::masked(SPR0DATA + 8 * sprite as u16 + if second { 2 } else { 0 })
+}
+
+/// What an event makes: a poke is a write to a register and a peek a read of one, by the script.
+fn made_by(act: &Act) -> Made
+    ensures made { result ≡ made_by_act act.now }
+    ensures able { CanDo result }
 {
     match act {
-        CopperAct::Move { reg, word } => is_missing(*reg, *word),
-        CopperAct::None => false,
+        Act::Poke { reg, word } => Made::Wrote {
+            reg: *reg,
+            word: *word,
+            by: Some(Source::Script),
+        },
+        Act::Peek { reg } => Made::Read {
+            reg: *reg,
+            by: Source::Script,
+        },
+        Act::Joy { .. } | Act::Fire { .. } | Act::Key { .. } => Made::Nothing,
     }
 }

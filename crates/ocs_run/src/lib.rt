@@ -1,7 +1,7 @@
 //! The top call: a run from the words of the command line to the output files.
 #![tactic(auto)]
 
-mod built;
+mod blit_registers;
 mod chips;
 mod command;
 mod fault;
@@ -9,7 +9,6 @@ mod foreground;
 mod gate;
 mod inputs;
 mod order;
-mod picture;
 mod run;
 mod texts;
 mod top;

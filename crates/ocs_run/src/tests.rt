@@ -5,6 +5,11 @@ use ocs_base::OutOfMemory;
 use ocs_io::Shelf;
 use std::alloc::Global;
 
+mod blits;
+mod cases;
+mod pictures;
+mod sprites;
+
 const IMAGE: [u8; 8] = [0; 8];
 
 const HEAD: &str = "ocs 1\ncpu off\nframes 1\n";
@@ -21,9 +26,6 @@ const WORDS: [&str; 8] = [
 const START: &str = "at 0 0 0 poke 082 0008\nat 0 0 0 poke 088 0000\nat 0 0 0 poke 096 8280\n";
 
 const STARTED: &str = "0 0 0 W 082 0008 S\n0 0 0 W 088 0000 S\n0 0 0 W 096 8280 S\n";
-
-/// A Copper list whose first MOVE is to BPL1DAT.
-const MOVE_TO_BITPLANE: [u8; 12] = [0, 0, 0, 0, 0, 0, 0, 0, 0x01, 0x10, 0, 0];
 
 /// A script of one frame with these lines of events.
 fn script(alloc: Global, events: &str) -> Result<String, OutOfMemory> {
@@ -271,15 +273,6 @@ fn peeks_of_beam_and_field(rt: HostRuntime) -> Result<(), OutOfMemory> {
 fn scripts_that_are_not_built(rt: HostRuntime) -> Result<(), OutOfMemory> {
     let alloc = rt.alloc();
     for events in [
-        "at 0 0 0 poke 058 0041\n",
-        "at 0 0 0 poke 09a c020\n",
-        "at 0 0 0 poke 09c 0020\n",
-        "at 0 0 0 poke 110 8000\n",
-        "at 0 0 0 poke 17e 0000\n",
-        "at 0 0 0 poke 096 0100\n",
-        "at 0 0 0 poke 100 1000\n",
-        "at 0 0 0 peek 00e\n",
-        "at 0 0 0 peek 01c\n",
         "at 0 0 0 joy 0 0001\n",
         "at 0 0 0 fire 0 1\n",
         "at 0 0 0 key 45\n",
@@ -322,19 +315,6 @@ fn answers_and_their_texts(rt: HostRuntime) -> Result<(), OutOfMemory> {
     assert_eq!(rt; run(alloc, &WORDS, &mut shelf)?, 0);
     assert!(rt; shelf.said().is_empty());
     assert!(rt; holds(&shelf, "memory", &whole), "memory of a whole image");
-    Ok(())
-}
-
-#[test]
-fn a_run_that_is_not_built(rt: HostRuntime) -> Result<(), OutOfMemory> {
-    let alloc = rt.alloc();
-    let text = script(alloc, START)?;
-    let mut shelf = shelf(alloc, &MOVE_TO_BITPLANE, text.as_bytes())?;
-    assert_eq!(rt; run(alloc, &WORDS, &mut shelf)?, 8);
-    assert!(rt; shelf.said() == b"not built\n".as_slice());
-    assert!(rt; holds(&shelf, "trace", STARTED.as_bytes()), "trace");
-    assert!(rt; holds(&shelf, "frames", &[]), "frames");
-    assert!(rt; holds(&shelf, "memory", &[]), "memory");
     Ok(())
 }
 

@@ -5,7 +5,7 @@ ghost use Rattle.std.specs.List.{All};
 ghost use Rattle.priority_ham.specs.PlaneCount.{planes_of};
 ghost use Rattle.priority_ham.specs.PixelColour.{playfield_colour, shown_colour};
 
-use crate::playfield::{colour_of, hide};
+use crate::playfield::{colour_of, is_sprite_hidden};
 use ocs_base::Colour;
 use sprites::SpritePixel;
 
@@ -43,7 +43,7 @@ pub fn colour(
     let playfields = colour_of(con0, con2, bits, held.0, palette);
     let shown = match spr {
         Some(sprite) => {
-            if hide(con0, con2, bits, sprite.pair) {
+            if is_sprite_hidden(con0, con2, bits, sprite.pair) {
                 playfields
             } else {
                 palette[sprite.colour as usize]

@@ -28,8 +28,13 @@ pub fn colour_of(con0: u16, con2: u16, bits: u8, held: u16, palette: &[u16; 32])
     }
 }
 
-/// Whether the playfields hide a pixel of a pair of sprites.
-pub fn hide(con0: u16, con2: u16, bits: u8, pair: u8) -> bool
+/// Whether the playfields hide a pixel of a pair of sprites, 0 to 3 (Hardware Reference Manual,
+/// priorities).
+///
+/// `con0` is BPLCON0 and `con2` BPLCON2, `bits` has plane p as its bit p - 1, of as many planes as
+/// BPLCON0 says. A pair is hidden where the playfield that is chosen has a value that is not 0 and
+/// a priority code that is not above the pair; codes 5 to 7 count as 4 (profile).
+pub fn is_sprite_hidden(con0: u16, con2: u16, bits: u8, pair: u8) -> bool
     ensures { result ≡ hides con0 con2 bits pair }
 {
     let code_of_one = (con2 & 7) as u8;

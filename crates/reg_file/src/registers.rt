@@ -1,7 +1,7 @@
 //! The kept words of the custom registers.
 
 ghost use Rattle.std.specs.Prelude.{◌≡◌, ◌<◌, ◌%◌, true, if◌then◌else◌};
-ghost use Rattle.serial_model.specs.Registers.{no_registers, kept_word, pointer_at, with_pointer, words_after, effect_of};
+ghost use Rattle.serial_model.specs.Registers.{no_registers, kept_word, pointer_at, with_pointer, with_word, words_after, effect_of};
 ghost use Rattle.serial_model.specs.Registers.{effect_in, word_at, set_or_clear as set_or_clear_of, is_closed as closed, bit_worth};
 ghost use Rattle.serial_model.specs.RegisterTable.{is_pointer_high};
 
@@ -116,6 +116,14 @@ impl Regs {
         let at = high.offset as usize / 2;
         self.words[at] = (to.raw() / 0x1_0000) as u16;
         self.words[at + 1] = (to.raw() % 0x1_0000) as u16;
+    }
+
+    /// The kept word of a register becomes what a chip leaves in it. This is no write on the bus, so a busy
+    /// blitter does not close it, and all 16 bits are kept.
+    pub fn set_word(&mut self, reg: Reg, word: u16)
+        ensures { self.new ≡ with_word self.old reg.offset word }
+    {
+        self.words[reg.offset as usize / 2] = word;
     }
 }
 

@@ -1,5 +1,5 @@
 -- A run comes to its end, and has then shown whole frames.
-use Rattle.std.proofs.Common.{◌≡◌, ◌≢◌, ℕ, zero, suc, ◌+◌, ◌-◌, ◌*◌, ◌<◌, ◌≤◌, Bool, true, false, ◌&&◌, nat_le, if◌then◌else◌, List, [], ◌++◌, length, slice_index, arith, refl, ap, ◌∙◌, sym, subst, inl, inr, length-append, lit<}
+use Rattle.std.proofs.Common.{◌≡◌, ◌≢◌, ℕ, zero, suc, ◌+◌, ◌-◌, ◌*◌, ◌<◌, ◌≤◌, Bool, true, false, ◌&&◌, nat_le, if◌then◌else◌, List, [], ◌++◌, length, arith, refl, ap, ◌∙◌, sym, subst, inl, inr, length-append, lit<}
 use Rattle.std.proofs.lemmas.Bool.{cases_eq}
 use Rattle.std.proofs.lemmas.Bool.Decides.{nat_tests}
 use Rattle.std.specs.Prelude.{min}
@@ -13,7 +13,7 @@ use Rattle.serial_model.specs.declared.picture.Denise.{Denise}
 use Rattle.serial_model.specs.Beam.{IsOnScreen, place_of, next_place, is_visible}
 use Rattle.serial_model.specs.Laws.{HasEnd, FramesAreWhole, picture_step, picture_before}
 use Rattle.serial_model.specs.Outputs.{frame_bytes}
-use Rattle.serial_model.specs.Picture.{pixels, step_of, colour_bytes}
+use Rattle.serial_model.specs.Picture.{pixels, pixel_bytes, step_of}
 use Rattle.serial_model.specs.Registers.{is_interlaced}
 use Rattle.serial_model.specs.Serial.{state_at, IsEnd}
 use Rattle.serial_model.specs.State.{State, reset}
@@ -89,10 +89,9 @@ abbrev bytes_at : ℕ → ℕ → ℕ
 bytes_at v h = if is_visible Pal v h then 12 else 0
 
 pixels-length : (v h : ℕ) (p : Denise) → length (pixels Pal v h p) ≡ bytes_at v h
-unfolding pixels
 pixels-length v h p =
-    let c = colour_bytes (slice_index p.palette 0) in
-    let P : Bool → Type 0 = λ b. length (if b then c ++ (c ++ (c ++ c)) else []) ≡ (if b then 12 else 0) in
+    let c : ℕ → List ℕ = λ n. pixel_bytes v h n p in
+    let P : Bool → Type 0 = λ b. length (if b then c 0 ++ (c 1 ++ (c 2 ++ c 3)) else []) ≡ (if b then 12 else 0) in
     elim (is_visible Pal v h) as P [ true ↦ refl | false ↦ refl ]
 
 bytes-next : (lace : Bool) (b : Beam) → IsOnScreen b

@@ -19,7 +19,7 @@ use Rattle.serial_model.specs.Owner.{owner_of, is_refresh, if_asking, by_channel
 use Rattle.serial_model.specs.PlaneFetch.{IsLastUnit, fetched_plane, plane_ask, move_planes, move_if_fetched, move_plane_pointer, ask_for_plane}
 use Rattle.serial_model.specs.Registers.{kept_word, pointer_at, has_bits}
 use Rattle.serial_model.specs.SpriteFetch.{kinds_at, kind_of, kind_by, no_kinds, sprite_of, is_sprite_slot, is_second_slot, sprite_in_slot, sprite_ask, ask_in_slot, ask_by_kind, asking_sprite, sprite_pointer, position_word, control_word, sprite_dma, move_sprites, move_sprite_pointer, move_if_asked}
-use Rattle.serial_model.proofs.FetchLaws.{IsFetch, IsNoPlanePointer, fetched_plane-is, kept_word-move_planes}
+use Rattle.serial_model.proofs.FetchLaws.{IsFetch, IsNoPlanePointer, fetched_plane-is, kept_word-move_planes, move_pointer-other}
 
 -- registers that differ in the planes' pointers at most
 pub record SameForSprites (moved registers : List ℕ) : Type 0 where
@@ -85,6 +85,39 @@ sprite_ask-slot h registers kinds taken ask is =
 pub sprite_ask-taken : (h : ℕ) (registers : List ℕ) (kinds : List SpriteKind) → sprite_ask h registers kinds true ≡ None
 sprite_ask-taken h registers kinds =
     ap (λ asks. ask_in_slot (if asks then Some (sprite_of h) else None) h registers kinds) (and-false (is_sprite_slot h && sprite_dma registers))
+
+-- one of eight sprites asks
+few_in_slot : (kind : SpriteKind) (second : Bool) (registers : List ℕ) (sprite : ℕ) → sprite ≤ 7
+    → IfSome (ask_by_kind kind second registers sprite) (λ ask. asking_sprite ask ≤ 7)
+few_in_slot Nothing second registers sprite few = tt
+few_in_slot Control second registers sprite few = few
+few_in_slot Words second registers sprite few = few
+
+few_if : (slot on free : Bool) (h : ℕ) (registers : List ℕ) (kinds : List SpriteKind) → (slot ≡ true → sprite_of h ≤ 7)
+    → IfSome (ask_in_slot (if slot && on && free then Some (sprite_of h) else None) h registers kinds) (λ ask. asking_sprite ask ≤ 7)
+few_if true true true h registers kinds few =
+    few_in_slot (get_or kinds (sprite_of h) Nothing) (is_second_slot h) registers (sprite_of h) (few refl)
+few_if true true false h registers kinds few = tt
+few_if true false free h registers kinds few = tt
+few_if false on free h registers kinds few = tt
+
+few_at : (h : ℕ) → is_sprite_slot h ≡ true → sprite_of h ≤ 7
+few_at h is = grind (arith, nat_tests)
+
+pub sprite_ask-few : (h : ℕ) (registers : List ℕ) (kinds : List SpriteKind) (taken : Bool)
+    → IfSome (sprite_ask h registers kinds taken) (λ ask. asking_sprite ask ≤ 7)
+sprite_ask-few h registers kinds taken = few_if (is_sprite_slot h) (sprite_dma registers) (not taken) h registers kinds (few_at h)
+
+-- the fetches of sprites leave the registers below their pointers
+sprites_kept : (asked : Option SpriteAsk) (registers : List ℕ) (offset : ℕ) → offset < 0x120
+    → kept_word (move_if_asked asked registers) offset ≡ kept_word registers offset
+sprites_kept None registers offset low = refl
+sprites_kept (Some ask) registers offset low =
+    move_pointer-other (sprite_pointer (asking_sprite ask)) 0 registers offset (omega arith) (omega arith)
+
+pub kept_word-move_sprites : (h : ℕ) (kinds : List SpriteKind) (taken : Bool) (registers : List ℕ) (offset : ℕ) → offset < 0x120
+    → kept_word (move_sprites h kinds taken registers) offset ≡ kept_word registers offset
+kept_word-move_sprites h kinds taken registers offset low = sprites_kept (sprite_ask h registers kinds taken) registers offset low
 
 -- disk and audio ask only before the sprites' first slot
 pub record AsksBefore (s : SlotState) : Type 0 where

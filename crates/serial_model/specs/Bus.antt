@@ -1,7 +1,13 @@
 -- The access of a clock: who asks for the slot, who gets it, what answers it and what it makes.
-use Rattle.std.specs.Prelude.{ℕ, ◌%◌, Bool, true, false, ◌==◌, ◌&&◌, if◌then◌else◌, List, Option, Some, None, is_some}
+use Rattle.std.specs.Prelude.{ℕ, ◌+◌, ◌*◌, ◌%◌, Bool, true, false, ◌==◌, ◌&&◌, if◌then◌else◌, List, [], ◌∷◌, ◌++◌, Option, Some, None, is_some}
+use Rattle.std.specs.Option.{option_map}
 use Rattle.ocs_base.specs.declared.addr.Addr.{Addr}
+use Rattle.blit_words.specs.Blitter.{blit_ask, is_done, blit_zero, blit_end}
+use Rattle.blit_words.specs.declared.blit.SlotAsk.{SlotAsk}
+use Rattle.blit_words.specs.declared.blit.SlotAsk.TheVariants.{Read, Write, Rest, Done}
+use Rattle.ocs_base.specs.Register.{register_of}
 use Rattle.ocs_base.specs.declared.beam.Beam.{Beam}
+use Rattle.ocs_base.specs.declared.reg.Reg.{Reg}
 use Rattle.serial_model.specs.declared.bus.Ask.{Ask}
 use Rattle.serial_model.specs.declared.bus.Ask.TheVariants as A
 use Rattle.serial_model.specs.declared.bus.Half.TheVariants.{Both}
@@ -12,15 +18,23 @@ use Rattle.serial_model.specs.declared.bus.SideAsk.TheVariants as S
 use Rattle.serial_model.specs.declared.copper.CopperAct.{CopperAct}
 use Rattle.serial_model.specs.declared.copper.CopperAct.TheVariants.{None as NoAct, Move}
 use Rattle.serial_model.specs.declared.copper.CopperState.{CopperState}
+use Rattle.serial_model.specs.declared.fetch.PlaneAsk.{PlaneAsk}
+use Rattle.serial_model.specs.declared.fetch.SpriteAsk.{SpriteAsk}
+use Rattle.serial_model.specs.declared.fetch.SpriteAsk.TheVariants.{Control, Words}
+use Rattle.serial_model.specs.declared.fetch.SpriteKind.{SpriteKind}
 use Rattle.serial_model.specs.declared.slots.Owner.{Owner}
 use Rattle.serial_model.specs.declared.slots.Owner.TheVariants.{Refresh, Disk, Audio, Plane, Sprite, Copper, Blitter, Processor, Free}
 use Rattle.serial_model.specs.declared.slots.SlotState.{SlotState}
 use Rattle.serial_model.specs.declared.trace.Source.TheVariants.{Copper as ByCopper}
-use Rattle.serial_model.specs.Registers.{copper_dma, blitter_first, is_danger}
+use Rattle.serial_model.specs.BlitRegisters.{with_blit}
+use Rattle.serial_model.specs.Interrupts.{after_request}
+use Rattle.serial_model.specs.Registers.{copper_dma, blitter_dma, blitter_first, is_danger}
 use Rattle.serial_model.specs.Copper.{wish_of, step_copper, copper_act}
 use Rattle.serial_model.specs.Made.{word_of}
 use Rattle.serial_model.specs.Owner.{owner_of}
-use Rattle.serial_model.specs.State.{Chips, is_busy}
+use Rattle.serial_model.specs.PlaneFetch.{units_at, last_unit, plane_ask, move_plane_pointer}
+use Rattle.serial_model.specs.SpriteFetch.{kinds_at, sprite_ask, asking_sprite, move_sprite_pointer}
+use Rattle.serial_model.specs.State.{BlitUnderWay, Chips, is_busy}
 
 -- the Copper takes part in even clocks while its DMA is on
 abbrev pub copper_runs : Beam → Chips → Bool
@@ -30,13 +44,45 @@ copper_runs b c = (b.h % 2 == 0) && copper_dma c.registers
 abbrev pub copper_wish : Beam → Chips → Option Addr
 copper_wish b c = if copper_runs b c then wish_of c.copper else None
 
--- what each asker wishes at a clock; bitplanes, sprites, blitter and processor do not ask yet
+-- the clocks of this line at which units of bitplane fetch began, with what this clock adds
+abbrev pub units_now : Beam → Chips → List ℕ
+units_now b c = units_at b c.registers c.units
+
+-- the plane that is fetched at this clock, and the address of its word
+abbrev pub plane_wish : Beam → Chips → Option PlaneAsk
+plane_wish b c = plane_ask b.h c.registers (last_unit (units_now b c))
+
+-- what each sprite reads on this line, with what this clock decides
+abbrev pub kinds_now : Beam → Chips → List SpriteKind
+kinds_now b c = kinds_at b c.registers c.kinds
+
+-- what the sprites ask for at this clock, where no plane has the slot
+abbrev pub sprite_wish : Beam → Chips → Option SpriteAsk
+sprite_wish b c = sprite_ask b.h c.registers (kinds_now b c) (is_some (plane_wish b c))
+
+-- what the blit under way does with its next slot, for which it asks while DMAEN and BLTEN are set
+abbrev pub ask_of_blit : BlitUnderWay → SlotAsk
+ask_of_blit run = blit_ask run.start run.answers
+
+abbrev pub blit_wish : Chips → Option SlotAsk
+blit_wish c = if blitter_dma c.registers then option_map ask_of_blit c.blit else None
+
+-- what each asker wishes at a clock; the processor does not ask yet
 pub record Wishes : Type 0 where
   pub side : SideAsk
+  pub plane : Option PlaneAsk
+  pub sprite : Option SpriteAsk
   pub copper : Option Addr
+  pub blit : Option SlotAsk
 
 abbrev pub wishes_of : SideAsk → Beam → Chips → Wishes
-wishes_of side b c = record { side = side; copper = copper_wish b c }
+wishes_of side b c = record {
+  side = side;
+  plane = plane_wish b c;
+  sprite = sprite_wish b c;
+  copper = copper_wish b c;
+  blit = blit_wish c;
+}
 
 abbrev pub is_disk : SideAsk → Bool
 is_disk S.Nothing = false
@@ -54,10 +100,10 @@ slot_state b c w = record {
   h = b.h;
   disk = is_disk w.side;
   audio = channel_of w.side;
-  plane = None;
-  sprite = None;
+  plane = option_map (λ (ask : PlaneAsk). ask.plane) w.plane;
+  sprite = option_map asking_sprite w.sprite;
   copper = is_some w.copper;
-  blitter = false;
+  blitter = is_some w.blit;
   processor = false;
   missed = 0;
   nasty = blitter_first c.registers;
@@ -69,19 +115,35 @@ side_ask S.Nothing = A.Free
 side_ask (S.Disk at word) = A.Disk at word
 side_ask (S.Audio channel at) = A.Audio channel at
 
+abbrev pub plane_owner_ask : Option PlaneAsk → Ask
+plane_owner_ask None = A.Free
+plane_owner_ask (Some ask) = A.Plane ask.plane ask.at
+
+abbrev pub sprite_owner_ask : Option SpriteAsk → Ask
+sprite_owner_ask None = A.Free
+sprite_owner_ask (Some (Control sprite second at)) = A.SpriteControl sprite second at
+sprite_owner_ask (Some (Words sprite second at)) = A.SpriteWords sprite second at
+
 abbrev pub copper_ask : Option Addr → Ask
 copper_ask None = A.Free
 copper_ask (Some at) = A.Copper at
+
+abbrev pub blit_owner_ask : Option SlotAsk → Ask
+blit_owner_ask None = A.Free
+blit_owner_ask (Some (Read at)) = A.BlitRead at
+blit_owner_ask (Some (Write at word)) = A.BlitWrite at word
+blit_owner_ask (Some Rest) = A.BlitRest
+blit_owner_ask (Some Done) = A.Free
 
 -- the ask of the slot's owner
 abbrev pub owner_ask : Owner → Wishes → Ask
 owner_ask Refresh w = A.Free
 owner_ask Disk w = side_ask w.side
 owner_ask (Audio channel) w = side_ask w.side
-owner_ask (Plane plane) w = A.Free
-owner_ask (Sprite sprite) w = A.Free
+owner_ask (Plane plane) w = plane_owner_ask w.plane
+owner_ask (Sprite sprite) w = sprite_owner_ask w.sprite
 owner_ask Copper w = copper_ask w.copper
-owner_ask Blitter w = A.Free
+owner_ask Blitter w = blit_owner_ask w.blit
 owner_ask Processor w = A.Free
 owner_ask Free w = A.Free
 
@@ -89,44 +151,94 @@ owner_ask Free w = A.Free
 unfoldable pub ask_at : SideAsk → Beam → Chips → Ask
 ask_at side b c = owner_ask (owner_of (slot_state b c (wishes_of side b c))) (wishes_of side b c)
 
--- whether the access reads chip memory
-abbrev pub is_memory_read : Ask → Bool
-is_memory_read A.Free = false
-is_memory_read (A.Disk at word) = false
-is_memory_read (A.Audio channel at) = true
-is_memory_read (A.Copper at) = true
-
 -- the word that answers it, 0 where nothing is read
 abbrev pub answer_to : Ask → List ℕ → ℕ
 answer_to A.Free memory = 0
 answer_to (A.Disk at word) memory = 0
 answer_to (A.Audio channel at) memory = word_of memory at.value
+answer_to (A.Plane plane at) memory = word_of memory at.value
+answer_to (A.SpriteControl sprite second at) memory = word_of memory at.value
+answer_to (A.SpriteWords sprite second at) memory = word_of memory at.value
 answer_to (A.Copper at) memory = word_of memory at.value
+answer_to (A.BlitRead at) memory = word_of memory at.value
+answer_to (A.BlitWrite at word) memory = 0
+answer_to A.BlitRest memory = 0
 
 -- the word that the Copper gets: that of its own ask alone
 abbrev pub copper_word : Ask → ℕ → Option ℕ
 copper_word A.Free word = None
 copper_word (A.Disk at stored) word = None
 copper_word (A.Audio channel at) word = None
+copper_word (A.Plane plane at) word = None
+copper_word (A.SpriteControl sprite second at) word = None
+copper_word (A.SpriteWords sprite second at) word = None
 copper_word (A.Copper at) word = Some word
+copper_word (A.BlitRead at) word = None
+copper_word (A.BlitWrite at stored) word = None
+copper_word A.BlitRest word = None
 
 -- the Copper's step of this clock
 abbrev pub copper_after : Beam → Option ℕ → Chips → CopperState
 copper_after b fetched c =
     if copper_runs b c then step_copper b (is_busy c) (is_danger c.registers) fetched c.copper else c.copper
 
+-- a blit has one more answer; with that of its last ask it ends: pointers and data registers have the values of the end, and
+-- BLIT, bit 6 of INTREQ, is requested
+abbrev pub end_blit : BlitUnderWay → Chips → Chips
+end_blit run c = record c {
+  registers = with_blit (blit_end run.start run.answers) c.registers;
+  blit = None;
+  zero = blit_zero run.start run.answers;
+  irq = after_request 0x40 c.irq;
+}
+
+abbrev pub go_on : BlitUnderWay → Chips → Chips
+go_on run c = if is_done (ask_of_blit run) then end_blit run c else record c { blit = Some run }
+
+abbrev pub give_blit : ℕ → Option BlitUnderWay → Chips → Chips
+give_blit word None c = c
+give_blit word (Some run) c = go_on (record run { answers = run.answers ++ word ∷ [] }) c
+
+-- the chips once the owner of the slot has its answer: a fetch moves the pointer of its plane or sprite, and a blit goes on
+abbrev pub answer_owner : Beam → Ask → ℕ → Chips → Chips
+answer_owner b A.Free word c = c
+answer_owner b (A.Disk at stored) word c = c
+answer_owner b (A.Audio channel at) word c = c
+answer_owner b (A.Plane plane at) word c =
+    record c { registers = move_plane_pointer b.h (last_unit (units_now b c)) plane c.registers }
+answer_owner b (A.SpriteControl sprite second at) word c = record c { registers = move_sprite_pointer sprite c.registers }
+answer_owner b (A.SpriteWords sprite second at) word c = record c { registers = move_sprite_pointer sprite c.registers }
+answer_owner b (A.Copper at) word c = c
+answer_owner b (A.BlitRead at) word c = give_blit word c.blit c
+answer_owner b (A.BlitWrite at stored) word c = give_blit word c.blit c
+answer_owner b A.BlitRest word c = give_blit word c.blit c
+
 -- the chips once each has its answer
 unfoldable pub answer_chips : Beam → Ask → ℕ → Chips → Chips
-answer_chips b ask word c = record c { copper = copper_after b (copper_word ask word) c }
+answer_chips b ask word c = record (answer_owner b ask word c) {
+  units = units_now b c;
+  kinds = kinds_now b c;
+  copper = copper_after b (copper_word ask word) c;
+}
 
 -- a MOVE is a write by the Copper
 abbrev pub made_by_copper : CopperAct → Made
 made_by_copper NoAct = M.Nothing
 made_by_copper (Move reg word) = M.Wrote reg word (Some ByCopper)
 
+-- SPRxPOS or, second, SPRxCTL of a sprite
+abbrev pub control_register : ℕ → Bool → Reg
+control_register sprite second = register_of (0x140 + 8 * sprite + (if second then 2 else 0))
+
 -- what an access makes, with the word that answers it, of the chips as they were before
 unfoldable pub made_by_ask : Ask → ℕ → Chips → Made
 made_by_ask A.Free word c = M.Nothing
 made_by_ask (A.Disk at stored) word c = M.Stored at Both stored
 made_by_ask (A.Audio channel at) word c = M.Nothing
+made_by_ask (A.Plane plane at) word c = M.Plane plane at
+made_by_ask (A.SpriteControl sprite second at) word c = M.Wrote (control_register sprite second) word None
+made_by_ask (A.SpriteWords sprite second at) word c = M.Sprite sprite second at
+made_by_ask (A.BlitRead at) word c = M.Nothing
+made_by_ask (A.BlitWrite at stored) word c = M.Stored at Both stored
+made_by_ask A.BlitRest word c = M.Nothing
 made_by_ask (A.Copper at) word c = made_by_copper (copper_act (is_danger c.registers) (Some word) c.copper)

@@ -15,7 +15,9 @@ pub mod Events
 pub mod Tick
 pub mod Serial
 pub mod Outputs
+pub mod BlitRegisters
 pub mod Built
 pub mod TraceText
 pub mod MemoryText
+pub mod Interrupts
 pub mod Laws

@@ -38,6 +38,10 @@ has_bits word mask = bit_and word mask == mask
 abbrev pub copper_dma : List ℕ → Bool
 copper_dma registers = has_bits (kept_word registers 0x96) 640
 
+-- DMAEN, bit 9, and BLTEN, bit 6, of DMACON are both set
+abbrev pub blitter_dma : List ℕ → Bool
+blitter_dma registers = has_bits (kept_word registers 0x96) 576
+
 -- BLTPRI, bit 10 of DMACON
 abbrev pub blitter_first : List ℕ → Bool
 blitter_first registers = has_bits (kept_word registers 0x96) 1024

@@ -1,22 +1,43 @@
 -- The state of the machine between two colour clocks.
-use Rattle.std.specs.Prelude.{ℕ, ◌==◌, Bool, true, false, if◌then◌else◌, List, []}
+use Rattle.std.specs.Prelude.{ℕ, ◌==◌, Bool, true, if◌then◌else◌, List, [], Option, Some, None, is_some}
+use Rattle.blit_words.specs.Blitter.{blit_zero}
+use Rattle.blit_words.specs.declared.blit.BlitRegs.{BlitRegs}
 use Rattle.ocs_base.specs.AddressOf.{addr_at}
 use Rattle.ocs_base.specs.declared.beam.Beam.{Beam}
 use Rattle.ocs_base.specs.Memory.{memory_of}
 use Rattle.serial_model.specs.declared.copper.CopperState.{CopperState}
+use Rattle.serial_model.specs.declared.fetch.SpriteKind.{SpriteKind}
 use Rattle.serial_model.specs.declared.picture.Denise.{Denise}
 use Rattle.serial_model.specs.declared.registers.Live.{Live}
 use Rattle.serial_model.specs.declared.trace.TraceLine.{TraceLine}
 use Rattle.serial_model.specs.Beam.{first_place}
 use Rattle.serial_model.specs.Registers.{no_registers, word_at}
 use Rattle.serial_model.specs.Copper.{copper_from}
+use Rattle.serial_model.specs.Interrupts.{Interrupts, no_interrupts}
 use Rattle.serial_model.specs.Picture.{reset_picture}
+use Rattle.serial_model.specs.SpriteFetch.{no_kinds}
+
+-- a blit under way: its registers at the start, and the answers of its slots so far, of which only the words that it reads
+-- count
+pub record BlitUnderWay : Type 0 where
+  pub start : BlitRegs
+  pub answers : List ℕ
 
 -- everything but memory and picture
 pub record Chips : Type 0 where
   -- the custom registers: the kept word of each, by half its offset
   pub registers : List ℕ
+  -- the clocks of this line at which units of bitplane fetch began, the newest first
+  pub units : List ℕ
+  -- what each sprite reads on this line
+  pub kinds : List SpriteKind
   pub copper : CopperState
+  -- the blit under way
+  pub blit : Option BlitUnderWay
+  -- BZERO as the last blit left it
+  pub zero : Bool
+  -- INTENA and INTREQ
+  pub irq : Interrupts
 
 pub record State : Type 0 where
   -- the number of colour clocks since reset
@@ -34,7 +55,15 @@ pub record State : Type 0 where
   pub trace : List TraceLine
 
 abbrev pub reset_chips : Chips
-reset_chips = record { registers = no_registers; copper = copper_from (addr_at 0) }
+reset_chips = record {
+  registers = no_registers;
+  units = [];
+  kinds = no_kinds;
+  copper = copper_from (addr_at 0);
+  blit = None;
+  zero = true;
+  irq = no_interrupts;
+}
 
 unfoldable pub reset : List ℕ → State
 reset image = record {
@@ -48,14 +77,23 @@ reset image = record {
   trace = [];
 }
 
--- whether the blitter is busy; this machine has no blitter yet
+-- the blitter is busy while a blit is under way
 abbrev pub is_busy : Chips → Bool
-is_busy c = false
+is_busy c = is_some c.blit
 
--- what a read sees beside the kept words: there is no blitter yet, whose BZERO is 1 at reset (profile), and no joystick
+-- BZERO: of the blit under way, or as the last one left it; it is 1 at reset (profile)
+abbrev pub zero_of : Option BlitUnderWay → Bool → Bool
+zero_of None zero = zero
+zero_of (Some run) zero = blit_zero run.start run.answers
+
+-- what a read sees beside the kept words: there is no joystick yet
 abbrev pub live_words : Beam → Chips → Live
-live_words b c = record { beam = b; busy = is_busy c; zero = true; joy0 = 0; joy1 = 0 }
+live_words b c = record { beam = b; busy = is_busy c; zero = zero_of c.blit c.zero; joy0 = 0; joy1 = 0 }
 
 -- what a read of a register gives, where these collision bits were gathered
 unfoldable pub read_word : ℕ → Beam → ℕ → Chips → ℕ
-read_word offset b clx c = if offset == 0x0e then clx else word_at (live_words b c) c.registers offset
+read_word offset b clx c =
+    if offset == 0x0e then clx
+    else if offset == 0x1c then c.irq.ena
+    else if offset == 0x1e then c.irq.req
+    else word_at (live_words b c) c.registers offset

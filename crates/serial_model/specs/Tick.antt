@@ -10,15 +10,20 @@ use Rattle.serial_model.specs.declared.bus.SideAsk.TheVariants as S
 use Rattle.serial_model.specs.Beam.{next_place, is_field_start}
 use Rattle.serial_model.specs.Bus.{ask_at, answer_to, answer_chips, made_by_ask}
 use Rattle.serial_model.specs.Events.{due_events, do_events}
+use Rattle.serial_model.specs.Interrupts.{after_request}
 use Rattle.serial_model.specs.Made.{state_after}
 use Rattle.serial_model.specs.Picture.{clear_line, step_of, after_step}
 use Rattle.serial_model.specs.Registers.{is_interlaced}
 use Rattle.serial_model.specs.State.{Chips, State}
 use Rattle.serial_model.specs.Write.{restart_copper}
 
--- first: at a field's first clock the Copper starts at COP1LC, and at a line's first clock Denise forgets the line before
+-- first: at a field's first clock the Copper starts at COP1LC and VERTB, bit 5 of INTREQ, is requested, and at a line's first
+-- clock Denise forgets the line before
+abbrev pub start_field : Chips → Chips
+start_field c = record (restart_copper 1 c) { irq = after_request 0x20 c.irq }
+
 abbrev pub start_chips : Beam → Chips → Chips
-start_chips b c = if is_field_start b then restart_copper 1 c else c
+start_chips b c = if is_field_start b then start_field c else c
 
 abbrev pub start_clock : State → State
 start_clock s = record s { chips = start_chips s.beam s.chips; picture = clear_line s.beam s.picture }

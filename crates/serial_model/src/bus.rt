@@ -13,13 +13,21 @@ pub enum SideAsk {
 }
 
 /// The access that the owner of the slot makes: none (a free slot, or refresh), a word stored by the disk, the
-/// read of a sample's word, or the read of an instruction's word by the Copper.
+/// read of a sample's word, of a word for the latch of a bitplane, 1 to 6, of a control word or an image word of
+/// a sprite, 0 to 7, or of an instruction's word by the Copper; or the blitter's slot, in which it reads or writes a
+/// word or makes no access. A sprite's `second` word is that for SPRxCTL or SPRxDATB.
 #[derive(Clone, Copy, Debug)]
 pub enum Ask {
     Free,
     Disk { at: Addr, word: u16 },
     Audio { channel: u8, at: Addr },
+    Plane { plane: u8, at: Addr },
+    SpriteControl { sprite: u8, second: bool, at: Addr },
+    SpriteWords { sprite: u8, second: bool, at: Addr },
     Copper { at: Addr },
+    BlitRead { at: Addr },
+    BlitWrite { at: Addr, word: u16 },
+    BlitRest,
 }
 
 /// Which bytes of a word of memory a write changes. A write of one byte has the byte as its word.
@@ -31,8 +39,9 @@ pub enum Half {
 }
 
 /// What an access or an event of the script makes of the machine: nothing; a write to a register, which the
-/// trace tells where there is someone to name; a read of a register that the trace tells; or a word stored in
-/// memory.
+/// trace tells where there is someone to name; a read of a register that the trace tells; a word stored in
+/// memory; or a word of memory that fills the latch of a bitplane, 1 to 6, or SPRxDATA or, `second`, SPRxDATB of
+/// a sprite, 0 to 7.
 #[derive(Clone, Copy, Debug)]
 pub enum Made {
     Nothing,
@@ -49,5 +58,14 @@ pub enum Made {
         at: Addr,
         half: Half,
         word: u16,
+    },
+    Plane {
+        plane: u8,
+        at: Addr,
+    },
+    Sprite {
+        sprite: u8,
+        second: bool,
+        at: Addr,
     },
 }

@@ -1,6 +1,6 @@
 //! The picture state, which Denise keeps between two picture steps, and what may change it.
 
-use ocs_base::{Colour, Reg};
+use ocs_base::{Addr, Colour, Reg};
 use planes::Loads;
 use sprites::Runs;
 
@@ -36,8 +36,11 @@ pub struct Denise {
 }
 
 /// What changes the picture state besides the picture step itself: a write to one of Denise's
-/// registers.
+/// registers, or a word of memory that fills the latch of a bitplane, 1 to 6, or SPRxDATA or, `second`, SPRxDATB
+/// of a sprite, 0 to 7. Of that word it names the address alone.
 #[derive(Clone, Copy)]
 pub enum Touch {
     Set { reg: Reg, word: u16 },
+    Plane { plane: u8, at: Addr },
+    Sprite { sprite: u8, second: bool, at: Addr },
 }

@@ -8,7 +8,7 @@ use Rattle.ocs_run.proofs.run.run_files.Goals as goal
 pub run_to_the_end-requires-clause-step : goal.run_to_the_end-requires-clause-step
 run_to_the_end-requires-clause-step g c =
     IsInStep-start c.args.script.now (record c.in_ok-fore.fore { out = c.create.new.self }) c.requires.script
-    c.in_ok-fore.ensures.t c.in_ok-fore.ensures.beam
+    c.in_ok-fore.ensures.t c.in_ok-fore.ensures.beam c.in_ok-fore.ensures.newest
 
 pub returns-in_err-run_to_the_end-clause-stopped : goal.returns-in_err-run_to_the_end-clause-stopped
 returns-in_err-run_to_the_end-clause-stopped g c =

@@ -36,5 +36,6 @@ returns-clause-next c =
     (KeepsPlace-more _ _ _ c.count_timers.ensures.place (KeepsPlace-more _ _ _ c.in_ok-show.ensures.place
     (KeepsPlace-more _ _ _ c.in_ok-access.ensures.place c.process.ensures.place)))) in
     HasNext-tick c.args.events.now _ c.args.self.now c.process.new.self c.advance.new.self (is_interlaced c.process.new.self.chips.registers)
-    c.requires.screen kept c.advance.ensures.beam c.advance.ensures.count c.advance.ensures.names
+    c.requires.screen kept c.advance.ensures.beam c.advance.ensures.count c.advance.ensures.names c.advance.ensures.memory
+    c.requires.time
     (subst Left c.start.ensures.place.beam c.in_ok-left.ensures.left) (subst Later c.start.ensures.place.beam c.in_ok-left.ensures.later)

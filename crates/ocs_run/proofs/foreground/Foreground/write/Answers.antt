@@ -1,20 +1,10 @@
-use Rattle.std.proofs.Common.{refl, sym, ◌∙◌}
-use Rattle.serial_model.specs.declared.registers.Effect.TheVariants.{Picture, Lof}
-use Rattle.ocs_run.proofs.StepLaws.{Does-write, other_lof, other_picture}
+use Rattle.std.proofs.Common.{sym, subst}
+use Rattle.serial_model.specs.declared.bus.Made.TheVariants as M
+use Rattle.ocs_run.specs.Steps.{Does}
+use Rattle.ocs_run.proofs.StepLaws.{Does-quietly}
 use Rattle.ocs_run.proofs.foreground.Foreground.write.Goals as goal
 
-pub returns-in-Picture : goal.returns-in-Picture
-returns-in-Picture c =
-    Does-write c.args.reg c.args.word c.args.by c.args.self.now _ Picture (sym c.in-Picture.is ∙ c.poke.ensures.effect) refl refl refl
-    c.poke.ensures.chips c.set.ensures refl c.in_ok-line.ensures.ok
-
-pub returns-in-Lof : goal.returns-in-Lof
-returns-in-Lof c =
-    Does-write c.args.reg c.args.word c.args.by c.args.self.now _ (Lof c.in-Lof.long) (sym c.in-Lof.is ∙ c.poke.ensures.effect) refl refl refl
-    c.poke.ensures.chips (λ p is. is) refl c.in_ok-line.ensures.ok
-
-pub returns-in_default : goal.returns-in_default
-returns-in_default c =
-    Does-write c.args.reg c.args.word c.args.by c.args.self.now _ c.poke.result c.poke.ensures.effect refl
-    (other_lof c.poke.result c.args.self.now.beam c.in_default.not-Picture c.in_default.not-Lof) refl c.poke.ensures.chips
-    (λ p is. other_picture c.poke.result _ c.args.reg c.args.word _ p c.in_default.not-Picture is) refl c.in_ok-line.ensures.ok
+pub returns-in-None : goal.returns-in-None
+returns-in-None c =
+    subst (λ by. Does (M.Wrote c.args.reg c.args.word by) c.args.self.now c.write_register.new.self) (sym c.in-None.is)
+    (Does-quietly c.args.reg c.args.word c.args.self.now _ c.write_register.ensures)

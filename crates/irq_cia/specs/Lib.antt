@@ -1,0 +1,5 @@
+pub mod Cia
+pub mod Icr
+pub mod Port
+pub mod Timer
+pub mod Tod

@@ -1,0 +1,123 @@
+//! INTENA and INTREQ, and the interrupt level that the processor sees.
+
+ghost use Rattle.std.specs.Prelude.{◌≡◌, ◌≤◌};
+ghost use Rattle.serial_model.specs.Registers.{set_or_clear as set_or_clear_of};
+ghost use Rattle.serial_model.specs.Interrupts.{no_interrupts, after_request, after_req_write, after_ena_write};
+ghost use Rattle.serial_model.specs.Interrupts.{level_of, level_in};
+
+use std::marker::Model;
+
+/// The bits of INTREQ: 13 to 0.
+const REQUESTS: u16 = 0x3fff;
+
+/// The bits of INTENA: those of INTREQ, and INTEN.
+const ENABLES: u16 = 0x7fff;
+
+/// INTEN, bit 14 of INTENA.
+const INTEN: u16 = 0x4000;
+
+/// The kept words of INTENA, bits 14 to 0, and INTREQ, bits 13 to 0 (Hardware Reference Manual, INTENA and
+/// INTREQ).
+#[derive(Drop)]
+pub struct Irq {
+    req: u16,
+    ena: u16,
+}
+
+impl Model for Irq {
+    ghost use Rattle.serial_model.specs.Interrupts.{Interrupts};
+
+    ghost Value = { Interrupts };
+
+    ghost view = { λ i. record {
+      req = i.req;
+      ena = i.ena;
+    } };
+}
+
+impl Irq {
+    /// Both words at reset: 0 (profile).
+    pub fn reset() -> Irq
+        ensures { result ≡ no_interrupts }
+    {
+        Irq { req: 0, ena: 0 }
+    }
+
+    /// The chips request interrupts: each set bit of 13 to 0 is set in INTREQ. Bits 15 and 14 do not count.
+    pub fn request(&mut self, bits: u16)
+        ensures { self.new ≡ after_request bits self.old }
+    {
+        self.req |= bits & REQUESTS;
+    }
+
+    /// A write to INTREQ: bit 15 says whether the word's other 1 bits are set or cleared (Hardware Reference
+    /// Manual, INTREQ).
+    pub fn poke_req(&mut self, word: u16)
+        ensures { self.new ≡ after_req_write word self.old }
+    {
+        self.req = set_or_clear(self.req, word, REQUESTS);
+    }
+
+    /// A write to INTENA: bit 15 says whether the word's other 1 bits are set or cleared (Hardware Reference
+    /// Manual, INTENA).
+    pub fn poke_ena(&mut self, word: u16)
+        ensures { self.new ≡ after_ena_write word self.old }
+    {
+        self.ena = set_or_clear(self.ena, word, ENABLES);
+    }
+
+    /// The kept word of INTREQ, as INTREQR reads.
+    pub fn req(&self) -> u16
+        ensures { result ≡ self.now.req }
+    {
+        self.req
+    }
+
+    /// The kept word of INTENA, as INTENAR reads.
+    pub fn ena(&self) -> u16
+        ensures { result ≡ self.now.ena }
+    {
+        self.ena
+    }
+
+    /// The interrupt level, 0 to 6: the greatest level of a bit that is set in both words, and 0 where INTEN
+    /// is clear or there is none (Hardware Reference Manual, interrupt control).
+    pub fn level(&self) -> u8
+        ensures level { result ≡ level_of self.now }
+        ensures range { result ≤ 6 }
+    {
+        if self.ena & INTEN != INTEN {
+            return 0;
+        }
+        level_by_bits(self.req & self.ena)
+    }
+}
+
+/// The greatest level of a bit that is set in the word: the levels rise with the bits.
+#[tactic(auto, using(crate::proofs::Levels::level_law, std::proofs::lemmas::Bool::Decides::nat_tests))]
+fn level_by_bits(word: u16) -> u8
+    ensures level { result ≡ level_in word }
+    ensures range { result ≤ 6 }
+{
+    match word & REQUESTS {
+        0 => 0,
+        1..=0x0007 => 1,
+        0x0008..=0x000f => 2,
+        0x0010..=0x007f => 3,
+        0x0080..=0x07ff => 4,
+        0x0800..=0x1fff => 5,
+        _ => 6,
+    }
+}
+
+/// A kept word after a write: bit 15 of the written word says whether its other 1 bits, of those that the
+/// register keeps, are set or cleared.
+fn set_or_clear(old: u16, word: u16, bits: u16) -> u16
+    ensures { result ≡ set_or_clear_of bits old word }
+{
+    if word >= 0x8000 {
+        old | word & bits
+    } else {
+        old & !word
+    }
+}

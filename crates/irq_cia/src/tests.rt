@@ -1,0 +1,292 @@
+//! Words, bytes and ticks worked by hand from the manual's registers.
+
+use crate::{Cia, Irq};
+
+/// Writes bytes to registers, each after its number.
+fn write_all(cia: &mut Cia, bytes: &[(u8, u8)]) {
+    for (reg, byte) in bytes.iter().copied() {
+        cia.poke(reg % 16, byte);
+    }
+}
+
+/// A CIA after these writes.
+fn make_cia(bytes: &[(u8, u8)]) -> Cia {
+    let mut cia = Cia::reset();
+    write_all(&mut cia, bytes);
+    cia
+}
+
+/// What a register reads as, with all pins 1.
+fn read(cia: &mut Cia, reg: u8) -> u8 {
+    cia.peek(reg % 16, 0xff)
+}
+
+/// Ticks the timers so often.
+fn tick(cia: &mut Cia, times: u16) {
+    for _ in 0..times {
+        cia.tick();
+    }
+}
+
+/// The three bytes of the time of day, as reads from TODHI to TODLO give them.
+fn time_of(cia: &mut Cia) -> (u8, u8, u8) {
+    let high = read(cia, 10);
+    let middle = read(cia, 9);
+    let low = read(cia, 8);
+    (high, middle, low)
+}
+
+#[test]
+fn a_vertical_blank(rt: HostRuntime) {
+    let mut irq = Irq::reset();
+    irq.request(0x0020);
+    irq.poke_ena(0xc020);
+    assert_eq!(rt; irq.level(), 3);
+    assert_eq!(rt; irq.req(), 0x0020);
+    assert_eq!(rt; irq.ena(), 0x4020);
+    irq.poke_req(0x0020);
+    assert_eq!(rt; irq.level(), 0);
+    assert_eq!(rt; irq.req(), 0x0000);
+}
+
+#[test]
+fn levels(rt: HostRuntime) {
+    for (bits, level) in [
+        (0x0000, 0),
+        (0x0001, 1),
+        (0x0002, 1),
+        (0x0004, 1),
+        (0x0008, 2),
+        (0x0010, 3),
+        (0x0020, 3),
+        (0x0040, 3),
+        (0x0080, 4),
+        (0x0100, 4),
+        (0x0200, 4),
+        (0x0400, 4),
+        (0x0800, 5),
+        (0x1000, 5),
+        (0x2000, 6),
+        (0x000f, 2),
+        (0x0881, 5),
+        (0xc008, 2),
+        (0xffff, 6),
+    ] {
+        let mut irq = Irq::reset();
+        irq.request(bits);
+        irq.poke_ena(0xffff);
+        assert_eq!(rt; irq.level(), level, "{bits}");
+        irq.poke_ena(0x4000);
+        assert_eq!(rt; irq.level(), 0, "{bits}");
+        irq.poke_ena(0xc000);
+        irq.poke_ena(bits & 0x3fff);
+        assert_eq!(rt; irq.level(), 0, "{bits}");
+    }
+}
+
+#[test]
+fn kept_bits(rt: HostRuntime) {
+    let mut irq = Irq::reset();
+    irq.request(0xffff);
+    assert_eq!(rt; irq.req(), 0x3fff);
+    for (req, ena, kept_req, kept_ena) in [
+        (0x0fff, 0x8000, 0x3000, 0x0000),
+        (0x8001, 0x8180, 0x3001, 0x0180),
+        (0x7000, 0x0080, 0x0001, 0x0100),
+        (0xffff, 0xffff, 0x3fff, 0x7fff),
+        (0x7fff, 0x4000, 0x0000, 0x3fff),
+    ] {
+        irq.poke_req(req);
+        irq.poke_ena(ena);
+        assert_eq!(rt; irq.req(), kept_req, "{req}");
+        assert_eq!(rt; irq.ena(), kept_ena, "{ena}");
+    }
+}
+
+/// Timer A from a latch of 2: its counter, CRA and ICR after some ticks.
+#[test]
+fn one_timer(rt: HostRuntime) {
+    for (control, ticks, counter, kept, flags) in [
+        (0x01, 0, 2, 0x01, 0),
+        (0x01, 2, 0, 0x01, 0),
+        (0x01, 3, 2, 0x01, 1),
+        (0x01, 4, 1, 0x01, 1),
+        (0x01, 6, 2, 0x01, 1),
+        (0x09, 2, 0, 0x09, 0),
+        (0x09, 3, 2, 0x08, 1),
+        (0x09, 9, 2, 0x08, 1),
+        (0x00, 3, 2, 0x00, 0),
+        (0x21, 3, 2, 0x21, 0),
+        (0x41, 1, 1, 0x41, 0),
+        (0xd1, 3, 2, 0xc1, 1),
+    ] {
+        let mut cia = make_cia(&[(4, 2), (5, 0), (14, control)]);
+        tick(&mut cia, ticks);
+        assert_eq!(rt; read(&mut cia, 4), counter, "{control} {ticks}");
+        assert_eq!(rt; read(&mut cia, 5), 0, "{control} {ticks}");
+        assert_eq!(rt; read(&mut cia, 14), kept, "{control} {ticks}");
+        assert_eq!(rt; read(&mut cia, 13), flags, "{control} {ticks}");
+    }
+}
+
+/// Timer A from a latch of 1 underflows every second tick; timer B has a latch of 3.
+#[test]
+fn cascade(rt: HostRuntime) {
+    for (control, ticks, counter, flags) in [
+        (0x41, 1, 3, 0),
+        (0x41, 2, 2, 1),
+        (0x41, 7, 0, 1),
+        (0x41, 8, 3, 3),
+        (0x61, 6, 0, 1),
+        (0x61, 8, 3, 3),
+        (0x21, 8, 3, 1),
+        (0x40, 8, 3, 1),
+        (0x01, 3, 0, 1),
+        (0x01, 4, 3, 3),
+    ] {
+        let mut cia = make_cia(&[(4, 1), (5, 0), (6, 3), (7, 0), (15, control), (14, 0x01)]);
+        tick(&mut cia, ticks);
+        assert_eq!(rt; read(&mut cia, 6), counter, "{control} {ticks}");
+        assert_eq!(rt; read(&mut cia, 13), flags, "{control} {ticks}");
+    }
+}
+
+#[test]
+fn loads(rt: HostRuntime) {
+    let mut cia = make_cia(&[(14, 0x01), (4, 5), (5, 0)]);
+    tick(&mut cia, 1);
+    assert_eq!(rt; (read(&mut cia, 4), read(&mut cia, 5)), (0xfe, 0xff));
+    write_all(&mut cia, &[(14, 0x11)]);
+    assert_eq!(rt; (read(&mut cia, 4), read(&mut cia, 5)), (5, 0));
+    assert_eq!(rt; read(&mut cia, 14), 0x01);
+    let mut cia = make_cia(&[(15, 0x08), (6, 0x34)]);
+    assert_eq!(rt; (read(&mut cia, 6), read(&mut cia, 7)), (0xff, 0xff));
+    write_all(&mut cia, &[(7, 0x12)]);
+    assert_eq!(rt; (read(&mut cia, 6), read(&mut cia, 7)), (0x34, 0x12));
+    assert_eq!(rt; read(&mut cia, 15), 0x09);
+    tick(&mut cia, 1);
+    assert_eq!(rt; (read(&mut cia, 6), read(&mut cia, 7)), (0x33, 0x12));
+    write_all(&mut cia, &[(7, 0x56)]);
+    assert_eq!(rt; (read(&mut cia, 6), read(&mut cia, 7)), (0x34, 0x56));
+}
+
+#[test]
+fn held_time(rt: HostRuntime) {
+    let mut cia = make_cia(&[(10, 0x01), (9, 0xff), (8, 0xff)]);
+    assert_eq!(rt; read(&mut cia, 10), 0x01);
+    cia.count_tod();
+    assert_eq!(rt; read(&mut cia, 9), 0xff);
+    assert_eq!(rt; read(&mut cia, 10), 0x01);
+    assert_eq!(rt; read(&mut cia, 8), 0xff);
+    assert_eq!(rt; read(&mut cia, 8), 0x00);
+    assert_eq!(rt; time_of(&mut cia), (0x02, 0x00, 0x00));
+}
+
+#[test]
+fn time_that_stands_still(rt: HostRuntime) {
+    let mut cia = make_cia(&[(10, 0x12)]);
+    cia.count_tod();
+    write_all(&mut cia, &[(9, 0x34), (15, 0x80), (8, 0x01), (15, 0x00)]);
+    cia.count_tod();
+    assert_eq!(rt; time_of(&mut cia), (0x12, 0x34, 0x00));
+    write_all(&mut cia, &[(8, 0x56)]);
+    cia.count_tod();
+    assert_eq!(rt; time_of(&mut cia), (0x12, 0x34, 0x57));
+}
+
+/// The alarm is 010203; a write that makes the time the alarm is no count.
+#[test]
+fn alarm(rt: HostRuntime) {
+    let mut cia = make_cia(&[(15, 0x80), (10, 1), (9, 2), (8, 3)]);
+    assert_eq!(rt; time_of(&mut cia), (0, 0, 0));
+    cia.count_tod();
+    assert_eq!(rt; time_of(&mut cia), (0, 0, 1));
+    write_all(&mut cia, &[(15, 0x00), (10, 1), (9, 2), (8, 3)]);
+    assert_eq!(rt; read(&mut cia, 13), 0);
+    write_all(&mut cia, &[(8, 1)]);
+    cia.count_tod();
+    assert_eq!(rt; read(&mut cia, 13), 0);
+    cia.count_tod();
+    assert_eq!(rt; read(&mut cia, 13), 0x04);
+    assert_eq!(rt; time_of(&mut cia), (1, 2, 3));
+    let mut cia = make_cia(&[(10, 0xff), (9, 0xff), (8, 0xff)]);
+    cia.count_tod();
+    assert_eq!(rt; time_of(&mut cia), (0, 0, 0));
+    assert_eq!(rt; read(&mut cia, 13), 0x04);
+}
+
+#[test]
+fn ports(rt: HostRuntime) {
+    for (output, direction, pins, byte) in [
+        (0xa5, 0x00, 0x3c, 0x3c),
+        (0xa5, 0xff, 0x3c, 0xa5),
+        (0xa5, 0xf0, 0x3c, 0xac),
+        (0xa5, 0x0f, 0x3c, 0x35),
+    ] {
+        let mut a = make_cia(&[(0, output), (2, direction)]);
+        assert_eq!(rt;
+            (a.peek(0, pins), a.peek(1, pins)),
+            (byte, pins),
+            "{direction}"
+        );
+        let mut b = make_cia(&[(1, output), (3, direction)]);
+        assert_eq!(rt;
+            (b.peek(0, pins), b.peek(1, pins)),
+            (pins, byte),
+            "{direction}"
+        );
+    }
+}
+
+/// A code of the keyboard under masks: the line before ICR is read, and what the read gives.
+#[test]
+fn masks(rt: HostRuntime) {
+    for (first, second, line, byte) in [
+        (0x00, 0x00, false, 0x08),
+        (0x88, 0x00, true, 0x88),
+        (0x9f, 0x00, true, 0x88),
+        (0x97, 0x00, false, 0x08),
+        (0x9f, 0x08, false, 0x08),
+        (0x9f, 0x17, true, 0x88),
+        (0xe0, 0x00, false, 0x08),
+        (0x81, 0x88, true, 0x88),
+    ] {
+        let mut cia = make_cia(&[(13, first), (13, second)]);
+        cia.key(0x75);
+        assert_eq!(rt; read(&mut cia, 12), 0x75);
+        assert_eq!(rt; cia.line(), line, "{first} {second}");
+        assert_eq!(rt; read(&mut cia, 13), byte, "{first} {second}");
+        assert_eq!(rt; cia.line(), false);
+        assert_eq!(rt; read(&mut cia, 13), 0);
+    }
+}
+
+/// Each register at reset, and after a write of 96 to it, with pins of 5A. At 0 and 1 the pins are inputs; at 4
+/// and 6 only the latch is written, and at 5 and 7 a stopped timer is loaded. CRA and CRB do not keep bit 4.
+#[test]
+fn registers(rt: HostRuntime) {
+    for (reg, at_reset, written) in [
+        (0, 0x5a, 0x5a),
+        (1, 0x5a, 0x5a),
+        (2, 0x00, 0x96),
+        (3, 0x00, 0x96),
+        (4, 0xff, 0xff),
+        (5, 0xff, 0x96),
+        (6, 0xff, 0xff),
+        (7, 0xff, 0x96),
+        (8, 0x00, 0x96),
+        (9, 0x00, 0x96),
+        (10, 0x00, 0x96),
+        (11, 0x00, 0x00),
+        (12, 0x00, 0x96),
+        (13, 0x00, 0x00),
+        (14, 0x00, 0x86),
+        (15, 0x00, 0x86),
+    ] {
+        let mut cia = Cia::reset();
+        assert_eq!(rt; cia.peek(reg % 16, 0x5a), at_reset, "{reg}");
+        let mut cia = Cia::reset();
+        cia.poke(reg % 16, 0x96);
+        assert_eq!(rt; cia.peek(reg % 16, 0x5a), written, "{reg}");
+    }
+}

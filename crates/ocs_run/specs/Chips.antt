@@ -1,0 +1,187 @@
+-- What the chips of the clock loop stand for, and the access of a clock as they make it.
+use Rattle.std.specs.Prelude.{◌≡◌, ◌≢◌, ℕ, ◌≤◌, Bool, if◌then◌else◌, List, [], Option, Some, None}
+use Rattle.std.specs.Option.{option_map}
+use Rattle.blit_words.specs.declared.blit.SlotAsk.{SlotAsk}
+use Rattle.blit_words.specs.declared.blit.SlotAsk.TheVariants.{Read, Write, Rest, Done}
+use Rattle.blitter.specs.StandsFor.{StandsFor, slot_shown}
+use Rattle.blitter.specs.declared.Blit.{Blit}
+use Rattle.ocs_base.specs.declared.beam.Beam.{Beam}
+use Rattle.serial_model.specs.declared.bus.Ask.{Ask}
+use Rattle.serial_model.specs.declared.bus.Ask.TheVariants as A
+use Rattle.serial_model.specs.declared.bus.Half.TheVariants.{Both, High, Low}
+use Rattle.serial_model.specs.declared.bus.Made.{Made}
+use Rattle.serial_model.specs.declared.bus.Made.TheVariants as M
+use Rattle.serial_model.specs.declared.bus.SideAsk.TheVariants as S
+use Rattle.serial_model.specs.declared.copper.CopperAct.{CopperAct}
+use Rattle.serial_model.specs.declared.copper.CopperAct.TheVariants.{None as NoAct}
+use Rattle.serial_model.specs.declared.copper.CopperState.{CopperState}
+use Rattle.serial_model.specs.declared.fetch.PlaneAsk.{PlaneAsk}
+use Rattle.serial_model.specs.declared.fetch.SpriteAsk.{SpriteAsk}
+use Rattle.serial_model.specs.declared.fetch.SpriteKind.{SpriteKind}
+use Rattle.mem_versions.specs.Chip.{ChipValue, after_reads}
+use Rattle.serial_model.specs.Bus.{Wishes, copper_wish, slot_state, owner_ask, copper_runs, copper_word, ask_at, answer_to, answer_chips, give_blit, end_blit, made_by_copper, made_by_ask, control_register}
+use Rattle.serial_model.specs.BlitRegisters.{blit_start}
+use Rattle.serial_model.specs.Interrupts.{Interrupts}
+use Rattle.serial_model.specs.Copper.{copper_act}
+use Rattle.serial_model.specs.Made.{word_of}
+use Rattle.serial_model.specs.Owner.{owner_of}
+use Rattle.serial_model.specs.PlaneFetch.{last_unit}
+use Rattle.serial_model.specs.Registers.{no_registers, blitter_dma, is_danger}
+use Rattle.serial_model.specs.State.{BlitUnderWay, Chips}
+
+-- the working state of the chips: of the line's units of bitplane fetch, the clock at which the last one began; and the
+-- blit under way as the blitter keeps it
+pub record WorkingChips : Type 0 where
+  pub registers : List ℕ
+  pub last : Option ℕ
+  pub kinds : List SpriteKind
+  pub copper : CopperState
+  pub blit : Option Blit
+  pub zero : Bool
+  pub irq : Interrupts
+
+-- a kept blit stands for the blit under way, and none for none
+abbrev pub IsBlitOf : Option Blit → Option BlitUnderWay → Type 0
+IsBlitOf None None = Unit {0}
+IsBlitOf None (Some run) = ⊥
+IsBlitOf (Some blit) None = ⊥
+IsBlitOf (Some blit) (Some run) = StandsFor blit run.start run.answers
+
+-- it stands for chips whose units end with that one
+pub record IsChipsOf (now : WorkingChips) (c : Chips) : Type 0 where
+  pub registers : c.registers ≡ now.registers
+  pub last : last_unit c.units ≡ now.last
+  pub kinds : c.kinds ≡ now.kinds
+  pub copper : c.copper ≡ now.copper
+  pub blit : IsBlitOf now.blit c.blit
+  pub zero : c.zero ≡ now.zero
+  pub irq : c.irq ≡ now.irq
+
+-- chips of which only registers, Copper and whether a blit is under way are looked at
+abbrev pub some_blit : Blit → BlitUnderWay
+some_blit blit = record { start = blit_start no_registers; answers = [] }
+
+abbrev pub plain_chips : WorkingChips → Chips
+plain_chips now = record {
+  registers = now.registers;
+  units = [];
+  kinds = now.kinds;
+  copper = now.copper;
+  blit = option_map some_blit now.blit;
+  zero = now.zero;
+  irq = now.irq;
+}
+
+-- what the kept blit asks for, while the blitter's DMA is on
+abbrev pub kept_wish : WorkingChips → Option SlotAsk
+kept_wish now = if blitter_dma now.registers then option_map slot_shown now.blit else None
+
+-- the ask of a clock at which planes, sprites and the blitter ask for this
+abbrev pub wishes_with : Beam → Option PlaneAsk → Option SpriteAsk → Option SlotAsk → Chips → Wishes
+wishes_with b plane sprite blit c =
+    record { side = S.Nothing; plane = plane; sprite = sprite; copper = copper_wish b c; blit = blit }
+
+unfoldable pub ask_with : Beam → Option PlaneAsk → Option SpriteAsk → Option SlotAsk → Chips → Ask
+ask_with b plane sprite blit c =
+    owner_ask (owner_of (slot_state b c (wishes_with b plane sprite blit c))) (wishes_with b plane sprite blit c)
+
+-- an ask of the blitter is what the blit asks for
+abbrev pub IsBlitAsk : Ask → Option SlotAsk → Type 0
+IsBlitAsk (A.BlitRead at) wish = wish ≡ Some (Read at)
+IsBlitAsk (A.BlitWrite at word) wish = wish ≡ Some (Write at word)
+IsBlitAsk A.BlitRest wish = wish ≡ Some Rest
+IsBlitAsk A.Free wish = Unit {0}
+IsBlitAsk (A.Disk at word) wish = Unit {0}
+IsBlitAsk (A.Audio channel at) wish = Unit {0}
+IsBlitAsk (A.Plane plane at) wish = Unit {0}
+IsBlitAsk (A.SpriteControl sprite second at) wish = Unit {0}
+IsBlitAsk (A.SpriteWords sprite second at) wish = Unit {0}
+IsBlitAsk (A.Copper at) wish = Unit {0}
+
+-- a kept blit has not ended
+abbrev pub IsGoing : Option Blit → Type 0
+IsGoing None = Unit {0}
+IsGoing (Some blit) = slot_shown blit ≢ Done
+
+-- the end of a blit that is under way
+abbrev pub end_if_blit : Option BlitUnderWay → Chips → Chips
+end_if_blit None c = c
+end_if_blit (Some run) c = end_blit run c
+
+-- the kept blit after an answer of the blitter's slot, and the chips that it is part of
+abbrev pub GivesBlit : ℕ → WorkingChips → WorkingChips → Type 0
+GivesBlit word old new = (c : Chips) → IsChipsOf old c → IsChipsOf new (give_blit word c.blit c)
+
+-- the owner of the slot has its answer, as far as the blitter goes; what the fetches did was done before
+abbrev pub AnswersBlit : Ask → ℕ → WorkingChips → WorkingChips → Type 0
+AnswersBlit (A.BlitRead at) word old new = GivesBlit word old new
+AnswersBlit (A.BlitWrite at stored) word old new = GivesBlit word old new
+AnswersBlit A.BlitRest word old new = GivesBlit word old new
+AnswersBlit A.Free word old new = new ≡ old
+AnswersBlit (A.Disk at stored) word old new = new ≡ old
+AnswersBlit (A.Audio channel at) word old new = new ≡ old
+AnswersBlit (A.Plane plane at) word old new = new ≡ old
+AnswersBlit (A.SpriteControl sprite second at) word old new = new ≡ old
+AnswersBlit (A.SpriteWords sprite second at) word old new = new ≡ old
+AnswersBlit (A.Copper at) word old new = new ≡ old
+
+-- what the Copper's step makes, with the word that answers the clock's ask
+abbrev pub act_at : Beam → Ask → ℕ → Chips → CopperAct
+act_at b ask word c =
+    if copper_runs b c then copper_act (is_danger c.registers) (copper_word ask word) c.copper else NoAct
+
+-- what the access makes, with the word that answers it: a fetch fills a latch or a sprite's data, or writes a sprite's
+-- control word, a blit stores its word, and else it is what the Copper's step makes
+abbrev pub made_with : Ask → ℕ → CopperAct → Made
+made_with (A.Plane plane at) word act = M.Plane plane at
+made_with (A.SpriteControl sprite second at) word act = M.Wrote (control_register sprite second) word None
+made_with (A.SpriteWords sprite second at) word act = M.Sprite sprite second at
+made_with A.Free word act = made_by_copper act
+made_with (A.Disk at stored) word act = made_by_copper act
+made_with (A.Audio channel at) word act = made_by_copper act
+made_with (A.Copper at) word act = made_by_copper act
+made_with (A.BlitRead at) word act = made_by_copper act
+made_with (A.BlitWrite at stored) word act = M.Stored at Both stored
+made_with A.BlitRest word act = made_by_copper act
+
+-- a word answers an ask: it is the one that the machine gives, but where nobody looks at it here
+abbrev pub IsAnswer : Ask → List ℕ → ℕ → Type 0
+IsAnswer A.Free memory word = word ≡ 0
+IsAnswer (A.Disk at stored) memory word = word ≡ 0
+IsAnswer (A.Audio channel at) memory word = word ≡ word_of memory at.value
+IsAnswer (A.Plane plane at) memory word = Unit {0}
+IsAnswer (A.SpriteControl sprite second at) memory word = word ≡ word_of memory at.value
+IsAnswer (A.SpriteWords sprite second at) memory word = Unit {0}
+IsAnswer (A.Copper at) memory word = word ≡ word_of memory at.value
+IsAnswer (A.BlitRead at) memory word = word ≡ word_of memory at.value
+IsAnswer (A.BlitWrite at stored) memory word = word ≡ 0
+IsAnswer A.BlitRest memory word = word ≡ 0
+
+-- the memory once the answer was read, which counts; a word for a latch or an image is read when that is filled
+abbrev pub after_answer : Ask → ChipValue → ChipValue
+after_answer A.Free chip = chip
+after_answer (A.Disk at stored) chip = chip
+after_answer (A.Audio channel at) chip = after_reads chip 1
+after_answer (A.Plane plane at) chip = chip
+after_answer (A.SpriteControl sprite second at) chip = after_reads chip 1
+after_answer (A.SpriteWords sprite second at) chip = chip
+after_answer (A.Copper at) chip = after_reads chip 1
+after_answer (A.BlitRead at) chip = after_reads chip 1
+after_answer (A.BlitWrite at stored) chip = chip
+after_answer A.BlitRest chip = chip
+
+-- the access of a clock was made: this is what it makes, and the chips have their answers
+pub record HasAccessed (b : Beam) (c : Chips) (memory : List ℕ) (made : Made) (new : WorkingChips) : Type 0 where
+  pub makes : made ≡ made_by_ask (ask_at S.Nothing b c) (answer_to (ask_at S.Nothing b c) memory) c
+  pub chips : IsChipsOf new (answer_chips b (ask_at S.Nothing b c) (answer_to (ask_at S.Nothing b c) memory) c)
+
+-- what the clock loop can do: it stores whole words alone, and there are six planes and eight sprites
+abbrev pub CanDo : Made → Type 0
+CanDo M.Nothing = Unit {0}
+CanDo (M.Wrote reg word by) = Unit {0}
+CanDo (M.Read reg by) = Unit {0}
+CanDo (M.Stored at Both word) = Unit {0}
+CanDo (M.Stored at High byte) = ⊥
+CanDo (M.Stored at Low byte) = ⊥
+CanDo (M.Plane plane at) = plane ≤ 6
+CanDo (M.Sprite sprite second at) = sprite ≤ 7

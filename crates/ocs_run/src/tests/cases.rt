@@ -1,0 +1,148 @@
+//! Runs that are told as tables: memory, pokes and peeks, and the frames, the trace and the memory that come of
+//! them, worked by hand.
+
+use super::{HEADING, WORDS, holds, run, shelf};
+use ocs_base::OutOfMemory;
+use std::alloc::Global;
+
+/// An event: its frame, line and clock, the register, and the word that is written or read.
+type Event = (&'static str, &'static str, &'static str);
+
+/// So many words of one value in memory.
+pub type Stretch = (usize, u16);
+
+/// A part of the frame in one colour: its first and last row, its first and last column.
+type Part = (u16, u16, u16, u16, [u8; 3]);
+
+/// One run. The memory before and after is told from address 0 on; the memory is zero behind what is told.
+pub struct Case {
+    /// The number of frames, at most 9.
+    pub frames: u8,
+    pub band: &'static str,
+    pub image: &'static [Stretch],
+    pub pokes: &'static [Event],
+    /// The peeks after the pokes.
+    pub peeks: &'static [Event],
+    /// The lines of the trace after those of pokes and peeks.
+    pub after: &'static str,
+    pub memory: &'static [Stretch],
+    /// The colour of a frame where no part is.
+    pub ground: [u8; 3],
+    pub parts: &'static [Part],
+}
+
+pub const WHITE: [u8; 3] = [255, 255, 255];
+
+pub const GREEN: [u8; 3] = [0, 255, 0];
+
+pub const CYAN: [u8; 3] = [0, 255, 255];
+
+/// Whether the part has this place of the frame.
+fn has_place(part: &Part, row: u16, column: u16) -> bool {
+    let (top, bottom, left, right, _) = *part;
+    top <= row && row <= bottom && left <= column && column <= right
+}
+
+/// The colour of a place of the frame.
+fn colour_at(case: &Case, row: u16, column: u16) -> [u8; 3] {
+    for part in case.parts {
+        if has_place(part, row, column) {
+            return part.4;
+        }
+    }
+    case.ground
+}
+
+/// The frames file, of equal frames.
+fn frames_of(alloc: Global, case: &Case) -> Result<Vec<u8>, OutOfMemory> {
+    let mut bytes = Vec::new(alloc);
+    for _ in 0..case.frames {
+        bytes.extend_from_slice(HEADING)?;
+        for row in 0..286 {
+            for column in 0..720 {
+                bytes.extend_from_slice(&colour_at(case, row, column))?;
+            }
+        }
+    }
+    Ok(bytes)
+}
+
+/// The bytes of memory.
+fn bytes_of(alloc: Global, stretches: &[Stretch]) -> Result<Vec<u8>, OutOfMemory> {
+    let mut bytes = Vec::new(alloc);
+    for (count, word) in stretches {
+        for _ in 0..*count {
+            bytes.extend_from_slice(&word.to_be_bytes())?;
+        }
+    }
+    Ok(bytes)
+}
+
+/// The script.
+fn script_of(alloc: Global, case: &Case) -> Result<String, OutOfMemory> {
+    let mut text = String::from_str(alloc, "ocs 1\ncpu off\nframes ")?;
+    text.push((b'0' + case.frames % 10) as char)?;
+    text.push_str("\n")?;
+    for (time, reg, word) in case.pokes {
+        for part in ["at ", *time, " poke ", *reg, " ", *word, "\n"] {
+            text.push_str(part)?;
+        }
+    }
+    for (time, reg, _) in case.peeks {
+        for part in ["at ", *time, " peek ", *reg, "\n"] {
+            text.push_str(part)?;
+        }
+    }
+    text.push_str("end\n")?;
+    Ok(text)
+}
+
+/// The trace.
+fn trace_of(alloc: Global, case: &Case) -> Result<String, OutOfMemory> {
+    let mut text = String::new(alloc);
+    for (kind, events) in [(" W ", case.pokes), (" R ", case.peeks)] {
+        for (time, reg, word) in events {
+            for part in [*time, kind, *reg, " ", *word, " S\n"] {
+                text.push_str(part)?;
+            }
+        }
+    }
+    text.push_str(case.after)?;
+    Ok(text)
+}
+
+/// What of a case's run is not as it should be.
+fn fault_of(alloc: Global, case: &Case) -> Result<Option<&'static str>, OutOfMemory> {
+    let image = bytes_of(alloc, case.image)?;
+    let mut shelf = shelf(alloc, &image, script_of(alloc, case)?.as_bytes())?;
+    let mut memory = bytes_of(alloc, case.memory)?;
+    memory.resize(524_288, 0)?;
+    let mut words = WORDS;
+    words[6] = case.band;
+    Ok(if run(alloc, &words, &mut shelf)? != 0 {
+        Some("status")
+    } else if !shelf.said().is_empty() {
+        Some("said")
+    } else if !holds(&shelf, "frames", &frames_of(alloc, case)?) {
+        Some("frames")
+    } else if !holds(&shelf, "trace", trace_of(alloc, case)?.as_bytes()) {
+        Some("trace")
+    } else if !holds(&shelf, "memory", &memory) {
+        Some("memory")
+    } else {
+        None
+    })
+}
+
+/// The first case that is not as it should be, and what of it.
+pub fn first_fault(
+    alloc: Global,
+    cases: &[Case],
+) -> Result<Option<(usize, &'static str)>, OutOfMemory> {
+    for (n, case) in cases.iter().enumerate() {
+        if let Some(fault) = fault_of(alloc, case)? {
+            return Ok(Some((n, fault)));
+        }
+    }
+    Ok(None)
+}

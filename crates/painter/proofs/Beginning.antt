@@ -1,0 +1,172 @@
+-- The sprites' words that run, and from where on none shows.
+use Rattle.std.proofs.Common.{◌≡◌, ℕ, zero, suc, ◌+◌, ◌-◌, ◌*◌, ◌/◌, ◌%◌, ◌^◌, ◌≤◌, ◌<◌, ◌==◌, ◌&&◌, Bool, true, false, not, nat_eq, nat_le, max, List, [], ◌∷◌, length, map, slice_index, slice_index_or, slice_set, replicate, Option, Some, None, refl, ◌∙◌, ap, arith}
+use Rattle.std.specs.Bool.{if◌then◌else◌}
+use Rattle.std.proofs.Math.ListN.{set, length-set, get_or-eq_default}
+use Rattle.std.proofs.Math.Nat.{zero-div}
+use Rattle.std.proofs.lemmas.List.{get_or-replicate, length-replicate, get_or-set_same, get_or-set_other}
+use Rattle.std.proofs.lemmas.Bool.Decides.{nat_tests}
+use Rattle.std.specs.Option.{option_to_list}
+use Rattle.sprites.specs.declared.runs.Start.{Start}
+use Rattle.sprites.specs.SpriteValue.{sprite_value, kept_start}
+use Rattle.serial_model.specs.Picture.{all_sprites, sprite_values}
+use Rattle.painter.specs.SpriteState.{SpriteRegisters, IsQuiet, IsIdle, run_or, run_in, runs_in, first_runs}
+
+pub not_true : (b : Bool) → not b ≡ true → b ≡ false
+not_true true is = cc
+not_true false is = refl
+
+none_by : (n : ℕ) (b : Bool) → nat_le 8 n ≡ b → slice_index_or (replicate {A = Option Start} 8 None) n None ≡ None
+none_by n false is =
+    let within : n < 8 = grind (arith, nat_tests) in
+    get_or-replicate 8 n None None within
+none_by n true is =
+    let after : 8 ≤ n = grind (arith, nat_tests) in
+    get_or-eq_default (replicate {A = Option Start} 8 None) None (omega (arith, length-replicate {A = Option Start} 8 None))
+
+pub none_at : (n : ℕ) → slice_index_or (replicate {A = Option Start} 8 None) n None ≡ None
+none_at n = none_by n (nat_le 8 n) refl
+
+-- where none runs, none shows
+pub none_quiet : IsQuiet 0 (replicate 8 None)
+unfolding sprite_value
+none_quiet = record {
+  eight = length-replicate {A = Option Start} 8 None;
+  quiet = λ x sprite h. ap (λ (o : Option Start). sprite_value x (option_to_list o)) (none_by sprite (nat_le 8 sprite) refl);
+}
+
+-- the words of a start show nothing from their sixteenth place on
+passed_by : (x : ℕ) (start : Start) → start.x + 16 ≤ x → sprite_value x (start ∷ []) ≡ 0
+unfolding sprite_value
+passed_by x start h =
+    let come : nat_le start.x x ≡ true = grind (arith, nat_tests) in
+    let past : nat_le (x - start.x) 15 ≡ false = grind (arith, nat_tests) in
+    rw come (rw past refl)
+
+set_by : (q column : ℕ) (runs : List (Option Start)) (sprite : ℕ) (start : Start) → IsQuiet q runs → sprite < 8 → start.x ≡ column →
+    (x n : ℕ) → max q (column + 16) ≤ x → (b : Bool) → nat_eq n sprite ≡ b → sprite_value x (kept_start (slice_set runs sprite (Some start)) n) ≡ 0
+set_by q column runs sprite start quiet within at x n h true is =
+    let here : n ≡ sprite = grind (arith, nat_tests) in
+    ap (λ (m : ℕ). sprite_value x (kept_start (slice_set runs sprite (Some start)) m)) here
+    ∙ ap (λ (o : Option Start). sprite_value x (option_to_list o)) (get_or-set_same runs sprite (Some start) None (omega (arith, quiet.eight)))
+    ∙ passed_by x start (omega (arith, at, h))
+set_by q column runs sprite start quiet within at x n h false is =
+    let differ : n ≡ sprite → ⊥ = λ e. grind (arith, nat_tests) in
+    ap (λ (o : Option Start). sprite_value x (option_to_list o)) (get_or-set_other runs sprite n (Some start) None differ)
+    ∙ quiet.quiet x n (omega (arith, h))
+
+-- words that begin show for sixteen places
+pub begun_quiet : (q column : ℕ) (runs : List (Option Start)) (sprite : ℕ) (start : Start) → IsQuiet q runs → sprite < 8 → start.x ≡ column →
+    IsQuiet (max q (column + 16)) (slice_set runs sprite (Some start))
+begun_quiet q column runs sprite start quiet within at = record {
+  eight = length-set runs sprite (Some start) ∙ quiet.eight;
+  quiet = λ x n h. set_by q column runs sprite start quiet within at x n h (nat_eq n sprite) refl;
+}
+
+-- sprites that are not among the first so many
+later_runs : (x : ℕ) (s : SpriteRegisters) (n k : ℕ) → n ≤ k → slice_index_or (first_runs x s n) k None ≡ slice_index_or s.runs k None
+unfolding first_runs
+later_runs x s zero k h = refl
+later_runs x s (suc n) k h =
+    get_or-set_other (first_runs x s n) n k (run_in x s n) None (λ e. omega (arith, e, h)) ∙ later_runs x s n k (omega (arith, h))
+
+-- one sprite more
+pub one_more : (x : ℕ) (s now next : SpriteRegisters) (n : ℕ) → now ≡ record s { runs = first_runs x s n } →
+    next ≡ record now { runs = slice_set now.runs n (run_in x now n) } → next ≡ record s { runs = first_runs x s (n + 1) }
+unfolding first_runs
+one_more x s now next n is step =
+    let count : suc n ≡ n + 1 = omega arith in
+    rw (← count)
+    (step
+    ∙ ap (λ (t : SpriteRegisters). record t { runs = slice_set t.runs n (run_in x t n) }) is
+    ∙ ap (λ (o : Option Start). record s { runs = slice_set (first_runs x s n) n (run_or x s n o) }) (later_runs x s n n (omega arith)))
+
+eight_by : (f : ℕ → Option Start → Option Start) (l : List (Option Start)) → length l ≡ 8 →
+    slice_set (slice_set (slice_set (slice_set (slice_set (slice_set (slice_set (slice_set l 0 (f 0 (slice_index_or l 0 None)))
+    1 (f 1 (slice_index_or l 1 None))) 2 (f 2 (slice_index_or l 2 None))) 3 (f 3 (slice_index_or l 3 None))) 4 (f 4 (slice_index_or l 4 None)))
+    5 (f 5 (slice_index_or l 5 None))) 6 (f 6 (slice_index_or l 6 None))) 7 (f 7 (slice_index_or l 7 None))
+    ≡ map (λ n. f n (slice_index_or l n None)) all_sprites
+eight_by f (a ∷ b ∷ c ∷ d ∷ e ∷ g ∷ h ∷ i ∷ []) is = refl
+eight_by f [] is = cc
+eight_by f (a ∷ []) is = absurd (omega (arith, is))
+eight_by f (a ∷ b ∷ []) is = absurd (omega (arith, is))
+eight_by f (a ∷ b ∷ c ∷ []) is = absurd (omega (arith, is))
+eight_by f (a ∷ b ∷ c ∷ d ∷ []) is = absurd (omega (arith, is))
+eight_by f (a ∷ b ∷ c ∷ d ∷ e ∷ []) is = absurd (omega (arith, is))
+eight_by f (a ∷ b ∷ c ∷ d ∷ e ∷ g ∷ []) is = absurd (omega (arith, is))
+eight_by f (a ∷ b ∷ c ∷ d ∷ e ∷ g ∷ h ∷ []) is = absurd (omega (arith, is))
+eight_by f (a ∷ b ∷ c ∷ d ∷ e ∷ g ∷ h ∷ i ∷ more ∷ rest) is = absurd (omega (arith, is))
+
+-- all eight
+pub all_begun : (x : ℕ) (s : SpriteRegisters) → length s.runs ≡ 8 → first_runs x s 8 ≡ runs_in x s
+unfolding first_runs
+all_begun x s is = eight_by (run_or x s) s.runs is
+
+-- eight of which each is what ran
+same_eight : (f : ℕ → Option Start) (l : List (Option Start)) → length l ≡ 8 → ((n : ℕ) → n < 8 → f n ≡ slice_index_or l n None) → map f all_sprites ≡ l
+same_eight f (a ∷ b ∷ c ∷ d ∷ e ∷ g ∷ h ∷ i ∷ []) is same =
+    rw (
+      same 0 (omega arith),
+      same 1 (omega arith),
+      same 2 (omega arith),
+      same 3 (omega arith),
+      same 4 (omega arith),
+      same 5 (omega arith),
+      same 6 (omega arith),
+      same 7 (omega arith),
+    ) refl
+same_eight f [] is same = cc
+same_eight f (a ∷ []) is same = absurd (omega (arith, is))
+same_eight f (a ∷ b ∷ []) is same = absurd (omega (arith, is))
+same_eight f (a ∷ b ∷ c ∷ []) is same = absurd (omega (arith, is))
+same_eight f (a ∷ b ∷ c ∷ d ∷ []) is same = absurd (omega (arith, is))
+same_eight f (a ∷ b ∷ c ∷ d ∷ e ∷ []) is same = absurd (omega (arith, is))
+same_eight f (a ∷ b ∷ c ∷ d ∷ e ∷ g ∷ []) is same = absurd (omega (arith, is))
+same_eight f (a ∷ b ∷ c ∷ d ∷ e ∷ g ∷ h ∷ []) is same = absurd (omega (arith, is))
+same_eight f (a ∷ b ∷ c ∷ d ∷ e ∷ g ∷ h ∷ i ∷ more ∷ rest) is same = absurd (omega (arith, is))
+
+-- nothing begins where no sprite is armed, or none has its HSTART
+pub NoneBegins : ℕ → SpriteRegisters → Type 0
+NoneBegins x s = (n : ℕ) → n < 8 →
+    ((s.armed / 2 ^ n % 2 == 1) && (2 * (slice_index s.pos n % 256) + slice_index s.ctl n % 2 == x)) ≡ false
+
+pub none_begun : (x : ℕ) (s : SpriteRegisters) → length s.runs ≡ 8 → NoneBegins x s → runs_in x s ≡ s.runs
+unfolding NoneBegins
+none_begun x s is none = same_eight (run_in x s) s.runs is
+    (λ n h. ap (λ (b : Bool). if b then Some (record { x = x; word_a = slice_index s.words_a n; word_b = slice_index s.words_b n })
+    else slice_index_or s.runs n None) (none n h))
+
+pub none_armed : (x : ℕ) (s : SpriteRegisters) → s.armed ≡ 0 → NoneBegins x s
+unfolding NoneBegins
+none_armed x s is n h =
+    let bit : s.armed / 2 ^ n % 2 ≡ 0 = ap (λ (a : ℕ). a / 2 ^ n % 2) is ∙ ap (λ (a : ℕ). a % 2) (zero-div (2 ^ n)) in
+    rw bit refl
+
+elsewhere : (armed : Bool) (pos ctl h x : ℕ) → x / 2 ≡ h → (pos % 256 ≡ h → ⊥) → (armed && (2 * (pos % 256) + ctl % 2 == x)) ≡ false
+elsewhere true pos ctl h x at not_here =
+    let differ : 2 * (pos % 256) + ctl % 2 ≡ x → ⊥ = λ e. not_here (omega (arith, e, at)) in
+    grind (arith, nat_tests)
+elsewhere false pos ctl h x at not_here = refl
+
+pub none_starts : (x h : ℕ) (s : SpriteRegisters) → x / 2 ≡ h → ((n : ℕ) → n < 8 → slice_index s.pos n % 256 ≡ h → ⊥) → NoneBegins x s
+unfolding NoneBegins
+none_starts x h s at none n lt = elsewhere (s.armed / 2 ^ n % 2 == 1) (slice_index s.pos n) (slice_index s.ctl n) h x at (none n lt)
+
+quiet_values : (q x : ℕ) (runs : List (Option Start)) → IsQuiet q runs → q ≤ x → sprite_values x runs ≡ replicate 8 0
+quiet_values q x runs quiet h =
+    rw (
+      quiet.quiet x 0 h,
+      quiet.quiet x 1 h,
+      quiet.quiet x 2 h,
+      quiet.quiet x 3 h,
+      quiet.quiet x 4 h,
+      quiet.quiet x 5 h,
+      quiet.quiet x 6 h,
+      quiet.quiet x 7 h,
+    ) refl
+
+pub idle : (h q : ℕ) (s : SpriteRegisters) → IsQuiet q s.runs → q ≤ 2 * h → NoneBegins (2 * h) s → NoneBegins (2 * h + 1) s → IsIdle h s
+idle h q s quiet le first second = record {
+  first = none_begun (2 * h) s quiet.eight first;
+  second = none_begun (2 * h + 1) s quiet.eight second;
+  values = λ x from. quiet_values q x s.runs quiet (omega (arith, le, from));
+}

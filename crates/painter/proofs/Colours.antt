@@ -1,0 +1,121 @@
+-- Inks against the colours of the playfields.
+use Rattle.std.proofs.Common.{◌≡◌, ℕ, zero, ◌+◌, ◌-◌, ◌/◌, ◌%◌, ◌^◌, ◌≤◌, ◌<◌, ◌==◌, Bool, true, false, not, ◌&&◌, nat_lt, min, List, [], ◌∷◌, slice_index, replicate, refl, sym, ◌∙◌, ap, arith}
+use Rattle.std.specs.Bool.{if◌then◌else◌}
+use Rattle.std.proofs.Math.Pow.{pow_mono}
+use Rattle.std.proofs.lemmas.List.{get_or-replicate}
+use Rattle.std.proofs.lemmas.Bool.Decides.{nat_tests}
+use Rattle.serial_model.specs.Picture.{colour_bytes}
+use Rattle.priority_ham.specs.PlaneCount.{planes_of, is_hires, is_hold_and_modify, is_dual_playfield}
+use Rattle.priority_ham.specs.PixelColour.{Mode, DualPlayfield, HoldAndModify, ExtraHalfBrite, Plain, colour_in, dual_number, value_of_two, value_of_one, is_two_chosen, half_brite, modified, playfield_colour}
+use Rattle.priority_ham.proofs.Within.{below, at_most_six}
+use Rattle.painter.specs.Inks.{ink, ink_number, counted_bits, is_held, halved, HasTables}
+use Rattle.painter.proofs.Rows.{zeros}
+
+black_by : (n : ℕ) (b : Bool) → (if b then slice_index (replicate 32 0) n else halved (slice_index (replicate 32 0) (n - 32))) ≡ zero
+black_by n true = zeros 32 n
+black_by n false = ap halved (zeros 32 (n - 32))
+
+no_planes : (bits : ℕ) → 0 ≡ bits % 1
+no_planes bits = omega arith
+
+-- the tables at reset
+pub reset_tables : HasTables (replicate 32 0) 0 0 (replicate 64 (0 ∷ 0 ∷ 0 ∷ [])) (replicate 64 0)
+reset_tables = record {
+  bytes = λ n h. get_or-replicate 64 n (0 ∷ 0 ∷ 0 ∷ []) [] h ∙ sym (ap colour_bytes (black_by n (nat_lt n 32)));
+  numbers = λ bits h. zeros 64 bits ∙ no_planes bits;
+}
+
+-- the first 32 inks are the colours
+pub ink_low : (palette : List ℕ) (n : ℕ) → n < 32 → ink palette n ≡ slice_index palette n
+ink_low palette n h =
+    let low : nat_lt n 32 ≡ true = grind (arith, nat_tests) in
+    ap (λ (b : Bool). if b then slice_index palette n else halved (slice_index palette (n - 32))) low
+
+-- the others are halved
+ink_half : (palette : List ℕ) (n : ℕ) → n < 64 → (b : Bool) → nat_lt n 32 ≡ b → ink palette n ≡ half_brite n palette
+ink_half palette n h true is =
+    let low : n < 32 = grind (arith, nat_tests) in
+    let same : n % 32 ≡ n = omega arith in
+    let clear : n / 32 % 2 == 1 ≡ false = grind (arith, nat_tests) in
+    ink_low palette n low ∙ ap (slice_index palette) (sym same)
+    ∙ ap (λ (b : Bool). if b then halved (slice_index palette (n % 32)) else slice_index palette (n % 32)) (sym clear)
+ink_half palette n h false is =
+    let high : 32 ≤ n = grind (arith, nat_tests) in
+    let same : n % 32 ≡ n - 32 = omega arith in
+    let set : n / 32 % 2 == 1 ≡ true = grind (arith, nat_tests) in
+    ap (λ (b : Bool). if b then slice_index palette n else halved (slice_index palette (n - 32))) is
+    ∙ ap (λ (m : ℕ). halved (slice_index palette m)) (sym same)
+    ∙ ap (λ (b : Bool). if b then halved (slice_index palette (n % 32)) else slice_index palette (n % 32)) (sym set)
+
+-- two playfields have the first sixteen colours
+dual_by : (one two : ℕ) (chosen none : Bool) → one < 8 → two < 8 → (if chosen then (if none then 0 else 8 + two) else one) < 32
+dual_by one two true true h k = omega arith
+dual_by one two true false h k = omega arith
+dual_by one two false none h k = omega arith
+
+dual_few : (con2 bits : ℕ) → dual_number con2 bits < 32
+dual_few con2 bits =
+    let first : value_of_one bits < 8 = omega arith in
+    let second : value_of_two bits < 8 = omega arith in
+    dual_by (value_of_one bits) (value_of_two bits) (is_two_chosen con2 bits) (value_of_two bits == 0) first second
+
+-- which way the planes name a colour, by the bits of BPLCON0
+abbrev mode_by : Bool → Bool → Bool → Bool → Mode
+mode_by dual hires holds six =
+    if dual then DualPlayfield else if hires then Plain else if holds then HoldAndModify else if six then ExtraHalfBrite else Plain
+
+ink_in : (dual hires holds six : Bool) (con2 n held : ℕ) (palette : List ℕ) → (holds && not dual && not hires) ≡ false →
+    n < 64 → (hires ≡ true → n < 16) → (six ≡ false → n < 32) →
+    ink palette (if dual then dual_number con2 n else n) ≡ colour_in (mode_by dual hires holds six) con2 n held palette
+ink_in true hires holds six con2 n held palette plain few some most = ink_low palette (dual_number con2 n) (dual_few con2 n)
+ink_in false true holds six con2 n held palette plain few some most =
+    let low : n < 16 = some refl in
+    ink_low palette n (omega arith)
+ink_in false false true six con2 n held palette plain few some most = cc
+ink_in false false false true con2 n held palette plain few some most = ink_half palette n few (nat_lt n 32) refl
+ink_in false false false false con2 n held palette plain few some most = ink_low palette n (most refl)
+
+counted_few : (con0 bits k : ℕ) → planes_of con0 ≤ k → counted_bits con0 bits < 2 ^ k
+counted_few con0 bits k le =
+    let positive : 1 ≤ 2 ^ planes_of con0 = pow_mono {i = 0} {j = planes_of con0} (omega arith) in
+    below (counted_bits con0 bits) (planes_of con0) k le (omega arith)
+
+hires_few : (con0 : ℕ) → is_hires con0 ≡ true → planes_of con0 ≤ 4
+hires_few con0 is = few (con0 / 2 ^ 12 % 8) (is_hires con0) is
+  where
+    few : (n : ℕ) (hires : Bool) → hires ≡ true → min n (if hires then 4 else 6) ≤ 4
+    few n true is = omega arith
+    few n false is = cc
+
+not_six : (con0 : ℕ) → planes_of con0 == 6 ≡ false → planes_of con0 ≤ 5
+not_six con0 is = fewer (planes_of con0) (at_most_six con0) is
+  where
+    fewer : (n : ℕ) → n ≤ 6 → n == 6 ≡ false → n ≤ 5
+    fewer n le is = grind (arith, nat_tests)
+
+-- where no colour is held, the ink that the bits name is the playfields' colour
+pub ink_colour : (con0 con2 bits held : ℕ) (palette : List ℕ) → is_held con0 ≡ false →
+    ink palette (ink_number con0 con2 bits) ≡ playfield_colour con0 con2 (counted_bits con0 bits) held palette
+unfolding playfield_colour
+ink_colour con0 con2 bits held palette plain =
+    ink_in (is_dual_playfield con0) (is_hires con0) (is_hold_and_modify con0) (planes_of con0 == 6) con2 (counted_bits con0 bits) held palette
+    plain
+    (counted_few con0 bits 6 (at_most_six con0))
+    (λ is. counted_few con0 bits 4 (hires_few con0 is))
+    (λ is. counted_few con0 bits 5 (not_six con0 is))
+
+-- where it is held, they modify it
+held_in : (dual hires holds six : Bool) (con2 n held : ℕ) (palette : List ℕ) → (holds && not dual && not hires) ≡ true →
+    modified (if dual then dual_number con2 n else n) held palette ≡ colour_in (mode_by dual hires holds six) con2 n held palette
+held_in true hires true six con2 n held palette is = cc
+held_in true hires false six con2 n held palette is = cc
+held_in false true true six con2 n held palette is = cc
+held_in false true false six con2 n held palette is = cc
+held_in false false true six con2 n held palette is = refl
+held_in false false false six con2 n held palette is = cc
+
+pub held_colour : (con0 con2 bits held : ℕ) (palette : List ℕ) → is_held con0 ≡ true →
+    modified (ink_number con0 con2 bits) held palette ≡ playfield_colour con0 con2 (counted_bits con0 bits) held palette
+unfolding playfield_colour
+held_colour con0 con2 bits held palette is =
+    held_in (is_dual_playfield con0) (is_hires con0) (is_hold_and_modify con0) (planes_of con0 == 6) con2 (counted_bits con0 bits) held palette is

@@ -1,0 +1,10 @@
+pub mod Rows
+pub mod Spreading
+pub mod Loading
+pub mod Colours
+pub mod Beginning
+pub mod LaidOut
+pub mod Ors
+pub mod Showing
+pub mod Overlays
+pub mod Registers

@@ -1,0 +1,117 @@
+-- The bits of a number of four, spread over bytes; and the bytes of a sum of such.
+use Rattle.std.proofs.Common.{◌≡◌, ℕ, zero, suc, ◌+◌, ◌*◌, ◌/◌, ◌%◌, ◌<◌, List, [], ◌∷◌, get_or, refl, sym, ◌∙◌, ap, arith, w64}
+use Rattle.std.specs.Int.{to_le_bytes}
+use Rattle.std.proofs.Math.Nat.{div-div-eq-div-mul, div-one}
+use Rattle.painter.specs.Words.{three_last}
+
+abbrev twice_entries : List ℕ
+twice_entries =
+    0 ∷ 72339069014638592 ∷ 1103806595072 ∷ 72340172821233664 ∷ 16842752 ∷ 72339069031481344 ∷ 1103823437824 ∷ 72340172838076416 ∷ 257 ∷
+    72339069014638849 ∷ 1103806595329 ∷ 72340172821233921 ∷ 16843009 ∷ 72339069031481601 ∷ 1103823438081 ∷ 72340172838076673 ∷ []
+
+twice : (n : ℕ) → n < 16 → get_or twice_entries n 0 ≡ 257 * (n / 8 % 2) + 16842752 * (n / 4 % 2) + 1103806595072 * (n / 2 % 2) + 72339069014638592 * (n % 2)
+twice zero h = refl
+twice (suc zero) h = refl
+twice (suc (suc zero)) h = refl
+twice (suc (suc (suc zero))) h = refl
+twice (suc (suc (suc (suc zero)))) h = refl
+twice (suc (suc (suc (suc (suc zero))))) h = refl
+twice (suc (suc (suc (suc (suc (suc zero)))))) h = refl
+twice (suc (suc (suc (suc (suc (suc (suc zero))))))) h = refl
+twice (suc (suc (suc (suc (suc (suc (suc (suc zero)))))))) h = refl
+twice (suc (suc (suc (suc (suc (suc (suc (suc (suc zero))))))))) h = refl
+twice (suc (suc (suc (suc (suc (suc (suc (suc (suc (suc zero)))))))))) h = refl
+twice (suc (suc (suc (suc (suc (suc (suc (suc (suc (suc (suc zero))))))))))) h = refl
+twice (suc (suc (suc (suc (suc (suc (suc (suc (suc (suc (suc (suc zero)))))))))))) h = refl
+twice (suc (suc (suc (suc (suc (suc (suc (suc (suc (suc (suc (suc (suc zero))))))))))))) h = refl
+twice (suc (suc (suc (suc (suc (suc (suc (suc (suc (suc (suc (suc (suc (suc zero)))))))))))))) h = refl
+twice (suc (suc (suc (suc (suc (suc (suc (suc (suc (suc (suc (suc (suc (suc (suc zero))))))))))))))) h = refl
+twice (suc (suc (suc (suc (suc (suc (suc (suc (suc (suc (suc (suc (suc (suc (suc (suc n)))))))))))))))) h = absurd (omega arith)
+
+-- the table of each bit as two bytes, at a word's last four bits
+pub twice_of : (n : ℕ) → get_or twice_entries (n % 16) 0
+    ≡ 257 * (n / 8 % 2) + 16842752 * (n / 4 % 2) + 1103806595072 * (n / 2 % 2) + 72339069014638592 * (n % 2)
+twice_of n = twice (n % 16) (omega arith) ∙ omega arith
+
+abbrev once_entries : List ℕ
+once_entries =
+    0 ∷ 16777216 ∷ 65536 ∷ 16842752 ∷ 256 ∷ 16777472 ∷ 65792 ∷ 16843008 ∷ 1 ∷ 16777217 ∷ 65537 ∷ 16842753 ∷ 257 ∷ 16777473 ∷ 65793 ∷ 16843009 ∷ []
+
+once : (n : ℕ) → n < 16 → get_or once_entries n 0 ≡ n / 8 % 2 + 256 * (n / 4 % 2) + 65536 * (n / 2 % 2) + 16777216 * (n % 2)
+once zero h = refl
+once (suc zero) h = refl
+once (suc (suc zero)) h = refl
+once (suc (suc (suc zero))) h = refl
+once (suc (suc (suc (suc zero)))) h = refl
+once (suc (suc (suc (suc (suc zero))))) h = refl
+once (suc (suc (suc (suc (suc (suc zero)))))) h = refl
+once (suc (suc (suc (suc (suc (suc (suc zero))))))) h = refl
+once (suc (suc (suc (suc (suc (suc (suc (suc zero)))))))) h = refl
+once (suc (suc (suc (suc (suc (suc (suc (suc (suc zero))))))))) h = refl
+once (suc (suc (suc (suc (suc (suc (suc (suc (suc (suc zero)))))))))) h = refl
+once (suc (suc (suc (suc (suc (suc (suc (suc (suc (suc (suc zero))))))))))) h = refl
+once (suc (suc (suc (suc (suc (suc (suc (suc (suc (suc (suc (suc zero)))))))))))) h = refl
+once (suc (suc (suc (suc (suc (suc (suc (suc (suc (suc (suc (suc (suc zero))))))))))))) h = refl
+once (suc (suc (suc (suc (suc (suc (suc (suc (suc (suc (suc (suc (suc (suc zero)))))))))))))) h = refl
+once (suc (suc (suc (suc (suc (suc (suc (suc (suc (suc (suc (suc (suc (suc (suc zero))))))))))))))) h = refl
+once (suc (suc (suc (suc (suc (suc (suc (suc (suc (suc (suc (suc (suc (suc (suc (suc n)))))))))))))))) h = absurd (omega arith)
+
+-- and of each bit as one byte
+pub once_of : (n : ℕ) → get_or once_entries (n % 16) 0
+    ≡ n / 8 % 2 + 256 * (n / 4 % 2) + 65536 * (n / 2 % 2) + 16777216 * (n % 2)
+once_of n = once (n % 16) (omega arith) ∙ omega arith
+
+-- the bytes of a number of eight digits
+eight_digits : (n a b c d e f g h : ℕ) → a < 256 → b < 256 → c < 256 → d < 256 → e < 256 → f < 256 → g < 256 → h < 256 →
+    n ≡ a + 256 * b + 65536 * c + 16777216 * d + 4294967296 * e + 1099511627776 * f + 281474976710656 * g + 72057594037927936 * h →
+    to_le_bytes w64 n ≡ a ∷ b ∷ c ∷ d ∷ e ∷ f ∷ g ∷ h ∷ []
+eight_digits n a b c d e f g h la lb lc ld le lf lg lh is =
+    let at0 : n % 256 ≡ a = omega arith in
+    let at1 : n / 256 % 256 ≡ b = omega arith in
+    let at2 : n / 65536 % 256 ≡ c = omega arith in
+    let at3 : n / 16777216 % 256 ≡ d = omega arith in
+    let at4 : n / 4294967296 % 256 ≡ e = omega arith in
+    let at5 : n / 1099511627776 % 256 ≡ f = omega arith in
+    let at6 : n / 281474976710656 % 256 ≡ g = omega arith in
+    let at7 : n / 72057594037927936 % 256 ≡ h = omega arith in
+    rw (at0, at1, at2, at3, at4, at5, at6, at7)
+
+-- of three words the last bits, and those eight places of them as bytes
+abbrev pub once_bits : ℕ → ℕ
+once_bits n = n / 8 % 2 + 256 * (n / 4 % 2) + 65536 * (n / 2 % 2) + 16777216 * (n % 2)
+
+three_small : (a b c : ℕ) → a % 2 + 4 * (b % 2) + 16 * (c % 2) < 256
+three_small a b c = omega arith
+
+sum_of_digits : (a b c d e f g h a' b' c' d' e' f' g' h' a'' b'' c'' d'' e'' f'' g'' h'' : ℕ) →
+    (a + 256 * b + 65536 * c + 16777216 * d) + 4 * (a' + 256 * b' + 65536 * c' + 16777216 * d')
+    + 16 * (a'' + 256 * b'' + 65536 * c'' + 16777216 * d'')
+    + 4294967296 * ((e + 256 * f + 65536 * g + 16777216 * h) + 4 * (e' + 256 * f' + 65536 * g' + 16777216 * h')
+    + 16 * (e'' + 256 * f'' + 65536 * g'' + 16777216 * h''))
+    ≡ (a + 4 * a' + 16 * a'') + 256 * (b + 4 * b' + 16 * b'') + 65536 * (c + 4 * c' + 16 * c'') + 16777216 * (d + 4 * d' + 16 * d'')
+    + 4294967296 * (e + 4 * e' + 16 * e'') + 1099511627776 * (f + 4 * f' + 16 * f'') + 281474976710656 * (g + 4 * g' + 16 * g'')
+    + 72057594037927936 * (h + 4 * h' + 16 * h'')
+sum_of_digits a b c d e f g h a' b' c' d' e' f' g' h' a'' b'' c'' d'' e'' f'' g'' h'' = omega arith
+
+upper_bits : (n : ℕ) → once_bits (n / 16) ≡ n / 128 % 2 + 256 * (n / 64 % 2) + 65536 * (n / 32 % 2) + 16777216 * (n / 16 % 2)
+upper_bits n = simp div-div-eq-div-mul
+
+lower_bits : (n : ℕ) → once_bits n ≡ n / 8 % 2 + 256 * (n / 4 % 2) + 65536 * (n / 2 % 2) + 16777216 * (n / 1 % 2)
+lower_bits n = ap (λ (m : ℕ). n / 8 % 2 + 256 * (n / 4 % 2) + 65536 * (n / 2 % 2) + 16777216 * (m % 2)) (sym (div-one n))
+
+pub eight_bytes : (a b c : ℕ) →
+    to_le_bytes w64 (once_bits (a / 16) + 4 * once_bits (b / 16) + 16 * once_bits (c / 16)
+    + 4294967296 * (once_bits a + 4 * once_bits b + 16 * once_bits c))
+    ≡ three_last 7 a b c ∷ three_last 6 a b c ∷ three_last 5 a b c ∷ three_last 4 a b c
+    ∷ three_last 3 a b c ∷ three_last 2 a b c ∷ three_last 1 a b c ∷ three_last 0 a b c ∷ []
+eight_bytes a b c =
+    rw (upper_bits a, upper_bits b, upper_bits c, lower_bits a, lower_bits b, lower_bits c)
+    (eight_digits _ _ _ _ _ _ _ _ _
+    (three_small (a / 128) (b / 128) (c / 128)) (three_small (a / 64) (b / 64) (c / 64))
+    (three_small (a / 32) (b / 32) (c / 32)) (three_small (a / 16) (b / 16) (c / 16))
+    (three_small (a / 8) (b / 8) (c / 8)) (three_small (a / 4) (b / 4) (c / 4))
+    (three_small (a / 2) (b / 2) (c / 2)) (three_small (a / 1) (b / 1) (c / 1))
+    (sum_of_digits
+    (a / 128 % 2) (a / 64 % 2) (a / 32 % 2) (a / 16 % 2) (a / 8 % 2) (a / 4 % 2) (a / 2 % 2) (a / 1 % 2)
+    (b / 128 % 2) (b / 64 % 2) (b / 32 % 2) (b / 16 % 2) (b / 8 % 2) (b / 4 % 2) (b / 2 % 2) (b / 1 % 2)
+    (c / 128 % 2) (c / 64 % 2) (c / 32 % 2) (c / 16 % 2) (c / 8 % 2) (c / 4 % 2) (c / 2 % 2) (c / 1 % 2)))

@@ -1,0 +1,37 @@
+use Rattle.std.proofs.Common.{◌≡◌, ◌≤◌, ◌∙◌, ℕ, Bool, List, slice_index, sym, ap, subst}
+use Rattle.planes.specs.declared.load.Load.{Load}
+use Rattle.planes.specs.PlaneBit.{load_of}
+use Rattle.painter.specs.Words.{spread_bits}
+use Rattle.painter.proofs.Loading.{spread_at, spread_few, laid_shows}
+use Rattle.painter.proofs.line.Line.load.Goals as goal
+
+few_of : (bytes : List ℕ) (hires : Bool) (a b c x : ℕ) → bytes ≡ spread_bits hires a b c → slice_index bytes x ≤ 21
+few_of bytes hires a b c x is = subst (λ (l : List ℕ). slice_index l x ≤ 21) (sym is) (spread_few hires a b c x)
+
+pub lay-requires-clause-few : goal.lay-requires-clause-few
+lay-requires-clause-few c x = few_of _ _ _ _ _ x (c.as_flattened.ensures.value ∙ c.spread-odd.ensures)
+
+pub lay-requires-2-clause-few : goal.lay-requires-2-clause-few
+lay-requires-2-clause-few c x = few_of _ _ _ _ _ x (c.as_flattened-2.ensures.value ∙ c.spread-even.ensures)
+
+pub returns : goal.returns
+returns c loads is =
+    let load : Load = load_of c.args.h c.args.latches.now c.args.con1 c.args.hires in
+    record {
+      odd = laid_shows 1 c.start_at.result loads load c.as_flattened.result.now c.args.self.now.odd.shown c.lay.new.self.shown
+          (record {
+            first = sym c.start_at.ensures.value;
+            second = sym c.start_at.ensures.value;
+            third = sym c.start_at.ensures.value;
+            spread = λ (x : ℕ). ap (λ (l : List ℕ). slice_index l x) (c.as_flattened.ensures.value ∙ c.spread-odd.ensures) ∙ spread_at _ _ _ _ x;
+            over = c.lay.ensures;
+          }) is.odd;
+      even = laid_shows 2 c.start_at-2.result loads load c.as_flattened-2.result.now c.args.self.now.even.shown c.lay-2.new.self.shown
+          (record {
+            first = sym c.start_at-2.ensures.value;
+            second = sym c.start_at-2.ensures.value;
+            third = sym c.start_at-2.ensures.value;
+            spread = λ (x : ℕ). ap (λ (l : List ℕ). slice_index l x) (c.as_flattened-2.ensures.value ∙ c.spread-even.ensures) ∙ spread_at _ _ _ _ x;
+            over = c.lay-2.ensures;
+          }) is.even;
+    }

@@ -1,0 +1,10 @@
+use Rattle.std.proofs.Common.{ℕ, arith}
+use Rattle.painter.proofs.Rows.{zeros}
+use Rattle.painter.proofs.row.Row.new.Goals as goal
+
+pub invariant_of-result : goal.invariant_of-result
+invariant_of-result c = record {
+  few = λ (x : ℕ). omega (arith, zeros 1024 x);
+  within = omega arith;
+  blank = λ (x : ℕ) h. zeros 1024 x;
+}

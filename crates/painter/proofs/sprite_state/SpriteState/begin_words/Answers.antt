@@ -1,0 +1,36 @@
+use Rattle.std.proofs.Common.{◌≡◌, ◌∙◌, ◌/◌, ℕ, List, Option, length, sym, ap, subst, refl, arith}
+use Rattle.sprites.specs.declared.runs.Start.{Start}
+use Rattle.painter.specs.SpriteState.{SpriteRegisters, first_runs}
+use Rattle.painter.proofs.Beginning.{NoneBegins, none_armed, none_starts, none_begun, one_more, all_begun}
+use Rattle.painter.proofs.sprite_state.SpriteState.begin_words.Goals as goal
+use Rattle.painter.proofs.sprite_state.SpriteState.begin_words.Goals.{then-self-eq0-via-then-self-eq0, then-self-eq0-via-else-self-eq0+then-not-may_begin}
+
+pub returns-then-self-eq0 : goal.returns-then-self-eq0
+returns-then-self-eq0 c =
+    let eight : length c.args.self.now.runs ≡ 8 = subst (λ (s : SpriteRegisters). length s.runs ≡ 8) c.self.view_is c.self.invariant.still.eight in
+    let none : NoneBegins c.args.column c.args.self.now =
+    elim c.then-self-eq0.branch [
+      | then-self-eq0-via-then-self-eq0 w ↦
+          none_armed c.args.column c.args.self.now (ap (λ (s : SpriteRegisters). s.armed) (sym c.self.view_is) ∙ w.if-self-eq0.true)
+      | then-self-eq0-via-else-self-eq0+then-not-may_begin w ↦
+          none_starts c.args.column (c.args.column / 2) c.args.self.now refl (w.may_begin.ensures w.if-not-may_begin.true)
+    ] in
+    ap (λ (l : List (Option Start)). record c.args.self.now { runs = l })
+    (sym (none_begun c.args.column c.args.self.now eight none))
+
+pub loop-sprite-init : goal.loop-sprite-init
+unfolding first_runs
+loop-sprite-init c = refl
+
+pub loop-sprite-preserved : goal.loop-sprite-preserved
+loop-sprite-preserved c =
+    one_more c.args.column c.args.self.now c.loop-sprite.self c.begin_words_of.new.self c.loop-sprite.sprite
+    c.loop-sprite.invariant c.begin_words_of.ensures
+
+pub returns : goal.returns
+returns c =
+    let eight : length c.args.self.now.runs ≡ 8 = subst (λ (s : SpriteRegisters). length s.runs ≡ 8) c.self.view_is c.self.invariant.still.eight in
+    let all : c.loop-sprite.sprite ≡ 8 = omega arith in
+    c.loop-sprite.invariant
+    ∙ ap (λ (n : ℕ). record c.args.self.now { runs = first_runs c.args.column c.args.self.now n }) all
+    ∙ ap (λ (l : List (Option Start)). record c.args.self.now { runs = l }) (all_begun c.args.column c.args.self.now eight)

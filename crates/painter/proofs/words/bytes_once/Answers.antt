@@ -1,0 +1,14 @@
+use Rattle.painter.proofs.Spreading.{eight_bytes}
+use Rattle.painter.proofs.words.bytes_once.Goals as goal
+
+pub returns : goal.returns
+returns c =
+    rw (
+      c.to_le_bytes.ensures,
+      c.bits_once.ensures,
+      c.bits_once-2.ensures,
+      c.bits_once-3.ensures,
+      c.bits_once-4.ensures,
+      c.bits_once-5.ensures,
+      c.bits_once-6.ensures,
+    ) (eight_bytes c.args.a c.args.b c.args.c)

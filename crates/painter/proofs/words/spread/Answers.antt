@@ -1,0 +1,19 @@
+use Rattle.std.proofs.Math.Nat.{div-div-eq-div-mul}
+use Rattle.painter.specs.Words.{spread_bits}
+use Rattle.painter.proofs.words.spread.Goals as goal
+
+pub returns-then-hires : goal.returns-then-hires
+unfolding spread_bits
+returns-then-hires c =
+    rw (c.if-hires.true, c.bytes_once.ensures, c.bytes_once-then-hires.ensures) (simp div-div-eq-div-mul)
+
+pub returns-else-hires : goal.returns-else-hires
+unfolding spread_bits
+returns-else-hires c =
+    rw (
+      c.if-hires.false,
+      c.bytes_twice.ensures,
+      c.bytes_twice-else-hires.ensures,
+      c.bytes_twice-else-hires-2.ensures,
+      c.bytes_twice-else-hires-3.ensures,
+    ) (simp div-div-eq-div-mul)

@@ -1,0 +1,10 @@
+pub mod Words
+pub mod Row
+pub mod Line
+pub mod Held
+pub mod Inks
+pub mod Window
+pub mod Pixels
+pub mod SpriteState
+pub mod Overlay
+pub mod Painter

@@ -1,0 +1,43 @@
+-- What paints, against the picture state.
+use Rattle.std.specs.Prelude.{◌≡◌, ℕ, ◌+◌, ◌*◌, List, [], ◌∷◌}
+use Rattle.serial_model.specs.declared.picture.Denise.{Denise}
+use Rattle.serial_model.specs.Picture.{pixel_colour, colour_bytes, held_after}
+use Rattle.painter.specs.declared.painter.Painter.{Painter}
+use Rattle.painter.specs.Line.{IsLineOf}
+
+-- it stands for a picture state with the same registers, loads that show the same, the same words that run,
+-- and the same held colour
+pub record IsPainterOf (now : Painter) (p : Denise) : Type 0 where
+  pub palette : p.palette ≡ now.inks.palette
+  pub con0 : p.con0 ≡ now.inks.con0
+  pub con1 : p.con1 ≡ now.con1
+  pub con2 : p.con2 ≡ now.inks.con2
+  pub diwstrt : p.diwstrt ≡ now.window.diwstrt
+  pub diwstop : p.diwstop ≡ now.window.diwstop
+  pub clxcon : p.clxcon ≡ now.clxcon
+  pub latches : p.latches ≡ now.latches
+  pub pos : p.pos ≡ now.sprites.pos
+  pub ctl : p.ctl ≡ now.sprites.ctl
+  pub words_a : p.words_a ≡ now.sprites.words_a
+  pub words_b : p.words_b ≡ now.sprites.words_b
+  pub armed : p.armed ≡ now.sprites.armed
+  pub runs : p.runs ≡ now.sprites.runs
+  pub line : IsLineOf now.line p.loads
+  pub held : now.held ≡ colour_bytes p.held.0
+
+-- the colours of the two pixels of a low-resolution column
+unfoldable pub first_colour : ℕ → ℕ → Denise → ℕ
+first_colour v column p = pixel_colour v (2 * column) p.held.0 p
+
+unfoldable pub second_colour : ℕ → ℕ → Denise → ℕ
+second_colour v column p = pixel_colour v (2 * column + 1) (first_colour v column p) p
+
+-- a picture state with another held colour
+abbrev pub with_held : ℕ → Denise → Denise
+with_held colour p = record p { held = record { 0 = colour } }
+
+-- the bytes of the four pixels of a clock
+abbrev pub clock_bytes : ℕ → ℕ → Denise → List (List ℕ)
+clock_bytes v h p =
+    colour_bytes (held_after v h 1 p) ∷ colour_bytes (held_after v h 2 p)
+    ∷ colour_bytes (held_after v h 3 p) ∷ colour_bytes (held_after v h 4 p) ∷ []

@@ -1,0 +1,133 @@
+//! Inks: the colours that the bits of the planes name, as bytes.
+
+ghost use Rattle.std.specs.Prelude.{◌≡◌, ◌<◌, ◌%◌, ◌/◌, slice_set};
+ghost use Rattle.serial_model.specs.Picture.{colour_bytes};
+ghost use Rattle.painter.specs.Inks.{ink, ink_number, halved, is_held};
+
+use crate::names::names_by;
+use std::marker::Model;
+
+/// The registers that give the playfields' pixels their colours, with tables of what they say.
+///
+/// Ink n below 32 is the colour of COLOR00 to COLOR31, and ink 32 + n that colour halved.
+#[derive(Drop)]
+pub struct Inks {
+    palette: [u16; 32],
+    con0: u16,
+    con2: u16,
+    rgb: [[u8; 3]; 64],
+    names: [u8; 64],
+}
+
+impl Model for Inks {
+    ghost use Rattle.painter.specs.Inks.{InkRegisters, HasTables};
+
+    ghost Value = { InkRegisters };
+
+    ghost view = { λ s. record { palette = s.palette; con0 = s.con0; con2 = s.con2 } };
+
+    ghost invariant = { λ s. HasTables s.palette s.con0 s.con2 s.rgb s.names };
+}
+
+impl Inks {
+    ghost use Rattle.painter.specs.Inks.{black};
+
+    /// The registers at reset: all are 0, and so every ink is black.
+    pub fn reset() -> Inks
+        ensures { result ≡ black }
+    {
+        Inks {
+            palette: [0; 32],
+            con0: 0,
+            con2: 0,
+            rgb: [[0; 3]; 64],
+            names: [0; 64],
+        }
+    }
+
+    /// A write to one of COLOR00 to COLOR31, which keeps bits 11 to 0.
+    pub fn set_colour(&mut self, number: usize, word: u16)
+        requires { number < 32 }
+        ensures { self.new ≡ record self.old {
+          palette = slice_set self.old.palette number (word % 4096);
+        } }
+    {
+        let colour = word % 0x1000;
+        self.palette[number] = colour;
+        self.rgb[number] = bytes_of(colour);
+        self.rgb[number + 32] = bytes_of(half_of(colour));
+    }
+
+    /// A write to BPLCON0.
+    pub fn set_con0(&mut self, word: u16)
+        ensures { self.new ≡ record self.old { con0 = word } }
+    {
+        self.con0 = word;
+        self.names = names_by(word, self.con2);
+    }
+
+    /// A write to BPLCON2.
+    pub fn set_con2(&mut self, word: u16)
+        ensures { self.new ≡ record self.old { con2 = word } }
+    {
+        self.con2 = word;
+        self.names = names_by(self.con0, word);
+    }
+
+    /// BPLCON0.
+    pub fn con0(&self) -> u16
+        ensures { result ≡ self.now.con0 }
+    {
+        self.con0
+    }
+
+    /// BPLCON2.
+    pub fn con2(&self) -> u16
+        ensures { result ≡ self.now.con2 }
+    {
+        self.con2
+    }
+
+    /// Whether a pixel may hold the colour of the pixel before: HOMOD, with neither two playfields
+    /// nor high resolution.
+    pub fn holds_colour(&self) -> bool
+        ensures { result ≡ is_held self.now.con0 }
+    {
+        self.con0 / 0x800 % 2 == 1 && self.con0 / 0x400 % 2 == 0 && self.con0 / 0x8000 == 0
+    }
+
+    /// The number of the ink that the bits of the six planes name.
+    pub fn name(&self, bits: usize) -> u8
+        requires { bits < 64 }
+        ensures value { result ≡ ink_number self.now.con0 self.now.con2 bits }
+        ensures few { result < 64 }
+    {
+        self.names[bits]
+    }
+
+    /// The bytes of an ink.
+    pub fn bytes(&self, number: u8) -> &[u8; 3]
+        requires { number < 64 }
+        ensures { result.now ≡ colour_bytes (ink self.now.palette number) }
+    {
+        &self.rgb[number as usize]
+    }
+}
+
+/// The bytes of a colour: red, green and blue, a component c being the byte 17c.
+fn bytes_of(colour: u16) -> [u8; 3]
+    ensures { result ≡ colour_bytes colour }
+{
+    [
+        (colour / 256 % 16) as u8 * 17,
+        (colour / 16 % 16) as u8 * 17,
+        (colour % 16) as u8 * 17,
+    ]
+}
+
+/// A colour with each component halved.
+fn half_of(colour: u16) -> u16
+    ensures { result ≡ halved colour }
+{
+    colour / 512 % 8 * 256 + colour / 32 % 8 * 16 + colour / 2 % 8
+}

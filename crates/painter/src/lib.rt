@@ -1,0 +1,21 @@
+//! The painter: Denise's registers as a working state, the bitplanes and sprites of a line as rows,
+//! and the pixels of a clock with what collides there.
+#![tactic(auto)]
+
+mod ham;
+pub mod held;
+pub mod inks;
+pub mod line;
+mod names;
+mod overlay;
+pub mod painter;
+mod pixels;
+pub mod row;
+pub mod sprite_state;
+pub mod window;
+mod words;
+
+pub use painter::Painter;
+
+#[cfg(test)]
+mod tests;

@@ -1,0 +1,74 @@
+//! What the bitplanes show along a line.
+
+ghost use Rattle.std.specs.Prelude.{◌≡◌, ◌≤◌, ◌<◌, ◌+◌, ◌*◌, ◌∷◌, ◌++◌, [], ◌/◌, ◌%◌, ℕ, List, slice_index};
+ghost use Rattle.planes.specs.declared.load.Load.{Load};
+ghost use Rattle.planes.specs.PlaneBit.{load_of, delay};
+
+use crate::row::Row;
+use crate::words::spread;
+
+/// The rows of odd and of even planes.
+#[derive(Drop)]
+pub struct Line {
+    /// Planes 1, 3 and 5.
+    pub odd: Row,
+    /// Planes 2, 4 and 6.
+    pub even: Row,
+}
+
+impl Line {
+    ghost use Rattle.painter.specs.Line.{IsLineOf, row_bits};
+
+    /// A line with no load.
+    pub fn new() -> Line
+        ensures { IsLineOf result [] }
+    {
+        Line {
+            odd: Row::new(),
+            even: Row::new(),
+        }
+    }
+
+    /// Forgets every load, as a line's start does.
+    pub fn clear(&mut self)
+        ensures { IsLineOf self.new [] }
+    {
+        self.odd.clear();
+        self.even.clear();
+    }
+
+    /// Shows the load of a write to BPL1DAT at clock `h`, with the latches and BPLCON1 as they are
+    /// then.
+    pub fn load(&mut self, h: u16, latches: &[u16; 6], con1: u16, hires: bool)
+        requires { h ≤ 226 }
+        ensures { (loads : List Load) → IsLineOf self.old loads
+            → IsLineOf self.new (loads ++ load_of h latches.now con1 hires ∷ []) }
+    {
+        let [one, two, three, four, five, six] = *latches;
+        let odd = spread(hires, one, three, five);
+        let even = spread(hires, two, four, six);
+        self.odd.lay(start_at(h, con1, hires), odd.as_flattened());
+        self.even
+            .lay(start_at(h, con1 / 16, hires), even.as_flattened());
+    }
+
+    /// The bits of all six planes at a high-resolution position, plane p as bit p - 1.
+    pub fn bits(&self, x: usize) -> usize
+        requires { x ≤ 1023 }
+        ensures value { result ≡ row_bits self.now x }
+        ensures few { result < 64 }
+    {
+        self.odd.at(x) as usize + 2 * self.even.at(x) as usize
+    }
+}
+
+/// The position from which the planes of one parity show a load of clock `h`, by their scroll in
+/// bits 3 to 0 of a word: PF1H or PF2H of BPLCON1.
+fn start_at(h: u16, scroll: u16, hires: bool) -> usize
+    requires { h ≤ 226 }
+    ensures value { result ≡ 4 * h + 6 + 2 * delay hires (scroll % 16) }
+    ensures room { result ≤ 992 }
+{
+    let delay = if hires { scroll % 8 } else { scroll % 16 };
+    4 * h as usize + 6 + 2 * delay as usize
+}

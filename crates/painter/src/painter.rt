@@ -1,0 +1,429 @@
+//! What paints: Denise as a working state, and the pixels of a clock.
+
+ghost use Rattle.std.specs.Prelude.{bit_or, ◌≡◌, ◌≤◌, ◌<◌, ◌+◌, ◌*◌, ◌/◌, ◌%◌, ◌∷◌, [], slice_set, true, false, flat_map};
+ghost use Rattle.serial_model.specs.Picture.{pixels, colour_bytes, held_after, runs_after, runs_at, sprite_values, clock_collisions};
+ghost use Rattle.collisions.specs.Collision.{collision_bits};
+ghost use Rattle.serial_model.specs.Window.{is_inside};
+ghost use Rattle.painter.specs.Overlay.{with_runs, shown_bits, covered_column, covered_collisions, column_over, column_collisions, clock_over, quiet_in_column, quiet_collisions};
+ghost use Rattle.painter.specs.Inks.{is_held};
+ghost use Rattle.serial_model.specs.Beam.{is_visible as visible};
+
+use crate::ham::hold;
+use crate::inks::Inks;
+use crate::line::Line;
+use crate::names::counted_planes;
+use crate::overlay::cover;
+use crate::pixels::{show_border, show_inks, show_modified};
+use crate::sprite_state::SpriteState;
+use crate::window::{Window, is_visible};
+use collisions::do_playfields_meet;
+use ocs_base::{Beam, Reg, System};
+
+/// What paints: Denise's registers as a working state, the line's bitplanes and sprites as rows,
+/// and the held colour as bytes.
+#[derive(Drop)]
+pub struct Painter {
+    /// COLOR00 to COLOR31, BPLCON0 and BPLCON2.
+    inks: Inks,
+    /// BPLCON1.
+    con1: u16,
+    /// DIWSTRT and DIWSTOP.
+    window: Window,
+    /// CLXCON.
+    clxcon: u16,
+    /// The latches BPL1DAT to BPL6DAT.
+    latches: [u16; 6],
+    /// The sprites' registers, and their words that run.
+    sprites: SpriteState,
+    /// What the loads of this line show.
+    line: Line,
+    /// The bytes of the playfields' colour of the pixel before.
+    held: [u8; 3],
+}
+
+impl Painter {
+    ghost use Rattle.serial_model.specs.declared.picture.Denise.{Denise};
+    ghost use Rattle.serial_model.specs.Picture.{reset_picture, set_picture, set_sprite as set_sprite_of, add_load, clear_line as cleared, step_of, after_step};
+    ghost use Rattle.painter.specs.Painter.{IsPainterOf, first_colour, second_colour, with_held, clock_bytes};
+
+    /// Denise at reset: every register is 0, and so every colour black.
+    #[tactic(auto, unfolding(serial_model::specs::Picture::reset_picture))]
+    pub fn reset() -> Painter
+        ensures { IsPainterOf result reset_picture }
+    {
+        Painter {
+            inks: Inks::reset(),
+            con1: 0,
+            window: Window::reset(),
+            clxcon: 0,
+            latches: [0; 6],
+            sprites: SpriteState::reset(),
+            line: Line::new(),
+            held: [0; 3],
+        }
+    }
+
+    /// A write to one of Denise's registers at clock `h` of the line. A word that is fetched for a
+    /// bitplane comes as a write to the latch of its plane.
+    #[tactic(auto, unfolding(serial_model::specs::Picture::set_picture))]
+    pub fn set(&mut self, h: u16, reg: Reg, word: u16)
+        requires { h ≤ 226 }
+        ensures { (p : Denise) → IsPainterOf self.old p
+            → IsPainterOf self.new (set_picture h reg.offset word p) }
+    {
+        match reg.offset {
+            0x08e => self.window.set_start(word),
+            0x090 => self.window.set_stop(word),
+            0x098 => self.clxcon = word,
+            0x100 => self.inks.set_con0(word),
+            0x102 => self.con1 = word,
+            0x104 => self.inks.set_con2(word),
+            0x110 => self.load(h, word),
+            0x112..=0x11a => self.latches[(reg.offset - 0x110) as usize / 2] = word,
+            0x140..=0x17e => self.set_sprite(reg.offset - 0x140, word),
+            0x180..=0x1be => {
+                self.inks
+                    .set_colour((reg.offset - 0x180) as usize / 2, word)
+            }
+            _ => {}
+        }
+    }
+
+    /// A write to BPL1DAT at clock `h`: the six latches are loaded.
+    fn load(&mut self, h: u16, word: u16)
+        requires { h ≤ 226 }
+        ensures { (p : Denise) → IsPainterOf self.old p → IsPainterOf self.new
+            (add_load h (record p { latches = slice_set p.latches 0 word })) }
+    {
+        self.latches[0] = word;
+        let hires = self.inks.con0() >= 0x8000;
+        self.line.load(h, &self.latches, self.con1, hires);
+    }
+
+    /// A write to a sprite's register, which lies so far behind SPR0POS.
+    fn set_sprite(&mut self, from: u16, word: u16)
+        requires { from < 64 }
+        ensures { (p : Denise) → IsPainterOf self.old p
+            → IsPainterOf self.new (set_sprite_of (from / 8) (from % 8) word p) }
+    {
+        let sprite = from as usize / 8;
+        match from % 8 {
+            0 => self.sprites.set_position(sprite, word),
+            2 => self.sprites.set_control(sprite, word),
+            4 => self.sprites.set_data(sprite, word),
+            _ => self.sprites.set_second_data(sprite, word),
+        }
+    }
+
+    /// At a line's start its loads and the words that run are forgotten, and the held colour
+    /// becomes COLOR00.
+    #[tactic(auto, unfolding(serial_model::specs::Picture::clear_line))]
+    pub fn clear_line(&mut self, beam: &Beam)
+        ensures { (p : Denise) → IsPainterOf self.old p
+            → IsPainterOf self.new (cleared beam.now p) }
+    {
+        if beam.h == 0 {
+            self.line.clear();
+            self.sprites.clear();
+            self.held = *self.inks.bytes(0);
+        }
+    }
+
+    /// The four pixels of a clock, of red, green and blue each. The answer is true exactly where
+    /// they are visible, and only then `into` has them. At every clock the held colour goes on,
+    /// sprites' words begin to run, and `clx`, CLXDAT, gathers the collisions of the pixels.
+    ///
+    /// Sprites are in front of the playfields by BPLCON2, and collide by CLXCON (Hardware Reference
+    /// Manual, sprite hardware, priorities and collisions).
+    pub fn show(&mut self, beam: &Beam, into: &mut [[u8; 3]; 4], clx: &mut u16) -> bool
+        requires { beam.now.h ≤ 226 }
+        ensures visible { result ≡ visible System.Pal beam.now.v beam.now.h }
+        ensures pixels { (p : Denise) → IsPainterOf self.old p → result ≡ true
+            → flat_map (λ x. x) into.new ≡ pixels System.Pal beam.now.v beam.now.h p }
+        ensures held { (p : Denise) → IsPainterOf self.old p → IsPainterOf self.new
+            (after_step (step_of System.Pal beam.now.v beam.now.h p) p) }
+        ensures clx { (p : Denise) → IsPainterOf self.old p
+            → clx.new ≡ bit_or clx.old (step_of System.Pal beam.now.v beam.now.h p).clx }
+    {
+        let shown = self.show_playfields(beam.v, beam.h, into);
+        self.show_sprites(beam.v, beam.h, into, clx);
+        shown
+    }
+
+    /// The four pixels of a clock without sprites. The answer is true exactly where they are
+    /// visible, and only then `into` has them.
+    #[inline(always)]
+    fn show_playfields(&mut self, v: u16, h: u16, into: &mut [[u8; 3]; 4]) -> bool
+        requires { h ≤ 226 }
+        ensures visible { result ≡ visible System.Pal v h }
+        ensures pixels { (p : Denise) → IsPainterOf self.old p → result ≡ true
+            → into.new ≡ clock_bytes v h p }
+        ensures held { (p : Denise) → IsPainterOf self.old p
+            → IsPainterOf self.new (with_held (held_after v h 4 p) p) }
+    {
+        if is_visible(v, h) {
+            self.show_clock(v, h, into);
+            return true;
+        }
+        if self.inks.holds_colour() {
+            self.show_columns(v, h, into);
+        } else {
+            self.pass_clock(v, h);
+        }
+        false
+    }
+
+    /// The held colour after a clock that shows nothing, where no pixel holds it.
+    fn pass_clock(&mut self, v: u16, h: u16)
+        requires place { h ≤ 226 }
+        requires plain { is_held self.old.inks.con0 ≡ false }
+        ensures { (p : Denise) → IsPainterOf self.old p
+            → IsPainterOf self.new (with_held (held_after v h 4 p) p) }
+    {
+        let column = 2 * h + 1;
+        let x = 2 * column as usize + 1;
+        let number = if self.window.has(v, column) {
+            self.inks.name(self.line.bits(x))
+        } else {
+            0
+        };
+        self.held = *self.inks.bytes(number);
+    }
+
+    /// The four pixels of a clock.
+    #[inline(always)]
+    fn show_clock(&mut self, v: u16, h: u16, into: &mut [[u8; 3]; 4])
+        requires { h ≤ 226 }
+        ensures pixels { (p : Denise) → IsPainterOf self.old p → into.new ≡ clock_bytes v h p }
+        ensures held { (p : Denise) → IsPainterOf self.old p
+            → IsPainterOf self.new (with_held (held_after v h 4 p) p) }
+    {
+        if self.window.contains_clock(v, h) {
+            self.show_inside(v, h, into);
+        } else if self.window.excludes_clock(v, h) {
+            self.show_outside(v, h, into);
+        } else {
+            self.show_columns(v, h, into);
+        }
+    }
+
+    /// The four pixels of a clock inside the display window.
+    #[inline(always)]
+    fn show_inside(&mut self, v: u16, h: u16, into: &mut [[u8; 3]; 4])
+        requires place { h ≤ 226 }
+        requires first { is_inside v (2 * h) self.old.window.diwstrt
+            self.old.window.diwstop ≡ true }
+        requires second { is_inside v (2 * h + 1) self.old.window.diwstrt
+            self.old.window.diwstop ≡ true }
+        ensures pixels { (p : Denise) → IsPainterOf self.old p → into.new ≡ clock_bytes v h p }
+        ensures held { (p : Denise) → IsPainterOf self.old p
+            → IsPainterOf self.new (with_held (held_after v h 4 p) p) }
+    {
+        if self.inks.holds_colour() {
+            self.show_held(v, h, into);
+            return;
+        }
+        let x = 2 * (2 * h) as usize;
+        let next = 2 * (2 * h + 1) as usize;
+        show_inks(&self.inks, &self.line, x, 0, into);
+        show_inks(&self.inks, &self.line, next, 2, into);
+        self.held = into[3];
+    }
+
+    /// The four pixels of a clock outside the display window.
+    #[inline(always)]
+    fn show_outside(&mut self, v: u16, h: u16, into: &mut [[u8; 3]; 4])
+        requires place { h ≤ 226 }
+        requires first { is_inside v (2 * h) self.old.window.diwstrt
+            self.old.window.diwstop ≡ false }
+        requires second { is_inside v (2 * h + 1) self.old.window.diwstrt
+            self.old.window.diwstop ≡ false }
+        ensures pixels { (p : Denise) → IsPainterOf self.old p → into.new ≡ clock_bytes v h p }
+        ensures held { (p : Denise) → IsPainterOf self.old p
+            → IsPainterOf self.new (with_held (held_after v h 4 p) p) }
+    {
+        show_border(&self.inks, 0, into);
+        show_border(&self.inks, 2, into);
+        self.held = into[3];
+    }
+
+    /// The four pixels of a clock inside the display window, in hold-and-modify.
+    #[inline(never)]
+    fn show_held(&mut self, v: u16, h: u16, into: &mut [[u8; 3]; 4])
+        requires place { h ≤ 226 }
+        requires first { is_inside v (2 * h) self.old.window.diwstrt
+            self.old.window.diwstop ≡ true }
+        requires second { is_inside v (2 * h + 1) self.old.window.diwstrt
+            self.old.window.diwstop ≡ true }
+        requires held { is_held self.old.inks.con0 ≡ true }
+        ensures pixels { (p : Denise) → IsPainterOf self.old p → into.new ≡ clock_bytes v h p }
+        ensures held { (p : Denise) → IsPainterOf self.old p
+            → IsPainterOf self.new (with_held (held_after v h 4 p) p) }
+    {
+        let x = 2 * (2 * h) as usize;
+        let next = 2 * (2 * h + 1) as usize;
+        let held = hold(&self.held);
+        let held = show_modified(&self.inks, &self.line, held, x, 0, into);
+        show_modified(&self.inks, &self.line, held, next, 2, into);
+        self.held = into[3];
+    }
+
+    /// The four pixels of a clock, column by column.
+    #[inline(never)]
+    fn show_columns(&mut self, v: u16, h: u16, into: &mut [[u8; 3]; 4])
+        requires { h ≤ 226 }
+        ensures pixels { (p : Denise) → IsPainterOf self.old p → into.new ≡ clock_bytes v h p }
+        ensures held { (p : Denise) → IsPainterOf self.old p
+            → IsPainterOf self.new (with_held (held_after v h 4 p) p) }
+    {
+        self.show_column(v, 2 * h, 0, into);
+        self.show_column(v, 2 * h + 1, 2, into);
+    }
+
+    /// The two pixels of a low-resolution column.
+    fn show_column(&mut self, v: u16, column: u16, at: usize, into: &mut [[u8; 3]; 4])
+        requires place { at ≤ 2 }
+        requires room { column ≤ 453 }
+        ensures pixels { (p : Denise) → IsPainterOf self.old p → into.new ≡ slice_set
+            (slice_set into.old at (colour_bytes (first_colour v column p)))
+            (at + 1) (colour_bytes (second_colour v column p)) }
+        ensures held { (p : Denise) → IsPainterOf self.old p
+            → IsPainterOf self.new (with_held (second_colour v column p) p) }
+    {
+        let x = 2 * column as usize;
+        if !self.window.has(v, column) {
+            show_border(&self.inks, at, into);
+        } else if self.inks.holds_colour() {
+            show_modified(&self.inks, &self.line, hold(&self.held), x, at, into);
+        } else {
+            show_inks(&self.inks, &self.line, x, at, into);
+        }
+        self.held = into[at + 1];
+    }
+
+    /// The sprites over the four pixels of a clock, and what collides there.
+    #[inline(always)]
+    fn show_sprites(&mut self, v: u16, h: u16, into: &mut [[u8; 3]; 4], clx: &mut u16)
+        requires { h ≤ 226 }
+        ensures pixels { (p : Denise) → IsPainterOf self.old p
+            → into.new ≡ clock_over v h into.old p }
+        ensures runs { (p : Denise) → IsPainterOf self.old p
+            → IsPainterOf self.new (with_runs (runs_after h 2 p) p) }
+        ensures clx { (p : Denise) → IsPainterOf self.old p
+            → clx.new ≡ bit_or clx.old (clock_collisions v h p) }
+    {
+        if !self.sprites.is_idle(h) {
+            self.show_sprite_columns(v, h, into, clx);
+        } else if *clx % 2 == 0 {
+            self.meet_playfields(v, h, clx);
+        }
+    }
+
+    /// The sprites over the four pixels of a clock, column by column, and what collides there.
+    #[inline(never)]
+    fn show_sprite_columns(&mut self, v: u16, h: u16, into: &mut [[u8; 3]; 4], clx: &mut u16)
+        requires { h ≤ 226 }
+        ensures pixels { (p : Denise) → IsPainterOf self.old p
+            → into.new ≡ clock_over v h into.old p }
+        ensures runs { (p : Denise) → IsPainterOf self.old p
+            → IsPainterOf self.new (with_runs (runs_after h 2 p) p) }
+        ensures clx { (p : Denise) → IsPainterOf self.old p
+            → clx.new ≡ bit_or clx.old (clock_collisions v h p) }
+    {
+        self.show_sprite_column(v, 2 * h, 0, into, clx);
+        self.show_sprite_column(v, 2 * h + 1, 2, into, clx);
+    }
+
+    /// The sprites over the two pixels of a column, and what collides there.
+    fn show_sprite_column(
+        &mut self,
+        v: u16,
+        column: u16,
+        at: usize,
+        into: &mut [[u8; 3]; 4],
+        clx: &mut u16,
+    )
+        requires place { at ≤ 2 }
+        requires room { column ≤ 453 }
+        ensures pixels { (p : Denise) → IsPainterOf self.old p
+            → into.new ≡ column_over v column at into.old (with_runs (runs_at column p p.runs) p) }
+        ensures runs { (p : Denise) → IsPainterOf self.old p
+            → IsPainterOf self.new (with_runs (runs_at column p p.runs) p) }
+        ensures clx { (p : Denise) → IsPainterOf self.old p → clx.new ≡ bit_or clx.old
+            (column_collisions v column (with_runs (runs_at column p p.runs) p)) }
+    {
+        self.sprites.begin_words(column);
+        if self.window.has(v, column) {
+            self.cover_column(column, at, into, clx);
+        }
+    }
+
+    /// The sprites over the two pixels of a column inside the display window, and what collides
+    /// there.
+    fn cover_column(&self, column: u16, at: usize, into: &mut [[u8; 3]; 4], clx: &mut u16)
+        requires place { at ≤ 2 }
+        requires room { column ≤ 453 }
+        ensures pixels { (p : Denise) → IsPainterOf self.now p
+            → into.new ≡ covered_column column at into.old p }
+        ensures clx { (p : Denise) → IsPainterOf self.now p
+            → clx.new ≡ bit_or clx.old (covered_collisions column p) }
+    {
+        let first = self.planes_at(2 * column as usize);
+        let second = self.planes_at(2 * column as usize + 1);
+        if let Some(sprite) = self.sprites.front_pixel(column) {
+            cover(&self.inks, sprite, first, at, into);
+            cover(&self.inks, sprite, second, at + 1, into);
+        }
+        self.collide(column, first, second, clx);
+    }
+
+    /// What collides at the two pixels of a column inside the display window, whose planes show
+    /// these bits. In low resolution they are the same.
+    #[inline(always)]
+    fn collide(&self, column: u16, first: u8, second: u8, clx: &mut u16)
+        requires { column ≤ 453 }
+        ensures { let values = sprite_values column self.now.sprites.runs in
+            clx.new ≡ bit_or clx.old (bit_or (collision_bits self.now.clxcon first values)
+            (collision_bits self.now.clxcon second values)) }
+    {
+        *clx |= self.sprites.collisions(column, self.clxcon, first);
+        if second != first {
+            *clx |= self.sprites.collisions(column, self.clxcon, second);
+        }
+    }
+
+    /// The bits that the planes show at a high-resolution position, of as many as BPLCON0 says.
+    fn planes_at(&self, x: usize) -> u8
+        requires { x ≤ 1023 }
+        ensures { (p : Denise) → IsPainterOf self.now p → result ≡ shown_bits x p }
+    {
+        counted_planes(self.inks.con0(), self.line.bits(x) as u8)
+    }
+
+    /// The collisions of a clock where no sprite shows: those of the playfields with one another.
+    #[inline(never)]
+    fn meet_playfields(&self, v: u16, h: u16, clx: &mut u16)
+        requires { h ≤ 226 }
+        ensures { (p : Denise) → IsPainterOf self.now p
+            → clx.new ≡ bit_or clx.old (quiet_collisions v h p) }
+    {
+        self.meet_in_column(v, 2 * h, clx);
+        self.meet_in_column(v, 2 * h + 1, clx);
+    }
+
+    /// The collision of the playfields with one another in a column.
+    fn meet_in_column(&self, v: u16, column: u16, clx: &mut u16)
+        requires { column ≤ 453 }
+        ensures { (p : Denise) → IsPainterOf self.now p
+            → clx.new ≡ bit_or clx.old (quiet_in_column v column p) }
+    {
+        if !self.window.has(v, column) {
+            return;
+        }
+        let first = self.planes_at(2 * column as usize);
+        let second = self.planes_at(2 * column as usize + 1);
+        if do_playfields_meet(self.clxcon, first) || do_playfields_meet(self.clxcon, second) {
+            *clx |= 1;
+        }
+    }
+}

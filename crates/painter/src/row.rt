@@ -1,0 +1,74 @@
+//! What the planes of one parity show along a line.
+
+ghost use Rattle.std.specs.Prelude.{◌≡◌, ◌≤◌, ◌+◌, ℕ, length, slice_index};
+ghost use Rattle.painter.specs.Row.{laid, cut_off};
+
+/// How many high-resolution positions a row has: a line has 908, and a load may begin 36 after.
+const PLACES: usize = 1024;
+
+/// How many positions a load may show.
+const WIDTH: usize = 32;
+
+/// A byte for each high-resolution position of a line: the bits of planes 1, 3 and 5, or of planes
+/// 2, 4 and 6, are its bits 0, 2 and 4.
+#[derive(Drop)]
+pub struct Row {
+    pub shown: [u8; 1024],
+    /// From here on nothing is shown.
+    pub end: usize,
+    pub ghost few: { (x : ℕ) → slice_index shown x ≤ 21 },
+    pub ghost within: { end ≤ 1024 },
+    pub ghost blank: { (x : ℕ) → end ≤ x → slice_index shown x ≡ 0 },
+}
+
+impl Row {
+    /// A row that shows nothing.
+    pub fn new() -> Row
+        ensures { (x : ℕ) → slice_index result.shown x ≡ 0 }
+    {
+        Row {
+            shown: [0; PLACES],
+            end: 0,
+        }
+    }
+
+    /// Shows nothing any more, as at a line's start.
+    pub fn clear(&mut self)
+        ensures { (x : ℕ) → slice_index self.new.shown x ≡ 0 }
+    {
+        wipe(&mut self.shown, 0, self.end);
+        self.end = 0;
+    }
+
+    /// Shows these bytes from a position on, and nothing after them.
+    pub fn lay(&mut self, start: usize, bytes: &[u8])
+        requires room { start ≤ 992 }
+        requires size { length bytes.now ≡ 32 }
+        requires few { (x : ℕ) → slice_index bytes.now x ≤ 21 }
+        ensures { (x : ℕ) → slice_index self.new.shown x ≡ laid self.old.shown start bytes.now x }
+    {
+        wipe(&mut self.shown, start + WIDTH, self.end);
+        self.shown[start..start + WIDTH].copy_from_slice(bytes);
+        self.end = start + WIDTH;
+    }
+
+    /// What is shown at a position.
+    pub fn at(&self, x: usize) -> u8
+        requires { x ≤ 1023 }
+        ensures value { result ≡ slice_index self.now.shown x }
+        ensures few { result ≤ 21 }
+    {
+        self.shown[x]
+    }
+}
+
+/// Blanks the positions from one to another, where there are any.
+fn wipe(shown: &mut [u8; PLACES], from: usize, end: usize)
+    requires { end ≤ 1024 }
+    ensures wiped { (x : ℕ) → slice_index shown.new x ≡ cut_off shown.old from end x }
+    ensures long { length shown.new ≡ 1024 }
+{
+    for x in from..end {
+        shown[x] = 0;
+    }
+}

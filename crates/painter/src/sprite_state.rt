@@ -1,0 +1,246 @@
+//! The sprites' registers, and the words that run on a line.
+
+ghost use Rattle.std.specs.Prelude.{◌≡◌, ◌≤◌, ◌<◌, ◌-◌, ◌*◌, ◌%◌, ◌^◌, ℕ, None, true, false, bit_and, bit_or, replicate, slice_index, slice_set, IfSome};
+ghost use Rattle.std.specs.List.{All};
+ghost use Rattle.serial_model.specs.Picture.{sprite_values};
+ghost use Rattle.sprites.specs.SpriteFront.{front_pixel as pixel_of_front};
+ghost use Rattle.collisions.specs.Collision.{collision_bits};
+ghost use Rattle.painter.specs.SpriteState.{run_in, runs_in, attached_in, IsIdle};
+
+use collisions::{clx, playfields};
+use sprite_rows::{SpriteRows, collisions};
+use sprites::{Runs, SpritePixel, front};
+use std::marker::Model;
+
+/// The registers of the eight sprites, with the words of each that run on the line.
+///
+/// Columns are low-resolution positions from the line's begin, two a clock.
+#[derive(Drop)]
+pub struct SpriteState {
+    /// SPR0POS to SPR7POS, and so for CTL, DATA and DATB.
+    pos: [u16; 8],
+    ctl: [u16; 8],
+    words_a: [u16; 8],
+    words_b: [u16; 8],
+    /// Which sprites are armed: bit n is set for sprite n.
+    armed: u8,
+    /// The words that run.
+    runs: Runs,
+    /// From this column on none of them shows a bit.
+    quiet_from: u16,
+    /// Their pixels by position, from one column on.
+    rows: SpriteRows,
+    exact_from: u16,
+}
+
+impl Model for SpriteState {
+    ghost use Rattle.painter.specs.SpriteState.{SpriteRegisters, IsLaidOut};
+
+    ghost Value = { SpriteRegisters };
+
+    ghost view = { λ s. record {
+      pos = s.pos;
+      ctl = s.ctl;
+      words_a = s.words_a;
+      words_b = s.words_b;
+      armed = s.armed;
+      runs = s.runs;
+    } };
+
+    ghost invariant = { λ s. IsLaidOut s.quiet_from s.exact_from s.rows s.runs };
+}
+
+impl SpriteState {
+    ghost use Rattle.painter.specs.SpriteState.{no_sprites};
+
+    /// The registers at reset: all are 0, and no words run.
+    pub fn reset() -> SpriteState
+        ensures { result ≡ no_sprites }
+    {
+        SpriteState {
+            pos: [0; 8],
+            ctl: [0; 8],
+            words_a: [0; 8],
+            words_b: [0; 8],
+            armed: 0,
+            runs: Runs::new(),
+            quiet_from: 0,
+            rows: SpriteRows::new(),
+            exact_from: 0,
+        }
+    }
+
+    /// A write to SPRxPOS.
+    pub fn set_position(&mut self, sprite: usize, word: u16)
+        requires { sprite < 8 }
+        ensures { self.new ≡ record self.old { pos = slice_set self.old.pos sprite word } }
+    {
+        self.pos[sprite] = word;
+    }
+
+    /// A write to SPRxCTL, which disarms the sprite.
+    pub fn set_control(&mut self, sprite: usize, word: u16)
+        requires { sprite < 8 }
+        ensures { self.new ≡ record self.old {
+          ctl = slice_set self.old.ctl sprite word;
+          armed = bit_and self.old.armed (255 - 2 ^ sprite);
+        } }
+    {
+        self.ctl[sprite] = word;
+        self.armed &= !(1 << sprite);
+    }
+
+    /// A write to SPRxDATA, which arms the sprite.
+    pub fn set_data(&mut self, sprite: usize, word: u16)
+        requires { sprite < 8 }
+        ensures { self.new ≡ record self.old {
+          words_a = slice_set self.old.words_a sprite word;
+          armed = bit_or self.old.armed (2 ^ sprite);
+        } }
+    {
+        self.words_a[sprite] = word;
+        self.armed |= 1 << sprite;
+    }
+
+    /// A write to SPRxDATB.
+    pub fn set_second_data(&mut self, sprite: usize, word: u16)
+        requires { sprite < 8 }
+        ensures { self.new ≡ record self.old {
+          words_b = slice_set self.old.words_b sprite word;
+        } }
+    {
+        self.words_b[sprite] = word;
+    }
+
+    /// Forgets the words that run, as a line's start does.
+    pub fn clear(&mut self)
+        ensures { self.new ≡ record self.old { runs = replicate 8 None } }
+    {
+        self.runs = Runs::new();
+        self.quiet_from = 0;
+        self.rows.clear();
+        self.exact_from = 0;
+    }
+
+    /// The words of each sprite begin to run whose HSTART is this column, where it is armed: bits 7
+    /// to 0 of SPRxPOS, with bit 0 of SPRxCTL as the lowest (this project's profile).
+    pub fn begin_words(&mut self, column: u16)
+        requires { column ≤ 453 }
+        ensures { self.new ≡ record self.old { runs = runs_in column self.old } }
+    {
+        if self.armed == 0 || !self.may_begin(column / 2) {
+            return;
+        }
+        for sprite in 0..8 {
+            self.begin_words_of(sprite, column);
+        }
+    }
+
+    /// The words of a sprite begin to run if its HSTART is this column, and it is armed.
+    fn begin_words_of(&mut self, sprite: u8, column: u16)
+        requires sprite { sprite < 8 }
+        requires place { column ≤ 453 }
+        ensures { self.new ≡ record self.old {
+          runs = slice_set self.old.runs sprite (run_in column self.old sprite);
+        } }
+    {
+        let at = sprite as usize;
+        let start = 2 * (self.pos[at] % 256) + self.ctl[at] % 2;
+        if self.armed >> sprite & 1 == 1 && start == column {
+            self.runs
+                .start(sprite, column, self.words_a[at], self.words_b[at]);
+            self.quiet_from = self.quiet_from.max(column + 16);
+            if column < self.exact_from {
+                self.exact_from = 512;
+            } else {
+                self.exact_from = column;
+                self.rows
+                    .start(sprite, column, self.words_a[at], self.words_b[at]);
+            }
+        }
+    }
+
+    /// Whether it is known that no words begin at this clock, and none shows a bit from it on.
+    #[inline(always)]
+    pub fn is_idle(&self, h: u16) -> bool
+        requires { h ≤ 226 }
+        ensures { result ≡ true → IsIdle h self.now }
+    {
+        self.quiet_from <= 2 * h && (self.armed == 0 || !self.may_begin(h))
+    }
+
+    /// Whether a sprite, armed or not, has its HSTART at this clock.
+    fn may_begin(&self, h: u16) -> bool
+        ensures { result ≡ false → (sprite : ℕ) → sprite < 8
+            → slice_index self.now.pos sprite % 256 ≡ h → ⊥ }
+    {
+        let [a, b, c, d, e, f, g, i] = self.pos;
+        (a % 256 == h)
+            | (b % 256 == h)
+            | (c % 256 == h)
+            | (d % 256 == h)
+            | (e % 256 == h)
+            | (f % 256 == h)
+            | (g % 256 == h)
+            | (i % 256 == h)
+    }
+
+    /// The pixel of the sprite in front at a column, None where no sprite shows (Hardware Reference
+    /// Manual, sprite hardware).
+    #[inline(always)]
+    pub fn front_pixel(&self, column: u16) -> Option<SpritePixel>
+        requires { column ≤ 453 }
+        ensures value { result ≡ pixel_of_front (sprite_values column self.now.runs)
+            (attached_in self.now) }
+        ensures within { IfSome result (λ s. (s.pair ≤ 3) × (s.colour ≤ 31)) }
+    {
+        if column < self.exact_from {
+            front(&self.values(column), self.attached_pairs())
+        } else {
+            self.rows.front(column, self.attached_pairs())
+        }
+    }
+
+    /// The collision bits of a pixel of a column inside the display window, by CLXCON and the bits
+    /// of its planes, in the places of CLXDAT (Hardware Reference Manual, collision detection).
+    #[inline(always)]
+    pub fn collisions(&self, column: u16, clxcon: u16, bits: u8) -> u16
+        requires { column ≤ 453 }
+        ensures { result ≡ collision_bits clxcon bits (sprite_values column self.now.runs) }
+    {
+        if column < self.exact_from {
+            return clx(clxcon, bits, &self.values(column));
+        }
+        let (one, two) = playfields(clxcon, bits);
+        let worth = 2 * one as u16 + 32 * two as u16;
+        let present = self.rows.present(column, clxcon);
+        collisions((one & two) as u16, worth, present)
+    }
+
+    /// The values of the eight sprites at a column.
+    fn values(&self, column: u16) -> [u8; 8]
+        ensures values { result ≡ sprite_values column self.now.runs }
+        ensures few { All (λ v. v ≤ 3) result }
+    {
+        [
+            self.runs.value(0, column),
+            self.runs.value(1, column),
+            self.runs.value(2, column),
+            self.runs.value(3, column),
+            self.runs.value(4, column),
+            self.runs.value(5, column),
+            self.runs.value(6, column),
+            self.runs.value(7, column),
+        ]
+    }
+
+    /// Which pairs of sprites are attached, pair p as bit p: ATT, bit 7 of SPRxCTL of the odd one.
+    fn attached_pairs(&self) -> u8
+        ensures { result ≡ attached_in self.now }
+    {
+        (self.ctl[1] / 128 % 2
+            + 2 * (self.ctl[3] / 128 % 2)
+            + 4 * (self.ctl[5] / 128 % 2)
+            + 8 * (self.ctl[7] / 128 % 2)) as u8
+    }
+}

@@ -1,0 +1,10 @@
+-- The values before k are laid.
+use Rattle.std.proofs.Common.{◌≡◌, ℕ, length, slice_index}
+use Rattle.sprite_rows.specs.Laid.{with_odd, laid_byte}
+use Rattle.sprite_rows.proofs.laying.lay_odd.Given as goal
+
+abbrev pub invariant-loop-k : goal.invariant-loop-k
+invariant-loop-k l = record {
+  long : length l.row ≡ 512;
+  bytes : (j : ℕ) → slice_index l.row j ≡ laid_byte with_odd l.initial.row l.x l.values l.k j;
+}

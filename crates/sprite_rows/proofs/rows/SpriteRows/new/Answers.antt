@@ -1,0 +1,14 @@
+use Rattle.std.proofs.Common.{ℕ, arith}
+use Rattle.sprite_rows.proofs.Standing.{no_pixels, no_pixels-byte, none_run}
+use Rattle.sprite_rows.specs.Laid.{byte_of}
+use Rattle.sprite_rows.proofs.rows.SpriteRows.new.Goals as goal
+
+pub invariant_of-result : goal.invariant_of-result
+invariant_of-result c = record {
+  few = λ (p x : ℕ). omega (arith, no_pixels-byte p x);
+  within = omega arith;
+  blank = λ (p x : ℕ) from. no_pixels-byte p x;
+}
+
+pub returns : goal.returns
+returns c = record { bytes = λ (p x : ℕ) pair from within. none_run (byte_of no_pixels p x) p x (no_pixels-byte p x) }

@@ -1,0 +1,15 @@
+//! The sprites' pixels of a line, kept by position: the sprite in front and the collisions of a
+//! pixel in a few loads.
+#![tactic(auto)]
+
+pub mod collision;
+mod front;
+mod laying;
+pub mod rows;
+mod words;
+
+pub use collision::{collisions, playfield_worth};
+pub use rows::SpriteRows;
+
+#[cfg(test)]
+mod tests;

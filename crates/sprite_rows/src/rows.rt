@@ -1,0 +1,152 @@
+//! The rows of a line's sprite pixels.
+
+ghost use Rattle.std.specs.Prelude.{
+  ◌≡◌,
+  ◌≤◌,
+  ◌<◌,
+  ℕ,
+  List,
+  Option,
+  Some,
+  None,
+  IfSome,
+  IsTrue,
+  replicate,
+  slice_set,
+};
+ghost use Rattle.sprites.specs.declared.runs.Start.{Start};
+ghost use Rattle.sprites.specs.SpriteFront.{front_pixel};
+ghost use Rattle.sprite_rows.specs.Laid.{byte_of};
+ghost use Rattle.sprite_rows.specs.PairCollision.{present_pairs};
+
+use crate::collision::present_in;
+use crate::front::pixel_in_front;
+use crate::laying::lay;
+use crate::words::values_of_words;
+use sprites::SpritePixel;
+
+/// What the eight sprites show along a line (Hardware Reference Manual, sprite hardware).
+///
+/// Positions are low-resolution pixels from the line's begin, 0 to 453 on a line. A sprite's words
+/// are laid over its pair's row as they begin to run, so a position takes a byte of each pair.
+/// A row reaches past the line's end, so that words that begin at its last position find room.
+#[derive(Drop)]
+pub struct SpriteRows {
+    /// A row for each pair. A byte of pair p has the value of its even sprite, 2p, as bits 0 and 1,
+    /// and that of its odd one, 2p + 1, as bits 2 and 3: the one value of an attached pair.
+    pairs: [[u8; 512]; 4],
+    /// From here on nothing is laid.
+    end: usize,
+    pub ghost few: { (p x : ℕ) → byte_of pairs p x ≤ 15 },
+    pub ghost within: { end ≤ 512 },
+    pub ghost blank: { (p x : ℕ) → end ≤ x → byte_of pairs p x ≡ 0 },
+}
+
+impl SpriteRows {
+    ghost use Rattle.sprite_rows.specs.LineValues.{
+      values_at,
+      StartsBy,
+      SpriteStartsBy,
+      IsRowsOf,
+      IsClearFrom,
+    };
+
+    /// Rows on which no words run, as at a line's start.
+    pub fn new() -> SpriteRows
+        ensures { IsRowsOf 0 result (replicate 8 None) }
+    {
+        SpriteRows {
+            pairs: [[0; 512]; 4],
+            end: 0,
+        }
+    }
+
+    /// No words run any more, as at a line's start. Where none was laid this does nothing.
+    pub fn clear(&mut self)
+        ensures { IsRowsOf 0 self.new (replicate 8 None) }
+    {
+        if self.end > 0 {
+            self.pairs = [[0; 512]; 4];
+            self.end = 0;
+        }
+    }
+
+    /// The words of sprite `sprite`, 0 to 7, begin to run at position `x`, DATA as `word_a` and
+    /// DATB as `word_b`: they show sixteen pixels, and hide the rest of the sprite's earlier words
+    /// (this project's profile).
+    pub fn start(&mut self, sprite: u8, x: u16, word_a: u16, word_b: u16)
+        requires sprite { sprite < 8 }
+        requires room { x ≤ 496 }
+        ensures here { (runs : List (Option Start)) → StartsBy x runs → IsRowsOf x self.old runs →
+            IsRowsOf x self.new (slice_set runs sprite
+            (Some (record { x = x; word_a = word_a; word_b = word_b }))) }
+        // the same from a later position on, where other sprites may have started after this one
+        ensures later { (from : ℕ) → (runs : List (Option Start)) → x ≤ from →
+            SpriteStartsBy sprite x runs → IsRowsOf from self.old runs →
+            IsRowsOf from self.new (slice_set runs sprite
+            (Some (record { x = x; word_a = word_a; word_b = word_b }))) }
+    {
+        let values = values_of_words(word_a, word_b);
+        let row = &mut self.pairs[(sprite / 2) as usize];
+        lay(row, sprite % 2 == 0, x as usize, values.as_flattened());
+        self.end = self.end.max(x as usize + 16);
+    }
+
+    /// Whether it is known that no sprite shows at position `x` or a later one.
+    pub fn is_clear_from(&self, x: u16) -> bool
+        ensures { IsTrue result → (runs : List (Option Start)) → IsRowsOf x self.now runs →
+            IsClearFrom x runs }
+    {
+        x as usize >= self.end
+    }
+
+    /// Whether no sprite shows at position `x`.
+    pub fn is_clear_at(&self, x: u16) -> bool
+        requires { x ≤ 511 }
+        ensures { IsTrue result → (runs : List (Option Start)) → IsRowsOf x self.now runs →
+            values_at x runs ≡ replicate 8 0 }
+    {
+        let at = x as usize;
+        self.pairs[0][at] | self.pairs[1][at] | self.pairs[2][at] | self.pairs[3][at] == 0
+    }
+
+    /// The pixel of the sprite in front at position `x`, None where no sprite shows: lower-numbered
+    /// sprites are in front (Hardware Reference Manual, sprite hardware).
+    ///
+    /// Bit p of `attached`, p from 0 to 3, says that pair p is attached (bit 7 of SPRnCTL of its
+    /// odd sprite).
+    pub fn front(&self, x: u16, attached: u8) -> Option<SpritePixel>
+        requires { x ≤ 511 }
+        ensures value { (runs : List (Option Start)) → IsRowsOf x self.now runs →
+            result ≡ front_pixel (values_at x runs) attached }
+        ensures within { IfSome result (λ s. (s.pair ≤ 3) × (s.colour ≤ 31)) }
+    {
+        let at = x as usize;
+        pixel_in_front(
+            self.pairs[0][at],
+            self.pairs[1][at],
+            self.pairs[2][at],
+            self.pairs[3][at],
+            attached,
+        )
+    }
+
+    /// Which pairs are present at position `x` for collisions, pair p as bit p: by its even sprite,
+    /// or by its odd one where `clxcon`, CLXCON, counts it (Hardware Reference Manual, collision
+    /// detection: ENSP, bits 12 to 15).
+    pub fn present(&self, x: u16, clxcon: u16) -> u8
+        requires { x ≤ 511 }
+        ensures value { (runs : List (Option Start)) → IsRowsOf x self.now runs →
+            result ≡ present_pairs clxcon (values_at x runs) }
+        ensures few { result < 16 }
+    {
+        let at = x as usize;
+        present_in(
+            self.pairs[0][at],
+            self.pairs[1][at],
+            self.pairs[2][at],
+            self.pairs[3][at],
+            clxcon,
+        )
+    }
+}
