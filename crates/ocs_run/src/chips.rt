@@ -248,6 +248,9 @@ impl Chips {
             ≡ ask_with beam.now plane sprite (kept_wish self.now) (plain_chips self.now) }
     {
         let wish = self.copper_wish(beam);
+        if plane.is_none() && sprite.is_none() && wish.is_none() && !self.has_blitter_wish() {
+            return Ask::Free;
+        }
         let slot = SlotState {
             h: beam.h,
             disk: false,

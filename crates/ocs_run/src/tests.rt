@@ -5,10 +5,10 @@ use ocs_base::OutOfMemory;
 use ocs_io::Shelf;
 use std::alloc::Global;
 
-mod blits;
+mod blit_runs;
 mod cases;
 mod pictures;
-mod sprites;
+mod sprite_runs;
 
 const IMAGE: [u8; 8] = [0; 8];
 
