@@ -2,3 +2,4 @@ pub mod Showing
 pub mod Pruning
 pub mod Standing
 pub mod Searching
+pub mod Spanning

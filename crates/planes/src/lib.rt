@@ -6,7 +6,7 @@ pub mod loads;
 mod shown;
 
 pub use load::Load;
-pub use loads::{Loads, plane_bits};
+pub use loads::{Loads, plane_bits, plane_span};
 
 #[cfg(test)]
 mod tests;

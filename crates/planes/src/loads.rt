@@ -1,6 +1,6 @@
 //! The loads that a line may still show.
 
-ghost use Rattle.std.specs.Prelude.{◌≡◌, ◌≤◌, ◌<◌, ◌+◌, ◌*◌, ◌^◌, ◌∷◌, ◌++◌, []};
+ghost use Rattle.std.specs.Prelude.{◌≡◌, ◌≤◌, ◌<◌, ◌+◌, ◌*◌, ◌^◌, ◌∷◌, ◌++◌, [], ℕ, length, slice_index};
 ghost use Rattle.arrayvec.specs.ArrayVec.{array_vec_len};
 ghost use Rattle.planes.specs.PlaneBit.{ShowsLoadsOf, all_bits};
 
@@ -105,4 +105,17 @@ pub fn plane_bits(l: &Loads, x: u16, count: u8) -> u8
     ensures few { result < 2 ^ count }
 {
     bits_of_planes(l.kept.as_slice(), x as u32, count)
+}
+
+/// The bits that the planes show at a span of positions, one after another from `x` on, as
+/// `plane_bits` gives each of them.
+pub fn plane_span(l: &Loads, x: u16, count: u8, into: &mut [u8])
+    requires { x + length into.old ≤ 65535 }
+    ensures bits { (i : ℕ) → i < length into.old
+        → slice_index into.new i ≡ all_bits (x + i) count l.now }
+    ensures size { length into.new ≡ length into.old }
+{
+    for i in 0..into.len() {
+        into[i] = plane_bits(l, x + i as u16, count);
+    }
 }

@@ -1,6 +1,6 @@
 //! Single loads; the positions are worked by hand from the clock of the write and the scrolls.
 
-use crate::{Loads, plane_bits};
+use crate::{Loads, plane_bits, plane_span};
 
 #[test]
 fn a_word_with_and_without_scroll(rt: HostRuntime) {
@@ -45,6 +45,19 @@ fn high_resolution(rt: HostRuntime) {
     for (x, want) in [(303, 0), (304, 1), (305, 0), (319, 1), (320, 0)] {
         assert_eq!(rt; plane_bits(&loads, x, 4), want, "{x}");
     }
+}
+
+/// The word f0f0 from position 290 on, in low resolution: eight positions of ones and zeros by turns.
+#[test]
+fn a_span_of_positions(rt: HostRuntime) {
+    let mut loads = Loads::new();
+    loads.load(71, &[0xf0f0, 0, 0, 0, 0, 0], 0x0000, false);
+    let mut bits = [7; 20];
+    plane_span(&loads, 286, 1, &mut bits);
+    assert_eq!(rt;
+        bits,
+        [0, 0, 0, 0, 1, 1, 1, 1, 1, 1, 1, 1, 0, 0, 0, 0, 0, 0, 0, 0]
+    );
 }
 
 #[test]
