@@ -1,0 +1,4 @@
+pub mod Growth
+pub mod BlockLaws
+pub mod ImageLaws
+pub mod ScriptLaws
