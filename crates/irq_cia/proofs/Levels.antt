@@ -4,7 +4,7 @@ use Rattle.std.proofs.Common.{◌≡◌, ℕ, nat_lt, ◌<◌, if◌then◌else�
 use Rattle.std.specs.List.{range_with_len}
 use Rattle.std.proofs.lemmas.List.FromFn.{get_or-map-range_with_len}
 use Rattle.std.proofs.lemmas.Nat.{and_assoc, and_le_r}
-use Rattle.serial_model.specs.Interrupts.{greatest_level, rows, level_in}
+use Rattle.irq_cia.specs.Interrupts.{greatest_level, rows, level_in}
 
 abbrev pub level_by_size : ℕ → ℕ
 level_by_size n =

@@ -5,7 +5,7 @@ use Rattle.irq_cia.specs.declared.cia.Register.{Register}
 use Rattle.irq_cia.specs.declared.cia.Register.TheVariants.{PortA, PortB, DirectionA, DirectionB, TimerALow, TimerAHigh, TimerBLow, TimerBHigh}
 use Rattle.irq_cia.specs.declared.cia.Register.TheVariants.{TodLow, TodMiddle, TodHigh, Unused, Serial, InterruptControl, ControlA, ControlB}
 use Rattle.irq_cia.specs.Icr.{reset_icr, with_flag, icr_read, after_icr_read, after_icr_write}
-use Rattle.serial_model.specs.Interrupts.{is_set}
+use Rattle.irq_cia.specs.Interrupts.{is_set}
 use Rattle.irq_cia.specs.Port.{reset_port, port_read}
 use Rattle.irq_cia.specs.Timer.{reset_timer, counts_as_a, counts_as_b, is_underflow, after_count, after_low_write, after_high_write, after_control_write}
 use Rattle.irq_cia.specs.Tod.{reset_tod, after_tod_count, meets_alarm, low_of, middle_of, high_of, time_seen, after_low_read, after_high_read}

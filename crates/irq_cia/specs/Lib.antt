@@ -1,3 +1,5 @@
+pub mod Bits
+pub mod Interrupts
 pub mod Cia
 pub mod Icr
 pub mod Port

@@ -1,6 +1,6 @@
 -- A timer of a CIA: when it counts, what a count does, and the writes to its registers.
 use Rattle.std.specs.Prelude.{ℕ, ◌+◌, ◌-◌, ◌*◌, ◌/◌, ◌%◌, Bool, not, ◌&&◌, ◌==◌, if◌then◌else◌, bit_and, bit_or}
-use Rattle.serial_model.specs.Interrupts.{is_set}
+use Rattle.irq_cia.specs.Interrupts.{is_set}
 use Rattle.irq_cia.specs.declared.timer.Timer.{Timer}
 
 abbrev pub reset_timer : Timer

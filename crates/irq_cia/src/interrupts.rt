@@ -1,9 +1,9 @@
 //! INTENA and INTREQ, and the interrupt level that the processor sees.
 
 ghost use Rattle.std.specs.Prelude.{◌≡◌, ◌≤◌};
-ghost use Rattle.serial_model.specs.Registers.{set_or_clear as set_or_clear_of};
-ghost use Rattle.serial_model.specs.Interrupts.{no_interrupts, after_request, after_req_write, after_ena_write};
-ghost use Rattle.serial_model.specs.Interrupts.{level_of, level_in};
+ghost use Rattle.irq_cia.specs.Bits.{set_or_clear as set_or_clear_of};
+ghost use Rattle.irq_cia.specs.Interrupts.{no_interrupts, after_request, after_req_write, after_ena_write};
+ghost use Rattle.irq_cia.specs.Interrupts.{level_of, level_in};
 
 use std::marker::Model;
 
@@ -25,7 +25,7 @@ pub struct Irq {
 }
 
 impl Model for Irq {
-    ghost use Rattle.serial_model.specs.Interrupts.{Interrupts};
+    ghost use Rattle.irq_cia.specs.Interrupts.{Interrupts};
 
     ghost Value = { Interrupts };
 

@@ -1,7 +1,7 @@
 //! A timer of a CIA.
 
 ghost use Rattle.std.specs.Prelude.{◌≡◌};
-ghost use Rattle.serial_model.specs.Registers.{has_bits};
+ghost use Rattle.irq_cia.specs.Bits.{has_bits};
 ghost use Rattle.irq_cia.specs.Timer.{reset_timer, has_start, has_one_shot, counts_as_a, counts_as_b};
 ghost use Rattle.irq_cia.specs.Timer.{is_underflow};
 ghost use Rattle.irq_cia.specs.Timer.{after_underflow, after_count, after_low_write, after_high_write};

@@ -56,6 +56,11 @@ by_run word old new blit after c (Some run) e same gives done ends is =
       blit = stands;
       zero = is.zero;
       irq = is.irq;
+      processor = is.processor;
+      missed = is.missed;
+      cia_a = is.cia_a;
+      cia_b = is.cia_b;
+      inputs = is.inputs;
     }) in
     subst (λ r. IsChipsOf new (give_blit word r c)) (sym e)
     (subst (λ d. IsChipsOf new (if d then end_blit next c else record c { blit = Some next })) (done next.start next.answers stands) ended)

@@ -3,12 +3,15 @@ use Rattle.std.proofs.Common.{◌≡◌, ℕ, Bool, true, false, if◌then◌els
 use Rattle.ocs_base.specs.Image.{is_image}
 use Rattle.ocs_io.specs.Answers.{WhereTold}
 use Rattle.ocs_io.specs.Place.{Files, file}
+use Rattle.scene_gen.specs.Scene.{scene_image, scene_script}
+use Rattle.scene_gen.proofs.ScriptLaws.{IsRunnable-scene}
 use Rattle.script_read.specs.Grammar.{script_of, Good as GoodScript, Bad as BadLine, Verdict as ScriptVerdict}
 use Rattle.script_read.proofs.RunnableLaws.{IsPrintable-script_of}
 use Rattle.serial_model.proofs.EndLaws.{has_end}
 use Rattle.ocs_run.specs.Order.{OrderValue}
 use Rattle.ocs_run.specs.Top.{HasRunEnd}
-use Rattle.ocs_run.specs.Verdict.{BadImage, of_script, of_text, of_image, of_order}
+use Rattle.ocs_run.specs.Verdict.{BadImage, of_script, of_text, of_image, of_order, of_command}
+use Rattle.ocs_run.specs.Words.{CommandValue, Run, Gen}
 
 script_ends : (order : OrderValue) (image text : List ℕ) (verdict : ScriptVerdict) → script_of text ≡ verdict
     → HasRunEnd (of_script order image verdict)
@@ -28,10 +31,14 @@ image_ends : (order : OrderValue) (files : Files) (image : Option (List ℕ)) �
 image_ends order files None = tt
 image_ends order files (Some image) = if_image order files image (is_image image)
 
-verdict_ends : (order : Option OrderValue) (files : Files) → HasRunEnd (of_order order files)
-verdict_ends None files = tt
-verdict_ends (Some order) files = image_ends order files (file files order.image)
+order_ends : (order : OrderValue) (files : Files) → HasRunEnd (of_order order files)
+order_ends order files = image_ends order files (file files order.image)
 
-pub ends_where_told : (order : Option OrderValue) (files : Option Files) → WhereTold files (λ f. HasRunEnd (of_order order f))
-ends_where_told order None = tt
-ends_where_told order (Some files) = verdict_ends order files
+verdict_ends : (command : Option CommandValue) (files : Files) → HasRunEnd (of_command command files)
+verdict_ends None files = tt
+verdict_ends (Some (Run order)) files = order_ends order files
+verdict_ends (Some (Gen scene)) files = has_end (scene_image scene.number) (scene_script scene.number) (IsRunnable-scene scene.number)
+
+pub ends_where_told : (command : Option CommandValue) (files : Option Files) → WhereTold files (λ f. HasRunEnd (of_command command f))
+ends_where_told command None = tt
+ends_where_told command (Some files) = verdict_ends command files

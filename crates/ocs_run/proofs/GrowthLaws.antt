@@ -1,5 +1,5 @@
 -- What was shown and traced stays: later states only add to it.
-use Rattle.std.proofs.Common.{◌≡◌, ℕ, zero, suc, ◌+◌, List, [], ◌++◌, refl, ap, ◌∙◌, sym, append_assoc, append-nil, add-suc, add-zero}
+use Rattle.std.proofs.Common.{◌≡◌, ℕ, zero, suc, ◌+◌, List, [], ◌++◌, ap, ◌∙◌, sym, append_assoc, append-nil, add-suc, add-zero}
 use Rattle.ocs_base.specs.Script.{ScriptValue}
 use Rattle.ocs_base.specs.declared.script.At.{At}
 use Rattle.ocs_base.specs.declared.script.System.TheVariants.{Pal}
@@ -9,7 +9,8 @@ use Rattle.serial_model.specs.declared.bus.SideAsk.TheVariants as S
 use Rattle.serial_model.specs.Events.{due_events, event_lines}
 use Rattle.serial_model.specs.Laws.{made_in, picture_step}
 use Rattle.serial_model.specs.Made.{lines_of}
-use Rattle.serial_model.specs.Tick.{tick, start_clock, answer_state, before_access}
+use Rattle.serial_model.specs.Tick.{tick, start_clock, answer_state, before_access, make_access}
+use Rattle.serial_model.specs.Turns.{interrupt_of, taken_lines}
 use Rattle.serial_model.proofs.NextLaws.{shown_next, trace_next}
 
 -- the list begins with the first
@@ -32,21 +33,12 @@ shown-tick events s = record { more = (picture_step Pal events s).bytes; is = sh
 pub trace-tick : (events : List At) (s : State) → Extends s.trace (tick Pal events s).trace
 trace-tick events s =
     let b : State = answer_state S.Nothing (before_access Pal events s) in
+    let done : State = make_access S.Nothing (before_access Pal events s) in
     record {
-      more = event_lines (due_events s.beam events) (start_clock s) ++ lines_of b.beam b.clx b.chips (made_in Pal events s);
+      more = event_lines (due_events s.beam events) (start_clock s)
+          ++ (lines_of b.beam b.clx b.chips (made_in Pal events s) ++ taken_lines done.beam (interrupt_of done.chips));
       is = trace_next Pal events s;
     }
-
--- what was shown and traced up to the access of a clock
-pub shown-before : (events : List At) (s : State) → Extends (before_access Pal events s).shown (tick Pal events s).shown
-unfolding tick
-shown-before events s = Extends-refl (before_access Pal events s).shown
-
-pub trace-before : (events : List At) (s : State) → Extends (before_access Pal events s).trace (tick Pal events s).trace
-unfolding tick
-trace-before events s =
-    let b : State = answer_state S.Nothing (before_access Pal events s) in
-    record { more = lines_of b.beam b.clx b.chips (made_in Pal events s); is = refl }
 
 pub shown-later : (image : List ℕ) (script : ScriptValue) (n k : ℕ) → Extends (state_at image script n).shown (state_at image script (n + k)).shown
 unfolding state_at

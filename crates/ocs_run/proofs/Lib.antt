@@ -4,6 +4,7 @@ pub mod EndLaws
 pub mod InputLaws
 pub mod KeptLaws
 pub mod RunLaws
+pub mod SceneLaws
 pub mod StepLaws
 pub mod TextLaws
 pub mod TickLaws
@@ -13,3 +14,4 @@ pub mod GrowthLaws
 pub mod PrefixLaws
 pub mod WriteLaws
 pub mod BlitLaws
+pub mod TurnLaws

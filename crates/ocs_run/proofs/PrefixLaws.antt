@@ -12,9 +12,8 @@ use Rattle.serial_model.specs.Serial.{state_at, IsEnd}
 use Rattle.serial_model.specs.TraceText.{line_text, trace_text}
 use Rattle.serial_model.proofs.HeadingLaws.{with_headings-append}
 use Rattle.ocs_run.specs.Prefix.{IsPartOf, LeavesPrefixes}
-use Rattle.out_files.specs.Together.{HoldParts}
-use Rattle.ocs_run.specs.Run.{HasRun, HasParts, HasEndParts, MeetsUnbuilt, state_before_access, Remains}
-use Rattle.ocs_run.proofs.GrowthLaws.{Extends, Extends-trans, shown-before, trace-before, shown-later, trace-later}
+use Rattle.ocs_run.specs.Run.{HasRun, HasParts, HasEndParts, Remains}
+use Rattle.ocs_run.proofs.GrowthLaws.{Extends, shown-later, trace-later}
 
 -- a state of the run is no later than its end
 not_later : (image : List ℕ) (script : ScriptValue) (clocks end : ℕ) → ((n : ℕ) → n < clocks → (state_at image script n).beam.frame < script.frames)
@@ -65,45 +64,6 @@ trace-part image script clocks end bytes rest run is part =
     subst (λ n. IsPartOf (trace_text (state_at image script n).trace) (Some bytes)) e
     (trace-grow (state_at image script clocks).trace grown.more _ bytes rest grown.is part)
 
--- the same of the text up to the access of the clock after them, which is not the end's
-one_more : (image : List ℕ) (script : ScriptValue) (clocks end : ℕ) → MeetsUnbuilt image script clocks → IsEnd image script end
-    → suc clocks ≤ end
-one_more image script clocks end meets is = step (lt_or_eq clocks end (not_later image script clocks end meets.run.running is))
-  where
-    lt_or_eq : (a b : ℕ) → a ≤ b → (suc a ≤ b) ⊎ (a ≡ b)
-    lt_or_eq a b le = grind arith
-
-    step : (suc clocks ≤ end) ⊎ (clocks ≡ end) → suc clocks ≤ end
-    step (inl le) = le
-    step (inr e) = absurd (let below : (state_at image script end).beam.frame < script.frames =
-        subst (λ n. (state_at image script n).beam.frame < script.frames) e meets.frame in omega (arith, is.ended))
-
-frames-before : (image : List ℕ) (script : ScriptValue) (clocks end : ℕ) (bytes rest : List ℕ) → MeetsUnbuilt image script clocks
-    → IsEnd image script end → bytes ++ rest ≡ frames_text (state_before_access image script clocks).shown
-    → IsPartOf (frames_text (state_at image script end).shown) (Some bytes)
-unfolding state_at
-frames-before image script clocks end bytes rest meets is part =
-    let le : suc clocks ≤ end = one_more image script clocks end meets is in
-    let e : suc clocks + (end - suc clocks) ≡ end = omega arith in
-    let first : List ℕ = (state_before_access image script clocks).shown in
-    let grown : Extends first (state_at image script (suc clocks + (end - suc clocks))).shown =
-    Extends-trans _ _ _ (shown-before script.events (state_at image script clocks)) (shown-later image script (suc clocks) (end - suc clocks)) in
-    subst (λ n. IsPartOf (frames_text (state_at image script n).shown) (Some bytes)) e
-    (frames-grow first grown.more _ bytes rest grown.is part)
-
-trace-before-end : (image : List ℕ) (script : ScriptValue) (clocks end : ℕ) (bytes rest : List ℕ) → MeetsUnbuilt image script clocks
-    → IsEnd image script end → bytes ++ rest ≡ trace_text (state_before_access image script clocks).trace
-    → IsPartOf (trace_text (state_at image script end).trace) (Some bytes)
-unfolding state_at
-trace-before-end image script clocks end bytes rest meets is part =
-    let le : suc clocks ≤ end = one_more image script clocks end meets is in
-    let e : suc clocks + (end - suc clocks) ≡ end = omega arith in
-    let first : List TraceLine = (state_before_access image script clocks).trace in
-    let grown : Extends first (state_at image script (suc clocks + (end - suc clocks))).trace =
-    Extends-trans _ _ _ (trace-before script.events (state_at image script clocks)) (trace-later image script (suc clocks) (end - suc clocks)) in
-    subst (λ n. IsPartOf (trace_text (state_at image script n).trace) (Some bytes)) e
-    (trace-grow first grown.more _ bytes rest grown.is part)
-
 nothing-first : (bytes rest text : List ℕ) → bytes ++ rest ≡ [] → IsPartOf text (Some bytes)
 nothing-first [] rest text e = (text, refl)
 nothing-first (byte ∷ bytes) rest text e = cc
@@ -124,21 +84,6 @@ LeavesPrefixes-parts image script names base new clocks has = record {
   frames_part = λ end is. frames-part image script clocks end has.parts.frames has.parts.frames_rest has.run is has.parts.frames_part;
   trace_part = λ end is. trace-part image script clocks end has.parts.trace has.parts.trace_rest has.run is has.parts.trace_part;
   memory_part = λ end is. nothing-first has.parts.bytes has.parts.bytes_rest _ has.parts.bytes_part;
-}
-
--- parts of the text up to the access of a clock that is not built
-pub LeavesPrefixes-before : (image : List ℕ) (script : ScriptValue) (names : OutNames) (base new : Option Files) (clocks : ℕ)
-    → MeetsUnbuilt image script clocks
-    → (let s = state_before_access image script clocks in HoldParts names base new s.shown s.trace [])
-    → LeavesPrefixes image script names base new
-LeavesPrefixes-before image script names base new clocks meets parts = record {
-  frames = Some parts.frames;
-  trace = Some parts.trace;
-  memory = Some parts.bytes;
-  held = parts.held;
-  frames_part = λ end is. frames-before image script clocks end parts.frames parts.frames_rest meets is parts.frames_part;
-  trace_part = λ end is. trace-before-end image script clocks end parts.trace parts.trace_rest meets is parts.trace_part;
-  memory_part = λ end is. nothing-first parts.bytes parts.bytes_rest _ parts.bytes_part;
 }
 
 pub LeavesPrefixes-end : (image : List ℕ) (script : ScriptValue) (names : OutNames) (base new : Option Files) (clocks : ℕ)

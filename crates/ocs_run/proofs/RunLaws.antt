@@ -1,7 +1,7 @@
 -- The run over plain values: its start, its turns, its end and its stops.
-use Rattle.std.proofs.Common.{◌≡◌, ℕ, suc, ◌+◌, ◌<◌, ◌≤◌, false, List, [], ◌++◌, Option, Result, Ok, Err, OnOk, OnErr, IfErr, IsErrAnd, arith, refl, ap, ◌∙◌, sym, subst, add-one, inl, inr, ◌∷◌, lit<}
-use Rattle.std.proofs.lemmas.Bool.{false≢true}
+use Rattle.std.proofs.Common.{◌≡◌, ℕ, suc, ◌+◌, ◌<◌, ◌≤◌, Bool, List, [], ◌++◌, Option, Result, Ok, Err, OnOk, OnErr, arith, refl, ap, ◌∙◌, sym, subst, add-one, inl, inr, ◌∷◌, lit<}
 use Rattle.std.proofs.lemmas.Bool.{cases_eq}
+use Rattle.std.proofs.lemmas.Result.{on_ok_weaker, on_err_weaker}
 use Rattle.ocs_base.specs.Limits.{IsRunnable, AreFrom}
 use Rattle.ocs_base.specs.Script.{ScriptValue}
 use Rattle.ocs_base.specs.declared.script.At.{At}
@@ -10,7 +10,6 @@ use Rattle.ocs_io.specs.Place.{Files, Outside}
 use Rattle.out_files.specs.OutFiles.{OutNames, OutFilesValue, all_given}
 use Rattle.out_files.specs.Together.{three_files, AreTogether, HoldParts, StayTogether, LeavesParts, Completes, Begins}
 use Rattle.serial_model.specs.Beam.{place_of, first_place}
-use Rattle.serial_model.specs.Built.{is_unbuilt, meets_unbuilt}
 use Rattle.serial_model.specs.Events.{due_events, do_events}
 use Rattle.serial_model.specs.MemoryText.{memory_text}
 use Rattle.serial_model.specs.Outputs.{frames_text}
@@ -18,24 +17,19 @@ use Rattle.serial_model.specs.Serial.{state_at, IsEnd}
 use Rattle.serial_model.specs.State.{State, reset}
 use Rattle.serial_model.specs.TraceText.{trace_text}
 use Rattle.serial_model.specs.declared.bus.SideAsk.TheVariants as S
-use Rattle.serial_model.specs.Tick.{start_clock, count_timers, show_pixels, made_of, make_access, run_processor, advance_beam, before_access, tick}
+use Rattle.serial_model.specs.Tick.{start_clock, count_timers, show_pixels, make_access, run_processor, advance_beam, tick}
 use Rattle.serial_model.proofs.EndLaws.{frames_are_whole}
 use Rattle.ocs_run.specs.Prefix.{LeavesPrefixes}
-use Rattle.ocs_run.proofs.PrefixLaws.{LeavesPrefixes-parts, LeavesPrefixes-before, LeavesPrefixes-end, LeavesPrefixes-all}
+use Rattle.ocs_run.proofs.PrefixLaws.{LeavesPrefixes-parts, LeavesPrefixes-end, LeavesPrefixes-all}
 use Rattle.ocs_run.specs.Chips.{IsChipsOf}
 use Rattle.painter.specs.Painter.{IsPainterOf}
-use Rattle.ocs_run.specs.Run.{HasFiles, HasParts, HasEndParts, state_before_access, HasCreated, LeavesAfter}
-use Rattle.ocs_run.specs.Fault.{of_tick, of_write}
+use Rattle.ocs_run.specs.Run.{HasFiles, HasParts, HasEndParts, HasCreated}
 use Rattle.ocs_run.specs.declared.fault.RunFault.{RunFault}
-use Rattle.ocs_run.specs.declared.fault.RunFault.TheVariants.{Write, OutOfMemory as NoRoomToRun, NotBuilt}
 use Rattle.out_files.specs.Answers.{CreateAnswers}
-use Rattle.ocs_run.specs.declared.foreground.TickFault.{TickFault}
-use Rattle.ocs_run.specs.declared.foreground.TickFault.TheVariants.{OutOfMemory as NoRoomToTick, NotBuilt as TickNotBuilt}
-use Rattle.out_files.specs.declared.fault.OutFile.{OutFile}
 use Rattle.out_files.specs.declared.fault.WriteFault.{WriteFault}
 use Rattle.out_files.specs.declared.fault.WriteFault.TheVariants.{Failed, OutOfMemory as NoRoomToWrite}
-use Rattle.ocs_run.specs.Steps.{Written, HasText, Stands, Makes, KeepsTime, HasNext, Meets, StopsAt}
-use Rattle.ocs_run.specs.Underway.{IsReset, IsUnderway, IsInStep, Flushes, ForgetsWrites, Runs, StandsBefore, Stopped, IsStoppedBy, LeavesRun, StopsFinish, Finishes, IsFresh}
+use Rattle.ocs_run.specs.Steps.{Written, Stands, Makes, KeepsTime, HasNext}
+use Rattle.ocs_run.specs.Underway.{IsReset, IsUnderway, IsInStep, Flushes, ForgetsWrites, Runs, IsStopped, StopsFinish, Finishes, IsFresh}
 use Rattle.ocs_run.specs.declared.foreground.Foreground.{Foreground}
 
 -- a tick looks at the events that are due, and at no others
@@ -43,15 +37,6 @@ tick-due : (events left : List At) (s : State) → due_events s.beam events ≡ 
 unfolding tick
 tick-due events left s same = ap (λ acts. advance_beam (run_processor
     (make_access S.Nothing (show_pixels Pal (count_timers 0 (do_events acts (start_clock s))))))) same
-
-meets-due : (events left : List At) (s : State) → due_events s.beam events ≡ due_events s.beam left → meets_unbuilt Pal events s ≡ meets_unbuilt Pal left s
-unfolding meets_unbuilt
-meets-due events left s same =
-    ap (λ acts. is_unbuilt (made_of S.Nothing (show_pixels Pal (count_timers 0 (do_events acts (start_clock s)))))) same
-
-before-due : (events left : List At) (s : State) → due_events s.beam events ≡ due_events s.beam left
-    → before_access Pal events s ≡ before_access Pal left s
-before-due events left s same = ap (λ acts. show_pixels Pal (count_timers 0 (do_events acts (start_clock s)))) same
 
 -- nothing was appended
 pub Flushes-none : (fore : Foreground) (files : Option Files) → Flushes fore fore files files
@@ -124,7 +109,7 @@ together fore written s base files is held = record {
 
 -- the start: the files were created, and the foreground is the machine at reset
 pub IsUnderway-start : (image : List ℕ) (script : ScriptValue) (base files : Option Files) (out : OutFilesValue) (fore : Foreground)
-    → out.frames ≡ [] → out.trace ≡ [] → out.given ≡ 0 → Begins out base files → IsReset image out fore → IsUnderway image script base files fore
+    → out.frames ≡ [] → out.trace ≡ [] → out.given ≡ 0 → Begins out base files → IsReset image script.cpu out fore → IsUnderway image script base files fore
 unfolding Begins state_at reset trace_text
 IsUnderway-start image script base files out fore frames trace given begins is =
     let so_far : AreTogether out base files [] [] = begins frames trace given in
@@ -144,20 +129,18 @@ IsUnderway-start image script base files out fore frames trace given begins is =
           trace = ap (λ (o : OutFilesValue). so_far.trace ++ o.trace) is.out ∙ so_far.lines_given;
         };
       };
-      run = record { running = λ n below. absurd (omega arith); built = λ n below. absurd (omega arith) };
+      run = record { running = λ n below. absurd (omega arith) };
     })
 
 -- one clock more
 IsUnderway-more : (image : List ℕ) (script : ScriptValue) (base files : Option Files) (left : List At) (old new : Foreground)
     → IsUnderway image script base files old → due_events old.beam script.events ≡ due_events old.beam left → old.beam.frame < script.frames
-    → Makes (tick Pal left) old new → Meets false left old → new.t ≡ old.t + 1 → new.out.names ≡ old.out.names
-    → IsUnderway image script base files new
+    → Makes (tick Pal left) old new → new.t ≡ old.t + 1 → new.out.names ≡ old.out.names → IsUnderway image script base files new
 unfolding state_at
-IsUnderway-more image script base files left old new so same going makes meets count names =
+IsUnderway-more image script base files left old new so same going makes count names =
     let s : State = state_at image script old.t in
     let here : due_events s.beam script.events ≡ due_events s.beam left =
     ap (λ b. due_events b script.events) so.stands.beam ∙ same ∙ ap (λ b. due_events b left) (sym so.stands.beam) in
-    let built : meets_unbuilt Pal script.events s ≡ false = meets-due script.events left s here ∙ meets so.written s so.stands in
     let next : Stands new so.written (tick Pal left s) = makes so.written s so.stands in
     let now : Stands new so.written (tick Pal script.events s) = subst (λ n. Stands new so.written n) (sym (tick-due script.events left s here)) next in
     let one : new.t ≡ suc old.t = count ∙ add-one old.t in
@@ -168,7 +151,6 @@ IsUnderway-more image script base files left old new so same going makes meets c
       run = record {
         running = λ n below. more n old.t (λ m. (state_at image script m).beam.frame < script.frames) so.run.running
             (subst (λ b. b.frame < script.frames) (sym so.stands.beam) going) below;
-        built = λ n below. more n old.t (λ m. meets_unbuilt Pal script.events (state_at image script m) ≡ false) so.run.built built below;
       };
     })
   where
@@ -198,10 +180,10 @@ IsInStep-start script fore good count place newest =
 
 -- the turn of the loop: one clock more, and the events that are left then
 pub IsUnderway-tick : (image : List ℕ) (script : ScriptValue) (base files : Option Files) (left rest : List At) (old new : Foreground)
-    → IsInStep script left old → old.beam.frame < script.frames → Makes (tick Pal left) old new → Meets false left old → HasNext left rest old new
+    → IsInStep script left old → old.beam.frame < script.frames → Makes (tick Pal left) old new → HasNext left rest old new
     → IsUnderway image script base files old → IsUnderway image script base files new
-IsUnderway-tick image script base files left rest old new step going makes meets next so =
-    IsUnderway-more image script base files left old new so (step.same old.beam step.screen (omega arith)) going makes meets next.count next.names
+IsUnderway-tick image script base files left rest old new step going makes next so =
+    IsUnderway-more image script base files left old new so (step.same old.beam step.screen (omega arith)) going makes next.count next.names
 
 pub IsInStep-tick : (script : ScriptValue) (left rest : List At) (old new : Foreground) → IsInStep script left old → old.beam.frame < script.frames
     → HasNext left rest old new → IsInStep script rest new
@@ -279,41 +261,6 @@ HasParts-refused image script base before after fore leaves so =
     let s : State = state_at image script fore.t in
     record { run = so.run; parts = leaves base s.shown s.trace (together fore so.written s base before so.stands so.held) }
 
-pub StandsBefore-here : (image : List ℕ) (script : ScriptValue) (base files : Option Files) (left : List At) (old new : Foreground)
-    → IsInStep script left old → old.beam.frame < script.frames → StopsAt left old new → IsUnderway image script base files old
-    → StandsBefore image script base files new
-StandsBefore-here image script base files left old new step going stops so =
-    let s : State = state_at image script old.t in
-    let here : due_events s.beam script.events ≡ due_events s.beam left =
-    ap (λ b. due_events b script.events) so.stands.beam ∙ step.same old.beam step.screen (omega arith)
-    ∙ ap (λ b. due_events b left) (sym so.stands.beam) in
-    let text : HasText new.out so.written (before_access Pal script.events s) =
-    subst (HasText new.out so.written) (sym (before-due script.events left s here)) (stops.text so.written s so.stands) in
-    record {
-      clocks = old.t;
-      meets = record {
-        run = so.run;
-        frame = subst (λ b. b.frame < script.frames) (sym so.stands.beam) going;
-        unbuilt = meets-due script.events left s here ∙ stops.meets so.written s so.stands;
-      };
-      text = record {
-        frames = so.written.frames;
-        trace = so.written.trace;
-        held = so.held ∙ ap (λ ns. three_files ns base so.written.frames so.written.trace []) (sym stops.names);
-        pixels_given = text.frames;
-        lines_given = text.trace;
-        place = text.given;
-      };
-    }
-
-pub LeavesPrefixes-refused : (image : List ℕ) (script : ScriptValue) (base before after : Option Files) (fore : Foreground)
-    → LeavesParts fore.out before after [] → StandsBefore image script base before fore
-    → LeavesPrefixes image script fore.out.names base after
-unfolding LeavesParts
-LeavesPrefixes-refused image script base before after fore leaves stands =
-    let s : State = state_before_access image script stands.clocks in
-    LeavesPrefixes-before image script fore.out.names base after stands.clocks stands.meets (leaves base s.shown s.trace stands.text)
-
 -- the end
 pub IsEnd-here : (image : List ℕ) (script : ScriptValue) (base files : Option Files) (fore : Foreground) → fore.beam.frame ≡ script.frames
     → IsUnderway image script base files fore → IsEnd image script fore.t
@@ -352,76 +299,26 @@ HasEndParts-end image script base before after fore ended leaves so =
     }
 
 -- what a fault leaves, at a tick and at a flush
-pub if_err : {T E : Type 0} (r : Result T E) (P Q : E → Type 0) → IsErrAnd r P → ((e : E) → P e → Q e) → IfErr r Q
-if_err (Ok v) P Q h f = tt
-if_err (Err e) P Q h f = f e h
+pub on_err : {T E : Type 0} (r : Result T E) (P : Type 0) → P → OnErr r P
+on_err (Ok v) P p = tt
+on_err (Err e) P p = p
 
-pub stop-tick : (script : ScriptValue) (before now : Option Files) (first old new : Foreground) (left : List At) (f : TickFault) (fault : RunFault)
-    → IsInStep script left old → old.beam.frame < script.frames → old.out.names ≡ first.out.names → Runs script first old before now
-    → (f ≡ TickNotBuilt → StopsAt left old new) → fault ≡ of_tick f → IsStoppedBy fault script first new before now
-stop-tick script before now first old new left NoRoomToTick fault step going names runs stops is image base so =
-    rw is (subst (λ ns. (clocks : ℕ) × HasParts image script ns base now clocks) names
-    (old.t, HasParts-now image script base now old (runs image base so)))
-stop-tick script before now first old new left TickNotBuilt fault step going names runs stops is image base so =
-    rw is (StandsBefore-here image script base now left old new step going (stops refl) (runs image base so))
+pub stop-tick : (script : ScriptValue) (before now : Option Files) (first old : Foreground) → old.out.names ≡ first.out.names
+    → Runs script first old before now → IsStopped script first before now
+stop-tick script before now first old names runs image base so =
+    subst (λ ns. (clocks : ℕ) × HasParts image script ns base now clocks) names
+    (old.t, HasParts-now image script base now old (runs image base so))
 
-pub stop-flush : (script : ScriptValue) (before now after : Option Files) (first fore last : Foreground) (f : WriteFault) (fault : RunFault)
-    → fore.out.names ≡ first.out.names → Runs script first fore before now → LeavesParts fore.out now after [] → fault ≡ of_write f
-    → IsStoppedBy fault script first last before after
-stop-flush script before now after first fore last (Failed file) fault names runs leaves is image base so =
-    rw is (subst (λ ns. (clocks : ℕ) × HasParts image script ns base after clocks) names
-    (fore.t, HasParts-refused image script base now after fore leaves (runs image base so)))
-stop-flush script before now after first fore last NoRoomToWrite fault names runs leaves is image base so =
-    rw is (subst (λ ns. (clocks : ℕ) × HasParts image script ns base after clocks) names
-    (fore.t, HasParts-refused image script base now after fore leaves (runs image base so)))
-
--- where the names stayed at a clock that is not built
-pub names-tick : (left : List At) (first old new : Foreground) (f : TickFault) (fault : RunFault) → old.out.names ≡ first.out.names
-    → (f ≡ TickNotBuilt → StopsAt left old new) → fault ≡ of_tick f → fault ≡ NotBuilt → new.out.names ≡ first.out.names
-names-tick left first old new NoRoomToTick fault names stops is none = absurd (cc (is, none))
-names-tick left first old new TickNotBuilt fault names stops is none = (stops refl).names ∙ names
-
--- the clocks are over
-pub stopped_by : (script : ScriptValue) (old new : Foreground) (before after : Option Files) (given fault : RunFault) → given ≡ fault
-    → IsStoppedBy given script old new before after → IsStoppedBy fault script old new before after
-stopped_by script old new before after given fault is stopped = subst (λ f. IsStoppedBy f script old new before after) is stopped
-
-pub LeavesRun-write : (script : ScriptValue) (old new : Foreground) (before after : Option Files) (given : RunFault) (file : OutFile)
-    → given ≡ Write file → IsStoppedBy given script old new before after → LeavesRun (Write file) script old before after
-LeavesRun-write script old new before after given file is stopped image base so =
-    let parts = subst (Stopped image script old.out.names new base after) is (stopped image base so) in
-    LeavesPrefixes-parts image script _ base after parts.0 parts.1
-
-pub LeavesRun-room : (script : ScriptValue) (old new : Foreground) (before after : Option Files) (given : RunFault) → given ≡ NoRoomToRun
-    → IsStoppedBy given script old new before after → LeavesRun NoRoomToRun script old before after
-LeavesRun-room script old new before after given is stopped image base so =
-    let parts = subst (Stopped image script old.out.names new base after) is (stopped image base so) in
-    LeavesPrefixes-parts image script _ base after parts.0 parts.1
-
-pub LeavesRun-flushed : (script : ScriptValue) (first old new : Foreground) (before now after : Option Files) → old.out.names ≡ first.out.names
-    → IsStoppedBy NotBuilt script first old before now → Flushes old new now after → new.out ≡ all_given old.out
-    → LeavesRun NotBuilt script first before after
-unfolding meets_unbuilt
-LeavesRun-flushed script first old new before now after names stopped flushes empty image base so =
-    absurd (false≢true (stopped image base so).meets.unbuilt)
-
-pub LeavesRun-refused : (script : ScriptValue) (first old : Foreground) (before now after : Option Files) (f : WriteFault) (fault : RunFault)
-    → old.out.names ≡ first.out.names → IsStoppedBy NotBuilt script first old before now → LeavesParts old.out now after []
-    → fault ≡ of_write f → LeavesRun fault script first before after
-LeavesRun-refused script first old before now after (Failed file) fault names stopped leaves is image base so =
-    rw is (subst (λ ns. LeavesPrefixes image script ns base after) names
-    (LeavesPrefixes-refused image script base now after old leaves (stopped image base so)))
-LeavesRun-refused script first old before now after NoRoomToWrite fault names stopped leaves is image base so =
-    rw is (subst (λ ns. LeavesPrefixes image script ns base after) names
-    (LeavesPrefixes-refused image script base now after old leaves (stopped image base so)))
+pub stop-flush : (script : ScriptValue) (before now after : Option Files) (first fore : Foreground) → fore.out.names ≡ first.out.names
+    → Runs script first fore before now → LeavesParts fore.out now after [] → IsStopped script first before after
+stop-flush script before now after first fore names runs leaves image base so =
+    subst (λ ns. (clocks : ℕ) × HasParts image script ns base after clocks) names
+    (fore.t, HasParts-refused image script base now after fore leaves (runs image base so))
 
 -- the end of a run and its stops
-pub StopsFinish-flush : (before after : Option Files) (fore : Foreground) (f : WriteFault) (fault : RunFault) → LeavesParts fore.out before after []
-    → fault ≡ of_write f → StopsFinish fault fore before after
-StopsFinish-flush before after fore (Failed file) fault leaves is image script base ended so =
-    rw is (LeavesPrefixes-parts image script _ base after fore.t (HasParts-refused image script base before after fore leaves so))
-StopsFinish-flush before after fore NoRoomToWrite fault leaves is image script base ended so =
-    rw is (LeavesPrefixes-parts image script _ base after fore.t (HasParts-refused image script base before after fore leaves so))
+pub StopsFinish-flush : (before after : Option Files) (fore : Foreground) → LeavesParts fore.out before after [] → StopsFinish fore before after
+StopsFinish-flush before after fore leaves image script base ended so =
+    LeavesPrefixes-parts image script _ base after fore.t (HasParts-refused image script base before after fore leaves so)
 
 end_parts : (before now after : Option Files) (old fore : Foreground) (image : List ℕ) (script : ScriptValue) (base : Option Files)
     → Flushes old fore before now
@@ -432,12 +329,10 @@ end_parts before now after old fore image script base flushes ended leaves so =
     (HasEndParts-end image script base now after fore (ap (λ b. b.frame) flushes.beam ∙ ended) leaves
     (IsUnderway-flush image script base before now old fore flushes so))
 
-pub StopsFinish-memory : (before now after : Option Files) (old fore : Foreground) (f : WriteFault) (fault : RunFault) → Flushes old fore before now
-    → LeavesParts fore.out now after (memory_text fore.chip.words) → fault ≡ of_write f → StopsFinish fault old before after
-StopsFinish-memory before now after old fore (Failed file) fault flushes leaves is image script base ended so =
-    rw is (LeavesPrefixes-end image script _ base after fore.t (end_parts before now after old fore image script base flushes ended leaves so))
-StopsFinish-memory before now after old fore NoRoomToWrite fault flushes leaves is image script base ended so =
-    rw is (LeavesPrefixes-end image script _ base after fore.t (end_parts before now after old fore image script base flushes ended leaves so))
+pub StopsFinish-memory : (before now after : Option Files) (old fore : Foreground) → Flushes old fore before now
+    → LeavesParts fore.out now after (memory_text fore.chip.words) → StopsFinish old before after
+StopsFinish-memory before now after old fore flushes leaves image script base ended so =
+    LeavesPrefixes-end image script _ base after fore.t (end_parts before now after old fore image script base flushes ended leaves so)
 
 pub Finishes-all : (before now after : Option Files) (old fore : Foreground) → Flushes old fore before now → fore.out ≡ all_given old.out
     → Completes fore.out now after (memory_text fore.chip.words) → Finishes old before after
@@ -447,20 +342,20 @@ Finishes-all before now after old fore flushes empty completes image script base
     (IsUnderway-flush image script base before now old fore flushes so))
 
 -- the whole run and its stops
-pub LeavesAfter-created : (image : List ℕ) (script : ScriptValue) (names : OutNames) (old new : Outside) (f : WriteFault) (fault : RunFault)
-    → CreateAnswers names old new (Err f) → fault ≡ of_write f → LeavesAfter fault image script names old.files new.files
-LeavesAfter-created image script names old new (Failed file) fault made is =
-    rw is (LeavesPrefixes-all image script names old.files new.files (inl (made.0, made.3)))
-LeavesAfter-created image script names old new NoRoomToWrite fault made is = rw is (LeavesPrefixes-all image script names old.files new.files (inl made))
+pub LeavesPrefixes-create_refused : (image : List ℕ) (script : ScriptValue) (names : OutNames) (old new : Outside) (f : WriteFault)
+    → CreateAnswers names old new (Err f) → LeavesPrefixes image script names old.files new.files
+LeavesPrefixes-create_refused image script names old new (Failed file) made =
+    LeavesPrefixes-all image script names old.files new.files (inl (made.0, made.3))
+LeavesPrefixes-create_refused image script names old new NoRoomToWrite made = LeavesPrefixes-all image script names old.files new.files (inl made)
 
 pub HasCreated-all : (names : OutNames) (old new : Outside) → CreateAnswers names old new (Ok tt) → HasCreated names old.files new.files
 HasCreated-all names old new made = (3, made)
 
 -- from the creates to the end of a whole run
 -- the machine as it was made, once the files were created
-pub IsReset-created : (image : List ℕ) (out created : OutFilesValue) (fore : Foreground) → IsReset image out fore → created ≡ fore.out
-    → IsReset image out (record fore { out = created })
-IsReset-created image out created fore reset same = record {
+pub IsReset-created : (image : List ℕ) (cpu : Bool) (out created : OutFilesValue) (fore : Foreground) → IsReset image cpu out fore → created ≡ fore.out
+    → IsReset image cpu out (record fore { out = created })
+IsReset-created image cpu out created fore reset same = record {
   t = reset.t;
   beam = reset.beam;
   memory = reset.memory;
@@ -472,45 +367,33 @@ IsReset-created image out created fore reset same = record {
 }
 
 begun : (image : List ℕ) (script : ScriptValue) (base mid : Option Files) (out : OutFilesValue) (fore : Foreground) → IsFresh out
-    → Begins fore.out base mid → IsReset image out fore → IsUnderway image script base mid fore
+    → Begins fore.out base mid → IsReset image script.cpu out fore → IsUnderway image script base mid fore
 begun image script base mid out fore fresh begins reset =
     IsUnderway-start image script base mid out fore fresh.frames fresh.trace fresh.given (subst (λ o. Begins o base mid) reset.out begins) reset
 
-named : (image : List ℕ) (out : OutFilesValue) (fore : Foreground) → IsReset image out fore → fore.out.names ≡ out.names
-named image out fore reset = ap (λ o. o.names) reset.out
+named : (image : List ℕ) (cpu : Bool) (out : OutFilesValue) (fore : Foreground) → IsReset image cpu out fore → fore.out.names ≡ out.names
+named image cpu out fore reset = ap (λ o. o.names) reset.out
 
-pub run-stopped : (image : List ℕ) (script : ScriptValue) (base mid new : Option Files) (out : OutFilesValue) (fore : Foreground) (fault : RunFault)
-    → IsFresh out → Begins fore.out base mid → IsReset image out fore → LeavesRun fault script fore mid new
-    → LeavesAfter fault image script out.names base new
-run-stopped image script base mid new out fore fault fresh begins reset stopped =
-    subst (λ ns. LeavesAfter fault image script ns base new) (named image out fore reset)
-    (stopped image base (begun image script base mid out fore fresh begins reset))
-
-on_ok : {T E : Type 0} (r : Result T E) (P Q : Type 0) → OnOk r P → (P → Q) → OnOk r Q
-on_ok (Ok v) P Q h f = f h
-on_ok (Err e) P Q h f = tt
-
-if_err_more : {T E : Type 0} (r : Result T E) (P Q : E → Type 0) → IfErr r P → ((e : E) → P e → Q e) → IfErr r Q
-if_err_more (Ok v) P Q h f = tt
-if_err_more (Err e) P Q h f = f e h
+pub run-stopped : (image : List ℕ) (script : ScriptValue) (base mid new : Option Files) (out : OutFilesValue) (fore : Foreground)
+    → IsFresh out → Begins fore.out base mid → IsReset image script.cpu out fore → IsStopped script fore mid new
+    → LeavesPrefixes image script out.names base new
+run-stopped image script base mid new out fore fresh begins reset stopped =
+    let parts = stopped image base (begun image script base mid out fore fresh begins reset) in
+    subst (λ ns. LeavesPrefixes image script ns base new) (named image script.cpu out fore reset)
+    (LeavesPrefixes-parts image script _ base new parts.0 parts.1)
 
 pub run-done : (image : List ℕ) (script : ScriptValue) (base mid before new : Option Files) (out : OutFilesValue) (fore last : Foreground)
-    (r : Result (Unit {0}) RunFault) → IsRunnable script → IsFresh out → Begins fore.out base mid → IsReset image out fore
+    (r : Result (Unit {0}) RunFault) → IsRunnable script → IsFresh out → Begins fore.out base mid → IsReset image script.cpu out fore
     → Runs script fore last mid before → last.beam.frame ≡ script.frames → last.out.names ≡ fore.out.names
     → OnOk r (Finishes last before new) → OnOk r (HasFiles image script out.names base new)
 run-done image script base mid before new out fore last r good fresh begins reset runs ended names finishes =
-    on_ok r _ _ finishes (λ finish. subst (λ ns. HasFiles image script ns base new) (names ∙ named image out fore reset)
-    (finish image script base good.least ended (runs image base (begun image script base mid out fore fresh begins reset))))
+    on_ok_weaker r (λ finish. subst (λ ns. HasFiles image script ns base new) (names ∙ named image script.cpu out fore reset)
+    (finish image script base good.least ended (runs image base (begun image script base mid out fore fresh begins reset)))) finishes
 
 pub run-finish-stopped : (image : List ℕ) (script : ScriptValue) (base mid before new : Option Files) (out : OutFilesValue) (fore last : Foreground)
-    (r : Result (Unit {0}) RunFault) → IsFresh out → Begins fore.out base mid → IsReset image out fore → Runs script fore last mid before
-    → last.beam.frame ≡ script.frames → last.out.names ≡ fore.out.names → IfErr r (λ fault. StopsFinish fault last before new)
-    → IfErr r (λ fault. LeavesAfter fault image script out.names base new)
+    (r : Result (Unit {0}) RunFault) → IsFresh out → Begins fore.out base mid → IsReset image script.cpu out fore → Runs script fore last mid before
+    → last.beam.frame ≡ script.frames → last.out.names ≡ fore.out.names → OnErr r (StopsFinish last before new)
+    → OnErr r (LeavesPrefixes image script out.names base new)
 run-finish-stopped image script base mid before new out fore last r fresh begins reset runs ended names stops =
-    if_err_more r _ _ stops (λ fault stop. subst (λ ns. LeavesAfter fault image script ns base new) (names ∙ named image out fore reset)
-    (stop image script base ended (runs image base (begun image script base mid out fore fresh begins reset))))
-
--- memory was wanting for the machine, before anything was created
-pub LeavesAfter-memory : (image : List ℕ) (script : ScriptValue) (names : OutNames) (files : Option Files) (fault : RunFault)
-    → fault ≡ NoRoomToRun → LeavesAfter fault image script names files files
-LeavesAfter-memory image script names files fault is = rw is (LeavesPrefixes-all image script names files files (inl (0, refl)))
+    on_err_weaker r (λ stop. subst (λ ns. LeavesPrefixes image script ns base new) (names ∙ named image script.cpu out fore reset)
+    (stop image script base ended (runs image base (begun image script base mid out fore fresh begins reset)))) stops

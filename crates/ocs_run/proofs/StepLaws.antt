@@ -1,5 +1,5 @@
 -- The steps of the foreground over plain values.
-use Rattle.std.proofs.Common.{◌≡◌, ℕ, ◌+◌, ◌%◌, ◌≤◌, Bool, true, false, ◌==◌, if◌then◌else◌, List, [], ◌∷◌, ◌++◌, length, Some, None, bit_or, arith, refl, ap, subst, inl, inr, ◌∙◌, sym, append_assoc, append-nil, length-append}
+use Rattle.std.proofs.Common.{◌≡◌, ℕ, ◌+◌, ◌/◌, ◌%◌, ◌≤◌, Bool, true, false, ◌==◌, if◌then◌else◌, List, [], ◌∷◌, ◌++◌, length, slice_index, Option, Some, None, bit_or, arith, refl, ap, subst, inl, inr, ◌∙◌, sym, append_assoc, append-nil, length-append}
 use Rattle.std.proofs.lemmas.Bool.Decides.{nat_tests}
 use Rattle.std.proofs.lemmas.Grind.{flat_map-append}
 use Rattle.ocs_base.specs.declared.script.System.TheVariants.{Pal}
@@ -7,8 +7,9 @@ use Rattle.mem_versions.specs.Chip.{ChipValue, after_reads, after_write}
 use Rattle.ocs_base.specs.declared.addr.Addr.{Addr}
 use Rattle.ocs_base.specs.declared.beam.Beam.{Beam}
 use Rattle.ocs_base.specs.declared.reg.Reg.{Reg}
+use Rattle.ocs_base.specs.declared.script.Act.{Act}
 use Rattle.ocs_base.specs.declared.script.At.{At}
-use Rattle.serial_model.specs.declared.bus.Half.TheVariants.{Both}
+use Rattle.serial_model.specs.declared.bus.Half.{Half}
 use Rattle.serial_model.specs.declared.bus.Made.{Made}
 use Rattle.serial_model.specs.declared.bus.Made.TheVariants as M
 use Rattle.serial_model.specs.declared.bus.SideAsk.TheVariants as S
@@ -20,14 +21,15 @@ use Rattle.serial_model.specs.declared.trace.Source.{Source}
 use Rattle.serial_model.specs.declared.trace.TraceLine.{TraceLine}
 use Rattle.serial_model.specs.declared.trace.TraceLine.TheVariants.{Wrote, Peeked}
 use Rattle.serial_model.specs.Beam.{IsOnScreen, place_of, is_visible}
-use Rattle.serial_model.specs.Built.{is_unbuilt}
-use Rattle.serial_model.specs.Events.{is_due, due_events, do_events, made_by_act}
-use Rattle.serial_model.specs.Made.{chips_after, word_of, lof_after, memory_after, touch_of, clx_after, lines_of, state_after}
+use Rattle.serial_model.specs.Events.{is_due, due_events, do_event, do_events, made_by_act, tell_chips}
+use Rattle.serial_model.specs.Made.{chips_after, word_of, lof_after, merge_half, memory_after, touch_of, clx_after, lines_of, state_after}
 use Rattle.serial_model.specs.Outputs.{with_headings, frames_text, frame_bytes}
 use Rattle.serial_model.specs.Picture.{pixel_bytes, pixels, step_of, after_step, clear_line, touch_if_any, plane_latch, sprite_data, set_picture}
 use Rattle.serial_model.specs.Registers.{effect_of, is_picture_register}
 use Rattle.serial_model.specs.State.{Chips, State, read_word}
-use Rattle.serial_model.specs.Tick.{start_clock, start_chips, show_pixels, run_script, made_of, answer_state, make_access}
+use Rattle.serial_model.specs.Tick.{start_clock, start_chips, count_timers, show_pixels, run_script, made_of, answer_state, make_access, run_processor}
+use Rattle.serial_model.specs.Cias.{time_chips}
+use Rattle.serial_model.specs.Turns.{run_chips, interrupt_of, taken_lines}
 use Rattle.serial_model.specs.TraceText.{line_text, trace_text}
 use Rattle.serial_model.specs.Write.{write_chips, write_lof, lof_of}
 use Rattle.serial_model.proofs.HeadingLaws.{with_headings-append, with_headings-place}
@@ -38,7 +40,7 @@ use Rattle.out_files.specs.OutFiles.{OutFilesValue, with_line}
 use Rattle.ocs_run.specs.Chips.{WorkingChips, IsChipsOf, HasAccessed}
 use Rattle.ocs_run.specs.Out.{Shows, Tells}
 use Rattle.painter.specs.Painter.{IsPainterOf}
-use Rattle.ocs_run.specs.Steps.{Written, HasText, Stands, Makes, WritesRegister, KeepsTime, Does, HasDone, IsLeft, IsSamePlace, KeepsPlace, Accesses}
+use Rattle.ocs_run.specs.Steps.{Written, HasText, Stands, Makes, WritesRegister, KeepsTime, Does, HasDone, IsLeft, IsSamePlace, KeepsPlace}
 use Rattle.ocs_run.specs.declared.foreground.Foreground.{Foreground}
 use Rattle.painter.specs.declared.painter.Painter.{Painter}
 use Rattle.ocs_run.proofs.TraceLaws.{Tells-line, Tells-none}
@@ -188,10 +190,10 @@ pub record HasMade (made : Made) (old mid : Foreground) : Type 0 where
   pub same : mid ≡ record old { chip = mid.chip; chips = mid.chips }
   pub memory : mid.chip.words ≡ old.chip.words
   pub newest : mid.chip.newest ≡ old.chip.newest
-  pub access : (c : Chips) → IsChipsOf old.chips c → HasAccessed old.beam c old.chip.words made mid.chips
+  pub access : (c : Chips) → IsChipsOf old.chips c → HasAccessed old.beam old.clx c old.chip.words made mid.chips
 
 pub HasMade-by : (made : Made) (old : Foreground) (chip : ChipValue) (chips : WorkingChips) → chip ≡ record old.chip { reads = chip.reads }
-    → ((c : Chips) → IsChipsOf old.chips c → HasAccessed old.beam c old.chip.words made chips)
+    → ((c : Chips) → IsChipsOf old.chips c → HasAccessed old.beam old.clx c old.chip.words made chips)
     → HasMade made old (record old { chip = chip; chips = chips })
 HasMade-by made old chip chips same access = record {
   same = refl;
@@ -210,10 +212,11 @@ KeepsPlace-made made old mid has =
     })
 
 accessed : (made : Made) (old mid : Foreground) → HasMade made old mid → (written : Written) (s : State) → Stands old written s
-    → HasAccessed s.beam s.chips s.memory made mid.chips
+    → HasAccessed s.beam s.clx s.chips s.memory made mid.chips
 accessed made old mid has written s is =
-    subst (λ b. HasAccessed b s.chips s.memory made mid.chips) (sym is.beam)
-    (subst (λ m. HasAccessed old.beam s.chips m made mid.chips) (sym is.memory) (has.access s.chips is.chips))
+    subst (λ b. HasAccessed b s.clx s.chips s.memory made mid.chips) (sym is.beam)
+    (subst (λ x. HasAccessed old.beam x s.chips s.memory made mid.chips) (sym is.clx)
+    (subst (λ m. HasAccessed old.beam old.clx s.chips m made mid.chips) (sym is.memory) (has.access s.chips is.chips)))
 
 pub made-stands : (made : Made) (old mid : Foreground) → HasMade made old mid → (written : Written) (s : State) → Stands old written s
     → made ≡ made_of S.Nothing s
@@ -237,11 +240,6 @@ pub Makes-accessed : (old mid new : Foreground) (made : Made) → HasMade made o
 Makes-accessed old mid new made has does written s is =
     subst (λ m. Stands new written (state_after m (answer_state S.Nothing s))) (made-stands made old mid has written s is)
     (Makes-does made mid new does written (answer_state S.Nothing s) (Makes-answers made old mid has written s is))
-
-pub Accesses-made : (old mid : Foreground) (made : Made) (answer : Bool) → HasMade made old mid → is_unbuilt made ≡ answer
-    → Accesses answer old
-Accesses-made old mid made answer has is written s stands =
-    ap is_unbuilt (sym (made-stands made old mid has written s stands)) ∙ is
 
 -- a write, by its effect
 abbrev pub touch_by : Effect → ℕ → Reg → ℕ → Denise → Denise
@@ -396,11 +394,12 @@ other_picture Picture h reg word now p picture is = absurd (picture refl)
 other_picture Interrupt h reg word now p picture is = is
 other_picture (Lof long) h reg word now p picture is = is
 
--- a word was stored
-pub Does-store : (at : Addr) (word : ℕ) (old new : Foreground) → new ≡ record old { chip = new.chip }
-    → new.chip ≡ after_write old.chip old.t at word → Does (M.Stored at Both word) old new
-Does-store at word old new same stored =
-    let now : Does (M.Stored at Both word) old (record old { chip = new.chip }) = record {
+-- a word was stored, or one half of it
+pub Does-store : (at : Addr) (half : Half) (word : ℕ) (old new : Foreground) → new ≡ record old { chip = new.chip }
+    → new.chip ≡ after_write old.chip old.t at (merge_half half (slice_index old.chip.words (at.value / 2)) word)
+    → Does (M.Stored at half word) old new
+Does-store at half word old new same stored =
+    let now : Does (M.Stored at half word) old (record old { chip = new.chip }) = record {
       t = refl;
       beam = refl;
       memory = ap (λ (c : ChipValue). c.words) stored;
@@ -411,7 +410,7 @@ Does-store at word old new same stored =
       names = refl;
       out = λ c stands. Tells-none old.out;
     } in
-    subst (λ f. Does (M.Stored at Both word) old f) (sym same) now
+    subst (λ f. Does (M.Stored at half word) old f) (sym same) now
 
 -- nothing was made
 pub does_none : (fore : Foreground) → Does M.Nothing fore fore
@@ -454,6 +453,87 @@ Does-read reg by old new same clx word is out =
     } in
     subst (λ f. Does (M.Read reg by) old f) (sym same) now
 
+-- an event tells the chips, and what it makes is done
+abbrev tell_state : Act → State → State
+tell_state act s = record s { chips = tell_chips act s.chips }
+
+Makes-told : (act : Act) (old mid : Foreground) → mid ≡ record old { chips = mid.chips }
+    → ((c : Chips) → IsChipsOf old.chips c → IsChipsOf mid.chips (tell_chips act c)) → Makes (tell_state act) old mid
+Makes-told act old mid same tells written s is =
+    let now : Stands (record old { chips = mid.chips }) written (tell_state act s) = record {
+      t = is.t;
+      beam = is.beam;
+      memory = is.memory;
+      chips = tells s.chips is.chips;
+      picture = is.picture;
+      clx = is.clx;
+      text = record { frames = is.text.frames; given = is.text.given; trace = is.text.trace };
+    } in
+    subst (λ f. Stands f written (tell_state act s)) (sym same) now
+
+pub Makes-happened : (act : Act) (old mid new : Foreground) → mid ≡ record old { chips = mid.chips }
+    → ((c : Chips) → IsChipsOf old.chips c → IsChipsOf mid.chips (tell_chips act c)) → Does (made_by_act act) mid new
+    → Makes (do_event act) old new
+Makes-happened act old mid new same tells does written s is =
+    Makes-does (made_by_act act) mid new does written (tell_state act s) (Makes-told act old mid same tells written s is)
+
+-- only the chips were changed
+pub KeepsPlace-chips : (old mid : Foreground) → mid ≡ record old { chips = mid.chips } → KeepsPlace old mid
+KeepsPlace-chips old mid same =
+    subst (λ f. KeepsPlace old f) (sym same) (record {
+      beam = same_place-eq old.beam old.beam refl;
+      t = refl;
+      time = λ before. before;
+      names = refl;
+    })
+
+-- third step: the CIAs had their time
+pub Makes-timed : (old new : Foreground) → new ≡ record old { chips = new.chips }
+    → ((c : Chips) → IsChipsOf old.chips c → IsChipsOf new.chips (time_chips 0 old.t c)) → Makes (count_timers 0) old new
+Makes-timed old new same timed written s is =
+    let now : Stands (record old { chips = new.chips }) written (count_timers 0 s) = record {
+      t = is.t;
+      beam = is.beam;
+      memory = is.memory;
+      chips = subst (λ t. IsChipsOf new.chips (time_chips 0 t s.chips)) (sym is.t) (timed s.chips is.chips);
+      picture = is.picture;
+      clx = is.clx;
+      text = record { frames = is.text.frames; given = is.text.given; trace = is.text.trace };
+    } in
+    subst (λ f. Stands f written (count_timers 0 s)) (sym same) now
+
+-- sixth step: the processor had its turn, and an interrupt that begins with it is traced
+pub Makes-processed : (old new : Foreground) (begins : Option ℕ) → new ≡ record old { chips = new.chips; out = new.out }
+    → ((c : Chips) → IsChipsOf old.chips c → IsChipsOf new.chips (run_chips c))
+    → ((c : Chips) → IsChipsOf old.chips c → begins ≡ interrupt_of c) → Tells (taken_lines old.beam begins) old.out new.out
+    → Makes run_processor old new
+Makes-processed old new begins same runs interrupt tells written s is =
+    let lines : taken_lines old.beam begins ≡ taken_lines s.beam (interrupt_of s.chips) =
+    ap (λ b. taken_lines b begins) (sym is.beam) ∙ ap (λ i. taken_lines s.beam i) (interrupt s.chips is.chips) in
+    let text : HasText new.out written (record s { trace = s.trace ++ taken_lines s.beam (interrupt_of s.chips) }) =
+    HasText-told written s old.out new.out (taken_lines s.beam (interrupt_of s.chips)) is.text
+    (subst (λ ls. Tells ls old.out new.out) lines tells) in
+    let now : Stands (record old { chips = new.chips; out = new.out }) written (run_processor s) = record {
+      t = is.t;
+      beam = is.beam;
+      memory = is.memory;
+      chips = runs s.chips is.chips;
+      picture = is.picture;
+      clx = is.clx;
+      text = record { frames = text.frames; given = text.given; trace = text.trace };
+    } in
+    subst (λ f. Stands f written (run_processor s)) (sym same) now
+
+pub KeepsPlace-told : (old new : Foreground) (lines : List TraceLine) → new ≡ record old { chips = new.chips; out = new.out }
+    → Tells lines old.out new.out → KeepsPlace old new
+KeepsPlace-told old new lines same tells =
+    subst (λ f. KeepsPlace old f) (sym same) (record {
+      beam = same_place-eq old.beam old.beam refl;
+      t = refl;
+      time = λ before. before;
+      names = tells.names;
+    })
+
 -- the events of a clock, one after another
 pub HasDone-start : (events : List At) (old : Foreground) → HasDone events events old old
 HasDone-start events old = record {
@@ -464,15 +544,15 @@ HasDone-start events old = record {
 
 pub HasDone-more : (frames : ℕ) (events left : List At) (e : At) (old now new : Foreground) → IsOnScreen old.beam
     → IsQueue frames (place_of old.beam) (e ∷ left) → is_due now.beam e ≡ true → HasDone events (e ∷ left) old now
-    → Does (made_by_act e.act) now new → HasDone events left old new
+    → Makes (do_event e.act) now new → KeepsPlace now new → HasDone events left old new
 unfolding do_events
-HasDone-more frames events left e old now new on queue is so does =
+HasDone-more frames events left e old now new on queue is so makes kept =
     let due_now : is_due old.beam e ≡ true = sym (ap (λ b. is_due b e) so.place.beam) ∙ is in
     let first : due_events old.beam (e ∷ left) ≡ e ∷ due_events old.beam left = due_events-more old.beam e left due_now in
     record {
-      place = KeepsPlace-more old now new so.place (KeepsPlace-does (made_by_act e.act) now new does);
-      rest = λ end makes. so.rest end (subst (λ es. Makes (do_events es) now end) (sym first)
-          (λ written s stands. makes written _ (Makes-does (made_by_act e.act) now new does written s stands)));
+      place = KeepsPlace-more old now new so.place kept;
+      rest = λ end rest. so.rest end (subst (λ es. Makes (do_events es) now end) (sym first)
+          (λ written s stands. rest written _ (makes written s stands)));
       later = λ later screen after.
           so.later later screen after ∙ due_events-later frames (place_of old.beam) old.beam later e left queue on screen due_now after;
     }
@@ -489,11 +569,11 @@ Makes-scripted events left old new so none written s is =
 -- one turn: the first that is left is due and happens
 pub turn : (events left others : List At) (e : At) (old now new : Foreground) → IsOnScreen old.beam
     → HasDone events left old now × IsLeft (place_of old.beam) left → left ≡ e ∷ others → is_due now.beam e ≡ true
-    → Does (made_by_act e.act) now new → HasDone events others old new × IsLeft (place_of old.beam) others
-turn events left others e old now new on so is due_now does =
+    → Makes (do_event e.act) now new → KeepsPlace now new → HasDone events others old new × IsLeft (place_of old.beam) others
+turn events left others e old now new on so is due_now makes kept =
     let here : HasDone events (e ∷ others) old now = subst (λ es. HasDone events es old now) is so.0 in
     let queue : IsLeft (place_of old.beam) (e ∷ others) = subst (λ es. IsLeft (place_of old.beam) es) is so.1 in (
-      HasDone-more queue.frames events others e old now new on queue.queue due_now here does,
+      HasDone-more queue.frames events others e old now new on queue.queue due_now here makes kept,
       record { frames = queue.frames; queue = IsQueue-more queue.frames (place_of old.beam) e others queue.queue },
     )
 

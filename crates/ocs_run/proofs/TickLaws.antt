@@ -1,19 +1,16 @@
 -- One colour clock of the foreground, from its steps.
-use Rattle.std.proofs.Common.{◌≡◌, ◌+◌, ◌≤◌, arith, Bool, true, List, Result, Ok, Err, IsErrAnd, ap, ◌∙◌, sym, subst}
+use Rattle.std.proofs.Common.{◌≡◌, ◌+◌, ◌≤◌, arith, Bool, List, ap, ◌∙◌, sym, subst}
 use Rattle.mem_versions.specs.Chip.{ChipValue}
 use Rattle.ocs_base.specs.declared.beam.Beam.{Beam}
 use Rattle.ocs_base.specs.declared.script.At.{At}
 use Rattle.ocs_base.specs.declared.script.System.TheVariants.{Pal}
 use Rattle.serial_model.specs.declared.bus.SideAsk.TheVariants as S
 use Rattle.serial_model.specs.Beam.{IsOnScreen, place_of, next_place}
-use Rattle.serial_model.specs.Built.{meets_unbuilt}
-use Rattle.serial_model.specs.Tick.{start_clock, run_script, count_timers, show_pixels, make_access, run_processor, advance_beam, tick, before_access}
+use Rattle.serial_model.specs.Tick.{start_clock, run_script, count_timers, show_pixels, make_access, run_processor, advance_beam, tick}
 use Rattle.serial_model.proofs.BeamLaws.{next_place-IsNext}
 use Rattle.serial_model.proofs.EventLaws.{AreFrom-next}
-use Rattle.out_files.specs.OutFiles.{OutFilesValue}
-use Rattle.ocs_run.specs.Steps.{HasText, Stands, Makes, KeepsPlace, Accesses, IsLeft, HasLater, Meets, StopsAt, HasNext}
+use Rattle.ocs_run.specs.Steps.{Makes, KeepsPlace, IsLeft, HasLater, HasNext}
 use Rattle.ocs_run.specs.declared.foreground.Foreground.{Foreground}
-use Rattle.ocs_run.specs.declared.foreground.TickFault.{TickFault}
 
 pub Makes-tick : (events : List At) (f0 f1 f2 f3 f4 f5 f6 f7 : Foreground) → Makes start_clock f0 f1 → Makes (run_script events) f1 f2
     → Makes (count_timers 0) f2 f3 → Makes (show_pixels Pal) f3 f4 → Makes (make_access S.Nothing) f4 f5 → Makes run_processor f5 f6 → Makes advance_beam f6 f7
@@ -21,34 +18,6 @@ pub Makes-tick : (events : List At) (f0 f1 f2 f3 f4 f5 f6 f7 : Foreground) → M
 unfolding tick
 Makes-tick events f0 f1 f2 f3 f4 f5 f6 f7 m1 m2 m3 m4 m5 m6 m7 written s is =
     m7 written _ (m6 written _ (m5 written _ (m4 written _ (m3 written _ (m2 written _ (m1 written s is))))))
-
-abbrev error_of : {A : Type 0} → TickFault → Result A TickFault → TickFault
-error_of d (Ok v) = d
-error_of d (Err f) = f
-
--- a fault that is handed on is the fault that came
-pub handed_on : {A : Type 0} (r : Result A TickFault) (fault given : TickFault) → IsErrAnd r (λ f. f ≡ fault) → r ≡ Err given → fault ≡ given
-handed_on (Ok v) fault given is e = absurd is
-handed_on (Err f) fault given is e = sym is ∙ ap (λ r. error_of given r) e
-
-pub Meets-tick : (events : List At) (f0 f1 f2 f3 f4 : Foreground) (answer : Bool) → Makes start_clock f0 f1
-    → Makes (run_script events) f1 f2 → Makes (count_timers 0) f2 f3 → Makes (show_pixels Pal) f3 f4 → Accesses answer f4
-    → Meets answer events f0
-unfolding meets_unbuilt
-Meets-tick events f0 f1 f2 f3 f4 answer m1 m2 m3 m4 accesses written s stands =
-    accesses written (before_access Pal events s) (m4 written _ (m3 written _ (m2 written _ (m1 written s stands))))
-
--- a clock that was done up to its access
-pub StopsAt-tick : (events : List At) (f0 f1 f2 f3 f4 f5 : Foreground) → Makes start_clock f0 f1 → Makes (run_script events) f1 f2
-    → Makes (count_timers 0) f2 f3 → Makes (show_pixels Pal) f3 f4 → Accesses true f4 → f5.out ≡ f4.out → KeepsPlace f0 f4
-    → StopsAt events f0 f5
-StopsAt-tick events f0 f1 f2 f3 f4 f5 m1 m2 m3 m4 accesses same kept = record {
-  meets = Meets-tick events f0 f1 f2 f3 f4 true m1 m2 m3 m4 accesses;
-  text = λ written s stands.
-      let here : Stands f4 written (before_access Pal events s) = m4 written _ (m3 written _ (m2 written _ (m1 written s stands))) in
-      subst (λ o. HasText o written (before_access Pal events s)) (sym same) here.text;
-  names = ap (λ (o : OutFilesValue). o.names) same ∙ kept.names;
-}
 
 pub HasNext-tick : (events left : List At) (f0 f6 f7 : Foreground) (lace : Bool) → IsOnScreen f0.beam → KeepsPlace f0 f6
     → f7.beam ≡ next_place lace f6.beam → f7.t ≡ f6.t + 1 → f7.out.names ≡ f6.out.names → f7.chip ≡ f6.chip → f0.chip.newest ≤ f0.t

@@ -1,40 +1,72 @@
 -- The clauses of the top call, from what stands after the command and what was said.
-use Rattle.std.proofs.Common.{◌≡◌, ℕ, ◌≤◌, Bool, true, false, if◌then◌else◌, List, take, Option, Some, None, Err, inl, inr, refl, sym, ap, subst, ◌∙◌, arith}
+use Rattle.std.proofs.Common.{◌≡◌, ℕ, zero, suc, ◌≤◌, ◌⊎◌, Bool, true, false, if◌then◌else◌, List, [], take, Option, Some, None, Ok, Err, inl, inr, refl, sym, ap, subst, ◌∙◌, append-nil, arith}
 use Rattle.ocs_base.specs.Image.{is_image}
 use Rattle.ocs_io.specs.Answers.{WhereTold}
 use Rattle.ocs_io.specs.Place.{Files, Outside, Rose, OnlySays, file, said_more}
 use Rattle.script_read.specs.Grammar.{script_of, Good as GoodScript, Bad as BadLine, Verdict as ScriptVerdict}
-use Rattle.ocs_run.specs.Command.{IsUnwritten, IsWanting, IsUnbuilt, KeepsSaid}
+use Rattle.ocs_run.specs.Command.{OrderAnswers, IsUnwritten, IsWanting, KeepsSaid}
 use Rattle.ocs_run.specs.Fault.{status_of}
 use Rattle.ocs_run.specs.Order.{OrderValue}
-use Rattle.ocs_run.specs.Texts.{text_of, Says}
-use Rattle.ocs_run.specs.Top.{CommandAnswers, IsEarly, HasBadScript, Completed, IsTold, SaysStatus}
-use Rattle.ocs_run.specs.Verdict.{Verdict, Usage as UsageVerdict, Absent, BadImage as BadImageVerdict, BadScript as BadScriptVerdict, Good, of_order, of_image, of_text, of_script}
+use Rattle.ocs_run.specs.SceneAnswers.{SceneAnswers, SaysSummaryPart}
+use Rattle.ocs_run.specs.Texts.{fault_text, text_of, Says}
+use Rattle.ocs_run.specs.Top.{UsageAnswers, CommandAnswers, SaysNothingElse, IsEarly, IsScene, IsRefused, HasBadScript, Completed, IsToldOfRun, IsTold, SaysFault, SaysOwn, SaysStatus}
+use Rattle.ocs_run.specs.Verdict.{Verdict, Usage as UsageVerdict, Absent, BadImage as BadImageVerdict, BadScript as BadScriptVerdict, Good, Scene, of_order, of_command, of_image, of_text, of_script}
+use Rattle.ocs_run.specs.Words.{CommandValue, Run, Gen, command_of}
 use Rattle.ocs_run.specs.declared.fault.Fault.{Fault}
-use Rattle.ocs_run.specs.declared.fault.Fault.TheVariants.{Usage, BadImage, BadScript, Unread, Unwritten, OutOfMemory, NotBuilt}
+use Rattle.ocs_run.specs.declared.fault.Fault.TheVariants.{Usage, BadImage, BadScript, Unread, Unwritten, Unsaid, OutOfMemory}
 use Rattle.ocs_run.specs.declared.fault.Input.TheVariants.{Image, Script}
 
 told_more : (files : Option Files) (P Q : Files → Type 0) → ((f : Files) → P f → Q f) → WhereTold files P → WhereTold files Q
 told_more None P Q f told = tt
 told_more (Some files) P Q f told = f files told
 
-pub script_clause : (order : Option OrderValue) (old mid : Outside) (fault : Fault) (s : ℕ) → CommandAnswers order old mid (Err fault) → s ≡ status_of fault
+-- what the faults of each command are
+usage_fault : (old mid : Outside) (fault : Fault) → UsageAnswers old mid (Err fault) → (fault ≡ Usage) × (mid.files ≡ old.files)
+usage_fault old mid Usage is = (refl, is)
+usage_fault old mid BadImage is = absurd is
+usage_fault old mid (BadScript line kind) is = absurd is
+usage_fault old mid (Unread input) is = absurd is
+usage_fault old mid (Unwritten file) is = absurd is
+usage_fault old mid Unsaid is = absurd is
+usage_fault old mid OutOfMemory is = absurd is
+
+scene_fault : (number : ℕ) (old mid : Outside) (fault : Fault) → SceneAnswers number old mid (Err fault)
+    → ((fault ≡ Unsaid) × SaysSummaryPart number old mid) ⊎ ((fault ≡ OutOfMemory) × KeepsSaid old mid)
+scene_fault number old mid Usage is = absurd is
+scene_fault number old mid BadImage is = absurd is
+scene_fault number old mid (BadScript line kind) is = absurd is
+scene_fault number old mid (Unread input) is = absurd is
+scene_fault number old mid (Unwritten file) is = absurd is
+scene_fault number old mid Unsaid is = inl (refl, is)
+scene_fault number old mid OutOfMemory is = inr (refl, is)
+
+usage_status : (old mid : Outside) (fault : Fault) (s : ℕ) → UsageAnswers old mid (Err fault) → s ≡ status_of fault → s ≡ 2
+usage_status old mid fault s is e = e ∙ ap status_of (usage_fault old mid fault is).0
+
+scene_status : (number : ℕ) (old mid : Outside) (fault : Fault) (s : ℕ) → SceneAnswers number old mid (Err fault) → s ≡ status_of fault → 6 ≤ s
+scene_status number old mid fault s is e = step (scene_fault number old mid fault is)
+  where
+    step : ((fault ≡ Unsaid) × SaysSummaryPart number old mid) ⊎ ((fault ≡ OutOfMemory) × KeepsSaid old mid) → 6 ≤ s
+    step (inl part) = let six : s ≡ 6 = e ∙ ap status_of part.0 in omega arith
+    step (inr none) = let seven : s ≡ 7 = e ∙ ap status_of none.0 in omega arith
+
+order_script : (order : OrderValue) (old mid : Outside) (fault : Fault) (s : ℕ) → OrderAnswers order old mid (Err fault) → s ≡ status_of fault
     → s ≡ 4 → WhereTold old.files (λ files. HasBadScript (of_order order files))
-script_clause None old mid Usage s is e four = absurd (omega arith)
-script_clause None old mid BadImage s is e four = absurd is
-script_clause None old mid (BadScript line kind) s is e four = absurd is
-script_clause None old mid (Unread input) s is e four = absurd is
-script_clause None old mid (Unwritten file) s is e four = absurd is
-script_clause None old mid OutOfMemory s is e four = absurd is
-script_clause None old mid NotBuilt s is e four = absurd is
-script_clause (Some order) old mid Usage s is e four = absurd is
-script_clause (Some order) old mid BadImage s is e four = absurd (omega arith)
-script_clause (Some order) old mid (BadScript line kind) s is e four =
-    told_more old.files (λ f. of_order (Some order) f ≡ BadScriptVerdict line kind) (λ f. HasBadScript (of_order (Some order) f)) (λ f v. (line, kind, v)) is.0
-script_clause (Some order) old mid (Unread input) s is e four = absurd (omega arith)
-script_clause (Some order) old mid (Unwritten file) s is e four = absurd (omega arith)
-script_clause (Some order) old mid OutOfMemory s is e four = absurd (omega arith)
-script_clause (Some order) old mid NotBuilt s is e four = absurd (omega arith)
+order_script order old mid Usage s is e four = absurd is
+order_script order old mid BadImage s is e four = absurd (omega arith)
+order_script order old mid (BadScript line kind) s is e four =
+    told_more old.files (λ f. of_order order f ≡ BadScriptVerdict line kind) (λ f. HasBadScript (of_order order f)) (λ f v. (line, kind, v)) is.0
+order_script order old mid (Unread input) s is e four = absurd (omega arith)
+order_script order old mid (Unwritten file) s is e four = absurd (omega arith)
+order_script order old mid Unsaid s is e four = absurd is
+order_script order old mid OutOfMemory s is e four = absurd (omega arith)
+
+pub script_clause : (command : Option CommandValue) (old mid : Outside) (fault : Fault) (s : ℕ) → CommandAnswers command old mid (Err fault)
+    → s ≡ status_of fault → s ≡ 4 → WhereTold old.files (λ files. HasBadScript (of_command command files))
+script_clause None old mid fault s is e four = absurd (let two : s ≡ 2 = usage_status old mid fault s is e in omega arith)
+script_clause (Some (Run order)) old mid fault s is e four = order_script order old mid fault s is e four
+script_clause (Some (Gen scene)) old mid fault s is e four =
+    absurd (let more : 6 ≤ s = scene_status scene.number old mid fault s is.0 e in omega arith)
 
 not_early : (s n : ℕ) → s ≡ n → 6 ≤ n → IsEarly s → ⊥
 not_early s n e big (inl two) = omega arith
@@ -42,73 +74,81 @@ not_early s n e big (inr (inl three)) = omega arith
 not_early s n e big (inr (inr (inl four))) = omega arith
 not_early s n e big (inr (inr (inr five))) = omega arith
 
-pub kept_clause : (order : Option OrderValue) (old mid new : Outside) (fault : Fault) (s : ℕ) → CommandAnswers order old mid (Err fault) → s ≡ status_of fault
+order_kept : (order : OrderValue) (old mid new : Outside) (fault : Fault) (s : ℕ) → OrderAnswers order old mid (Err fault) → s ≡ status_of fault
     → OnlySays mid new → IsEarly s → new.files ≡ old.files
-kept_clause None old mid new Usage s is e says early = says.files ∙ is
-kept_clause None old mid new BadImage s is e says early = absurd is
-kept_clause None old mid new (BadScript line kind) s is e says early = absurd is
-kept_clause None old mid new (Unread input) s is e says early = absurd is
-kept_clause None old mid new (Unwritten file) s is e says early = absurd is
-kept_clause None old mid new OutOfMemory s is e says early = absurd is
-kept_clause None old mid new NotBuilt s is e says early = absurd is
-kept_clause (Some order) old mid new Usage s is e says early = absurd is
-kept_clause (Some order) old mid new BadImage s is e says early = says.files ∙ is.1
-kept_clause (Some order) old mid new (BadScript line kind) s is e says early = says.files ∙ is.1
-kept_clause (Some order) old mid new (Unread Image) s is e says early = says.files ∙ is.1
-kept_clause (Some order) old mid new (Unread Script) s is e says early = says.files ∙ is.1
-kept_clause (Some order) old mid new (Unwritten file) s is e says early = absurd (not_early s 6 e (omega arith) early)
-kept_clause (Some order) old mid new OutOfMemory s is e says early = absurd (not_early s 7 e (omega arith) early)
-kept_clause (Some order) old mid new NotBuilt s is e says early = absurd (not_early s 8 e (omega arith) early)
+order_kept order old mid new Usage s is e says early = absurd is
+order_kept order old mid new BadImage s is e says early = says.files ∙ is.1
+order_kept order old mid new (BadScript line kind) s is e says early = says.files ∙ is.1
+order_kept order old mid new (Unread Image) s is e says early = says.files ∙ is.1
+order_kept order old mid new (Unread Script) s is e says early = says.files ∙ is.1
+order_kept order old mid new (Unwritten file) s is e says early = absurd (not_early s 6 e (omega arith) early)
+order_kept order old mid new Unsaid s is e says early = absurd is
+order_kept order old mid new OutOfMemory s is e says early = absurd (not_early s 7 e (omega arith) early)
 
--- the words of an order are no usage
-script_no_usage : (o : OrderValue) (image : List ℕ) (v : ScriptVerdict) → of_script o image v ≡ UsageVerdict → ⊥
-script_no_usage o image (GoodScript script) e = cc
-script_no_usage o image (BadLine line kind) e = cc
+pub kept_clause : (command : Option CommandValue) (old mid new : Outside) (fault : Fault) (s : ℕ) → CommandAnswers command old mid (Err fault)
+    → s ≡ status_of fault → OnlySays mid new → IsEarly s → new.files ≡ old.files
+kept_clause None old mid new fault s is e says early = says.files ∙ (usage_fault old mid fault is).1
+kept_clause (Some (Run order)) old mid new fault s is e says early = order_kept order old mid new fault s is e says early
+kept_clause (Some (Gen scene)) old mid new fault s is e says early = says.files ∙ is.1
 
-text_no_usage : (o : OrderValue) (image : List ℕ) (text : Option (List ℕ)) → of_text o image text ≡ UsageVerdict → ⊥
-text_no_usage o image None e = cc
-text_no_usage o image (Some text) e = script_no_usage o image (script_of text) e
+pub apart_clause : (command : Option CommandValue) (old mid new : Outside) (fault : Fault) → CommandAnswers command old mid (Err fault)
+    → OnlySays mid new → IsScene command → new.files ≡ old.files
+apart_clause None old mid new fault is says scene = absurd scene
+apart_clause (Some (Run order)) old mid new fault is says scene = absurd scene
+apart_clause (Some (Gen order)) old mid new fault is says scene = says.files ∙ is.1
 
-image_no_usage : (o : OrderValue) (files : Files) (image : Option (List ℕ)) → of_image o files image ≡ UsageVerdict → ⊥
-image_no_usage o files None e = cc
-image_no_usage o files (Some image) e = step (is_image image) e
+-- the words of a run are no usage and no scene
+abbrev pub IsOfRun : Verdict → Type 0
+IsOfRun UsageVerdict = ⊥
+IsOfRun (Absent name) = Unit {0}
+IsOfRun BadImageVerdict = Unit {0}
+IsOfRun (BadScriptVerdict line kind) = Unit {0}
+IsOfRun (Good image script order) = Unit {0}
+IsOfRun (Scene number band workers) = ⊥
+
+script_of_run : (o : OrderValue) (image : List ℕ) (v : ScriptVerdict) → IsOfRun (of_script o image v)
+script_of_run o image (GoodScript script) = tt
+script_of_run o image (BadLine line kind) = tt
+
+text_of_run : (o : OrderValue) (image : List ℕ) (text : Option (List ℕ)) → IsOfRun (of_text o image text)
+text_of_run o image None = tt
+text_of_run o image (Some text) = script_of_run o image (script_of text)
+
+image_of_run : (o : OrderValue) (files : Files) (image : Option (List ℕ)) → IsOfRun (of_image o files image)
+image_of_run o files None = tt
+image_of_run o files (Some image) = step (is_image image)
   where
-    step : (b : Bool) → (if b then of_text o image (file files o.script) else BadImageVerdict) ≡ UsageVerdict → ⊥
-    step true e = text_no_usage o image (file files o.script) e
-    step false e = cc
+    step : (b : Bool) → IsOfRun (if b then of_text o image (file files o.script) else BadImageVerdict)
+    step true = text_of_run o image (file files o.script)
+    step false = tt
 
-no_usage : (o : OrderValue) (files : Files) → of_order (Some o) files ≡ UsageVerdict → ⊥
-no_usage o files e = image_no_usage o files (file files o.image) e
+of_run : (o : OrderValue) (files : Files) → IsOfRun (of_order o files)
+of_run o files = image_of_run o files (file files o.image)
 
-unread : (v : Verdict) (old new : Outside) (s : ℕ) → (v ≡ UsageVerdict → ⊥) → s ≡ 5 → Rose old.read_faults new.read_faults → Completed v old new s
-unread UsageVerdict old new s never e rose = absurd (never refl)
-unread (Absent name) old new s never e rose = inl e
-unread BadImageVerdict old new s never e rose = inl rose
-unread (BadScriptVerdict line kind) old new s never e rose = inl rose
-unread (Good image script order) old new s never e rose = inl (inl rose)
+unread : (v : Verdict) (old new : Outside) (s : ℕ) → IsOfRun v → s ≡ 5 → Rose old.read_faults new.read_faults → Completed v old new s
+unread UsageVerdict old new s run e rose = absurd run
+unread (Absent name) old new s run e rose = inl e
+unread BadImageVerdict old new s run e rose = inl rose
+unread (BadScriptVerdict line kind) old new s run e rose = inl rose
+unread (Good image script order) old new s run e rose = inl (inl rose)
+unread (Scene number band workers) old new s run e rose = absurd run
 
-unwritten : (v : Verdict) (files : Files) (after : Option Files) (old new : Outside) (s : ℕ) → IsUnwritten v files after
-    → Rose old.write_faults new.write_faults
-    → Completed v old new s
-unwritten UsageVerdict files after old new s is rose = absurd is
-unwritten (Absent name) files after old new s is rose = absurd is
-unwritten BadImageVerdict files after old new s is rose = absurd is
-unwritten (BadScriptVerdict line kind) files after old new s is rose = absurd is
-unwritten (Good image script order) files after old new s is rose = inl (inr rose)
+unwritten : (v : Verdict) (files : Files) (after : Option Files) (old new : Outside) (s : ℕ) → IsOfRun v → IsUnwritten v files after
+    → Rose old.write_faults new.write_faults → Completed v old new s
+unwritten UsageVerdict files after old new s run is rose = absurd run
+unwritten (Absent name) files after old new s run is rose = absurd is
+unwritten BadImageVerdict files after old new s run is rose = absurd is
+unwritten (BadScriptVerdict line kind) files after old new s run is rose = absurd is
+unwritten (Good image script order) files after old new s run is rose = inl (inr rose)
+unwritten (Scene number band workers) files after old new s run is rose = absurd run
 
 wanting : (v : Verdict) (files : Files) (after : Option Files) (old new : Outside) (s : ℕ) → IsWanting v files after → s ≡ 7 → Completed v old new s
 wanting UsageVerdict files after old new s is e = absurd is
 wanting (Absent name) files after old new s is e = inr e
 wanting BadImageVerdict files after old new s is e = inr (inr e)
 wanting (BadScriptVerdict line kind) files after old new s is e = inr (inr e)
-wanting (Good image script order) files after old new s is e = inr (inr (inl e))
-
-unbuilt : (v : Verdict) (files : Files) (after : Option Files) (old new : Outside) (s : ℕ) → IsUnbuilt v files after → s ≡ 8 → Completed v old new s
-unbuilt UsageVerdict files after old new s is e = absurd is
-unbuilt (Absent name) files after old new s is e = absurd is
-unbuilt BadImageVerdict files after old new s is e = absurd is
-unbuilt (BadScriptVerdict line kind) files after old new s is e = absurd is
-unbuilt (Good image script order) files after old new s is e = inr (inr (inr e))
+wanting (Good image script order) files after old new s is e = inr (inr e)
+wanting (Scene number band workers) files after old new s is e = inr (inr e)
 
 rose_read : (old mid new : Outside) → OnlySays mid new → Rose old.read_faults mid.read_faults → Rose old.read_faults new.read_faults
 rose_read old mid new says rose = subst (λ n. Rose old.read_faults n) (sym says.read_faults) rose
@@ -120,52 +160,127 @@ always : (files : Option Files) (Q : Files → Type 0) → ((f : Files) → Q f)
 always None Q f = tt
 always (Some files) Q f = f files
 
-pub complete_clause : (order : Option OrderValue) (old mid new : Outside) (fault : Fault) (s : ℕ) → CommandAnswers order old mid (Err fault)
-    → s ≡ status_of fault
+order_complete : (order : OrderValue) (old mid new : Outside) (fault : Fault) (s : ℕ) → OrderAnswers order old mid (Err fault) → s ≡ status_of fault
     → OnlySays mid new → WhereTold old.files (λ files. Completed (of_order order files) old new s)
-complete_clause None old mid new Usage s is e says = always old.files (λ f. Completed (of_order None f) old new s) (λ f. e)
-complete_clause None old mid new BadImage s is e says = absurd is
-complete_clause None old mid new (BadScript line kind) s is e says = absurd is
-complete_clause None old mid new (Unread input) s is e says = absurd is
-complete_clause None old mid new (Unwritten file) s is e says = absurd is
-complete_clause None old mid new OutOfMemory s is e says = absurd is
-complete_clause None old mid new NotBuilt s is e says = absurd is
-complete_clause (Some order) old mid new Usage s is e says = absurd is
-complete_clause (Some order) old mid new BadImage s is e says =
-    told_more old.files _ (λ f. Completed (of_order (Some order) f) old new s) (λ f v. subst (λ w. Completed w old new s) (sym v) (inr (inl e))) is.0
-complete_clause (Some order) old mid new (BadScript line kind) s is e says =
-    told_more old.files _ (λ f. Completed (of_order (Some order) f) old new s) (λ f v. subst (λ w. Completed w old new s) (sym v) (inr (inl e))) is.0
-complete_clause (Some order) old mid new (Unread Image) s is e says =
-    always old.files (λ f. Completed (of_order (Some order) f) old new s) (λ f. unread _ old new s (no_usage order f) e (rose_read old mid new says is.0))
-complete_clause (Some order) old mid new (Unread Script) s is e says =
-    always old.files (λ f. Completed (of_order (Some order) f) old new s) (λ f. unread _ old new s (no_usage order f) e (rose_read old mid new says is.0))
-complete_clause (Some order) old mid new (Unwritten file) s is e says =
-    told_more old.files (λ f. IsUnwritten (of_order (Some order) f) f mid.files) (λ f. Completed (of_order (Some order) f) old new s)
-    (λ f w. unwritten _ f mid.files old new s w (rose_write old mid new says is.0)) is.1
-complete_clause (Some order) old mid new OutOfMemory s is e says =
-    told_more old.files (λ f. IsWanting (of_order (Some order) f) f mid.files) (λ f. Completed (of_order (Some order) f) old new s)
+order_complete order old mid new Usage s is e says = absurd is
+order_complete order old mid new BadImage s is e says =
+    told_more old.files _ (λ f. Completed (of_order order f) old new s) (λ f v. subst (λ w. Completed w old new s) (sym v) (inr (inl e))) is.0
+order_complete order old mid new (BadScript line kind) s is e says =
+    told_more old.files _ (λ f. Completed (of_order order f) old new s) (λ f v. subst (λ w. Completed w old new s) (sym v) (inr (inl e))) is.0
+order_complete order old mid new (Unread Image) s is e says =
+    always old.files (λ f. Completed (of_order order f) old new s) (λ f. unread _ old new s (of_run order f) e (rose_read old mid new says is.0))
+order_complete order old mid new (Unread Script) s is e says =
+    always old.files (λ f. Completed (of_order order f) old new s) (λ f. unread _ old new s (of_run order f) e (rose_read old mid new says is.0))
+order_complete order old mid new (Unwritten file) s is e says =
+    told_more old.files (λ f. IsUnwritten (of_order order f) f mid.files) (λ f. Completed (of_order order f) old new s)
+    (λ f w. unwritten _ f mid.files old new s (of_run order f) w (rose_write old mid new says is.0)) is.1
+order_complete order old mid new Unsaid s is e says = absurd is
+order_complete order old mid new OutOfMemory s is e says =
+    told_more old.files (λ f. IsWanting (of_order order f) f mid.files) (λ f. Completed (of_order order f) old new s)
     (λ f w. wanting _ f mid.files old new s w e) is
-complete_clause (Some order) old mid new NotBuilt s is e says =
-    told_more old.files (λ f. IsUnbuilt (of_order (Some order) f) f mid.files) (λ f. Completed (of_order (Some order) f) old new s)
-    (λ f w. unbuilt _ f mid.files old new s w e) is
 
-told : (order : Option OrderValue) (old mid : Outside) (fault : Fault) → CommandAnswers order old mid (Err fault) → IsTold order old fault
-told None old mid Usage is = tt
-told None old mid BadImage is = tt
-told None old mid (BadScript line kind) is = absurd is
-told None old mid (Unread Image) is = tt
-told None old mid (Unread Script) is = absurd is
-told None old mid (Unwritten file) is = tt
-told None old mid OutOfMemory is = tt
-told None old mid NotBuilt is = tt
-told (Some order) old mid Usage is = tt
-told (Some order) old mid BadImage is = tt
-told (Some order) old mid (BadScript line kind) is = is.0
-told (Some order) old mid (Unread Image) is = tt
-told (Some order) old mid (Unread Script) is = is.2
-told (Some order) old mid (Unwritten file) is = tt
-told (Some order) old mid OutOfMemory is = tt
-told (Some order) old mid NotBuilt is = tt
+-- a count that rose has risen later too
+rose_later : (a b c : ℕ) → Rose a b → b ≤ c → Rose a c
+rose_later a b c rose le = omega (arith, rose, le)
+
+rose_say : (old mid new : Outside) → OnlySays mid new → Rose old.say_faults mid.say_faults → Rose old.say_faults new.say_faults
+rose_say old mid new says rose = rose_later old.say_faults mid.say_faults new.say_faults rose says.say_faults
+
+scene_complete : (number band workers : ℕ) (old mid new : Outside) (fault : Fault) (s : ℕ) → SceneAnswers number old mid (Err fault)
+    → s ≡ status_of fault → OnlySays mid new → Completed (Scene number band workers) old new s
+scene_complete number band workers old mid new fault s is e says = step (scene_fault number old mid fault is)
+  where
+    step : ((fault ≡ Unsaid) × SaysSummaryPart number old mid) ⊎ ((fault ≡ OutOfMemory) × KeepsSaid old mid)
+        → Completed (Scene number band workers) old new s
+    step (inl part) = inl (rose_say old mid new says part.1.refused)
+    step (inr none) = inr (inr (e ∙ ap status_of none.0))
+
+pub complete_clause : (command : Option CommandValue) (old mid new : Outside) (fault : Fault) (s : ℕ) → CommandAnswers command old mid (Err fault)
+    → s ≡ status_of fault → OnlySays mid new → WhereTold old.files (λ files. Completed (of_command command files) old new s)
+complete_clause None old mid new fault s is e says =
+    always old.files (λ f. Completed (of_command None f) old new s) (λ f. usage_status old mid fault s is e)
+complete_clause (Some (Run order)) old mid new fault s is e says = order_complete order old mid new fault s is e says
+complete_clause (Some (Gen scene)) old mid new fault s is e says =
+    always old.files (λ f. Completed (of_command (Some (Gen scene)) f) old new s)
+    (λ f. scene_complete scene.number scene.band scene.workers old mid new fault s is.0 e says)
+
+-- the faults of refusals to write
+order_refused : (order : OrderValue) (old mid new : Outside) (fault : Fault) (s : ℕ) → OrderAnswers order old mid (Err fault) → s ≡ status_of fault
+    → OnlySays mid new → s ≡ 6 → Rose old.write_faults new.write_faults
+order_refused order old mid new Usage s is e says six = absurd is
+order_refused order old mid new BadImage s is e says six = absurd (omega arith)
+order_refused order old mid new (BadScript line kind) s is e says six = absurd (omega arith)
+order_refused order old mid new (Unread input) s is e says six = absurd (omega arith)
+order_refused order old mid new (Unwritten file) s is e says six = rose_write old mid new says is.0
+order_refused order old mid new Unsaid s is e says six = absurd is
+order_refused order old mid new OutOfMemory s is e says six = absurd (omega arith)
+
+scene_refused : (number : ℕ) (old mid new : Outside) (fault : Fault) (s : ℕ) → SceneAnswers number old mid (Err fault) → s ≡ status_of fault
+    → OnlySays mid new → s ≡ 6 → Rose old.say_faults new.say_faults
+scene_refused number old mid new fault s is e says six = step (scene_fault number old mid fault is)
+  where
+    step : ((fault ≡ Unsaid) × SaysSummaryPart number old mid) ⊎ ((fault ≡ OutOfMemory) × KeepsSaid old mid) → Rose old.say_faults new.say_faults
+    step (inl part) = rose_say old mid new says part.1.refused
+    step (inr none) = absurd (let seven : s ≡ 7 = e ∙ ap status_of none.0 in omega arith)
+
+pub refused_clause : (command : Option CommandValue) (old mid new : Outside) (fault : Fault) (s : ℕ) → CommandAnswers command old mid (Err fault)
+    → s ≡ status_of fault → OnlySays mid new → s ≡ 6 → IsRefused command old new
+refused_clause None old mid new fault s is e says six = absurd (let two : s ≡ 2 = usage_status old mid fault s is e in omega arith)
+refused_clause (Some (Run order)) old mid new fault s is e says six = order_refused order old mid new fault s is e says six
+refused_clause (Some (Gen scene)) old mid new fault s is e says six = scene_refused scene.number old mid new fault s is.0 e says six
+
+order_unread : (order : OrderValue) (old mid new : Outside) (fault : Fault) (s : ℕ) → OrderAnswers order old mid (Err fault) → s ≡ status_of fault
+    → OnlySays mid new → s ≡ 5 → Rose old.read_faults new.read_faults
+order_unread order old mid new Usage s is e says five = absurd is
+order_unread order old mid new BadImage s is e says five = absurd (omega arith)
+order_unread order old mid new (BadScript line kind) s is e says five = absurd (omega arith)
+order_unread order old mid new (Unread Image) s is e says five = rose_read old mid new says is.0
+order_unread order old mid new (Unread Script) s is e says five = rose_read old mid new says is.0
+order_unread order old mid new (Unwritten file) s is e says five = absurd (omega arith)
+order_unread order old mid new Unsaid s is e says five = absurd is
+order_unread order old mid new OutOfMemory s is e says five = absurd (omega arith)
+
+pub unread_clause : (command : Option CommandValue) (old mid new : Outside) (fault : Fault) (s : ℕ) → CommandAnswers command old mid (Err fault)
+    → s ≡ status_of fault → OnlySays mid new → s ≡ 5 → Rose old.read_faults new.read_faults
+unread_clause None old mid new fault s is e says five = absurd (let two : s ≡ 2 = usage_status old mid fault s is e in omega arith)
+unread_clause (Some (Run order)) old mid new fault s is e says five = order_unread order old mid new fault s is e says five
+unread_clause (Some (Gen scene)) old mid new fault s is e says five =
+    absurd (let more : 6 ≤ s = scene_status scene.number old mid fault s is.0 e in omega arith)
+
+-- what a refusal to write leaves
+order_unwritten : (order : OrderValue) (old mid new : Outside) (fault : Fault) (s : ℕ) → OrderAnswers order old mid (Err fault) → s ≡ status_of fault
+    → OnlySays mid new → s ≡ 6 → WhereTold old.files (λ files. IsUnwritten (of_order order files) files new.files)
+order_unwritten order old mid new Usage s is e says six = absurd is
+order_unwritten order old mid new BadImage s is e says six = absurd (omega arith)
+order_unwritten order old mid new (BadScript line kind) s is e says six = absurd (omega arith)
+order_unwritten order old mid new (Unread input) s is e says six = absurd (omega arith)
+order_unwritten order old mid new (Unwritten file) s is e says six =
+    subst (λ after. WhereTold old.files (λ files. IsUnwritten (of_order order files) files after)) (sym says.files) is.1
+order_unwritten order old mid new Unsaid s is e says six = absurd is
+order_unwritten order old mid new OutOfMemory s is e says six = absurd (omega arith)
+
+kept_where_told : (before after : Option Files) → after ≡ before → WhereTold before (λ files. after ≡ Some files)
+kept_where_told None after same = tt
+kept_where_told (Some files) after same = same
+
+pub unwritten_clause : (command : Option CommandValue) (old mid new : Outside) (fault : Fault) (s : ℕ) → CommandAnswers command old mid (Err fault)
+    → s ≡ status_of fault → OnlySays mid new → s ≡ 6
+    → WhereTold old.files (λ files. IsUnwritten (of_command command files) files new.files)
+unwritten_clause None old mid new fault s is e says six = absurd (let two : s ≡ 2 = usage_status old mid fault s is e in omega arith)
+unwritten_clause (Some (Run order)) old mid new fault s is e says six = order_unwritten order old mid new fault s is e says six
+unwritten_clause (Some (Gen scene)) old mid new fault s is e says six = kept_where_told old.files new.files (says.files ∙ is.1)
+
+-- ---- what is said
+
+told : (order : OrderValue) (old mid : Outside) (fault : Fault) → OrderAnswers order old mid (Err fault) → IsToldOfRun order old fault
+told order old mid Usage is = absurd is
+told order old mid BadImage is = tt
+told order old mid (BadScript line kind) is = is.0
+told order old mid (Unread Image) is = tt
+told order old mid (Unread Script) is = is.2
+told order old mid (Unwritten file) is = tt
+told order old mid Unsaid is = absurd is
+told order old mid OutOfMemory is = tt
 
 says_from : (text : List ℕ) (old mid new : Outside) → KeepsSaid old mid → Says text mid new → Says text old new
 says_from text old mid new kept (inl all) = inl (all ∙ ap (λ t. said_more t text) kept.said)
@@ -173,11 +288,80 @@ says_from text old mid new kept (inr (inl part)) =
     inr (inl (part.0, part.1 ∙ ap (λ t. said_more t (take part.0 text)) kept.said, subst (λ n. Rose n new.say_faults) kept.faults part.2))
 says_from text old mid new kept (inr (inr none)) = inr (inr (none ∙ kept.said))
 
-pub said_clause : (order : Option OrderValue) (old mid new : Outside) (fault : Fault) (s : ℕ) → CommandAnswers order old mid (Err fault) → s ≡ status_of fault
-    → KeepsSaid old mid → Says (text_of order fault) mid new → SaysStatus order old new s
-said_clause order old mid new fault s is e kept says = inr (record {
+-- an empty text adds nothing
+said_nothing : (said : Option (List ℕ)) → said_more said [] ≡ said
+said_nothing None = refl
+said_nothing (Some text) = ap Some (append-nil text)
+
+taken_nothing : (n : ℕ) → take {A = ℕ} n [] ≡ []
+taken_nothing zero = refl
+taken_nothing (suc n) = refl
+
+says_no_text : (mid new : Outside) → Says [] mid new → new.said ≡ mid.said
+says_no_text mid new (inl all) = all ∙ said_nothing mid.said
+says_no_text mid new (inr (inl part)) = part.1 ∙ ap (said_more mid.said) (taken_nothing part.0) ∙ said_nothing mid.said
+says_no_text mid new (inr (inr none)) = none
+
+no_text : (words : List (List ℕ)) → text_of words Unsaid ≡ []
+unfolding fault_text
+no_text words = refl
+
+scene_part : (words : List (List ℕ)) (number : ℕ) (old mid new : Outside) (fault : Fault) → fault ≡ Unsaid → SaysSummaryPart number old mid
+    → OnlySays mid new → Says (text_of words fault) mid new → SaysSummaryPart number old new
+scene_part words number old mid new fault is part only says = record {
+  text = part.text;
+  summary = part.summary;
+  count = part.count;
+  said = says_no_text mid new (subst (λ text. Says text mid new) (ap (text_of words) is ∙ no_text words) says) ∙ part.said;
+  refused = rose_say old mid new only part.refused;
+}
+
+said_by : (words : List (List ℕ)) (command : Option CommandValue) (old mid new : Outside) (fault : Fault) (s : ℕ) → command_of words ≡ command
+    → CommandAnswers command old mid (Err fault) → s ≡ status_of fault → SaysNothingElse command old mid → OnlySays mid new
+    → Says (text_of words fault) mid new → SaysOwn command old new s ⊎ SaysFault words old new s
+said_by words None old mid new fault s is answers e kept only says = inr (record {
   fault = fault;
   answered = e;
-  said = says_from (text_of order fault) old mid new kept says;
-  told = told order old mid fault is;
+  said = says_from (text_of words fault) old mid new kept says;
+  told = subst (λ c. IsTold c old fault) (sym is) (usage_fault old mid fault answers).0;
 })
+said_by words (Some (Run order)) old mid new fault s is answers e kept only says = inr (record {
+  fault = fault;
+  answered = e;
+  said = says_from (text_of words fault) old mid new kept says;
+  told = subst (λ c. IsTold c old fault) (sym is) (told order old mid fault answers);
+})
+said_by words (Some (Gen scene)) old mid new fault s is answers e kept only says = step (scene_fault scene.number old mid fault answers.0)
+  where
+    step : ((fault ≡ Unsaid) × SaysSummaryPart scene.number old mid) ⊎ ((fault ≡ OutOfMemory) × KeepsSaid old mid)
+        → SaysOwn (Some (Gen scene)) old new s ⊎ SaysFault words old new s
+    step (inl part) =
+        inl (inr (e ∙ ap status_of part.0, scene_part words scene.number old mid new fault part.0 part.1 only says))
+    step (inr none) = inr (record {
+      fault = fault;
+      answered = e;
+      said = says_from (text_of words fault) old mid new none.1 says;
+      told = subst (λ c. IsTold c old fault) (sym is) none.0;
+    })
+
+pub said_clause : (words : List (List ℕ)) (old mid new : Outside) (fault : Fault) (s : ℕ) → CommandAnswers (command_of words) old mid (Err fault)
+    → s ≡ status_of fault → SaysNothingElse (command_of words) old mid → OnlySays mid new → Says (text_of words fault) mid new
+    → SaysStatus words old new s
+said_clause words old mid new fault s answers e kept only says = said_by words (command_of words) old mid new fault s refl answers e kept only says
+
+pub apart_done_clause : (command : Option CommandValue) (old new : Outside) (done : Unit {0}) → CommandAnswers command old new (Ok done)
+    → IsScene command → new.files ≡ old.files
+apart_done_clause None old new done answers scene = absurd scene
+apart_done_clause (Some (Run order)) old new done answers scene = absurd scene
+apart_done_clause (Some (Gen order)) old new done answers scene = answers.1
+
+-- done: a run said nothing, and of a scene the summary was said
+said_done : (command : Option CommandValue) (old new : Outside) (done : Unit {0}) → CommandAnswers command old new (Ok done)
+    → SaysNothingElse command old new → SaysOwn command old new 0
+said_done None old new done answers kept = absurd answers
+said_done (Some (Run order)) old new done answers kept = (refl, kept.said)
+said_done (Some (Gen scene)) old new done answers kept = inl (refl, answers.0)
+
+pub said_done_clause : (words : List (List ℕ)) (old new : Outside) (done : Unit {0}) → CommandAnswers (command_of words) old new (Ok done)
+    → SaysNothingElse (command_of words) old new → SaysStatus words old new 0
+said_done_clause words old new done answers kept = inl (said_done (command_of words) old new done answers kept)

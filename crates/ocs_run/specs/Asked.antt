@@ -1,8 +1,12 @@
 -- What a reader of the command line answers.
 use Rattle.std.specs.Prelude.{◌≡◌, ◌≢◌, Option, Some, None}
 use Rattle.ocs_run.specs.Order.{OrderValue, RunWordsValue}
+use Rattle.ocs_run.specs.Words.{SceneOrderValue, CommandValue, Run as RunValue, Gen as GenValue}
 use Rattle.ocs_run.specs.declared.order.Order.{Order}
 use Rattle.ocs_run.specs.declared.order.RunWords.{RunWords}
+use Rattle.ocs_run.specs.declared.words.Command.{Command}
+use Rattle.ocs_run.specs.declared.words.Command.TheVariants.{Run, Gen}
+use Rattle.ocs_run.specs.declared.words.SceneOrder.{SceneOrder}
 
 -- the order as a value
 abbrev pub value_of : Order → OrderValue
@@ -40,3 +44,25 @@ pub record AreApart (o : Order) : Type 0 where
   pub frames_trace : o.frames.now ≢ o.trace.now
   pub frames_memory : o.frames.now ≢ o.memory.now
   pub trace_memory : o.trace.now ≢ o.memory.now
+
+-- what the words of `gen` ask for, as a value
+abbrev pub scene_value : SceneOrder → SceneOrderValue
+scene_value o = record { number = o.number; band = o.band; workers = o.workers }
+
+abbrev pub IsSceneOrder : Option SceneOrderValue → Option SceneOrder → Type 0
+IsSceneOrder order None = order ≡ None
+IsSceneOrder order (Some o) = order ≡ Some (scene_value o)
+
+-- the command as a value
+abbrev pub command_value : Command → CommandValue
+command_value (Run order) = RunValue (value_of order)
+command_value (Gen scene) = GenValue (scene_value scene)
+
+abbrev pub IsCommand : Option CommandValue → Option Command → Type 0
+IsCommand command None = command ≡ None
+IsCommand command (Some c) = command ≡ Some (command_value c)
+
+-- the names of the files that a command writes are three
+abbrev pub WritesApart : Command → Type 0
+WritesApart (Run order) = AreApart order
+WritesApart (Gen scene) = Unit {0}

@@ -5,12 +5,17 @@ use Rattle.blit_words.specs.declared.blit.SlotAsk.{SlotAsk}
 use Rattle.blit_words.specs.declared.blit.SlotAsk.TheVariants.{Read, Write, Rest, Done}
 use Rattle.blitter.specs.StandsFor.{StandsFor, slot_shown}
 use Rattle.blitter.specs.declared.Blit.{Blit}
+use Rattle.cpu_bus.specs.Bus.{IsProcessorOf}
+use Rattle.cpu_bus.specs.declared.BusCpu.{BusCpu}
+use Rattle.irq_cia.specs.declared.cia.CiaState.{CiaState}
 use Rattle.ocs_base.specs.declared.beam.Beam.{Beam}
 use Rattle.serial_model.specs.declared.bus.Ask.{Ask}
 use Rattle.serial_model.specs.declared.bus.Ask.TheVariants as A
-use Rattle.serial_model.specs.declared.bus.Half.TheVariants.{Both, High, Low}
+use Rattle.serial_model.specs.declared.bus.Half.TheVariants.{Both}
 use Rattle.serial_model.specs.declared.bus.Made.{Made}
 use Rattle.serial_model.specs.declared.bus.Made.TheVariants as M
+use Rattle.serial_model.specs.declared.bus.ProcessorAsk.{ProcessorAsk}
+use Rattle.serial_model.specs.declared.bus.ProcessorAsk.TheVariants as P
 use Rattle.serial_model.specs.declared.bus.SideAsk.TheVariants as S
 use Rattle.serial_model.specs.declared.copper.CopperAct.{CopperAct}
 use Rattle.serial_model.specs.declared.copper.CopperAct.TheVariants.{None as NoAct}
@@ -18,14 +23,16 @@ use Rattle.serial_model.specs.declared.copper.CopperState.{CopperState}
 use Rattle.serial_model.specs.declared.fetch.PlaneAsk.{PlaneAsk}
 use Rattle.serial_model.specs.declared.fetch.SpriteAsk.{SpriteAsk}
 use Rattle.serial_model.specs.declared.fetch.SpriteKind.{SpriteKind}
+use Rattle.serial_model.specs.declared.registers.Inputs.{Inputs}
 use Rattle.mem_versions.specs.Chip.{ChipValue, after_reads}
-use Rattle.serial_model.specs.Bus.{Wishes, copper_wish, slot_state, owner_ask, copper_runs, copper_word, ask_at, answer_to, answer_chips, give_blit, end_blit, made_by_copper, made_by_ask, control_register}
+use Rattle.serial_model.specs.Bus.{Wishes, copper_wish, slot_state, owner_ask, copper_runs, copper_word, ask_at, answer_processor, answer_to, answer_chips, give_blit, give_chips, end_blit, made_by_copper, made_by_processor, made_by_ask, control_register}
 use Rattle.serial_model.specs.BlitRegisters.{blit_start}
-use Rattle.serial_model.specs.Interrupts.{Interrupts}
+use Rattle.irq_cia.specs.Interrupts.{Interrupts}
 use Rattle.serial_model.specs.Copper.{copper_act}
 use Rattle.serial_model.specs.Made.{word_of}
 use Rattle.serial_model.specs.Owner.{owner_of}
 use Rattle.serial_model.specs.PlaneFetch.{last_unit}
+use Rattle.serial_model.specs.Processor.{reset_processor}
 use Rattle.serial_model.specs.Registers.{no_registers, blitter_dma, is_danger}
 use Rattle.serial_model.specs.State.{BlitUnderWay, Chips}
 
@@ -39,6 +46,11 @@ pub record WorkingChips : Type 0 where
   pub blit : Option Blit
   pub zero : Bool
   pub irq : Interrupts
+  pub processor : BusCpu
+  pub missed : ℕ
+  pub cia_a : CiaState
+  pub cia_b : CiaState
+  pub inputs : Inputs
 
 -- a kept blit stands for the blit under way, and none for none
 abbrev pub IsBlitOf : Option Blit → Option BlitUnderWay → Type 0
@@ -56,8 +68,13 @@ pub record IsChipsOf (now : WorkingChips) (c : Chips) : Type 0 where
   pub blit : IsBlitOf now.blit c.blit
   pub zero : c.zero ≡ now.zero
   pub irq : c.irq ≡ now.irq
+  pub processor : IsProcessorOf now.processor c.processor
+  pub missed : c.missed ≡ now.missed
+  pub cia_a : c.cia_a ≡ now.cia_a
+  pub cia_b : c.cia_b ≡ now.cia_b
+  pub inputs : c.inputs ≡ now.inputs
 
--- chips of which only registers, Copper and whether a blit is under way are looked at
+-- chips of which only registers, Copper, whether a blit is under way and the clocks that the processor missed are looked at
 abbrev pub some_blit : Blit → BlitUnderWay
 some_blit blit = record { start = blit_start no_registers; answers = [] }
 
@@ -70,20 +87,25 @@ plain_chips now = record {
   blit = option_map some_blit now.blit;
   zero = now.zero;
   irq = now.irq;
+  processor = reset_processor now.processor.on;
+  missed = now.missed;
+  cia_a = now.cia_a;
+  cia_b = now.cia_b;
+  inputs = now.inputs;
 }
 
 -- what the kept blit asks for, while the blitter's DMA is on
 abbrev pub kept_wish : WorkingChips → Option SlotAsk
 kept_wish now = if blitter_dma now.registers then option_map slot_shown now.blit else None
 
--- the ask of a clock at which planes, sprites and the blitter ask for this
-abbrev pub wishes_with : Beam → Option PlaneAsk → Option SpriteAsk → Option SlotAsk → Chips → Wishes
-wishes_with b plane sprite blit c =
-    record { side = S.Nothing; plane = plane; sprite = sprite; copper = copper_wish b c; blit = blit }
+-- the ask of a clock at which planes, sprites, the blitter and the processor ask for this
+abbrev pub wishes_with : Beam → Option PlaneAsk → Option SpriteAsk → Option SlotAsk → Option ProcessorAsk → Chips → Wishes
+wishes_with b plane sprite blit processor c =
+    record { side = S.Nothing; plane = plane; sprite = sprite; copper = copper_wish b c; blit = blit; processor = processor }
 
-unfoldable pub ask_with : Beam → Option PlaneAsk → Option SpriteAsk → Option SlotAsk → Chips → Ask
-ask_with b plane sprite blit c =
-    owner_ask (owner_of (slot_state b c (wishes_with b plane sprite blit c))) (wishes_with b plane sprite blit c)
+unfoldable pub ask_with : Beam → Option PlaneAsk → Option SpriteAsk → Option SlotAsk → Option ProcessorAsk → Chips → Ask
+ask_with b plane sprite blit processor c =
+    owner_ask (owner_of (slot_state b c (wishes_with b plane sprite blit processor c))) (wishes_with b plane sprite blit processor c)
 
 -- an ask of the blitter is what the blit asks for
 abbrev pub IsBlitAsk : Ask → Option SlotAsk → Type 0
@@ -97,6 +119,7 @@ IsBlitAsk (A.Plane plane at) wish = Unit {0}
 IsBlitAsk (A.SpriteControl sprite second at) wish = Unit {0}
 IsBlitAsk (A.SpriteWords sprite second at) wish = Unit {0}
 IsBlitAsk (A.Copper at) wish = Unit {0}
+IsBlitAsk (A.Processor ask) wish = Unit {0}
 
 -- a kept blit has not ended
 abbrev pub IsGoing : Option Blit → Type 0
@@ -112,18 +135,23 @@ end_if_blit (Some run) c = end_blit run c
 abbrev pub GivesBlit : ℕ → WorkingChips → WorkingChips → Type 0
 GivesBlit word old new = (c : Chips) → IsChipsOf old c → IsChipsOf new (give_blit word c.blit c)
 
--- the owner of the slot has its answer, as far as the blitter goes; what the fetches did was done before
-abbrev pub AnswersBlit : Ask → ℕ → WorkingChips → WorkingChips → Type 0
-AnswersBlit (A.BlitRead at) word old new = GivesBlit word old new
-AnswersBlit (A.BlitWrite at stored) word old new = GivesBlit word old new
-AnswersBlit A.BlitRest word old new = GivesBlit word old new
-AnswersBlit A.Free word old new = new ≡ old
-AnswersBlit (A.Disk at stored) word old new = new ≡ old
-AnswersBlit (A.Audio channel at) word old new = new ≡ old
-AnswersBlit (A.Plane plane at) word old new = new ≡ old
-AnswersBlit (A.SpriteControl sprite second at) word old new = new ≡ old
-AnswersBlit (A.SpriteWords sprite second at) word old new = new ≡ old
-AnswersBlit (A.Copper at) word old new = new ≡ old
+-- and the processor after the answer of its slot
+abbrev pub GivesProcessor : ℕ → WorkingChips → WorkingChips → Type 0
+GivesProcessor word old new = (c : Chips) → IsChipsOf old c → IsChipsOf new (give_chips word c)
+
+-- the owner of the slot has its answer, as far as blitter and processor go; what the fetches did was done before
+abbrev pub AnswersOwner : Ask → ℕ → WorkingChips → WorkingChips → Type 0
+AnswersOwner (A.BlitRead at) word old new = GivesBlit word old new
+AnswersOwner (A.BlitWrite at stored) word old new = GivesBlit word old new
+AnswersOwner A.BlitRest word old new = GivesBlit word old new
+AnswersOwner A.Free word old new = new ≡ old
+AnswersOwner (A.Disk at stored) word old new = new ≡ old
+AnswersOwner (A.Audio channel at) word old new = new ≡ old
+AnswersOwner (A.Plane plane at) word old new = new ≡ old
+AnswersOwner (A.SpriteControl sprite second at) word old new = new ≡ old
+AnswersOwner (A.SpriteWords sprite second at) word old new = new ≡ old
+AnswersOwner (A.Copper at) word old new = new ≡ old
+AnswersOwner (A.Processor ask) word old new = GivesProcessor word old new
 
 -- what the Copper's step makes, with the word that answers the clock's ask
 abbrev pub act_at : Beam → Ask → ℕ → Chips → CopperAct
@@ -143,21 +171,33 @@ made_with (A.Copper at) word act = made_by_copper act
 made_with (A.BlitRead at) word act = made_by_copper act
 made_with (A.BlitWrite at stored) word act = M.Stored at Both stored
 made_with A.BlitRest word act = made_by_copper act
+made_with (A.Processor ask) word act = made_by_processor ask
+
+-- a word answers the processor: the one that the machine gives, whatever chips these stand for
+abbrev pub IsRead : ProcessorAsk → Beam → ℕ → WorkingChips → List ℕ → ℕ → Type 0
+IsRead ask b clx now memory word = (c : Chips) → IsChipsOf now c → word ≡ answer_processor ask b clx c memory
 
 -- a word answers an ask: it is the one that the machine gives, but where nobody looks at it here
-abbrev pub IsAnswer : Ask → List ℕ → ℕ → Type 0
-IsAnswer A.Free memory word = word ≡ 0
-IsAnswer (A.Disk at stored) memory word = word ≡ 0
-IsAnswer (A.Audio channel at) memory word = word ≡ word_of memory at.value
-IsAnswer (A.Plane plane at) memory word = Unit {0}
-IsAnswer (A.SpriteControl sprite second at) memory word = word ≡ word_of memory at.value
-IsAnswer (A.SpriteWords sprite second at) memory word = Unit {0}
-IsAnswer (A.Copper at) memory word = word ≡ word_of memory at.value
-IsAnswer (A.BlitRead at) memory word = word ≡ word_of memory at.value
-IsAnswer (A.BlitWrite at stored) memory word = word ≡ 0
-IsAnswer A.BlitRest memory word = word ≡ 0
+abbrev pub IsAnswer : Ask → Beam → ℕ → WorkingChips → List ℕ → ℕ → Type 0
+IsAnswer A.Free b clx now memory word = word ≡ 0
+IsAnswer (A.Disk at stored) b clx now memory word = word ≡ 0
+IsAnswer (A.Audio channel at) b clx now memory word = word ≡ word_of memory at.value
+IsAnswer (A.Plane plane at) b clx now memory word = Unit {0}
+IsAnswer (A.SpriteControl sprite second at) b clx now memory word = word ≡ word_of memory at.value
+IsAnswer (A.SpriteWords sprite second at) b clx now memory word = Unit {0}
+IsAnswer (A.Copper at) b clx now memory word = word ≡ word_of memory at.value
+IsAnswer (A.BlitRead at) b clx now memory word = word ≡ word_of memory at.value
+IsAnswer (A.BlitWrite at stored) b clx now memory word = word ≡ 0
+IsAnswer A.BlitRest b clx now memory word = word ≡ 0
+IsAnswer (A.Processor ask) b clx now memory word = IsRead ask b clx now memory word
 
 -- the memory once the answer was read, which counts; a word for a latch or an image is read when that is filled
+abbrev pub after_read_by : ProcessorAsk → ChipValue → ChipValue
+after_read_by (P.Read at) chip = after_reads chip 1
+after_read_by (P.Write at half word) chip = chip
+after_read_by (P.ReadRegister reg) chip = chip
+after_read_by (P.WriteRegister reg word) chip = chip
+
 abbrev pub after_answer : Ask → ChipValue → ChipValue
 after_answer A.Free chip = chip
 after_answer (A.Disk at stored) chip = chip
@@ -169,19 +209,18 @@ after_answer (A.Copper at) chip = after_reads chip 1
 after_answer (A.BlitRead at) chip = after_reads chip 1
 after_answer (A.BlitWrite at stored) chip = chip
 after_answer A.BlitRest chip = chip
+after_answer (A.Processor ask) chip = after_read_by ask chip
 
 -- the access of a clock was made: this is what it makes, and the chips have their answers
-pub record HasAccessed (b : Beam) (c : Chips) (memory : List ℕ) (made : Made) (new : WorkingChips) : Type 0 where
-  pub makes : made ≡ made_by_ask (ask_at S.Nothing b c) (answer_to (ask_at S.Nothing b c) memory) c
-  pub chips : IsChipsOf new (answer_chips b (ask_at S.Nothing b c) (answer_to (ask_at S.Nothing b c) memory) c)
+pub record HasAccessed (b : Beam) (clx : ℕ) (c : Chips) (memory : List ℕ) (made : Made) (new : WorkingChips) : Type 0 where
+  pub makes : made ≡ made_by_ask (ask_at S.Nothing b c) (answer_to (ask_at S.Nothing b c) b clx c memory) c
+  pub chips : IsChipsOf new (answer_chips b (ask_at S.Nothing b c) (answer_to (ask_at S.Nothing b c) b clx c memory) c)
 
--- what the clock loop can do: it stores whole words alone, and there are six planes and eight sprites
+-- what the clock loop can do: there are six planes and eight sprites
 abbrev pub CanDo : Made → Type 0
 CanDo M.Nothing = Unit {0}
 CanDo (M.Wrote reg word by) = Unit {0}
 CanDo (M.Read reg by) = Unit {0}
-CanDo (M.Stored at Both word) = Unit {0}
-CanDo (M.Stored at High byte) = ⊥
-CanDo (M.Stored at Low byte) = ⊥
+CanDo (M.Stored at half word) = Unit {0}
 CanDo (M.Plane plane at) = plane ≤ 6
 CanDo (M.Sprite sprite second at) = sprite ≤ 7

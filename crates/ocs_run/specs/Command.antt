@@ -1,38 +1,20 @@
 -- What stands after a command.
-use Rattle.std.specs.Prelude.{◌≡◌, ℕ, Bool, true, false, not, ◌&&◌, List, [], ◌∷◌, Option, Some, Result, Ok, Err}
+use Rattle.std.specs.Prelude.{◌≡◌, ℕ, List, [], Option, Some, Result, Ok, Err}
 use Rattle.ocs_base.specs.Script.{ScriptValue}
-use Rattle.ocs_base.specs.declared.script.At.{At}
-use Rattle.ocs_base.specs.declared.script.Act.{Act}
-use Rattle.ocs_base.specs.declared.script.Act.TheVariants.{Poke, Peek, Joy, Fire, Key}
 use Rattle.ocs_io.specs.Answers.{WhereTold}
 use Rattle.ocs_io.specs.Place.{Files, Outside, Rose}
 use Rattle.out_files.specs.OutFiles.{OutNames, OutFilesValue}
 use Rattle.ocs_run.specs.declared.fault.Fault.{Fault}
-use Rattle.ocs_run.specs.declared.fault.Fault.TheVariants.{Usage, BadImage, BadScript, Unread, Unwritten, OutOfMemory, NotBuilt}
+use Rattle.ocs_run.specs.declared.fault.Fault.TheVariants.{Usage, BadImage, BadScript, Unread, Unwritten, Unsaid, OutOfMemory}
 use Rattle.ocs_run.specs.declared.fault.Input.TheVariants.{Image, Script}
 use Rattle.ocs_run.specs.Order.{OrderValue}
 use Rattle.ocs_run.specs.Run.{HasFiles}
 use Rattle.ocs_run.specs.Prefix.{LeavesPrefixes}
-use Rattle.ocs_run.specs.Verdict.{Verdict, Usage as UsageVerdict, Absent, BadImage as BadImageVerdict, BadScript as BadScriptVerdict, Good, of_order}
+use Rattle.ocs_run.specs.Verdict.{Verdict, Usage as UsageVerdict, Absent, BadImage as BadImageVerdict, BadScript as BadScriptVerdict, Good, Scene, of_order}
 
 -- the names of the files that a run writes
 abbrev pub out_names : OrderValue → OutNames
 out_names order = record { frames = order.frames; trace = order.trace; memory = order.memory }
-
--- what a script may do in the machine that is built so far: no processor, and pokes and peeks alone
-abbrev pub is_built_act : Act → Bool
-is_built_act (Poke reg word) = true
-is_built_act (Peek reg) = true
-is_built_act (Joy port word) = false
-is_built_act (Fire port down) = false
-is_built_act (Key code) = false
-
-unfoldable pub are_built : List At → Bool
-are_built [] = true
-are_built (e ∷ events) = is_built_act e.act && are_built events
-
-abbrev pub is_built_script : ScriptValue → Bool
-is_built_script script = not script.cpu && are_built script.events
 
 -- new output files of these names
 pub record IsOutOf (names : OutNames) (out : OutFilesValue) : Type 0 where
@@ -48,32 +30,30 @@ pub record KeepsSaid (old new : Outside) : Type 0 where
 
 -- what stands after a run of good inputs
 abbrev pub RunAnswers : OrderValue → List ℕ → ScriptValue → Outside → Outside → Result (Unit {0}) Fault → Type 0
-RunAnswers order image script old new (Ok done) =
-    (is_built_script script ≡ true) × HasFiles image script (out_names order) old.files new.files
+RunAnswers order image script old new (Ok done) = HasFiles image script (out_names order) old.files new.files
 RunAnswers order image script old new (Err Usage) = ⊥
 RunAnswers order image script old new (Err BadImage) = ⊥
 RunAnswers order image script old new (Err (BadScript line kind)) = ⊥
 RunAnswers order image script old new (Err (Unread input)) = ⊥
 RunAnswers order image script old new (Err (Unwritten file)) =
-    Rose old.write_faults new.write_faults
-    × ((is_built_script script ≡ true) × LeavesPrefixes image script (out_names order) old.files new.files)
+    Rose old.write_faults new.write_faults × LeavesPrefixes image script (out_names order) old.files new.files
+RunAnswers order image script old new (Err Unsaid) = ⊥
 RunAnswers order image script old new (Err OutOfMemory) = LeavesPrefixes image script (out_names order) old.files new.files
-RunAnswers order image script old new (Err NotBuilt) =
-    (is_built_script script ≡ false) × (new.files ≡ old.files)
 
--- done: the script is built, the three files are the texts of the run, whole, and every other file is as before
+-- done: the three files of a run are its texts, whole, and every other file is as before; a scene leaves all files as before
 abbrev pub IsDone : Verdict → Files → Option Files → Type 0
-IsDone (Good image script order) files new =
-    (is_built_script script ≡ true) × HasFiles image script (out_names order) (Some files) new
+IsDone (Good image script order) files new = HasFiles image script (out_names order) (Some files) new
+IsDone (Scene number band workers) files new = new ≡ Some files
 IsDone UsageVerdict files new = ⊥
 IsDone (Absent name) files new = ⊥
 IsDone BadImageVerdict files new = ⊥
 IsDone (BadScriptVerdict line kind) files new = ⊥
 
--- stopped by a file that could not be written, which only a good verdict comes to
+-- stopped by a file that could not be written, which only a good verdict comes to; or by a summary that could not be said, and
+-- then all files are as before
 abbrev pub IsUnwritten : Verdict → Files → Option Files → Type 0
-IsUnwritten (Good image script order) files new =
-    (is_built_script script ≡ true) × LeavesPrefixes image script (out_names order) (Some files) new
+IsUnwritten (Good image script order) files new = LeavesPrefixes image script (out_names order) (Some files) new
+IsUnwritten (Scene number band workers) files new = new ≡ Some files
 IsUnwritten UsageVerdict files new = ⊥
 IsUnwritten (Absent name) files new = ⊥
 IsUnwritten BadImageVerdict files new = ⊥
@@ -82,23 +62,16 @@ IsUnwritten (BadScriptVerdict line kind) files new = ⊥
 -- stopped for want of memory: where the verdict is good the files may have parts, else they are as before
 abbrev pub IsWanting : Verdict → Files → Option Files → Type 0
 IsWanting (Good image script order) files new = LeavesPrefixes image script (out_names order) (Some files) new
+IsWanting (Scene number band workers) files new = new ≡ Some files
 IsWanting UsageVerdict files new = ⊥
 IsWanting (Absent name) files new = new ≡ Some files
 IsWanting BadImageVerdict files new = new ≡ Some files
 IsWanting (BadScriptVerdict line kind) files new = new ≡ Some files
 
--- something in the script is not built, and then all files are as before
-abbrev pub IsUnbuilt : Verdict → Files → Option Files → Type 0
-IsUnbuilt (Good image script order) files new =
-    (is_built_script script ≡ false) × (new ≡ Some files)
-IsUnbuilt UsageVerdict files new = ⊥
-IsUnbuilt (Absent name) files new = ⊥
-IsUnbuilt BadImageVerdict files new = ⊥
-IsUnbuilt (BadScriptVerdict line kind) files new = ⊥
-
 -- the image is good: only then is the script read
 abbrev pub HasGoodImage : OrderValue → Verdict → Type 0
 HasGoodImage asked (Good image script order) = Unit {0}
+HasGoodImage asked (Scene number band workers) = ⊥
 HasGoodImage asked UsageVerdict = ⊥
 HasGoodImage asked (Absent name) = name ≡ asked.script
 HasGoodImage asked BadImageVerdict = ⊥
@@ -106,17 +79,17 @@ HasGoodImage asked (BadScriptVerdict line kind) = Unit {0}
 
 -- what stands after an answer to the words, where they are those of an order
 abbrev pub OrderAnswers : OrderValue → Outside → Outside → Result (Unit {0}) Fault → Type 0
-OrderAnswers order old new (Ok done) = WhereTold old.files (λ files. IsDone (of_order (Some order) files) files new.files)
+OrderAnswers order old new (Ok done) = WhereTold old.files (λ files. IsDone (of_order order files) files new.files)
 OrderAnswers order old new (Err Usage) = ⊥
 OrderAnswers order old new (Err BadImage) =
-    WhereTold old.files (λ files. of_order (Some order) files ≡ BadImageVerdict) × (new.files ≡ old.files)
+    WhereTold old.files (λ files. of_order order files ≡ BadImageVerdict) × (new.files ≡ old.files)
 OrderAnswers order old new (Err (BadScript line kind)) =
-    WhereTold old.files (λ files. of_order (Some order) files ≡ BadScriptVerdict line kind) × (new.files ≡ old.files)
+    WhereTold old.files (λ files. of_order order files ≡ BadScriptVerdict line kind) × (new.files ≡ old.files)
 OrderAnswers order old new (Err (Unread Image)) = Rose old.read_faults new.read_faults × (new.files ≡ old.files)
 OrderAnswers order old new (Err (Unread Script)) =
     Rose old.read_faults new.read_faults × (new.files ≡ old.files)
-    × WhereTold old.files (λ files. HasGoodImage order (of_order (Some order) files))
+    × WhereTold old.files (λ files. HasGoodImage order (of_order order files))
 OrderAnswers order old new (Err (Unwritten file)) =
-    Rose old.write_faults new.write_faults × WhereTold old.files (λ files. IsUnwritten (of_order (Some order) files) files new.files)
-OrderAnswers order old new (Err OutOfMemory) = WhereTold old.files (λ files. IsWanting (of_order (Some order) files) files new.files)
-OrderAnswers order old new (Err NotBuilt) = WhereTold old.files (λ files. IsUnbuilt (of_order (Some order) files) files new.files)
+    Rose old.write_faults new.write_faults × WhereTold old.files (λ files. IsUnwritten (of_order order files) files new.files)
+OrderAnswers order old new (Err Unsaid) = ⊥
+OrderAnswers order old new (Err OutOfMemory) = WhereTold old.files (λ files. IsWanting (of_order order files) files new.files)

@@ -1,37 +1,24 @@
 -- Faults of a run.
 use Rattle.out_files.specs.declared.fault.WriteFault.{WriteFault}
 use Rattle.out_files.specs.declared.fault.WriteFault.TheVariants.{Failed, OutOfMemory as NoRoomToWrite}
-use Rattle.ocs_run.specs.declared.foreground.TickFault.{TickFault}
-use Rattle.ocs_run.specs.declared.foreground.TickFault.TheVariants.{OutOfMemory as NoRoomToTick, NotBuilt as TickNotBuilt}
 use Rattle.std.specs.Prelude.{ℕ}
 use Rattle.ocs_run.specs.declared.fault.Fault.{Fault}
-use Rattle.ocs_run.specs.declared.fault.Fault.TheVariants.{Usage, BadImage, BadScript, Unread, Unwritten, OutOfMemory as NoRoom, NotBuilt as Unbuilt}
+use Rattle.ocs_run.specs.declared.fault.Fault.TheVariants.{Usage, BadImage, BadScript, Unread, Unwritten, Unsaid, OutOfMemory as NoRoom}
 use Rattle.ocs_run.specs.declared.fault.RunFault.{RunFault}
-use Rattle.ocs_run.specs.declared.fault.RunFault.TheVariants.{Write, OutOfMemory, NotBuilt}
+use Rattle.ocs_run.specs.declared.fault.RunFault.TheVariants.{Write, OutOfMemory}
 
 abbrev pub of_write : WriteFault → RunFault
 of_write (Failed file) = Write file
 of_write NoRoomToWrite = OutOfMemory
 
-abbrev pub of_tick : TickFault → RunFault
-of_tick NoRoomToTick = OutOfMemory
-of_tick TickNotBuilt = NotBuilt
-
 -- a fault of writing, which the outside caused
 abbrev pub IsWrite : RunFault → Type 0
 IsWrite (Write file) = Unit {0}
 IsWrite OutOfMemory = ⊥
-IsWrite NotBuilt = ⊥
-
-abbrev pub IsNotBuilt : RunFault → Type 0
-IsNotBuilt (Write file) = ⊥
-IsNotBuilt OutOfMemory = ⊥
-IsNotBuilt NotBuilt = Unit {0}
 
 abbrev pub of_run : RunFault → Fault
 of_run (Write file) = Unwritten file
 of_run OutOfMemory = NoRoom
-of_run NotBuilt = Unbuilt
 
 -- the exit status of the command
 abbrev pub status_of : Fault → ℕ
@@ -40,5 +27,5 @@ status_of BadImage = 3
 status_of (BadScript line kind) = 4
 status_of (Unread input) = 5
 status_of (Unwritten file) = 6
+status_of Unsaid = 6
 status_of NoRoom = 7
-status_of Unbuilt = 8

@@ -8,7 +8,7 @@ use Rattle.ocs_io.specs.Place.{Files, Outside, Rose, file}
 use Rattle.script_read.specs.declared.fault.BadKind.{BadKind}
 use Rattle.script_read.specs.Grammar.{script_of, Good, Bad}
 use Rattle.ocs_run.specs.declared.fault.Fault.{Fault}
-use Rattle.ocs_run.specs.declared.fault.Fault.TheVariants.{Usage, BadImage, BadScript, Unread, Unwritten, OutOfMemory, NotBuilt}
+use Rattle.ocs_run.specs.declared.fault.Fault.TheVariants.{Usage, BadImage, BadScript, Unread, Unwritten, Unsaid, OutOfMemory}
 use Rattle.ocs_run.specs.declared.fault.Input.TheVariants.{Image, Script}
 
 -- the file is there with these bytes
@@ -46,8 +46,8 @@ IsImageFault old new name (BadScript line kind) = ⊥
 IsImageFault old new name (Unread Image) = Rose old.read_faults new.read_faults
 IsImageFault old new name (Unread Script) = ⊥
 IsImageFault old new name (Unwritten file) = ⊥
+IsImageFault old new name Unsaid = ⊥
 IsImageFault old new name OutOfMemory = Unit {0}
-IsImageFault old new name NotBuilt = ⊥
 
 -- a script was read
 pub record IsScriptOf (old : Outside) (name : List ℕ) (script : ScriptValue) : Type 0 where
@@ -62,8 +62,8 @@ IsScriptFault old new name (BadScript line kind) = WhereTold old.files (HoldsBad
 IsScriptFault old new name (Unread Image) = ⊥
 IsScriptFault old new name (Unread Script) = Rose old.read_faults new.read_faults
 IsScriptFault old new name (Unwritten file) = ⊥
+IsScriptFault old new name Unsaid = ⊥
 IsScriptFault old new name OutOfMemory = Unit {0}
-IsScriptFault old new name NotBuilt = ⊥
 
 -- why a text is no script
 abbrev pub IsTextFault : List ℕ → Fault → Type 0
@@ -72,5 +72,5 @@ IsTextFault text BadImage = ⊥
 IsTextFault text (BadScript line kind) = script_of text ≡ Bad line kind
 IsTextFault text (Unread input) = ⊥
 IsTextFault text (Unwritten file) = ⊥
+IsTextFault text Unsaid = ⊥
 IsTextFault text OutOfMemory = Unit {0}
-IsTextFault text NotBuilt = ⊥

@@ -7,8 +7,11 @@ pub mod Order
 pub mod Out
 pub mod Prefix
 pub mod Run
+pub mod SceneAnswers
+pub mod SceneSummary
 pub mod Steps
 pub mod Texts
 pub mod Top
 pub mod Underway
 pub mod Verdict
+pub mod Words

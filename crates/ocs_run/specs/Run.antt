@@ -1,26 +1,18 @@
 -- A run and its files.
-use Rattle.std.specs.Prelude.{◌≡◌, ℕ, ◌*◌, ◌<◌, length, false, true, List, [], ◌⊎◌, take, Option}
+use Rattle.std.specs.Prelude.{◌≡◌, ℕ, ◌*◌, ◌<◌, length, List, [], ◌⊎◌, take, Option}
 use Rattle.ocs_base.specs.Script.{ScriptValue}
-use Rattle.ocs_base.specs.declared.script.System.TheVariants.{Pal}
 use Rattle.ocs_io.specs.Place.{Files}
 use Rattle.out_files.specs.OutFiles.{OutNames}
 use Rattle.out_files.specs.Answers.{with_empty, in_order}
 use Rattle.out_files.specs.Together.{three_files, HoldParts}
-use Rattle.ocs_run.specs.Prefix.{LeavesPrefixes}
-use Rattle.serial_model.specs.Built.{meets_unbuilt}
 use Rattle.serial_model.specs.MemoryText.{memory_text}
 use Rattle.serial_model.specs.Outputs.{frames_text, frame_bytes}
 use Rattle.serial_model.specs.Serial.{state_at, IsEnd}
-use Rattle.serial_model.specs.State.{State}
-use Rattle.serial_model.specs.Tick.{before_access}
 use Rattle.serial_model.specs.TraceText.{trace_text}
-use Rattle.ocs_run.specs.declared.fault.RunFault.{RunFault}
-use Rattle.ocs_run.specs.declared.fault.RunFault.TheVariants.{Write, OutOfMemory, NotBuilt}
 
--- the states before this clock are those of a run that goes on, and what their clocks do is built
+-- the states before this clock are those of a run that goes on
 pub record HasRun (image : List ℕ) (script : ScriptValue) (clocks : ℕ) : Type 0 where
   pub running : (n : ℕ) → n < clocks → (state_at image script n).beam.frame < script.frames
-  pub built : (n : ℕ) → n < clocks → meets_unbuilt Pal script.events (state_at image script n) ≡ false
 
 -- the run came to its end, and the three files are its texts, whole; every other file is as before
 pub record HasFiles (image : List ℕ) (script : ScriptValue) (names : OutNames) (base new : Option Files) : Type 0 where
@@ -44,16 +36,6 @@ pub record HasEndParts (image : List ℕ) (script : ScriptValue) (names : OutNam
   pub run : HasRun image script clocks
   pub parts : (let s = state_at image script clocks in HoldParts names base new s.shown s.trace (memory_text s.memory))
 
--- after so many clocks the run came to one that does something unbuilt
-pub record MeetsUnbuilt (image : List ℕ) (script : ScriptValue) (clocks : ℕ) : Type 0 where
-  pub run : HasRun image script clocks
-  pub frame : (state_at image script clocks).beam.frame < script.frames
-  pub unbuilt : meets_unbuilt Pal script.events (state_at image script clocks) ≡ true
-
--- the state in which the access after so many clocks is made
-abbrev pub state_before_access : List ℕ → ScriptValue → ℕ → State
-state_before_access image script clocks = before_access Pal script.events (state_at image script clocks)
-
 -- the first so many of the three files were created, and nothing else was done
 abbrev pub HasCreated : OutNames → Option Files → Option Files → Type 0
 HasCreated names base new = (created : ℕ) × (new ≡ with_empty (take created (in_order names)) base)
@@ -64,9 +46,3 @@ Remains image script names base new =
     HasCreated names base new
     ⊎ (((clocks : ℕ) × HasParts image script names base new clocks)
     ⊎ ((clocks : ℕ) × HasEndParts image script names base new clocks))
-
--- what stands after a whole run was stopped, by the fault: nothing that a run does is unbuilt
-abbrev pub LeavesAfter : RunFault → List ℕ → ScriptValue → OutNames → Option Files → Option Files → Type 0
-LeavesAfter (Write file) image script names base new = LeavesPrefixes image script names base new
-LeavesAfter OutOfMemory image script names base new = LeavesPrefixes image script names base new
-LeavesAfter NotBuilt image script names base new = ⊥

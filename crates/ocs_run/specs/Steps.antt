@@ -1,26 +1,22 @@
 -- What the working state of the clock loop stands for, and what its steps make.
-use Rattle.std.specs.Prelude.{◌≡◌, ℕ, ◌+◌, ◌%◌, ◌<◌, ◌≤◌, Bool, true, List, ◌++◌, length, None}
+use Rattle.std.specs.Prelude.{◌≡◌, ℕ, ◌+◌, ◌%◌, ◌<◌, ◌≤◌, List, ◌++◌, length, None}
 use Rattle.ocs_base.specs.declared.beam.Beam.{Beam}
 use Rattle.ocs_base.specs.declared.script.At.{At}
-use Rattle.ocs_base.specs.declared.script.System.TheVariants.{Pal}
 use Rattle.ocs_base.specs.declared.reg.Reg.{Reg}
 use Rattle.serial_model.specs.declared.bus.Made.{Made}
 use Rattle.serial_model.specs.declared.bus.Made.TheVariants as M
-use Rattle.serial_model.specs.declared.bus.SideAsk.TheVariants as S
 use Rattle.serial_model.specs.declared.picture.Denise.{Denise}
 use Rattle.out_files.specs.OutFiles.{OutFilesValue}
 use Rattle.ocs_run.specs.Chips.{IsChipsOf}
 use Rattle.ocs_run.specs.Out.{Tells}
 use Rattle.painter.specs.Painter.{IsPainterOf}
 use Rattle.serial_model.specs.Beam.{IsOnScreen, place_of}
-use Rattle.serial_model.specs.Built.{is_unbuilt, meets_unbuilt}
 use Rattle.serial_model.specs.Events.{due_events, do_events}
 use Rattle.serial_model.specs.Made.{word_of, chips_after, lof_after, memory_after, touch_of, clx_after, lines_of}
 use Rattle.serial_model.specs.Outputs.{frames_text, frame_bytes}
 use Rattle.serial_model.specs.Picture.{touch_if_any}
 use Rattle.serial_model.specs.State.{Chips, State}
 use Rattle.serial_model.specs.Write.{write_chips, write_lof}
-use Rattle.serial_model.specs.Tick.{made_of, before_access}
 use Rattle.serial_model.specs.TraceText.{trace_text}
 use Rattle.serial_model.proofs.EventLaws.{IsQueue}
 use Rattle.ocs_run.specs.declared.foreground.Foreground.{Foreground}
@@ -106,20 +102,6 @@ pub record HasDone (events left : List At) (old new : Foreground) : Type 0 where
   pub rest : (end : Foreground) → Makes (do_events (due_events old.beam left)) new end
       → Makes (do_events (due_events old.beam events)) old end
   pub later : HasLater old.beam events left
-
--- whether the access that is made here does something that is not built
-abbrev pub Accesses : Bool → Foreground → Type 0
-Accesses answer old = (written : Written) (s : State) → Stands old written s → is_unbuilt (made_of S.Nothing s) ≡ answer
-
--- whether the clock that begins here does something that is not built
-abbrev pub Meets : Bool → List At → Foreground → Type 0
-Meets answer events old = (written : Written) (s : State) → Stands old written s → meets_unbuilt Pal events s ≡ answer
-
--- the clock that begins here does something that is not built, and was done up to its access: so is the text
-pub record StopsAt (events : List At) (old new : Foreground) : Type 0 where
-  pub meets : Meets true events old
-  pub text : (written : Written) (s : State) → Stands old written s → HasText new.out written (before_access Pal events s)
-  pub names : new.out.names ≡ old.out.names
 
 -- what is left for the clocks after this one
 pub record HasNext (events left : List At) (old new : Foreground) : Type 0 where

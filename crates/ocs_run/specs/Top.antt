@@ -2,37 +2,63 @@
 use Rattle.std.specs.Prelude.{◌≡◌, ℕ, ◌⊎◌, List, Option, Some, None, Result, Ok, Err}
 use Rattle.ocs_io.specs.Answers.{WhereTold}
 use Rattle.ocs_io.specs.Place.{Outside, Rose}
+use Rattle.scene_gen.specs.Scene.{scene_image, scene_script}
 use Rattle.script_read.specs.declared.fault.BadKind.{BadKind}
 use Rattle.serial_model.specs.Serial.{IsEnd}
-use Rattle.ocs_run.specs.Command.{OrderAnswers, HasGoodImage}
+use Rattle.ocs_run.specs.Command.{OrderAnswers, HasGoodImage, KeepsSaid}
 use Rattle.ocs_run.specs.Fault.{status_of}
 use Rattle.ocs_run.specs.Order.{OrderValue}
-use Rattle.ocs_run.specs.Texts.{text_of, order_or_none, Says}
-use Rattle.ocs_run.specs.Verdict.{Verdict, Usage as UsageVerdict, Absent, BadImage as BadImageVerdict, BadScript as BadScriptVerdict, Good, of_order}
+use Rattle.ocs_run.specs.SceneAnswers.{SceneAnswers, SaysSummary, SaysSummaryPart}
+use Rattle.ocs_run.specs.Texts.{text_of, Says}
+use Rattle.ocs_run.specs.Verdict.{Verdict, Usage as UsageVerdict, Absent, BadImage as BadImageVerdict, BadScript as BadScriptVerdict, Good, Scene, of_order}
+use Rattle.ocs_run.specs.Words.{CommandValue, Run, Gen, command_of}
 use Rattle.ocs_run.specs.declared.fault.Fault.{Fault}
-use Rattle.ocs_run.specs.declared.fault.Fault.TheVariants.{Usage, BadImage, BadScript, Unread, Unwritten, OutOfMemory, NotBuilt}
+use Rattle.ocs_run.specs.declared.fault.Fault.TheVariants.{Usage, BadImage, BadScript, Unread, Unwritten, Unsaid, OutOfMemory}
 use Rattle.ocs_run.specs.declared.fault.Input.TheVariants.{Image, Script}
 
 -- the place lets the input files named in the words be read
-abbrev pub ReadableInputs : (List ℕ → Type 0) → Option OrderValue → Type 0
+abbrev pub ReadableInputs : (List ℕ → Type 0) → Option CommandValue → Type 0
 ReadableInputs readable None = Unit {0}
-ReadableInputs readable (Some order) = readable order.image × readable order.script
+ReadableInputs readable (Some (Run order)) = readable order.image × readable order.script
+ReadableInputs readable (Some (Gen scene)) = Unit {0}
 
--- what stands after a command, where the words may be of no order
-abbrev pub CommandAnswers : Option OrderValue → Outside → Outside → Result (Unit {0}) Fault → Type 0
-CommandAnswers (Some order) old new answer = OrderAnswers order old new answer
-CommandAnswers None old new (Ok done) = ⊥
-CommandAnswers None old new (Err Usage) = new.files ≡ old.files
-CommandAnswers None old new (Err BadImage) = ⊥
-CommandAnswers None old new (Err (BadScript line kind)) = ⊥
-CommandAnswers None old new (Err (Unread input)) = ⊥
-CommandAnswers None old new (Err (Unwritten file)) = ⊥
-CommandAnswers None old new (Err OutOfMemory) = ⊥
-CommandAnswers None old new (Err NotBuilt) = ⊥
+-- what stands after words of no command
+abbrev pub UsageAnswers : Outside → Outside → Result (Unit {0}) Fault → Type 0
+UsageAnswers old new (Ok done) = ⊥
+UsageAnswers old new (Err Usage) = new.files ≡ old.files
+UsageAnswers old new (Err BadImage) = ⊥
+UsageAnswers old new (Err (BadScript line kind)) = ⊥
+UsageAnswers old new (Err (Unread input)) = ⊥
+UsageAnswers old new (Err (Unwritten file)) = ⊥
+UsageAnswers old new (Err Unsaid) = ⊥
+UsageAnswers old new (Err OutOfMemory) = ⊥
+
+-- what stands after a command, where the words may be of none
+abbrev pub CommandAnswers : Option CommandValue → Outside → Outside → Result (Unit {0}) Fault → Type 0
+CommandAnswers None old new answer = UsageAnswers old new answer
+CommandAnswers (Some (Run order)) old new answer = OrderAnswers order old new answer
+CommandAnswers (Some (Gen scene)) old new answer = SceneAnswers scene.number old new answer × (new.files ≡ old.files)
+
+-- a run says nothing before the text of a fault
+abbrev pub SaysNothingElse : Option CommandValue → Outside → Outside → Type 0
+SaysNothingElse None old new = KeepsSaid old new
+SaysNothingElse (Some (Run order)) old new = KeepsSaid old new
+SaysNothingElse (Some (Gen scene)) old new = Unit {0}
 
 -- the answers before the first create
 abbrev pub IsEarly : ℕ → Type 0
 IsEarly status = (status ≡ 2) ⊎ ((status ≡ 3) ⊎ ((status ≡ 4) ⊎ (status ≡ 5)))
+
+abbrev pub IsScene : Option CommandValue → Type 0
+IsScene None = ⊥
+IsScene (Some (Run order)) = ⊥
+IsScene (Some (Gen scene)) = Unit {0}
+
+-- the outside refused what a command writes: a file of a run, or the summary of a scene
+abbrev pub IsRefused : Option CommandValue → Outside → Outside → Type 0
+IsRefused None old new = ⊥
+IsRefused (Some (Run order)) old new = Rose old.write_faults new.write_faults
+IsRefused (Some (Gen scene)) old new = Rose old.say_faults new.say_faults
 
 abbrev pub HasBadImage : Verdict → Type 0
 HasBadImage verdict = verdict ≡ BadImageVerdict
@@ -40,13 +66,14 @@ HasBadImage verdict = verdict ≡ BadImageVerdict
 abbrev pub HasBadScript : Verdict → Type 0
 HasBadScript verdict = (line : ℕ) × (kind : BadKind) × (verdict ≡ BadScriptVerdict line kind)
 
--- a run of good inputs comes to an end
+-- a run of good inputs comes to an end, and so does a scene's
 abbrev pub HasRunEnd : Verdict → Type 0
 HasRunEnd UsageVerdict = Unit {0}
 HasRunEnd (Absent name) = Unit {0}
 HasRunEnd BadImageVerdict = Unit {0}
 HasRunEnd (BadScriptVerdict line kind) = Unit {0}
 HasRunEnd (Good image script order) = (end : ℕ) × IsEnd image script end
+HasRunEnd (Scene number band workers) = (end : ℕ) × IsEnd (scene_image number) (scene_script number) end
 
 -- the status of a verdict where no fault of the outside came, but for want of memory
 abbrev pub Completed : Verdict → Outside → Outside → ℕ → Type 0
@@ -56,25 +83,40 @@ Completed BadImageVerdict old new status = Rose old.read_faults new.read_faults 
 Completed (BadScriptVerdict line kind) old new status = Rose old.read_faults new.read_faults ⊎ ((status ≡ 4) ⊎ (status ≡ 7))
 Completed (Good image script order) old new status =
     (Rose old.read_faults new.read_faults ⊎ Rose old.write_faults new.write_faults)
-    ⊎ ((status ≡ 0) ⊎ ((status ≡ 7) ⊎ (status ≡ 8)))
+    ⊎ ((status ≡ 0) ⊎ (status ≡ 7))
+Completed (Scene number band workers) old new status = Rose old.say_faults new.say_faults ⊎ ((status ≡ 0) ⊎ (status ≡ 7))
 
--- what a fault's text tells is so: the bad line of the script; and the script is named only where the image is good
-abbrev pub IsTold : Option OrderValue → Outside → Fault → Type 0
-IsTold order old Usage = Unit {0}
-IsTold order old BadImage = Unit {0}
-IsTold order old (BadScript line kind) = WhereTold old.files (λ files. of_order order files ≡ BadScriptVerdict line kind)
-IsTold order old (Unread Image) = Unit {0}
-IsTold order old (Unread Script) = WhereTold old.files (λ files. HasGoodImage (order_or_none order) (of_order order files))
-IsTold order old (Unwritten file) = Unit {0}
-IsTold order old OutOfMemory = Unit {0}
-IsTold order old NotBuilt = Unit {0}
+-- the fault is one of a run, and what its text tells is so: the bad line of the script; and the script is named only where the
+-- image is good
+abbrev pub IsToldOfRun : OrderValue → Outside → Fault → Type 0
+IsToldOfRun order old Usage = ⊥
+IsToldOfRun order old BadImage = Unit {0}
+IsToldOfRun order old (BadScript line kind) = WhereTold old.files (λ files. of_order order files ≡ BadScriptVerdict line kind)
+IsToldOfRun order old (Unread Image) = Unit {0}
+IsToldOfRun order old (Unread Script) = WhereTold old.files (λ files. HasGoodImage order (of_order order files))
+IsToldOfRun order old (Unwritten file) = Unit {0}
+IsToldOfRun order old Unsaid = ⊥
+IsToldOfRun order old OutOfMemory = Unit {0}
 
--- nothing is said at 0, and the text of the fault else
-pub record SaysFault (order : Option OrderValue) (old new : Outside) (status : ℕ) : Type 0 where
+-- the fault is one of the command: words of none have the form alone to tell, and a scene only wants memory
+abbrev pub IsTold : Option CommandValue → Outside → Fault → Type 0
+IsTold None old fault = fault ≡ Usage
+IsTold (Some (Run order)) old fault = IsToldOfRun order old fault
+IsTold (Some (Gen scene)) old fault = fault ≡ OutOfMemory
+
+-- the text of a fault was said, and nothing else
+pub record SaysFault (words : List (List ℕ)) (old new : Outside) (status : ℕ) : Type 0 where
   pub fault : Fault
   pub answered : status ≡ status_of fault
-  pub said : Says (text_of order fault) old new
-  pub told : IsTold order old fault
+  pub said : Says (text_of words fault) old new
+  pub told : IsTold (command_of words) old fault
 
-abbrev pub SaysStatus : Option OrderValue → Outside → Outside → ℕ → Type 0
-SaysStatus order old new status = ((status ≡ 0) × (new.said ≡ old.said)) ⊎ SaysFault order old new status
+-- a run that is done says nothing; of a scene the summary was said at 0, and a part of it at 6, and nothing else
+abbrev pub SaysOwn : Option CommandValue → Outside → Outside → ℕ → Type 0
+SaysOwn None old new status = ⊥
+SaysOwn (Some (Run order)) old new status = (status ≡ 0) × (new.said ≡ old.said)
+SaysOwn (Some (Gen scene)) old new status =
+    ((status ≡ 0) × SaysSummary scene.number old new) ⊎ ((status ≡ 6) × SaysSummaryPart scene.number old new)
+
+abbrev pub SaysStatus : List (List ℕ) → Outside → Outside → ℕ → Type 0
+SaysStatus words old new status = SaysOwn (command_of words) old new status ⊎ SaysFault words old new status

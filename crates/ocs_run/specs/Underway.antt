@@ -1,32 +1,31 @@
 -- What the clock loop keeps from turn to turn.
-use Rattle.std.specs.Prelude.{◌≡◌, ℕ, ◌%◌, ◌≤◌, List, [], Option}
+use Rattle.std.specs.Prelude.{◌≡◌, ℕ, ◌%◌, ◌≤◌, Bool, List, [], Option}
 use Rattle.ocs_base.specs.Script.{ScriptValue}
 use Rattle.ocs_base.specs.declared.script.At.{At}
 use Rattle.ocs_io.specs.Place.{Files}
 use Rattle.ocs_base.specs.Memory.{memory_of}
 use Rattle.serial_model.specs.State.{reset_chips}
 use Rattle.serial_model.specs.Picture.{reset_picture}
-use Rattle.out_files.specs.OutFiles.{OutFilesValue, OutNames}
-use Rattle.out_files.specs.Together.{three_files, AreTogether, StayTogether}
+use Rattle.out_files.specs.OutFiles.{OutFilesValue}
+use Rattle.out_files.specs.Together.{three_files, StayTogether}
 use Rattle.serial_model.specs.Beam.{IsOnScreen, place_of, first_place}
 use Rattle.serial_model.specs.Events.{due_events}
 use Rattle.serial_model.specs.Serial.{state_at}
 use Rattle.ocs_base.specs.declared.beam.Beam.{Beam}
 use Rattle.ocs_run.specs.Chips.{IsChipsOf}
 use Rattle.painter.specs.Painter.{IsPainterOf}
-use Rattle.ocs_run.specs.Run.{HasRun, HasParts, MeetsUnbuilt, state_before_access, HasFiles, LeavesAfter}
-use Rattle.ocs_run.specs.declared.fault.RunFault.{RunFault}
-use Rattle.ocs_run.specs.declared.fault.RunFault.TheVariants.{Write, OutOfMemory, NotBuilt}
+use Rattle.ocs_run.specs.Prefix.{LeavesPrefixes}
+use Rattle.ocs_run.specs.Run.{HasRun, HasParts, HasFiles}
 use Rattle.ocs_run.specs.Steps.{Written, Stands, IsLeft, KeepsTime}
 use Rattle.ocs_run.specs.declared.foreground.Foreground.{Foreground}
 
 -- the working state at reset
-pub record IsReset (image : List ℕ) (files : OutFilesValue) (fore : Foreground) : Type 0 where
+pub record IsReset (image : List ℕ) (cpu : Bool) (files : OutFilesValue) (fore : Foreground) : Type 0 where
   pub t : fore.t ≡ 0
   pub beam : fore.beam ≡ first_place
   pub memory : fore.chip.words ≡ memory_of image
   pub newest : fore.chip.newest ≡ 0
-  pub chips : IsChipsOf fore.chips reset_chips
+  pub chips : IsChipsOf fore.chips (reset_chips cpu)
   pub picture : IsPainterOf fore.picture reset_picture
   pub clx : fore.clx ≡ 0
   pub out : fore.out ≡ files
@@ -75,27 +74,10 @@ abbrev pub Runs : ScriptValue → Foreground → Foreground → Option Files →
 Runs script old new before after = (image : List ℕ) (base : Option Files)
     → IsUnderway image script base before old → IsUnderway image script base after new
 
--- the loop came to a clock that does something unbuilt: its text up to the access of that clock is in the files or pending
-pub record StandsBefore (image : List ℕ) (script : ScriptValue) (base files : Option Files) (fore : Foreground) : Type 0 where
-  pub clocks : ℕ
-  pub meets : MeetsUnbuilt image script clocks
-  pub text : (let s = state_before_access image script clocks in AreTogether fore.out base files s.shown s.trace)
-
--- what stands where a fault stopped the loop
-abbrev pub Stopped : List ℕ → ScriptValue → OutNames → Foreground → Option Files → Option Files → RunFault → Type 0
-Stopped image script names fore base new (Write file) = (clocks : ℕ) × HasParts image script names base new clocks
-Stopped image script names fore base new OutOfMemory = (clocks : ℕ) × HasParts image script names base new clocks
-Stopped image script names fore base new NotBuilt = StandsBefore image script base new fore
-
--- the loop was stopped
-abbrev pub IsStoppedBy : RunFault → ScriptValue → Foreground → Foreground → Option Files → Option Files → Type 0
-IsStoppedBy fault script old new before after = (image : List ℕ) (base : Option Files)
-    → IsUnderway image script base before old → Stopped image script old.out.names new base after fault
-
--- the clocks were stopped, and what was pending at one that is not built was appended
-abbrev pub LeavesRun : RunFault → ScriptValue → Foreground → Option Files → Option Files → Type 0
-LeavesRun fault script old before after = (image : List ℕ) (base : Option Files)
-    → IsUnderway image script base before old → LeavesAfter fault image script old.out.names base after
+-- the loop was stopped: after so many clocks each file has a part of its text
+abbrev pub IsStopped : ScriptValue → Foreground → Option Files → Option Files → Type 0
+IsStopped script old before after = (image : List ℕ) (base : Option Files)
+    → IsUnderway image script base before old → (clocks : ℕ) × HasParts image script old.out.names base after clocks
 
 -- output files that nothing was given to yet, of three different names
 pub record IsFresh (out : OutFilesValue) : Type 0 where
@@ -109,7 +91,7 @@ Finishes fore before after = (image : List ℕ) (script : ScriptValue) (base : O
     → fore.beam.frame ≡ script.frames
     → IsUnderway image script base before fore → HasFiles image script fore.out.names base after
 
--- or that was stopped
-abbrev pub StopsFinish : RunFault → Foreground → Option Files → Option Files → Type 0
-StopsFinish fault fore before after = (image : List ℕ) (script : ScriptValue) (base : Option Files) → fore.beam.frame ≡ script.frames
-    → IsUnderway image script base before fore → LeavesAfter fault image script fore.out.names base after
+-- or that was stopped, and each file is as before or has a part of its text
+abbrev pub StopsFinish : Foreground → Option Files → Option Files → Type 0
+StopsFinish fore before after = (image : List ℕ) (script : ScriptValue) (base : Option Files) → fore.beam.frame ≡ script.frames
+    → IsUnderway image script base before fore → LeavesPrefixes image script fore.out.names base after

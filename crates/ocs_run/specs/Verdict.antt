@@ -6,10 +6,11 @@ use Rattle.ocs_io.specs.Place.{Files, file}
 use Rattle.script_read.specs.Grammar.{script_of, Good as GoodScript, Bad as BadLine, Verdict as ScriptVerdict}
 use Rattle.script_read.specs.declared.fault.BadKind.{BadKind}
 use Rattle.ocs_run.specs.Order.{OrderValue}
+use Rattle.ocs_run.specs.Words.{CommandValue, Run, Gen}
 
 -- the first of these that applies, in the order in which the command does its work
 pub data Verdict : Type 0 where
-  -- the words are not of the form
+  -- the words are of no command
   Usage : Verdict
   -- an input file is not there
   Absent : List ℕ → Verdict
@@ -19,6 +20,8 @@ pub data Verdict : Type 0 where
   BadScript : ℕ → BadKind → Verdict
   -- an image and a script, and what is asked
   Good : List ℕ → ScriptValue → OrderValue → Verdict
+  -- a scene: its number, how many lines a band has, and how many workers
+  Scene : ℕ → ℕ → ℕ → Verdict
 
 abbrev pub of_script : OrderValue → List ℕ → ScriptVerdict → Verdict
 of_script order image (GoodScript script) = Good image script order
@@ -32,6 +35,11 @@ abbrev pub of_image : OrderValue → Files → Option (List ℕ) → Verdict
 of_image order files None = Absent order.image
 of_image order files (Some image) = if is_image image then of_text order image (file files order.script) else BadImage
 
-abbrev pub of_order : Option OrderValue → Files → Verdict
-of_order None files = Usage
-of_order (Some order) files = of_image order files (file files order.image)
+abbrev pub of_order : OrderValue → Files → Verdict
+of_order order files = of_image order files (file files order.image)
+
+-- by the command that the words are
+abbrev pub of_command : Option CommandValue → Files → Verdict
+of_command None files = Usage
+of_command (Some (Run order)) files = of_order order files
+of_command (Some (Gen scene)) files = Scene scene.number scene.band scene.workers

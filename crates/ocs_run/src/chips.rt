@@ -1,30 +1,34 @@
 //! The chips between two colour clocks: the custom registers, the fetches of bitplanes and sprites, the Copper,
-//! the blitter and the interrupt words.
+//! the blitter, the interrupt words, the processor, the CIAs and the joysticks.
 
 ghost use Rattle.std.specs.Prelude.{◌≡◌, Some, is_some};
 ghost use Rattle.serial_model.specs.State.{Chips as ChipsOf};
 ghost use Rattle.serial_model.specs.Registers.{is_interlaced as interlaced, is_danger as danger, blitter_first, blitter_dma, effect_of, word_at};
 ghost use Rattle.serial_model.specs.Bus.{copper_runs as runs, copper_wish as wish_of, copper_word as word_to_copper};
-ghost use Rattle.serial_model.specs.Bus.{copper_after, plane_owner_ask, sprite_owner_ask, blit_owner_ask, copper_ask as copper_ask_of};
-ghost use Rattle.serial_model.specs.Bus.{made_by_copper as made_by_copper_of, control_register as control_register_of};
-ghost use Rattle.serial_model.specs.SpriteFetch.{asking_sprite};
+ghost use Rattle.serial_model.specs.Bus.{copper_after, blit_owner_ask, missed_after};
 ghost use Rattle.serial_model.specs.State.{read_word, live_words, zero_of};
 ghost use Rattle.serial_model.specs.Write.{write_chips, carry_effect, restart_copper, start_blit as start_blit_of, write_interrupts as write_interrupts_of};
 ghost use Rattle.serial_model.specs.Tick.{start_chips};
-ghost use Rattle.ocs_run.specs.Chips.{IsChipsOf, HasAccessed, CanDo, plain_chips, kept_wish, ask_with, act_at, made_with, after_answer, IsAnswer};
-ghost use Rattle.ocs_run.specs.Chips.{IsBlitAsk, AnswersBlit, GivesBlit, IsGoing, end_if_blit};
+ghost use Rattle.serial_model.specs.Events.{tell_chips, with_joy, with_fire};
+ghost use Rattle.cpu_bus.specs.Bus.{wish_shown};
+ghost use Rattle.ocs_run.specs.Chips.{IsChipsOf, HasAccessed, CanDo, plain_chips, kept_wish, ask_with, act_at, after_answer, IsAnswer, IsRead, after_read_by};
+ghost use Rattle.ocs_run.specs.Chips.{IsBlitAsk, AnswersOwner, GivesBlit, GivesProcessor, IsGoing, end_if_blit};
 
+use crate::asks::{
+    copper_ask, copper_word, made_by, number, plane_ask, processor_ask, slot_ask, sprite_ask,
+};
 use crate::blit_registers::{blit_registers, keep_blit};
-use beam::at_field_start;
+use beam::{at_field_start, at_line_start};
 use bitplane_dma::{Fetcher, PlaneAsk};
-use blitter::{Blit, SlotAsk};
+use blitter::Blit;
 use bus_slots::{Owner, SlotState, slot_owner};
 use copper::Copper;
-use irq_cia::Irq;
+use cpu_bus::BusCpu;
+use irq_cia::{Cia, Irq};
 use mem_versions::Chip;
-use ocs_base::{Addr, Beam, Reg};
+use ocs_base::{Act, Addr, Beam, Reg};
 use reg_file::{Effect, Live, Regs};
-use serial_model::{Ask, CopperAct, Half, Made, Source, SpriteAsk};
+use serial_model::{Ask, CopperAct, Inputs, Made, ProcessorAsk, SpriteAsk};
 use sprite_dma::SpriteDma;
 use std::marker::Model;
 
@@ -62,16 +66,14 @@ const BLITTER_DMA: u16 = 0x240;
 
 const BLTPRI: u16 = 0x400;
 
-/// SPRxPOS of sprite 0; each sprite has eight bytes of registers.
-const SPR0POS: u16 = 0x140;
-
 /// BPLCON0 and its bit LACE.
 const BPLCON0: u16 = 0x100;
 
 const LACE: u16 = 0x4;
 
 /// The custom registers, the fetches of bitplanes and sprites, the Copper, the blit under way with BZERO as the
-/// last one left it, and the interrupt words.
+/// last one left it, the interrupt words, the processor with the clocks in a row at which it missed the slot, the two
+/// CIAs and the joysticks.
 #[derive(Drop)]
 pub struct Chips {
     registers: Regs,
@@ -80,7 +82,12 @@ pub struct Chips {
     copper: Copper,
     blit: Option<Blit>,
     zero: bool,
-    irq: Irq,
+    pub(crate) irq: Irq,
+    pub(crate) processor: BusCpu,
+    missed: u8,
+    pub(crate) cia_a: Cia,
+    pub(crate) cia_b: Cia,
+    pub(crate) inputs: Inputs,
 }
 
 impl Model for Chips {
@@ -96,15 +103,20 @@ impl Model for Chips {
       blit = c.blit;
       zero = c.zero;
       irq = c.irq;
+      processor = c.processor;
+      missed = c.missed;
+      cia_a = c.cia_a;
+      cia_b = c.cia_b;
+      inputs = c.inputs;
     } };
 }
 
 impl Chips {
     ghost use Rattle.serial_model.specs.State.{reset_chips};
 
-    /// The chips at reset.
-    pub fn reset() -> Chips
-        ensures { IsChipsOf result reset_chips }
+    /// The chips at reset, with the processor started where `cpu` says so.
+    pub fn reset(cpu: bool) -> Chips
+        ensures { IsChipsOf result (reset_chips cpu) }
     {
         Chips {
             registers: Regs::reset(),
@@ -114,6 +126,16 @@ impl Chips {
             blit: None,
             zero: true,
             irq: Irq::reset(),
+            processor: BusCpu::reset(cpu),
+            missed: 0,
+            cia_a: Cia::reset(),
+            cia_b: Cia::reset(),
+            inputs: Inputs {
+                joy0: 0,
+                joy1: 0,
+                fire0: false,
+                fire1: false,
+            },
         }
     }
 
@@ -124,7 +146,8 @@ impl Chips {
         self.registers.word(Reg::masked(BPLCON0)) & LACE == LACE
     }
 
-    /// At a field's first clock the Copper starts at COP1LC, and the interrupt of vertical blanking is requested.
+    /// At a field's first clock the Copper starts at COP1LC, the interrupt of vertical blanking is requested, and CIA
+    /// A's time of day counts; at a line's first clock that of CIA B does.
     pub fn start(&mut self, beam: &Beam)
         ensures { (c : ChipsOf) → IsChipsOf self.old c
             → IsChipsOf self.new (start_chips beam.now c) }
@@ -132,6 +155,45 @@ impl Chips {
         if at_field_start(beam) {
             self.restart(1);
             self.irq.request(VERTB);
+            self.cia_a.count_tod();
+        }
+        if at_line_start(beam) {
+            self.cia_b.count_tod();
+        }
+    }
+
+    /// What an event of the script tells joysticks, fire buttons and the keyboard.
+    pub fn tell(&mut self, act: &Act)
+        ensures { (c : ChipsOf) → IsChipsOf self.old c
+            → IsChipsOf self.new (tell_chips act.now c) }
+    {
+        match act {
+            Act::Poke { .. } | Act::Peek { .. } => {}
+            Act::Joy { port, word } => self.set_joystick(*port, *word),
+            Act::Fire { port, down } => self.set_fire(*port, *down),
+            Act::Key { code } => self.cia_a.key(*code),
+        }
+    }
+
+    /// The word that JOY0DAT or JOY1DAT reads.
+    fn set_joystick(&mut self, port: u8, word: u16)
+        ensures { self.new ≡ record self.old { inputs = with_joy port word self.old.inputs } }
+    {
+        if port == 0 {
+            self.inputs.joy0 = word;
+        } else {
+            self.inputs.joy1 = word;
+        }
+    }
+
+    /// Whether the fire button of a port is down.
+    fn set_fire(&mut self, port: u8, down: bool)
+        ensures { self.new ≡ record self.old { inputs = with_fire port down self.old.inputs } }
+    {
+        if port == 0 {
+            self.inputs.fire0 = down;
+        } else {
+            self.inputs.fire1 = down;
         }
     }
 
@@ -180,7 +242,7 @@ impl Chips {
         }
     }
 
-    /// What a read of a custom register gives, where these collision bits were gathered. There is no joystick yet.
+    /// What a read of a custom register gives, where these collision bits were gathered.
     #[tactic(auto, unfolding(serial_model::specs::State::read_word))]
     pub fn peek(&self, reg: Reg, beam: &Beam, clx: u16) -> u16
         ensures { (c : ChipsOf) → IsChipsOf self.now c
@@ -203,8 +265,8 @@ impl Chips {
             beam: *beam,
             busy: self.blit.is_some(),
             zero: self.is_zero(),
-            joy0: 0,
-            joy1: 0,
+            joy0: self.inputs.joy0,
+            joy1: self.inputs.joy1,
         };
         self.registers.peek(reg, &live)
     }
@@ -220,12 +282,13 @@ impl Chips {
     }
 
     /// The access of this clock: the owner of the slot has its word, and each chip its answer. The answer is what
-    /// the access makes: a write by the Copper or of a sprite's control word, a word for a plane's latch or a
-    /// sprite's image, or nothing. The words for planes and images are not read here.
+    /// the access makes: a write by Copper or processor, or of a sprite's control word, a word that is stored, a word
+    /// for a plane's latch or a sprite's image, a read of CLXDAT, or nothing. The words for planes and images are not
+    /// read here. `clx` has the collision bits gathered up to now.
     #[inline(always)]
-    pub fn access(&mut self, beam: &Beam, chip: &mut Chip) -> Made
+    pub fn access(&mut self, beam: &Beam, clx: u16, chip: &mut Chip) -> Made
         ensures access { (c : ChipsOf) → IsChipsOf self.old c
-            → HasAccessed beam.now c chip.old.words result self.new }
+            → HasAccessed beam.now clx c chip.old.words result self.new }
         ensures able { CanDo result }
         ensures memory { chip.new ≡ record chip.old { reads = chip.new.reads } }
     {
@@ -234,9 +297,10 @@ impl Chips {
             .sprites
             .step(beam, &mut self.registers, plane.is_some());
         let ask = self.ask(beam, plane, sprite);
-        let word = fetch(&ask, chip);
+        let word = self.fetch(&ask, beam, clx, chip);
         let act = self.step_copper(beam, &ask, word);
-        self.answer_blit(&ask, word);
+        self.count_missed(&ask);
+        self.answer_owner(&ask, word);
         made_by(&ask, word, &act)
     }
 
@@ -244,11 +308,17 @@ impl Chips {
     /// worked out only where it has the slot.
     #[tactic(auto, unfolding(crate::specs::Chips::ask_with))]
     fn ask(&self, beam: &Beam, plane: Option<PlaneAsk>, sprite: Option<SpriteAsk>) -> Ask
-        ensures { result
-            ≡ ask_with beam.now plane sprite (kept_wish self.now) (plain_chips self.now) }
+        ensures { result ≡ ask_with beam.now plane sprite (kept_wish self.now)
+            (wish_shown self.now.processor) (plain_chips self.now) }
     {
         let wish = self.copper_wish(beam);
-        if plane.is_none() && sprite.is_none() && wish.is_none() && !self.has_blitter_wish() {
+        let processor = self.processor.wish();
+        if plane.is_none()
+            && sprite.is_none()
+            && wish.is_none()
+            && processor.is_none()
+            && !self.has_blitter_wish()
+        {
             return Ask::Free;
         }
         let slot = SlotState {
@@ -259,8 +329,8 @@ impl Chips {
             sprite: sprite.map(|ask| number(&ask)),
             copper: wish.is_some(),
             blitter: self.has_blitter_wish(),
-            processor: false,
-            missed: 0,
+            processor: processor.is_some(),
+            missed: self.missed,
             nasty: self.is_nasty(),
         };
         match slot_owner(&slot) {
@@ -268,8 +338,54 @@ impl Chips {
             Owner::Sprite { .. } => sprite_ask(sprite),
             Owner::Copper => copper_ask(wish),
             Owner::Blitter => self.blit_ask(),
+            Owner::Processor => processor_ask(processor),
             _ => Ask::Free,
         }
+    }
+
+    /// The word that answers the access of this clock; 0 where nothing is read, or no chip looks at the word.
+    fn fetch(&self, ask: &Ask, beam: &Beam, clx: u16, chip: &mut Chip) -> u16
+        ensures word { IsAnswer ask.now beam.now clx self.now chip.old.words result }
+        ensures reads { chip.new ≡ after_answer ask.now chip.old }
+    {
+        match ask {
+            Ask::Copper { at }
+            | Ask::Audio { at, .. }
+            | Ask::SpriteControl { at, .. }
+            | Ask::BlitRead { at } => chip.read(*at),
+            Ask::Processor { ask } => self.read(ask, beam, clx, chip),
+            Ask::Free
+            | Ask::Disk { .. }
+            | Ask::Plane { .. }
+            | Ask::SpriteWords { .. }
+            | Ask::BlitWrite { .. }
+            | Ask::BlitRest => 0,
+        }
+    }
+
+    /// The word that answers the processor.
+    fn read(&self, ask: &ProcessorAsk, beam: &Beam, clx: u16, chip: &mut Chip) -> u16
+        ensures word { IsRead ask.now beam.now clx self.now chip.old.words result }
+        ensures reads { chip.new ≡ after_read_by ask.now chip.old }
+    {
+        match ask {
+            ProcessorAsk::Read { at } => chip.read(*at),
+            ProcessorAsk::ReadRegister { reg } => self.peek(*reg, beam, clx),
+            ProcessorAsk::Write { .. } | ProcessorAsk::WriteRegister { .. } => 0,
+        }
+    }
+
+    /// The processor asked and another has the slot, once more in a row; or it has the slot, or did not ask.
+    fn count_missed(&mut self, ask: &Ask)
+        ensures { self.new ≡ record self.old {
+          missed = missed_after (wish_shown self.old.processor) ask.now self.old.missed;
+        } }
+    {
+        self.missed = match ask {
+            Ask::Processor { .. } => 0,
+            _ if self.processor.wish().is_none() => 0,
+            _ => self.missed.saturating_add(1).min(3),
+        };
     }
 
     /// Whether the blitter asks for the slot: a blit is under way, and the blitter's DMA is on.
@@ -299,17 +415,25 @@ impl Chips {
         self.registers.word(Reg::masked(DMACON)) & BLITTER_DMA == BLITTER_DMA
     }
 
-    /// The blit under way has the answer of this clock's access, where it is its own.
-    fn answer_blit(&mut self, ask: &Ask, word: u16)
+    /// The blit under way, or the processor, has the answer of this clock's access, where it is its own.
+    fn answer_owner(&mut self, ask: &Ask, word: u16)
         requires { IsBlitAsk ask.now (kept_wish self.old) }
-        ensures { AnswersBlit ask.now word self.old self.new }
+        ensures { AnswersOwner ask.now word self.old self.new }
     {
         match ask {
             Ask::BlitRead { .. } => self.give_blit(word),
             Ask::BlitWrite { .. } => self.give_blit(word),
             Ask::BlitRest => self.give_blit(word),
+            Ask::Processor { .. } => self.give_processor(word),
             _ => {}
         }
+    }
+
+    /// The processor has the answer of its slot.
+    fn give_processor(&mut self, word: u16)
+        ensures { GivesProcessor word self.old self.new }
+    {
+        self.processor.give(word);
     }
 
     /// The Copper's step of this clock.
@@ -396,152 +520,5 @@ impl Chips {
         ensures { result ≡ blitter_first self.now.registers }
     {
         self.registers.word(Reg::masked(DMACON)) & BLTPRI == BLTPRI
-    }
-}
-
-/// The sprite that asks.
-fn number(ask: &SpriteAsk) -> u8
-    ensures { result ≡ asking_sprite ask.now }
-{
-    match ask {
-        SpriteAsk::Control { sprite, .. } | SpriteAsk::Words { sprite, .. } => *sprite,
-    }
-}
-
-/// The ask of a plane, of a sprite, of a blit, and of the Copper.
-fn plane_ask(wish: Option<PlaneAsk>) -> Ask
-    ensures { result ≡ plane_owner_ask wish }
-{
-    match wish {
-        Some(ask) => Ask::Plane {
-            plane: ask.plane,
-            at: ask.at,
-        },
-        None => Ask::Free,
-    }
-}
-
-fn sprite_ask(wish: Option<SpriteAsk>) -> Ask
-    ensures { result ≡ sprite_owner_ask wish }
-{
-    match wish {
-        Some(SpriteAsk::Control { sprite, second, at }) => Ask::SpriteControl {
-            sprite,
-            second,
-            at,
-        },
-        Some(SpriteAsk::Words { sprite, second, at }) => Ask::SpriteWords { sprite, second, at },
-        None => Ask::Free,
-    }
-}
-
-fn slot_ask(slot: SlotAsk) -> Ask
-    ensures { result ≡ blit_owner_ask (Some slot) }
-{
-    match slot {
-        SlotAsk::Read { at } => Ask::BlitRead { at },
-        SlotAsk::Write { at, word } => Ask::BlitWrite { at, word },
-        SlotAsk::Rest => Ask::BlitRest,
-        SlotAsk::Done => Ask::Free,
-    }
-}
-
-fn copper_ask(wish: Option<Addr>) -> Ask
-    ensures { result ≡ copper_ask_of wish }
-{
-    match wish {
-        Some(at) => Ask::Copper { at },
-        None => Ask::Free,
-    }
-}
-
-/// The word that answers the access of this clock; 0 where nothing is read, or no chip looks at the word.
-fn fetch(ask: &Ask, chip: &mut Chip) -> u16
-    ensures word { IsAnswer ask.now chip.old.words result }
-    ensures reads { chip.new ≡ after_answer ask.now chip.old }
-{
-    match ask {
-        Ask::Copper { at }
-        | Ask::Audio { at, .. }
-        | Ask::SpriteControl { at, .. }
-        | Ask::BlitRead { at } => chip.read(*at),
-        Ask::Free
-        | Ask::Disk { .. }
-        | Ask::Plane { .. }
-        | Ask::SpriteWords { .. }
-        | Ask::BlitWrite { .. }
-        | Ask::BlitRest => 0,
-    }
-}
-
-/// What the access makes, with the word that answers it, where the Copper's step makes this.
-fn made_by(ask: &Ask, word: u16, act: &CopperAct) -> Made
-    ensures { result ≡ made_with ask.now word act.now }
-{
-    match ask {
-        Ask::Plane { plane, at } => Made::Plane {
-            plane: *plane,
-            at: *at,
-        },
-        Ask::SpriteControl { sprite, second, .. } => Made::Wrote {
-            reg: control_register(*sprite, *second),
-            word,
-            by: None,
-        },
-        Ask::SpriteWords { sprite, second, at } => Made::Sprite {
-            sprite: *sprite,
-            second: *second,
-            at: *at,
-        },
-        Ask::BlitWrite { at, word } => Made::Stored {
-            at: *at,
-            half: Half::Both,
-            word: *word,
-        },
-        Ask::Free
-        | Ask::Disk { .. }
-        | Ask::Audio { .. }
-        | Ask::Copper { .. }
-        | Ask::BlitRead { .. }
-        | Ask::BlitRest => made_by_copper(act),
-    }
-}
-
-/// What a step of the Copper makes: a MOVE is a write.
-fn made_by_copper(act: &CopperAct) -> Made
-    ensures { result ≡ made_by_copper_of act.now }
-{
-    match act {
-        CopperAct::Move { reg, word } => Made::Wrote {
-            reg: *reg,
-            word: *word,
-            by: Some(Source::Copper),
-        },
-        CopperAct::None => Made::Nothing,
-    }
-}
-
-/// SPRxPOS or, `second`, SPRxCTL of a sprite.
-fn control_register(sprite: u8, second: bool) -> Reg
-    ensures { result ≡ control_register_of sprite second }
-{
-    Reg::masked(SPR0POS + 8 * sprite as u16 + if second { 2 } else { 0 })
-}
-
-/// The word that the Copper gets: that of its own ask alone.
-fn copper_word(ask: &Ask, word: u16) -> Option<u16>
-    ensures { result ≡ word_to_copper ask.now word }
-{
-    match ask {
-        Ask::Copper { .. } => Some(word),
-        Ask::Free
-        | Ask::Disk { .. }
-        | Ask::Audio { .. }
-        | Ask::Plane { .. }
-        | Ask::SpriteControl { .. }
-        | Ask::SpriteWords { .. }
-        | Ask::BlitRead { .. }
-        | Ask::BlitWrite { .. }
-        | Ask::BlitRest => None,
     }
 }

@@ -1,17 +1,14 @@
 //! Why a run did not come to its end.
 
-use crate::foreground::TickFault;
 use ocs_base::OutOfMemory;
 use out_files::{OutFile, WriteFault};
 use script_read::BadKind;
 
-/// Why a run stopped: a file could not be written, memory was wanting, or the run came to a colour
-/// clock that does something which is not built.
+/// Why a run stopped: a file could not be written, or memory was wanting.
 #[derive(Clone, Copy, PartialEq, Eq, Debug)]
 pub enum RunFault {
     Write { file: OutFile },
     OutOfMemory,
-    NotBuilt,
 }
 
 impl From<WriteFault> for RunFault {
@@ -24,20 +21,6 @@ impl From<WriteFault> for RunFault {
         match fault {
             WriteFault::Failed { file } => RunFault::Write { file },
             WriteFault::OutOfMemory => RunFault::OutOfMemory,
-        }
-    }
-}
-
-impl From<TickFault> for RunFault {
-    ghost use Rattle.std.specs.Prelude.{◌≡◌};
-    ghost use Rattle.ocs_run.specs.Fault.{of_tick};
-
-    ghost from_gives = { λ from fault. fault ≡ of_tick from };
-
-    fn from(fault: TickFault) -> RunFault {
-        match fault {
-            TickFault::OutOfMemory => RunFault::OutOfMemory,
-            TickFault::NotBuilt => RunFault::NotBuilt,
         }
     }
 }
@@ -61,8 +44,8 @@ pub enum Input {
 }
 
 /// Why a command did not do what it was asked: the words are not of the form, an input file could not
-/// be read, the image or the script is bad, what the script or the run needs is not built, a file could
-/// not be written, or memory was wanting.
+/// be read, the image or the script is bad, a file could not be written, the summary of a scene could not
+/// be said, or memory was wanting.
 #[derive(Clone, Copy, Debug)]
 pub enum Fault {
     Usage,
@@ -70,8 +53,19 @@ pub enum Fault {
     BadScript { line: u32, kind: BadKind },
     Unread { input: Input },
     Unwritten { file: OutFile },
+    Unsaid,
     OutOfMemory,
-    NotBuilt,
+}
+
+impl From<OutOfMemory> for Fault {
+    ghost use Rattle.std.specs.Prelude.{◌≡◌};
+    ghost use Rattle.ocs_run.specs.declared.fault.Fault.{Fault};
+
+    ghost from_gives = { λ refused fault. fault ≡ Fault.OutOfMemory };
+
+    fn from(_refused: OutOfMemory) -> Fault {
+        Fault::OutOfMemory
+    }
 }
 
 impl From<RunFault> for Fault {
@@ -84,7 +78,6 @@ impl From<RunFault> for Fault {
         match fault {
             RunFault::Write { file } => Fault::Unwritten { file },
             RunFault::OutOfMemory => Fault::OutOfMemory,
-            RunFault::NotBuilt => Fault::NotBuilt,
         }
     }
 }
@@ -102,9 +95,8 @@ impl Fault {
             Fault::BadImage => 3,
             Fault::BadScript { .. } => 4,
             Fault::Unread { .. } => 5,
-            Fault::Unwritten { .. } => 6,
+            Fault::Unwritten { .. } | Fault::Unsaid => 6,
             Fault::OutOfMemory => 7,
-            Fault::NotBuilt => 8,
         }
     }
 }

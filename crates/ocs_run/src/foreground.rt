@@ -7,11 +7,11 @@ ghost use Rattle.serial_model.specs.declared.bus.SideAsk.{SideAsk};
 ghost use Rattle.serial_model.specs.Beam.{IsOnScreen, place_of, next_place};
 ghost use Rattle.serial_model.specs.Registers.{is_interlaced};
 ghost use Rattle.serial_model.specs.Picture.{sprite_data};
-ghost use Rattle.serial_model.specs.Events.{is_due as due_at, made_by_act};
+ghost use Rattle.serial_model.specs.Events.{is_due as due_at, made_by_act, do_event};
 ghost use Rattle.serial_model.specs.Tick.{start_clock, run_script as run_script_of, count_timers as count_timers_of};
 ghost use Rattle.serial_model.specs.Tick.{show_pixels, make_access, run_processor, advance_beam, tick as tick_of};
 ghost use Rattle.ocs_run.specs.Chips.{CanDo};
-ghost use Rattle.ocs_run.specs.Steps.{Makes, KeepsPlace, WritesRegister, Does, Accesses, IsLeft, HasLater, Meets, StopsAt, HasNext};
+ghost use Rattle.ocs_run.specs.Steps.{Makes, KeepsPlace, WritesRegister, Does, IsLeft, HasLater, HasNext};
 ghost use Rattle.ocs_io.specs.Place.{Rose, OnlyWrites, KeepsNames};
 ghost use Rattle.out_files.specs.OutFiles.{all_given};
 ghost use Rattle.out_files.specs.Answers.{NamesFile, AreGrowable};
@@ -20,7 +20,7 @@ ghost use Rattle.ocs_run.specs.Underway.{IsReset, Flushes, ForgetsWrites, HasNot
 
 use crate::chips::Chips;
 use mem_versions::Chip;
-use ocs_base::{Act, Addr, At, Beam, Clock, OutOfMemory, Reg, System};
+use ocs_base::{Act, Addr, At, Beam, Clock, OutOfMemory, Reg, Script, System};
 use ocs_io::Place;
 use out_files::{OutFiles, WriteFault};
 use painter::Painter;
@@ -37,23 +37,6 @@ const LATCHES: u16 = 0x10e;
 /// SPRxDATA of sprite 0; each sprite has eight bytes of registers.
 const SPR0DATA: u16 = 0x144;
 
-/// Why a colour clock was not done: want of memory, or an access that is not built.
-#[derive(Clone, Copy, PartialEq, Eq, Debug)]
-pub enum TickFault {
-    OutOfMemory,
-    NotBuilt,
-}
-
-impl From<OutOfMemory> for TickFault {
-    ghost use Rattle.ocs_run.specs.declared.foreground.TickFault.{TickFault};
-
-    ghost from_gives = { λ refused fault. fault ≡ TickFault.OutOfMemory };
-
-    fn from(_refused: OutOfMemory) -> TickFault {
-        TickFault::OutOfMemory
-    }
-}
-
 /// The working state of the clock loop. `clx` has the collision bits gathered since CLXDAT was last read.
 #[derive(Drop)]
 pub struct Foreground {
@@ -67,17 +50,23 @@ pub struct Foreground {
 }
 
 impl Foreground {
-    /// The working state at reset, over output files with nothing pending.
-    pub fn new(alloc: Global, image: &[u8], out: OutFiles) -> Result<Foreground, OutOfMemory>
+    /// The working state at reset, over output files with nothing pending; the script says whether the
+    /// processor is started.
+    pub fn new(
+        alloc: Global,
+        image: &[u8],
+        script: &Script,
+        out: OutFiles,
+    ) -> Result<Foreground, OutOfMemory>
         requires { is_image image.now ≡ true }
-        ensures { IfOk result (IsReset image.now out) }
+        ensures { IfOk result (IsReset image.now script.now.cpu out) }
     {
         let chip = Chip::new(alloc, image)?;
         Ok(Foreground {
             t: 0,
             beam: beam::start(),
             chip,
-            chips: Chips::reset(),
+            chips: Chips::reset(script.cpu()),
             picture: Painter::reset(),
             clx: 0,
             out,
@@ -137,8 +126,8 @@ impl Foreground {
         self.out.flush(place)
     }
 
-    /// First step: at a field's first clock the Copper starts, and at a line's first clock the picture forgets the
-    /// line before.
+    /// First step: at a field's first clock the Copper starts, at a line's first clock the picture forgets the line
+    /// before, and the CIAs' times of day count.
     pub fn start(&mut self)
         ensures step { Makes start_clock self.old self.new }
         ensures place { KeepsPlace self.old self.new }
@@ -169,13 +158,17 @@ impl Foreground {
         Ok(left)
     }
 
-    /// What an event does: a poke is a write to a register, a peek a read of one, and the trace tells both.
+    /// What an event does: a poke is a write to a register, a peek a read of one, and the trace tells both; the others
+    /// tell the chips.
     fn act(&mut self, act: &Act) -> Result<(), OutOfMemory>
         requires clock { self.old.beam.h ≤ 226 }
         requires time { self.old.chip.newest ≤ self.old.t }
-        ensures { OnOk result (Does (made_by_act act.now) self.old self.new) }
+        ensures step { OnOk result (Makes (do_event act.now) self.old self.new) }
+        ensures place { OnOk result (KeepsPlace self.old self.new) }
     {
-        self.carry_out(&made_by(act))
+        self.chips.tell(act);
+        self.carry_out(&made_by(act))?;
+        Ok(())
     }
 
     /// What an access or an event makes is done.
@@ -192,7 +185,7 @@ impl Foreground {
             Made::Read { reg, by } => self.read(*reg, *by)?,
             Made::Plane { plane, at } => self.fill_latch(*plane, *at),
             Made::Sprite { sprite, second, at } => self.fill_sprite(*sprite, *second, *at),
-            Made::Stored { at, word, .. } => self.store(*at, *word)?,
+            Made::Stored { at, half, word } => self.store(*at, *half, *word)?,
             Made::Nothing => {}
         }
         Ok(())
@@ -257,12 +250,18 @@ impl Foreground {
         Ok(())
     }
 
-    /// A word is stored in memory.
-    fn store(&mut self, at: Addr, word: u16) -> Result<(), OutOfMemory>
+    /// A word, or its low byte as one half of a word, is stored in memory.
+    fn store(&mut self, at: Addr, half: Half, word: u16) -> Result<(), OutOfMemory>
         requires { self.old.chip.newest ≤ self.old.t }
-        ensures { OnOk result (Does (M.Stored at Half.Both word) self.old self.new) }
+        ensures { OnOk result (Does (M.Stored at half word) self.old self.new) }
     {
-        self.chip.write(Clock(self.t), at, word)?;
+        let now = Clock(self.t);
+        let byte = (word % 256) as u8;
+        match half {
+            Half::Both => self.chip.write(now, at, word)?,
+            Half::High => self.chip.write_half(now, at, true, byte)?,
+            Half::Low => self.chip.write_half(now, at, false, byte)?,
+        }
         Ok(())
     }
 
@@ -288,11 +287,13 @@ impl Foreground {
         self.picture.set(self.beam.h, data, word);
     }
 
-    /// Third step: the timers of the CIAs, which are not built yet.
+    /// Third step: the timers of the CIAs tick at each fifth clock, and the CIAs request their interrupts.
     pub fn count_timers(&mut self)
         ensures step { Makes (count_timers_of 0) self.old self.new }
         ensures place { KeepsPlace self.old self.new }
-    {}
+    {
+        self.chips.count_timers(self.t);
+    }
 
     /// Fourth step: Denise shows the pixels of this clock and gathers their collisions.
     pub fn show(&mut self) -> Result<(), OutOfMemory>
@@ -308,26 +309,31 @@ impl Foreground {
     }
 
     /// Fifth step: the owner of the slot makes its access, the chips have their answers, and what the access
-    /// makes is done. `NotBuilt` comes exactly where that is not built, and then the output is as it was.
-    pub fn access(&mut self) -> Result<(), TickFault>
+    /// makes is done.
+    pub fn access(&mut self) -> Result<(), OutOfMemory>
         requires screen { IsOnScreen self.old.beam }
         requires time { self.old.chip.newest ≤ self.old.t }
         ensures step { OnOk result (Makes (make_access SideAsk.Nothing) self.old self.new) }
         ensures place { OnOk result (KeepsPlace self.old self.new) }
-        ensures built { OnOk result (Accesses false self.old) }
-        ensures unbuilt { result ≡ Err TickFault.NotBuilt → Accesses true self.old }
-        ensures kept { result ≡ Err TickFault.NotBuilt → self.new.out ≡ self.old.out }
     {
-        let made = self.chips.access(&self.beam, &mut self.chip);
+        let made = self.chips.access(&self.beam, self.clx, &mut self.chip);
         self.carry_out(&made)?;
         Ok(())
     }
 
-    /// Sixth step: the processor's part that needs no slot; the processor is not built yet.
-    pub fn process(&mut self)
-        ensures step { Makes run_processor self.old self.new }
-        ensures place { KeepsPlace self.old self.new }
-    {}
+    /// Sixth step: the processor's part that needs no slot. An interrupt that begins with it is traced.
+    pub fn process(&mut self) -> Result<(), OutOfMemory>
+        ensures step { OnOk result (Makes run_processor self.old self.new) }
+        ensures place { OnOk result (KeepsPlace self.old self.new) }
+    {
+        if let Some(level) = self.chips.process() {
+            self.out.line(TraceLine::Taken {
+                beam: self.beam,
+                level,
+            })?;
+        }
+        Ok(())
+    }
 
     /// Seventh step: the beam advances.
     pub fn advance(&mut self)
@@ -346,17 +352,14 @@ impl Foreground {
     }
 
     /// One colour clock: the seven steps in their order. `events` are those that are left, and the
-    /// answer is what is left afterwards. `NotBuilt` comes exactly where what the access makes is not built, and then
-    /// all before it in this clock was done and given to the output.
-    pub fn tick<'a>(&mut self, events: &'a [At]) -> Result<&'a [At], TickFault>
+    /// answer is what is left afterwards.
+    pub fn tick<'a>(&mut self, events: &'a [At]) -> Result<&'a [At], OutOfMemory>
         requires screen { IsOnScreen self.old.beam }
         requires queue { IsLeft (place_of self.old.beam) events.now }
         requires frame { self.old.beam.frame + 1 < 2 ^ 32 }
         requires count { self.old.t + 1 < 2 ^ 64 }
         requires time { self.old.chip.newest ≤ self.old.t }
         ensures step { OnOk result (Makes (tick_of System.Pal events.now) self.old self.new) }
-        ensures built { OnOk result (Meets false events.now self.old) }
-        ensures unbuilt { result ≡ Err TickFault.NotBuilt → StopsAt events.now self.old self.new }
         ensures next { IfOk result (λ left. HasNext events.now left.now self.old self.new) }
     {
         self.start();
@@ -364,7 +367,7 @@ impl Foreground {
         self.count_timers();
         self.show()?;
         self.access()?;
-        self.process();
+        self.process()?;
         self.advance();
         Ok(left)
     }

@@ -120,7 +120,7 @@ fn is_new(name: &str, others: &[&str]) -> bool
 }
 
 /// The number of lines of a band.
-fn read_band(text: &str) -> Option<u64>
+pub fn read_band(text: &str) -> Option<u64>
     ensures { result ≡ band_of text.now }
 {
     let band = dec(text.as_bytes())?;
@@ -132,7 +132,7 @@ fn read_band(text: &str) -> Option<u64>
 }
 
 /// The number of workers.
-fn read_workers(text: &str) -> Option<u64>
+pub fn read_workers(text: &str) -> Option<u64>
     ensures { result ≡ workers_of text.now }
 {
     let workers = dec(text.as_bytes())?;

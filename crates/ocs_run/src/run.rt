@@ -1,6 +1,6 @@
 //! A run: the clocks from reset to the last of the script's frames, and the files.
 
-ghost use Rattle.std.specs.Prelude.{◌≡◌, ◌≤◌, true, Err, OnOk, OnErr, IfErr};
+ghost use Rattle.std.specs.Prelude.{◌≡◌, ◌≤◌, true, OnOk, OnErr, IfErr};
 ghost use Rattle.ocs_io.specs.Place.{Rose, OnlyWrites, KeepsNames};
 ghost use Rattle.ocs_base.specs.Image.{is_image};
 ghost use Rattle.ocs_base.specs.Limits.{IsRunnable};
@@ -8,8 +8,9 @@ ghost use Rattle.out_files.specs.Answers.{AreGrowable, NamesFile};
 ghost use Rattle.out_files.specs.Together.{Completes, LeavesParts};
 ghost use Rattle.serial_model.specs.MemoryText.{memory_text};
 ghost use Rattle.ocs_run.specs.Fault.{IsWrite};
-ghost use Rattle.ocs_run.specs.Run.{HasFiles, LeavesAfter};
-ghost use Rattle.ocs_run.specs.Underway.{IsInStep, Runs, IsStoppedBy, LeavesRun, IsFresh, Finishes, StopsFinish};
+ghost use Rattle.ocs_run.specs.Prefix.{LeavesPrefixes};
+ghost use Rattle.ocs_run.specs.Run.{HasFiles};
+ghost use Rattle.ocs_run.specs.Underway.{IsInStep, Runs, IsStopped, IsFresh, Finishes, StopsFinish};
 
 use crate::fault::RunFault;
 use crate::foreground::Foreground;
@@ -31,9 +32,8 @@ fn run_clocks<P: Place>(
         (P.outside place.new).files) }
     ensures ended { OnOk result (fore.new.beam.frame ≡ script.now.frames) }
     ensures out { OnOk result (fore.new.out.names ≡ fore.old.out.names) }
-    ensures stopped { IfErr result (λ fault. IsStoppedBy fault script.now fore.old fore.new
-        (P.outside place.old).files (P.outside place.new).files) }
-    ensures named { result ≡ Err RunFault.NotBuilt → fore.new.out.names ≡ fore.old.out.names }
+    ensures stopped { OnErr result (IsStopped script.now fore.old (P.outside place.old).files
+        (P.outside place.new).files) }
     ensures kept { OnlyWrites (P.outside place.old) (P.outside place.new) }
     ensures cause { IfErr result (λ fault. IsWrite fault
         → Rose (P.outside place.old).write_faults (P.outside place.new).write_faults) }
@@ -46,39 +46,6 @@ fn run_clocks<P: Place>(
         fore.flush_lines(place)?;
     }
     Ok(())
-}
-
-/// Runs the clocks; where they come to one that is not built, what is pending is appended, so that the
-/// files end at the place where the run stopped.
-fn run_to_the_end<P: Place>(
-    fore: &mut Foreground,
-    script: &Script,
-    place: &mut P,
-) -> Result<(), RunFault>
-    requires growable { AreGrowable (P.growable place.old) fore.old.out.names }
-    requires step { IsInStep script.now script.now.events fore.old }
-    requires frames { script.now.frames ≤ 1000 }
-    ensures runs { OnOk result (Runs script.now fore.old fore.new
-        (P.outside place.old).files (P.outside place.new).files) }
-    ensures ended { OnOk result (fore.new.beam.frame ≡ script.now.frames) }
-    ensures out { OnOk result (fore.new.out.names ≡ fore.old.out.names) }
-    ensures stopped { IfErr result (λ fault. LeavesRun fault script.now fore.old
-        (P.outside place.old).files (P.outside place.new).files) }
-    ensures kept { OnlyWrites (P.outside place.old) (P.outside place.new) }
-    ensures cause { IfErr result (λ fault. IsWrite fault
-        → Rose (P.outside place.old).write_faults (P.outside place.new).write_faults) }
-    ensures names { KeepsNames (P.readable place.old) (P.growable place.old)
-        (P.readable place.new) (P.growable place.new) }
-{
-    match run_clocks(fore, script, place) {
-        Ok(()) => Ok(()),
-        Err(RunFault::Write { file }) => Err(RunFault::Write { file }),
-        Err(RunFault::OutOfMemory) => Err(RunFault::OutOfMemory),
-        Err(RunFault::NotBuilt) => {
-            fore.flush(place)?;
-            Err(RunFault::NotBuilt)
-        }
-    }
 }
 
 /// Runs the script over the image and writes the three files, which it creates once the machine is
@@ -96,15 +63,15 @@ pub fn run_files<P: Place>(
     requires fresh { IsFresh out }
     ensures done { OnOk result (HasFiles image.now script.now out.names (P.outside place.old).files
         (P.outside place.new).files) }
-    ensures stopped { IfErr result (λ fault. LeavesAfter fault image.now script.now out.names
+    ensures stopped { OnErr result (LeavesPrefixes image.now script.now out.names
         (P.outside place.old).files (P.outside place.new).files) }
     ensures kept { OnlyWrites (P.outside place.old) (P.outside place.new) }
     ensures cause { IfErr result (λ fault. IsWrite fault
         → Rose (P.outside place.old).write_faults (P.outside place.new).write_faults) }
 {
-    let mut fore = Foreground::new(alloc, image, out)?;
+    let mut fore = Foreground::new(alloc, image, script, out)?;
     fore.out.create(place)?;
-    run_to_the_end(&mut fore, script, place)?;
+    run_clocks(&mut fore, script, place)?;
     finish(&mut fore, place)
 }
 
@@ -113,7 +80,7 @@ fn finish<P: Place>(fore: &mut Foreground, place: &mut P) -> Result<(), RunFault
     requires { AreGrowable (P.growable place.old) fore.old.out.names }
     ensures done { OnOk result (Finishes fore.old (P.outside place.old).files
         (P.outside place.new).files) }
-    ensures stopped { IfErr result (λ fault. StopsFinish fault fore.old (P.outside place.old).files
+    ensures stopped { OnErr result (StopsFinish fore.old (P.outside place.old).files
         (P.outside place.new).files) }
     ensures kept { OnlyWrites (P.outside place.old) (P.outside place.new) }
     ensures cause { IfErr result (λ fault. IsWrite fault

@@ -7,7 +7,10 @@ use std::alloc::Global;
 
 mod blit_runs;
 mod cases;
+mod instruction_runs;
 mod pictures;
+mod processor_runs;
+mod scene_runs;
 mod sprite_runs;
 
 const IMAGE: [u8; 8] = [0; 8];
@@ -269,18 +272,22 @@ fn peeks_of_beam_and_field(rt: HostRuntime) -> Result<(), OutOfMemory> {
     Ok(())
 }
 
+/// The processor runs through memory that is zero, and changes nothing; an input changes nothing that is shown.
 #[test]
-fn scripts_that_are_not_built(rt: HostRuntime) -> Result<(), OutOfMemory> {
+fn scripts_of_the_processor_and_of_inputs(rt: HostRuntime) -> Result<(), OutOfMemory> {
     let alloc = rt.alloc();
-    for events in [
-        "at 0 0 0 joy 0 0001\n",
-        "at 0 0 0 fire 0 1\n",
-        "at 0 0 0 key 45\n",
+    let black = picture(alloc, &[(205_920, BLACK)])?;
+    for text in [
+        "ocs 1\ncpu on\nframes 1\nend\n",
+        "ocs 1\ncpu off\nframes 1\nat 0 0 0 joy 0 0001\nend\n",
+        "ocs 1\ncpu off\nframes 1\nat 0 0 0 fire 0 1\nend\n",
+        "ocs 1\ncpu off\nframes 1\nat 0 0 0 key 45\nend\n",
     ] {
-        let mut shelf = shelf(alloc, &IMAGE, script(alloc, events)?.as_bytes())?;
-        assert_eq!(rt; run(alloc, &WORDS, &mut shelf)?, 8, "{events}");
-        assert!(rt; shelf.said() == b"not built\n".as_slice(), "{events}");
-        assert!(rt; shelf.file("frames").is_none(), "created for {events}");
+        let mut shelf = shelf(alloc, &IMAGE, text.as_bytes())?;
+        assert_eq!(rt; run(alloc, &WORDS, &mut shelf)?, 0, "{text}");
+        assert!(rt; shelf.said().is_empty(), "{text}");
+        assert!(rt; holds(&shelf, "frames", &black), "frames of {text}");
+        assert!(rt; holds(&shelf, "trace", &[]), "trace of {text}");
     }
     Ok(())
 }
@@ -304,7 +311,6 @@ fn answers_and_their_texts(rt: HostRuntime) -> Result<(), OutOfMemory> {
         (&IMAGE, HEAD, 4, "bad script: line 4: missing\n"),
         (&IMAGE, "", 4, "bad script: line 1: missing\n"),
         (&IMAGE, falling.as_str(), 4, "bad script: line 5: order\n"),
-        (&IMAGE, "ocs 1\ncpu on\nframes 1\nend\n", 8, "not built\n"),
     ] {
         let mut shelf = shelf(alloc, image, text.as_bytes())?;
         assert_eq!(rt; run(alloc, &WORDS, &mut shelf)?, status, "{said}");

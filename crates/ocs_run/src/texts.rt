@@ -3,11 +3,12 @@
 ghost use Rattle.std.specs.Prelude.{◌≡◌, ◌++◌, map, string_bytes, OnOk, codes, decimal};
 ghost use Rattle.ocs_io.specs.Place.{OnlySays};
 ghost use Rattle.ocs_run.specs.Order.{order_of};
-ghost use Rattle.ocs_run.specs.Texts.{text_of, Says, order_or_none, input_name as name_of_input, file_name as name_of_file};
+ghost use Rattle.ocs_run.specs.Texts.{text_of, Says, usage_text, order_or_none, input_name as name_of_input, file_name as name_of_file};
 ghost use Rattle.script_read.specs.KindName.{kind_name};
 
 use crate::fault::{Fault, Input};
 use crate::order::read_order;
+use crate::words::is_gen;
 use ocs_base::OutOfMemory;
 use ocs_io::{Place, put_dec};
 use out_files::OutFile;
@@ -18,18 +19,15 @@ use std::alloc::Global;
 /// A refusal to say a text, or want of memory for one that is made, changes nothing else.
 #[tactic(auto, unfolding(crate::specs::Texts::fault_text))]
 pub fn say_fault<P: Place>(alloc: Global, words: &[String], fault: Fault, place: &mut P)
-    ensures says { Says (text_of (order_of (map string_bytes words.now)) fault)
+    ensures says { Says (text_of (map string_bytes words.now) fault)
         (P.outside place.old) (P.outside place.new) }
     ensures kept { OnlySays (P.outside place.old) (P.outside place.new) }
 {
     match fault {
-        Fault::Usage => say(
-            "usage: ocs run IMAGE SCRIPT FRAMES TRACE MEMORY BAND WORKERS\n",
-            place,
-        ),
+        Fault::Usage => say(usage(words), place),
         Fault::BadImage => say("bad image\n", place),
+        Fault::Unsaid => {}
         Fault::OutOfMemory => say("out of memory\n", place),
-        Fault::NotBuilt => say("not built\n", place),
         Fault::BadScript { .. } | Fault::Unread { .. } | Fault::Unwritten { .. } => {
             say_made(alloc, words, fault, place)
         }
@@ -46,7 +44,7 @@ fn say<P: Place>(text: &str, place: &mut P)
 
 /// Says the text of a fault, which is made first, in one piece.
 fn say_made<P: Place>(alloc: Global, words: &[String], fault: Fault, place: &mut P)
-    ensures says { Says (text_of (order_of (map string_bytes words.now)) fault)
+    ensures says { Says (text_of (map string_bytes words.now) fault)
         (P.outside place.old) (P.outside place.new) }
     ensures kept { OnlySays (P.outside place.old) (P.outside place.new) }
 {
@@ -60,19 +58,28 @@ fn say_made<P: Place>(alloc: Global, words: &[String], fault: Fault, place: &mut
 #[tactic(auto, unfolding(crate::specs::Texts::fault_text))]
 fn put_text(words: &[String], fault: Fault, text: &mut Vec<u8>) -> Result<(), OutOfMemory>
     ensures { OnOk result (text.new.items ≡ text.old.items
-        ++ text_of (order_of (map string_bytes words.now)) fault) }
+        ++ text_of (map string_bytes words.now) fault) }
 {
     match fault {
-        Fault::Usage => put(
-            text,
-            "usage: ocs run IMAGE SCRIPT FRAMES TRACE MEMORY BAND WORKERS\n",
-        ),
+        Fault::Usage => put(text, usage(words)),
         Fault::BadImage => put(text, "bad image\n"),
         Fault::BadScript { line, kind } => put_bad_line(text, line, kind),
         Fault::Unread { input } => put_named(text, "cannot read ", input_name(words, input)),
         Fault::Unwritten { file } => put_named(text, "cannot write ", file_name(words, file)),
+        Fault::Unsaid => Ok(()),
         Fault::OutOfMemory => put(text, "out of memory\n"),
-        Fault::NotBuilt => put(text, "not built\n"),
+    }
+}
+
+/// The form of the words, by the first of them.
+#[tactic(auto, unfolding(crate::specs::Texts::usage_text))]
+fn usage(words: &[String]) -> &'static str
+    ensures { result.now ≡ usage_text (map string_bytes words.now) }
+{
+    if is_gen(words) {
+        "usage: ocs gen N BAND WORKERS\n"
+    } else {
+        "usage: ocs run IMAGE SCRIPT FRAMES TRACE MEMORY BAND WORKERS\n"
     }
 }
 

@@ -3,16 +3,17 @@
 ghost use Rattle.std.specs.Prelude.{◌≡◌, ◌⊎◌, ◌↔◌, map, string_bytes, None};
 ghost use Rattle.ocs_io.specs.Answers.{WhereTold};
 ghost use Rattle.ocs_io.specs.Place.{Rose};
-ghost use Rattle.ocs_run.specs.Order.{order_of};
-ghost use Rattle.ocs_run.specs.Verdict.{of_order};
-ghost use Rattle.ocs_run.specs.Command.{IsDone, IsUnwritten, IsWanting, IsUnbuilt, KeepsSaid};
-ghost use Rattle.ocs_run.specs.Top.{ReadableInputs, CommandAnswers, SaysStatus, IsEarly, HasBadImage, HasBadScript, Completed, HasRunEnd};
+ghost use Rattle.ocs_run.specs.Words.{command_of};
+ghost use Rattle.ocs_run.specs.Verdict.{of_command};
+ghost use Rattle.ocs_run.specs.Command.{IsDone, IsUnwritten, IsWanting};
+ghost use Rattle.ocs_run.specs.Top.{ReadableInputs, CommandAnswers, SaysNothingElse, SaysStatus, IsEarly, IsScene, IsRefused, HasBadImage, HasBadScript, Completed, HasRunEnd};
 
 use crate::command::run_order;
 use crate::fault::Fault;
 use crate::gate::Gate;
-use crate::order::read_order;
+use crate::scene::run_scene;
 use crate::texts::say_fault;
+use crate::words::{Command, read_command};
 use ocs_io::Place;
 use std::alloc::Global;
 
@@ -20,54 +21,64 @@ use std::alloc::Global;
 ///
 /// `run IMAGE SCRIPT FRAMES TRACE MEMORY BAND WORKERS` runs the script over the image and writes the
 /// three files: 0 done; 2 the words are not of this form; 3 the image is bad; 4 the script is bad; 5 an
-/// input could not be read; 6 a file could not be written; 7 memory was wanting; 8 the script or the run
-/// needs what is not built yet. Each status but 0 says its text. BAND and WORKERS are read and have no
-/// effect yet; `gate` is not called yet.
+/// input could not be read; 6 a file could not be written; 7 memory was wanting. Each status but 0 says
+/// its text.
+///
+/// `gen N BAND WORKERS` runs the scene of the number N on files of its own, and says four lines in one
+/// piece: the number of frames, the sum of the frames file's bytes, the number of lines of the trace, and
+/// the sum of the memory file's bytes. 0 done; 2 the words are not of this form; 6 the lines could not be
+/// said, and no other text is; 7 memory was wanting.
+///
+/// BAND and WORKERS are read and have no effect yet; `gate` is not called yet.
 pub fn ocs_main<P: Place, G: Gate + Drop + Send + Sync + 'static>(
     alloc: Global,
     words: &[String],
     place: &mut P,
     gate: G,
 ) -> u8
-    requires { ReadableInputs (P.readable place.old) (order_of (map string_bytes words.now)) }
+    requires { ReadableInputs (P.readable place.old) (command_of (map string_bytes words.now)) }
 
-    // Done: the three files are the texts of the serial run, whole, and every other file is as before.
+    // Done: the three files of a run are the texts of the serial run, whole, and every other file is as
+    // before.
     ensures done { result ≡ 0 → WhereTold (P.outside place.old).files
-        (λ files. IsDone (of_order (order_of (map string_bytes words.now)) files) files
+        (λ files. IsDone (of_command (command_of (map string_bytes words.now)) files) files
         (P.outside place.new).files) }
 
     // Each other answer and its cause.
-    ensures usage { (result ≡ 2) ↔ (order_of (map string_bytes words.now) ≡ None) }
+    ensures usage { (result ≡ 2) ↔ (command_of (map string_bytes words.now) ≡ None) }
     ensures image { result ≡ 3 → WhereTold (P.outside place.old).files
-        (λ files. HasBadImage (of_order (order_of (map string_bytes words.now)) files)) }
+        (λ files. HasBadImage (of_command (command_of (map string_bytes words.now)) files)) }
     ensures script { result ≡ 4 → WhereTold (P.outside place.old).files
-        (λ files. HasBadScript (of_order (order_of (map string_bytes words.now)) files)) }
+        (λ files. HasBadScript (of_command (command_of (map string_bytes words.now)) files)) }
     ensures unread { result ≡ 5 → Rose (P.outside place.old).read_faults
         (P.outside place.new).read_faults }
-    ensures unwritten_fault { result ≡ 6
-        → Rose (P.outside place.old).write_faults (P.outside place.new).write_faults }
+    ensures refused { result ≡ 6 → IsRefused (command_of (map string_bytes words.now))
+        (P.outside place.old) (P.outside place.new) }
     ensures unwritten { result ≡ 6 → WhereTold (P.outside place.old).files
-        (λ files. IsUnwritten (of_order (order_of (map string_bytes words.now)) files) files
+        (λ files. IsUnwritten (of_command (command_of (map string_bytes words.now)) files) files
         (P.outside place.new).files) }
     ensures wanting { result ≡ 7 → WhereTold (P.outside place.old).files
-        (λ files. IsWanting (of_order (order_of (map string_bytes words.now)) files) files
-        (P.outside place.new).files) }
-    ensures unbuilt { result ≡ 8 → WhereTold (P.outside place.old).files
-        (λ files. IsUnbuilt (of_order (order_of (map string_bytes words.now)) files) files
+        (λ files. IsWanting (of_command (command_of (map string_bytes words.now)) files) files
         (P.outside place.new).files) }
     ensures kept { IsEarly result → (P.outside place.new).files ≡ (P.outside place.old).files }
 
+    // A scene leaves all files as before, whatever the answer.
+    ensures apart { IsScene (command_of (map string_bytes words.now))
+        → (P.outside place.new).files ≡ (P.outside place.old).files }
+
     // Without a rise of its count of faults a command answers by its verdict, or wants memory.
     ensures complete { WhereTold (P.outside place.old).files
-        (λ files. Completed (of_order (order_of (map string_bytes words.now)) files)
+        (λ files. Completed (of_command (command_of (map string_bytes words.now)) files)
         (P.outside place.old) (P.outside place.new) result) }
 
-    // The run of a good image and script, of whose texts the clauses above speak, has an end.
+    // The run of a good image and script and that of a scene, of whose texts the clauses speak, have an
+    // end.
     ensures ends { WhereTold (P.outside place.old).files
-        (λ files. HasRunEnd (of_order (order_of (map string_bytes words.now)) files)) }
+        (λ files. HasRunEnd (of_command (command_of (map string_bytes words.now)) files)) }
 
-    // What is said is the text of the status, and nothing at 0.
-    ensures said { SaysStatus (order_of (map string_bytes words.now)) (P.outside place.old)
+    // What is said is the text of the status, and nothing where a run is done; of a scene the summary is
+    // said, or a part of it where that was refused.
+    ensures said { SaysStatus (map string_bytes words.now) (P.outside place.old)
         (P.outside place.new) result }
 {
     drop(gate);
@@ -80,15 +91,17 @@ pub fn ocs_main<P: Place, G: Gate + Drop + Send + Sync + 'static>(
     }
 }
 
-/// Does what the words ask for, and says nothing.
+/// Does what the words ask for, and says no text of a fault.
 fn run_words<P: Place>(alloc: Global, words: &[String], place: &mut P) -> Result<(), Fault>
-    requires { ReadableInputs (P.readable place.old) (order_of (map string_bytes words.now)) }
-    ensures answer { CommandAnswers (order_of (map string_bytes words.now)) (P.outside place.old)
+    requires { ReadableInputs (P.readable place.old) (command_of (map string_bytes words.now)) }
+    ensures answer { CommandAnswers (command_of (map string_bytes words.now)) (P.outside place.old)
         (P.outside place.new) result }
-    ensures said { KeepsSaid (P.outside place.old) (P.outside place.new) }
+    ensures said { SaysNothingElse (command_of (map string_bytes words.now))
+        (P.outside place.old) (P.outside place.new) }
 {
-    match read_order(words) {
-        Some(order) => run_order(alloc, &order, place),
+    match read_command(words) {
+        Some(Command::Run(order)) => run_order(alloc, &order, place),
+        Some(Command::Gen(scene)) => run_scene(alloc, scene.number, place),
         None => Err(Fault::Usage),
     }
 }

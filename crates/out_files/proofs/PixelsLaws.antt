@@ -1,8 +1,9 @@
 -- The frames text of a piece that is given in parts.
-use Rattle.std.proofs.Common.{◌≡◌, ℕ, ◌+◌, ◌%◌, ◌<◌, ◌≤◌, List, [], ◌∷◌, ◌++◌, length, take, drop, arith, ap, ◌∙◌, sym, append_assoc, length-take-le, ◌==◌, zero, suc, true, false}
+use Rattle.std.proofs.Common.{◌≡◌, ℕ, ◌+◌, ◌%◌, ◌<◌, ◌≤◌, List, [], ◌∷◌, ◌++◌, length, take, drop, arith, ap, ◌∙◌, sym, append_assoc, length-take-le, ◌==◌, zero, suc, true, false, if◌then◌else◌, refl, subst}
 use Rattle.std.proofs.lemmas.List.{take-append-drop, append-nil, take-append-le}
+use Rattle.std.proofs.lemmas.Bool.Decides.{nat_tests}
 use borrow.Author.Tests.{eqb-true}
-use Rattle.serial_model.specs.Outputs.{heading_at, with_headings, frame_bytes}
+use Rattle.serial_model.specs.Outputs.{heading, heading_at, with_headings, frame_bytes}
 use Rattle.serial_model.proofs.HeadingLaws.{with_headings-append, with_headings-place, with_headings-within}
 
 -- the part that the present frame takes, and the rest of the piece
@@ -49,5 +50,17 @@ pub some_left : (k : ℕ) → false ≡ (k == 0) → 0 < k
 some_left zero e = absurd (cc e)
 some_left (suc k) e = omega arith
 
+not_first : (k : ℕ) → 0 < k → (k == 0) ≡ false
+not_first k some = grind (arith, nat_tests, some)
+
 pub none_left : (k : ℕ) → true ≡ (k == 0) → k ≡ 0
 none_left k e = eqb-true k 0 (sym e)
+
+no_heading : (n : ℕ) → 0 < n → n % frame_bytes ≡ n → heading_at n ≡ []
+no_heading n begun same = ap (λ b. if b then heading else []) (not_first (n % frame_bytes) (subst (λ k. 0 < k) (sym same) begun))
+
+-- within a frame there is no heading
+pub within_frame : (n : ℕ) (piece : List ℕ) → 0 < n → 0 < length piece → n + length piece < frame_bytes → with_headings n piece ≡ piece
+within_frame n piece begun some inside =
+    let none : n % frame_bytes ≡ n = omega (arith, begun, inside) in
+    with_headings-within n piece some (omega (arith, inside)) ∙ ap (λ h. h ++ piece) (no_heading n begun none)

@@ -1,19 +1,24 @@
 -- The sprites' words that run, and from where on none shows.
-use Rattle.std.proofs.Common.{◌≡◌, ℕ, zero, suc, ◌+◌, ◌-◌, ◌*◌, ◌/◌, ◌%◌, ◌^◌, ◌≤◌, ◌<◌, ◌==◌, ◌&&◌, Bool, true, false, not, nat_eq, nat_le, max, List, [], ◌∷◌, length, map, slice_index, slice_index_or, slice_set, replicate, Option, Some, None, refl, ◌∙◌, ap, arith}
+use Rattle.std.proofs.Common.{◌≡◌, ℕ, zero, suc, ◌+◌, ◌-◌, ◌*◌, ◌/◌, ◌%◌, ◌^◌, ◌≤◌, ◌<◌, ◌==◌, ◌&&◌, ◌||◌, Bool, true, false, not, nat_eq, nat_le, max, List, [], ◌∷◌, length, map, slice_index, slice_index_or, slice_set, replicate, Option, Some, None, refl, sym, ◌∙◌, ap, arith}
 use Rattle.std.specs.Bool.{if◌then◌else◌}
 use Rattle.std.proofs.Math.ListN.{set, length-set, get_or-eq_default}
 use Rattle.std.proofs.Math.Nat.{zero-div}
 use Rattle.std.proofs.lemmas.List.{get_or-replicate, length-replicate, get_or-set_same, get_or-set_other}
 use Rattle.std.proofs.lemmas.Bool.Decides.{nat_tests}
+use Rattle.std.specs.List.{list_any}
 use Rattle.std.specs.Option.{option_to_list}
 use Rattle.sprites.specs.declared.runs.Start.{Start}
 use Rattle.sprites.specs.SpriteValue.{sprite_value, kept_start}
 use Rattle.serial_model.specs.Picture.{all_sprites, sprite_values}
-use Rattle.painter.specs.SpriteState.{SpriteRegisters, IsQuiet, IsIdle, run_or, run_in, runs_in, first_runs}
+use Rattle.painter.specs.SpriteState.{SpriteRegisters, IsQuiet, IsIdle, begins_at, run_or, run_in, runs_in, first_runs, quiet_or, first_quiet, first_begun, words_begun, has_start, is_known_idle}
 
 pub not_true : (b : Bool) → not b ≡ true → b ≡ false
 not_true true is = cc
 not_true false is = refl
+
+or_false : (a b : Bool) → (a || b) ≡ false → (a ≡ false) × (b ≡ false)
+or_false true b is = cc
+or_false false b is = (refl, is)
 
 none_by : (n : ℕ) (b : Bool) → nat_le 8 n ≡ b → slice_index_or (replicate {A = Option Start} 8 None) n None ≡ None
 none_by n false is =
@@ -70,15 +75,21 @@ later_runs x s (suc n) k h =
     get_or-set_other (first_runs x s n) n k (run_in x s n) None (λ e. omega (arith, e, h)) ∙ later_runs x s n k (omega (arith, h))
 
 -- one sprite more
-pub one_more : (x : ℕ) (s now next : SpriteRegisters) (n : ℕ) → now ≡ record s { runs = first_runs x s n } →
-    next ≡ record now { runs = slice_set now.runs n (run_in x now n) } → next ≡ record s { runs = first_runs x s (n + 1) }
-unfolding first_runs
+pub one_more : (x : ℕ) (s now next : SpriteRegisters) (n : ℕ) → now ≡ first_begun x s n →
+    next ≡ record now { runs = slice_set now.runs n (run_in x now n); quiet_from = quiet_or x now n now.quiet_from } →
+    next ≡ first_begun x s (n + 1)
+unfolding first_runs first_quiet
 one_more x s now next n is step =
     let count : suc n ≡ n + 1 = omega arith in
     rw (← count)
     (step
-    ∙ ap (λ (t : SpriteRegisters). record t { runs = slice_set t.runs n (run_in x t n) }) is
-    ∙ ap (λ (o : Option Start). record s { runs = slice_set (first_runs x s n) n (run_or x s n o) }) (later_runs x s n n (omega arith)))
+    ∙ ap (λ (t : SpriteRegisters). record t { runs = slice_set t.runs n (run_in x t n); quiet_from = quiet_or x t n t.quiet_from }) is
+    ∙ ap (λ (o : Option Start). record s { runs = slice_set (first_runs x s n) n (run_or x s n o); quiet_from = first_quiet x s (suc n) })
+    (later_runs x s n n (omega arith)))
+
+pub none_more : (x : ℕ) (s : SpriteRegisters) → s ≡ first_begun x s 0
+unfolding first_runs first_quiet
+none_more x s = refl
 
 eight_by : (f : ℕ → Option Start → Option Start) (l : List (Option Start)) → length l ≡ 8 →
     slice_set (slice_set (slice_set (slice_set (slice_set (slice_set (slice_set (slice_set l 0 (f 0 (slice_index_or l 0 None)))
@@ -126,14 +137,25 @@ same_eight f (a ∷ b ∷ c ∷ d ∷ e ∷ g ∷ h ∷ i ∷ more ∷ rest) is 
 
 -- nothing begins where no sprite is armed, or none has its HSTART
 pub NoneBegins : ℕ → SpriteRegisters → Type 0
-NoneBegins x s = (n : ℕ) → n < 8 →
-    ((s.armed / 2 ^ n % 2 == 1) && (2 * (slice_index s.pos n % 256) + slice_index s.ctl n % 2 == x)) ≡ false
+NoneBegins x s = (n : ℕ) → n < 8 → begins_at x s n ≡ false
 
 pub none_begun : (x : ℕ) (s : SpriteRegisters) → length s.runs ≡ 8 → NoneBegins x s → runs_in x s ≡ s.runs
 unfolding NoneBegins
 none_begun x s is none = same_eight (run_in x s) s.runs is
     (λ n h. ap (λ (b : Bool). if b then Some (record { x = x; word_a = slice_index s.words_a n; word_b = slice_index s.words_b n })
     else slice_index_or s.runs n None) (none n h))
+
+pub none_quieter : (x n : ℕ) (s : SpriteRegisters) → n ≤ 8 → NoneBegins x s → first_quiet x s n ≡ s.quiet_from
+unfolding NoneBegins first_quiet
+none_quieter x zero s le none = refl
+none_quieter x (suc n) s le none =
+    ap (λ (b : Bool). if b then max (first_quiet x s n) (x + 16) else first_quiet x s n) (none n (omega arith))
+    ∙ none_quieter x n s (omega arith) none
+
+pub none_begun_at_all : (x : ℕ) (s : SpriteRegisters) → length s.runs ≡ 8 → NoneBegins x s → s ≡ words_begun x s
+none_begun_at_all x s is none =
+    sym (ap (λ (l : List (Option Start)). record s { runs = l; quiet_from = first_quiet x s 8 }) (none_begun x s is none)
+    ∙ ap (λ (q : ℕ). record s { quiet_from = q }) (none_quieter x 8 s (omega arith) none))
 
 pub none_armed : (x : ℕ) (s : SpriteRegisters) → s.armed ≡ 0 → NoneBegins x s
 unfolding NoneBegins
@@ -163,6 +185,52 @@ quiet_values q x runs quiet h =
       quiet.quiet x 6 h,
       quiet.quiet x 7 h,
     ) refl
+
+-- whether one of eight passes a test
+either_of_eight : (a b c d e f g h : Bool) →
+    (((((((a || b) || c) || d) || e) || f) || g) || h) ≡ (a || (b || (c || (d || (e || (f || (g || (h || false))))))))
+either_of_eight true b c d e f g h = refl
+either_of_eight false true c d e f g h = refl
+either_of_eight false false true d e f g h = refl
+either_of_eight false false false true e f g h = refl
+either_of_eight false false false false true f g h = refl
+either_of_eight false false false false false true g h = refl
+either_of_eight false false false false false false true h = refl
+either_of_eight false false false false false false false true = refl
+either_of_eight false false false false false false false false = refl
+
+pub any_of_eight : (test : ℕ → Bool) →
+    (((((((test 0 || test 1) || test 2) || test 3) || test 4) || test 5) || test 6) || test 7) ≡ list_any test all_sprites
+any_of_eight test = either_of_eight (test 0) (test 1) (test 2) (test 3) (test 4) (test 5) (test 6) (test 7)
+
+none_of : (test : ℕ → Bool) (l : List ℕ) (n : ℕ) → list_any test l ≡ false → n < length l → test (slice_index l n) ≡ false
+none_of test [] n none lt = absurd (omega (arith, lt))
+none_of test (x ∷ xs) zero none lt = (or_false (test x) (list_any test xs) none).0
+none_of test (x ∷ xs) (suc n) none lt = none_of test xs n (or_false (test x) (list_any test xs) none).1 (omega (arith, lt))
+
+sprite_at : (n : ℕ) → n < 8 → slice_index all_sprites n ≡ n
+sprite_at zero lt = refl
+sprite_at (suc zero) lt = refl
+sprite_at (suc (suc zero)) lt = refl
+sprite_at (suc (suc (suc zero))) lt = refl
+sprite_at (suc (suc (suc (suc zero)))) lt = refl
+sprite_at (suc (suc (suc (suc (suc zero))))) lt = refl
+sprite_at (suc (suc (suc (suc (suc (suc zero)))))) lt = refl
+sprite_at (suc (suc (suc (suc (suc (suc (suc zero))))))) lt = refl
+sprite_at (suc (suc (suc (suc (suc (suc (suc (suc n)))))))) lt = absurd (omega (arith, lt))
+
+-- where none has its HSTART at a clock
+pub none_there : (h : ℕ) (s : SpriteRegisters) → has_start h s ≡ false → (n : ℕ) → n < 8 → slice_index s.pos n % 256 ≡ h → ⊥
+none_there h s none n lt is =
+    let test : ℕ → Bool = λ (sprite : ℕ). nat_eq (slice_index s.pos sprite % 256) h in
+    let false_there : nat_eq (slice_index s.pos n % 256) h ≡ false =
+    ap test (sym (sprite_at n lt)) ∙ none_of test all_sprites n none (omega (arith, lt)) in
+    grind (arith, nat_tests)
+
+-- what is known of an idle clock
+pub known_by : (h : ℕ) (s : SpriteRegisters) (quiet unarmed start : Bool) → nat_le s.quiet_from (2 * h) ≡ quiet → nat_eq s.armed 0 ≡ unarmed →
+    has_start h s ≡ start → (quiet && (unarmed || not start)) ≡ is_known_idle h s
+known_by h s quiet unarmed start one two three = rw (one, two, three) refl
 
 pub idle : (h q : ℕ) (s : SpriteRegisters) → IsQuiet q s.runs → q ≤ 2 * h → NoneBegins (2 * h) s → NoneBegins (2 * h + 1) s → IsIdle h s
 idle h q s quiet le first second = record {

@@ -6,7 +6,7 @@ use Rattle.std.proofs.lemmas.List.{get_or-replicate}
 use Rattle.std.proofs.lemmas.Bool.Decides.{nat_tests}
 use Rattle.serial_model.specs.Picture.{colour_bytes}
 use Rattle.priority_ham.specs.PlaneCount.{planes_of, is_hires, is_hold_and_modify, is_dual_playfield}
-use Rattle.priority_ham.specs.PixelColour.{Mode, DualPlayfield, HoldAndModify, ExtraHalfBrite, Plain, colour_in, dual_number, value_of_two, value_of_one, is_two_chosen, half_brite, modified, playfield_colour}
+use Rattle.priority_ham.specs.PixelColour.{Mode, DualPlayfield, HoldAndModify, ExtraHalfBrite, Plain, colour_in, dual_number, value_of_two, value_of_one, is_two_chosen, half_brite, modified, playfield_colour, red, green, blue, colour_of}
 use Rattle.priority_ham.proofs.Within.{below, at_most_six}
 use Rattle.painter.specs.Inks.{ink, ink_number, counted_bits, is_held, halved, HasTables}
 use Rattle.painter.proofs.Rows.{zeros}
@@ -19,10 +19,11 @@ no_planes : (bits : ℕ) → 0 ≡ bits % 1
 no_planes bits = omega arith
 
 -- the tables at reset
-pub reset_tables : HasTables (replicate 32 0) 0 0 (replicate 64 (0 ∷ 0 ∷ 0 ∷ [])) (replicate 64 0)
+pub reset_tables : HasTables (replicate 32 0) 0 0 (replicate 64 (0 ∷ 0 ∷ 0 ∷ [])) (replicate 64 0) (replicate 4 (0 ∷ 0 ∷ 0 ∷ []))
 reset_tables = record {
   bytes = λ n h. get_or-replicate 64 n (0 ∷ 0 ∷ 0 ∷ []) [] h ∙ sym (ap colour_bytes (black_by n (nat_lt n 32)));
   numbers = λ bits h. zeros 64 bits ∙ no_planes bits;
+  backdrop = refl;
 }
 
 -- the first 32 inks are the colours
@@ -119,3 +120,43 @@ pub held_colour : (con0 con2 bits held : ℕ) (palette : List ℕ) → is_held c
 unfolding playfield_colour
 held_colour con0 con2 bits held palette is =
     held_in (is_dual_playfield con0) (is_hires con0) (is_hold_and_modify con0) (planes_of con0 == 6) con2 (counted_bits con0 bits) held palette is
+
+-- what the same bits make of what they made
+part_red : (r g b : ℕ) → r < 16 → g < 16 → b < 16 → red (colour_of r g b) ≡ r
+part_red r g b hr hg hb = omega arith
+
+part_green : (r g b : ℕ) → r < 16 → g < 16 → b < 16 → green (colour_of r g b) ≡ g
+part_green r g b hr hg hb = omega arith
+
+part_blue : (r g b : ℕ) → r < 16 → g < 16 → b < 16 → blue (colour_of r g b) ≡ b
+part_blue r g b hr hg hb = omega arith
+
+modified_by : Bool → Bool → Bool → ℕ → ℕ → ℕ → ℕ
+modified_by named lowest highest colour low held =
+    if named then colour
+    else if lowest then colour_of (red held) (green held) low
+    else if highest then colour_of low (green held) (blue held)
+    else colour_of (red held) low (blue held)
+
+again_by : (named lowest highest : Bool) (colour low held : ℕ) → low < 16 →
+    modified_by named lowest highest colour low (modified_by named lowest highest colour low held)
+    ≡ modified_by named lowest highest colour low held
+unfolding modified_by
+again_by true lowest highest colour low held few = refl
+again_by false true highest colour low held few =
+    let r : red held < 16 = omega arith in
+    let g : green held < 16 = omega arith in
+    rw (part_red (red held) (green held) low r g few, part_green (red held) (green held) low r g few) refl
+again_by false false true colour low held few =
+    let g : green held < 16 = omega arith in
+    let b : blue held < 16 = omega arith in
+    rw (part_green low (green held) (blue held) few g b, part_blue low (green held) (blue held) few g b) refl
+again_by false false false colour low held few =
+    let r : red held < 16 = omega arith in
+    let b : blue held < 16 = omega arith in
+    rw (part_red (red held) low (blue held) r few b, part_blue (red held) low (blue held) r few b) refl
+
+pub modified_again : (bits held : ℕ) (palette : List ℕ) → modified bits (modified bits held palette) palette ≡ modified bits held palette
+unfolding modified_by
+modified_again bits held palette =
+    again_by (bits / 16 % 4 == 0) (bits / 16 % 4 == 1) (bits / 16 % 4 == 2) (slice_index palette (bits % 16)) (bits % 16) held (omega arith)

@@ -1,5 +1,5 @@
 -- Sprites over the playfields' pixels, and what collides, by column and by clock.
-use Rattle.std.proofs.Common.{◌≡◌, ℕ, zero, suc, ◌+◌, ◌*◌, ◌/◌, ◌%◌, ◌^◌, ◌<◌, ◌==◌, ◌&&◌, Bool, true, false, List, [], ◌∷◌, ◌++◌, length, slice_index, slice_index_or, slice_set, flat_map, replicate, bit_or, Option, Some, None, refl, sym, ◌∙◌, ap, arith}
+use Rattle.std.proofs.Common.{◌≡◌, ℕ, zero, suc, ◌+◌, ◌*◌, ◌/◌, ◌%◌, ◌^◌, ◌≤◌, ◌<◌, ◌==◌, ◌&&◌, Bool, true, false, List, [], ◌∷◌, ◌++◌, length, slice_index, slice_index_or, slice_set, flat_map, replicate, bit_or, Option, Some, None, refl, sym, ◌∙◌, ap, arith}
 use Rattle.std.specs.Bool.{if◌then◌else◌}
 use Rattle.std.specs.Option.{option_or}
 use Rattle.std.proofs.Math.ListN.{set}
@@ -18,9 +18,14 @@ use Rattle.serial_model.specs.Beam.{is_visible}
 use Rattle.serial_model.specs.Picture.{colour_bytes, pixel_colour, held_after, runs_at, runs_after, sprite_values, attached_pairs, shown_at, collisions_at, values_after, pixel_bytes, pixels, clock_collisions, step_of, after_step}
 use Rattle.serial_model.specs.Window.{is_inside}
 use Rattle.painter.specs.declared.painter.Painter.{Painter}
-use Rattle.painter.specs.SpriteState.{SpriteRegisters, IsIdle, runs_in, attached_in}
+use Rattle.painter.specs.SpriteState.{SpriteRegisters, IsIdle, runs_in, words_begun, attached_in}
 use Rattle.painter.specs.Overlay.{with_runs, shown_bits, with_front, with_front_at, shown_over, two_changed, covered_column, covered_collisions, column_over, column_collisions, clock_over, quiet_in_column, quiet_collisions}
 use Rattle.painter.specs.Painter.{IsPainterOf, with_held, clock_bytes}
+use Rattle.painter.specs.Inks.{backdrop, counted_bits}
+use Rattle.painter.specs.Line.{row_bits}
+use Rattle.priority_ham.specs.PlaneCount.{planes_of}
+use Rattle.std.proofs.Math.Nat.{zero-mod}
+use Rattle.painter.proofs.Showing.{with_held_stands, backdrop_stands, row_counted}
 use Rattle.painter.proofs.Ors.{or_assoc, or_none, or_lowest}
 
 -- a sprite that the playfields hide, or not
@@ -115,6 +120,11 @@ pub bits_outside : (v column : ℕ) (values : List ℕ) (p : Denise) → is_insi
 bits_outside v column values p is =
     rw (bits_by v (2 * column) column values p false (omega arith) is, bits_by v (2 * column + 1) column values p false (omega arith) is) refl
 
+pub clock_outside : (v h : ℕ) (p : Denise) → is_inside v (2 * h) p.diwstrt p.diwstop ≡ false → is_inside v (2 * h + 1) p.diwstrt p.diwstop ≡ false →
+    quiet_collisions v h p ≡ 0
+clock_outside v h p first second =
+    rw (bits_outside v (2 * h) (replicate 8 0) p first, bits_outside v (2 * h + 1) (replicate 8 0) p second) refl
+
 pub same_bits : (clx bits : ℕ) → bits ≡ 0 → clx ≡ bit_or clx bits
 same_bits clx bits is = rw is (sym (or_none clx))
 
@@ -186,6 +196,28 @@ pub meets_same : (x bits : ℕ) (met : Bool) (now : Painter) (p : Denise) → Is
 unfolding meets
 meets_same x bits met now p stands same is = sym (is ∙ (rw (same, ← stands.clxcon) refl))
 
+-- the playfields of a clock where no plane shows a bit, and such do not meet
+no_bits : (x : ℕ) (now : Painter) (p : Denise) → IsPainterOf now p → x < 1024 → row_bits now.line x ≡ 0 → 0 ≡ shown_bits x p
+no_bits x now p stands within none =
+    sym (zero-mod (2 ^ planes_of p.con0)) ∙ ap (counted_bits p.con0) (sym none) ∙ row_counted now.line p.loads x p.con0 stands.line within
+
+none_by : (v column : ℕ) (p : Denise) (b : Bool) → is_inside v column p.diwstrt p.diwstop ≡ b → meets (2 * column) p ≡ false →
+    meets (2 * column + 1) p ≡ false → quiet_in_column v column p ≡ 0
+none_by v column p true is one two = none_meets v column p is one two
+none_by v column p false is one two = bits_outside v column (replicate 8 0) p is
+
+pub none_gather : (v h : ℕ) (now : Painter) (p : Denise) → IsPainterOf now p → h ≤ 226 → ((x : ℕ) → 4 * h ≤ x → row_bits now.line x ≡ 0) →
+    (playfield_matches now.clxcon 0 1 && playfield_matches now.clxcon 0 2) ≡ false → quiet_collisions v h p ≡ 0
+none_gather v h now p stands room blank apart =
+    let unmet : (x : ℕ) → 4 * h ≤ x → x < 1024 → meets x p ≡ false =
+    λ x from within. meets_same x 0 false now p stands (no_bits x now p stands within (blank x from)) (sym apart) in
+    rw (
+      none_by v (2 * h) p (is_inside v (2 * h) p.diwstrt p.diwstop) refl
+          (unmet (2 * (2 * h)) (omega arith) (omega arith)) (unmet (2 * (2 * h) + 1) (omega arith) (omega arith)),
+      none_by v (2 * h + 1) p (is_inside v (2 * h + 1) p.diwstrt p.diwstop) refl
+          (unmet (2 * (2 * h + 1)) (omega arith) (omega arith)) (unmet (2 * (2 * h + 1) + 1) (omega arith) (omega arith)),
+    ) refl
+
 pub attached_same : (now : Painter) (p : Denise) → IsPainterOf now p → attached_in now.sprites ≡ attached_pairs p
 attached_same now p stands = rw (stands.ctl) refl
 
@@ -213,7 +245,7 @@ pub runs_same : (column : ℕ) (now : Painter) (p : Denise) → IsPainterOf now 
 runs_same column now p stands = rw (stands.armed, stands.pos, stands.ctl, stands.words_a, stands.words_b, stands.runs) refl
 
 pub begun_stands : (column : ℕ) (now : Painter) (p : Denise) (s : SpriteRegisters) → IsPainterOf now p →
-    s ≡ record now.sprites { runs = runs_in column now.sprites } →
+    s ≡ words_begun column now.sprites →
     IsPainterOf (record now { sprites = s }) (with_runs (runs_at column p p.runs) p)
 begun_stands column now p s stands is = record {
   palette = stands.palette;
@@ -463,3 +495,31 @@ pub clock_stands : (system : System) (v h : ℕ) (now : Painter) (p : Denise) �
     IsPainterOf now (after_step (step_of system v h p) p)
 unfolding step_of runs_after
 clock_stands system v h now p stands = stands
+
+-- a clock that shows the border's colour alone, with no sprite near
+still_held : (v h held : ℕ) (now : Painter) (p : Denise) → IsPainterOf now p → IsIdle h now.sprites → IsStill h (with_held held p) now.sprites.runs
+still_held v h held now p stands idle =
+    still h (record now { held = colour_bytes held }) (with_held held p) (with_held_stands now p (colour_bytes held) held stands refl) idle
+
+pub backdrop_shown : (v h : ℕ) (now : Painter) (p : Denise) (into : List (List ℕ)) → IsPainterOf now p → IsIdle h now.sprites →
+    backdrop now.inks.palette ≡ clock_bytes v h p → is_visible Pal v h ≡ true → into ≡ backdrop now.inks.palette →
+    flat_map (λ (x : List ℕ). x) into ≡ pixels Pal v h p
+backdrop_shown v h now p into stands idle below visible is =
+    let held : ℕ = held_after v h 4 p in
+    let four : length into ≡ 4 = ap length (is ∙ below) in
+    clock_shown v h (held_after v h 4 p) p into into visible (is ∙ below)
+    (still_pixels v h (with_held held p) now.sprites.runs into (still_held v h held now p stands idle) four)
+
+pub backdrop_stands_after : (v h : ℕ) (now next : Painter) (p : Denise) → IsPainterOf now p → IsIdle h now.sprites →
+    backdrop now.inks.palette ≡ clock_bytes v h p → next ≡ record now { held = colour_bytes (slice_index now.inks.palette 0) } →
+    IsPainterOf next (after_step (step_of Pal v h p) p)
+backdrop_stands_after v h now next p stands idle below is =
+    let held : ℕ = held_after v h 4 p in
+    let runs : now.sprites.runs ≡ next.sprites.runs = sym (ap (λ (painter : Painter). painter.sprites.runs) is) in
+    clock_stands Pal v h next p
+    (same_runs_stand next (with_held held p) (runs_after h 2 (with_held held p)) (backdrop_stands v h now next p stands below is)
+    ((still_held v h held now p stands idle).both ∙ runs))
+
+pub backdrop_gathers : (v h : ℕ) (now : Painter) (p : Denise) → IsPainterOf now p → IsIdle h now.sprites →
+    quiet_collisions v h p ≡ clock_collisions v h p
+backdrop_gathers v h now p stands idle = still_collisions v h p now.sprites.runs (still h now p stands idle)

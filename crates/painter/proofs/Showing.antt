@@ -1,6 +1,7 @@
 -- Pixels of the definitions against the rows and the inks.
-use Rattle.std.proofs.Common.{◌≡◌, ℕ, zero, suc, ◌+◌, ◌*◌, ◌/◌, ◌%◌, ◌^◌, ◌≤◌, ◌<◌, Bool, true, false, nat_le, List, [], ◌∷◌, length, get_or, slice_index, slice_set, refl, sym, ◌∙◌, ap, arith}
+use Rattle.std.proofs.Common.{◌≡◌, ℕ, zero, suc, ◌+◌, ◌*◌, ◌/◌, ◌%◌, ◌^◌, ◌≤◌, ◌<◌, Bool, true, false, nat_le, List, [], ◌∷◌, length, get_or, slice_index, slice_set, replicate, refl, sym, ◌∙◌, ap, subst, arith}
 use Rattle.std.specs.Bool.{if◌then◌else◌}
+use Rattle.std.proofs.Math.Nat.{zero-mod}
 use Rattle.std.proofs.Math.ListN.{set, length-set}
 use Rattle.std.proofs.lemmas.List.{get_or-set_same}
 use Rattle.serial_model.specs.declared.picture.Denise.{Denise}
@@ -9,12 +10,12 @@ use Rattle.serial_model.specs.Window.{is_inside}
 use Rattle.planes.specs.declared.load.Load.{Load}
 use Rattle.planes.specs.PlaneBit.{plane_bit, all_bits}
 use Rattle.planes.proofs.Searching.{plane_bit-lt}
-use Rattle.priority_ham.specs.PlaneCount.{planes_of}
-use Rattle.priority_ham.specs.PixelColour.{modified, playfield_colour}
+use Rattle.priority_ham.specs.PlaneCount.{planes_of, is_set, is_dual_playfield}
+use Rattle.priority_ham.specs.PixelColour.{modified, dual_number, playfield_colour}
 use Rattle.priority_ham.proofs.Within.{at_most_six}
 use Rattle.painter.specs.declared.line.Line.{Line}
 use Rattle.painter.specs.Line.{IsLineOf, Shows, three_planes, row_bits}
-use Rattle.painter.specs.Inks.{InkRegisters, ink, ink_number, counted_bits, is_held}
+use Rattle.painter.specs.Inks.{InkRegisters, ink, ink_number, counted_bits, is_held, backdrop}
 use Rattle.painter.specs.Pixels.{ink_at, modified_at}
 use Rattle.painter.specs.declared.painter.Painter.{Painter}
 use Rattle.painter.specs.Painter.{IsPainterOf, first_colour, second_colour, with_held, clock_bytes}
@@ -193,23 +194,7 @@ last_written into at a b d long le =
     let same : length (set into at a) ≡ 4 = length-set into at a ∙ long in
     get_or-set_same (set into at a) (at + 1) b d (omega arith)
 
--- the four pixels of a clock whose two columns are both outside the display window, or both inside it
-pub border_clock : (v h : ℕ) (now : Painter) (p : Denise) → IsPainterOf now p →
-    is_inside v (2 * h) now.window.diwstrt now.window.diwstop ≡ false → is_inside v (2 * h + 1) now.window.diwstrt now.window.diwstop ≡ false →
-    (into left right : List (List ℕ)) → length into ≡ 4 →
-    left ≡ slice_set (slice_set into 0 (colour_bytes (slice_index now.inks.palette 0))) (0 + 1) (colour_bytes (slice_index now.inks.palette 0)) →
-    right ≡ slice_set (slice_set left 2 (colour_bytes (slice_index now.inks.palette 0))) (2 + 1) (colour_bytes (slice_index now.inks.palette 0)) →
-    right ≡ clock_bytes v h p
-border_clock v h now p stands outside after into left right long first second =
-    let colour : ℕ = second_colour v (2 * h) p in
-    let later : IsPainterOf (record now { held = colour_bytes (second_colour v (2 * h) p) }) (with_held (second_colour v (2 * h) p) p) =
-    with_held_stands now p (colour_bytes colour) colour stands refl in
-    let one = border_column v (2 * h) now p stands outside in
-    let two = border_column v (2 * h + 1) (record now { held = colour_bytes (second_colour v (2 * h) p) }) (with_held (second_colour v (2 * h) p) p)
-    later after in
-    clock_written v h p into left right long
-    (first ∙ two_written into 0 _ _ _ _ one.0 one.1) (second ∙ two_written left 2 _ _ _ _ two.0 two.1)
-
+-- the four pixels of a clock whose two columns are both inside the display window
 pub ink_clock : (v h : ℕ) (now : Painter) (p : Denise) → IsPainterOf now p → h ≤ 226 →
     is_inside v (2 * h) now.window.diwstrt now.window.diwstop ≡ true → is_inside v (2 * h + 1) now.window.diwstrt now.window.diwstop ≡ true →
     is_held now.inks.con0 ≡ false → (into left right : List (List ℕ)) → length into ≡ 4 →
@@ -249,24 +234,101 @@ held_clock v h now p stands room inside after holds into left right long first s
     (first ∙ two_written into 0 _ _ _ _ one.0 same)
     (second colour same ∙ two_written left 2 _ _ _ _ two.0 (next_modified now.inks now.line (2 * (2 * h + 1) + 1) _ _ _ two.0 two.1))
 
--- the last pixel of a clock where no colour is held: its ink inside the window, and outside it COLOR00
-pub ink_passed : (v h : ℕ) (now : Painter) (p : Denise) → IsPainterOf now p → h ≤ 226 →
-    is_inside v (2 * h + 1) now.window.diwstrt now.window.diwstop ≡ true → is_held now.inks.con0 ≡ false →
-    ink_at now.inks now.line (2 * (2 * h + 1) + 1) ≡ held_after v h 4 p
-ink_passed v h now p stands room inside free =
-    let colour : ℕ = second_colour v (2 * h) p in
-    let later : IsPainterOf (record now { held = colour_bytes (second_colour v (2 * h) p) }) (with_held (second_colour v (2 * h) p) p) =
-    with_held_stands now p (colour_bytes colour) colour stands refl in
-    let two = ink_column v (2 * h + 1) (record now { held = colour_bytes (second_colour v (2 * h) p) }) (with_held (second_colour v (2 * h) p) p)
-    later (omega arith) inside free in
-    two.1 ∙ (columns_of v h p).fourth
+-- the ink of no plane's bit is COLOR00
+dual_zero : (con2 : ℕ) → dual_number con2 0 ≡ 0
+dual_zero con2 = either (is_set 6 con2)
+  where
+    either : (front : Bool) → (if (if front then false else true) then zero else zero) ≡ zero
+    either true = refl
+    either false = refl
 
-pub border_passed : (v h : ℕ) (now : Painter) (p : Denise) → IsPainterOf now p →
-    is_inside v (2 * h + 1) now.window.diwstrt now.window.diwstop ≡ false → slice_index now.inks.palette 0 ≡ held_after v h 4 p
-border_passed v h now p stands outside =
+number_zero : (con0 con2 : ℕ) → ink_number con0 con2 0 ≡ 0
+number_zero con0 con2 =
+    ap (λ (n : ℕ). if is_dual_playfield con0 then dual_number con2 n else n) (zero-mod (2 ^ planes_of con0)) ∙ either (is_dual_playfield con0)
+  where
+    either : (dual : Bool) → (if dual then dual_number con2 0 else 0) ≡ 0
+    either true = dual_zero con2
+    either false = refl
+
+-- a column inside the display window where no plane shows a bit
+blank_by : (v column : ℕ) (now : Painter) (p : Denise) → IsPainterOf now p → column ≤ 453 →
+    is_inside v column now.window.diwstrt now.window.diwstop ≡ true → row_bits now.line (2 * column) ≡ 0 → row_bits now.line (2 * column + 1) ≡ 0 →
+    (b : Bool) → is_held now.inks.con0 ≡ b →
+    (slice_index now.inks.palette 0 ≡ first_colour v column p) × (slice_index now.inks.palette 0 ≡ second_colour v column p)
+unfolding ink_at modified_at
+blank_by v column now p stands room is first second false free =
+    let both = ink_column v column now p stands room is free in
+    let palette = now.inks.palette in
+    let zeroth = number_zero now.inks.con0 now.inks.con2 in
+    let ink_of = λ (bits : ℕ). ink now.inks.palette (ink_number now.inks.con0 now.inks.con2 bits) in
+    let none : slice_index now.inks.palette 0 ≡ ink now.inks.palette (ink_number now.inks.con0 now.inks.con2 0) = ap (ink palette) (sym zeroth) in
+    (none ∙ ap ink_of (sym first) ∙ both.0, none ∙ ap ink_of (sym second) ∙ both.1)
+blank_by v column now p stands room is first second true holds =
+    let both = held_column v column now p stands room is holds in
+    let palette = now.inks.palette in
+    let zeroth = number_zero now.inks.con0 now.inks.con2 in
+    let colour = λ (held bits : ℕ). modified (ink_number now.inks.con0 now.inks.con2 bits) held now.inks.palette in
+    let none : (held : ℕ) → slice_index now.inks.palette 0 ≡ modified (ink_number now.inks.con0 now.inks.con2 0) held now.inks.palette =
+    λ (held : ℕ). ap (λ (n : ℕ). modified n held palette) (sym zeroth) in (
+      none p.held.0 ∙ ap (colour p.held.0) (sym first) ∙ both.0,
+      none (first_colour v column p) ∙ ap (colour (first_colour v column p)) (sym second) ∙ both.1,
+    )
+
+blank_column : (v column : ℕ) (now : Painter) (p : Denise) → IsPainterOf now p → column ≤ 453 →
+    is_inside v column now.window.diwstrt now.window.diwstop ≡ true → row_bits now.line (2 * column) ≡ 0 → row_bits now.line (2 * column + 1) ≡ 0 →
+    (slice_index now.inks.palette 0 ≡ first_colour v column p) × (slice_index now.inks.palette 0 ≡ second_colour v column p)
+blank_column v column now p stands room is first second =
+    blank_by v column now p stands room is first second (is_held now.inks.con0) refl
+
+-- a clock whose two columns show COLOR00 alone: both are outside the display window, or both inside it with no plane's bit
+backdrop_by : (v h colour : ℕ) (p : Denise) → colour ≡ first_colour v (2 * h) p → colour ≡ second_colour v (2 * h) p →
+    colour ≡ first_colour v (2 * h + 1) (with_held (second_colour v (2 * h) p) p) →
+    colour ≡ second_colour v (2 * h + 1) (with_held (second_colour v (2 * h) p) p) → replicate 4 (colour_bytes colour) ≡ clock_bytes v h p
+backdrop_by v h colour p a b c d =
+    let is : HasColumns v h p = columns_of v h p in
+    four_alike colour _ _ _ _ (a ∙ is.first) (b ∙ is.second) (c ∙ is.third) (d ∙ is.fourth)
+  where
+    four_alike : (n a b c d : ℕ) → n ≡ a → n ≡ b → n ≡ c → n ≡ d →
+        replicate 4 (colour_bytes n) ≡ colour_bytes a ∷ colour_bytes b ∷ colour_bytes c ∷ colour_bytes d ∷ []
+    four_alike n a b c d one two three four = rw (← one, ← two, ← three, ← four) refl
+
+pub border_clock : (v h : ℕ) (now : Painter) (p : Denise) → IsPainterOf now p →
+    is_inside v (2 * h) now.window.diwstrt now.window.diwstop ≡ false → is_inside v (2 * h + 1) now.window.diwstrt now.window.diwstop ≡ false →
+    backdrop now.inks.palette ≡ clock_bytes v h p
+border_clock v h now p stands outside after =
     let colour : ℕ = second_colour v (2 * h) p in
     let later : IsPainterOf (record now { held = colour_bytes (second_colour v (2 * h) p) }) (with_held (second_colour v (2 * h) p) p) =
     with_held_stands now p (colour_bytes colour) colour stands refl in
+    let one = border_column v (2 * h) now p stands outside in
     let two = border_column v (2 * h + 1) (record now { held = colour_bytes (second_colour v (2 * h) p) }) (with_held (second_colour v (2 * h) p) p)
-    later outside in
-    two.1 ∙ (columns_of v h p).fourth
+    later after in
+    backdrop_by v h (slice_index now.inks.palette 0) p one.0 one.1 two.0 two.1
+
+-- any column
+any_by : (v column : ℕ) (now : Painter) (p : Denise) → IsPainterOf now p → column ≤ 453 → row_bits now.line (2 * column) ≡ 0 →
+    row_bits now.line (2 * column + 1) ≡ 0 → (b : Bool) → is_inside v column now.window.diwstrt now.window.diwstop ≡ b →
+    (slice_index now.inks.palette 0 ≡ first_colour v column p) × (slice_index now.inks.palette 0 ≡ second_colour v column p)
+any_by v column now p stands room first second true is = blank_column v column now p stands room is first second
+any_by v column now p stands room first second false is = border_column v column now p stands is
+
+-- no plane shows a bit
+pub unset_clock : (v h : ℕ) (now : Painter) (p : Denise) → IsPainterOf now p → h ≤ 226 → ((x : ℕ) → 4 * h ≤ x → row_bits now.line x ≡ 0) →
+    backdrop now.inks.palette ≡ clock_bytes v h p
+unset_clock v h now p stands room blank =
+    let colour : ℕ = second_colour v (2 * h) p in
+    let later : IsPainterOf (record now { held = colour_bytes (second_colour v (2 * h) p) }) (with_held (second_colour v (2 * h) p) p) =
+    with_held_stands now p (colour_bytes colour) colour stands refl in
+    let one = any_by v (2 * h) now p stands (omega arith) (blank (2 * (2 * h)) (omega arith)) (blank (2 * (2 * h) + 1) (omega arith))
+    (is_inside v (2 * h) now.window.diwstrt now.window.diwstop) refl in
+    let two = any_by v (2 * h + 1) (record now { held = colour_bytes (second_colour v (2 * h) p) }) (with_held (second_colour v (2 * h) p) p)
+    later (omega arith) (blank (2 * (2 * h + 1)) (omega arith)) (blank (2 * (2 * h + 1) + 1) (omega arith))
+    (is_inside v (2 * h + 1) now.window.diwstrt now.window.diwstop) refl in
+    backdrop_by v h (slice_index now.inks.palette 0) p one.0 one.1 two.0 two.1
+
+-- what such a clock leaves
+pub backdrop_stands : (v h : ℕ) (now next : Painter) (p : Denise) → IsPainterOf now p → backdrop now.inks.palette ≡ clock_bytes v h p →
+    next ≡ record now { held = colour_bytes (slice_index now.inks.palette 0) } → IsPainterOf next (with_held (held_after v h 4 p) p)
+backdrop_stands v h now next p stands same is =
+    subst (λ (painter : Painter). IsPainterOf painter (with_held (held_after v h 4 p) p)) (sym is)
+    (with_held_stands now p (colour_bytes (slice_index now.inks.palette 0)) (held_after v h 4 p) stands
+    (ap (λ (l : List (List ℕ)). get_or l 3 []) same))

@@ -1,7 +1,7 @@
 -- The bits of a number of four, spread over bytes; and the bytes of a sum of such.
-use Rattle.std.proofs.Common.{◌≡◌, ℕ, zero, suc, ◌+◌, ◌*◌, ◌/◌, ◌%◌, ◌<◌, List, [], ◌∷◌, get_or, refl, sym, ◌∙◌, ap, arith, w64}
+use Rattle.std.proofs.Common.{◌≡◌, ℕ, zero, suc, ◌+◌, ◌*◌, ◌/◌, ◌%◌, ◌<◌, List, [], ◌∷◌, get_or, refl, ◌∙◌, arith, w64}
 use Rattle.std.specs.Int.{to_le_bytes}
-use Rattle.std.proofs.Math.Nat.{div-div-eq-div-mul, div-one}
+use Rattle.sprite_rows.proofs.Spreading.{spread_bits, eight_digits, upper_bits, lower_bits}
 use Rattle.painter.specs.Words.{three_last}
 
 abbrev twice_entries : List ℕ
@@ -33,53 +33,7 @@ pub twice_of : (n : ℕ) → get_or twice_entries (n % 16) 0
     ≡ 257 * (n / 8 % 2) + 16842752 * (n / 4 % 2) + 1103806595072 * (n / 2 % 2) + 72339069014638592 * (n % 2)
 twice_of n = twice (n % 16) (omega arith) ∙ omega arith
 
-abbrev once_entries : List ℕ
-once_entries =
-    0 ∷ 16777216 ∷ 65536 ∷ 16842752 ∷ 256 ∷ 16777472 ∷ 65792 ∷ 16843008 ∷ 1 ∷ 16777217 ∷ 65537 ∷ 16842753 ∷ 257 ∷ 16777473 ∷ 65793 ∷ 16843009 ∷ []
-
-once : (n : ℕ) → n < 16 → get_or once_entries n 0 ≡ n / 8 % 2 + 256 * (n / 4 % 2) + 65536 * (n / 2 % 2) + 16777216 * (n % 2)
-once zero h = refl
-once (suc zero) h = refl
-once (suc (suc zero)) h = refl
-once (suc (suc (suc zero))) h = refl
-once (suc (suc (suc (suc zero)))) h = refl
-once (suc (suc (suc (suc (suc zero))))) h = refl
-once (suc (suc (suc (suc (suc (suc zero)))))) h = refl
-once (suc (suc (suc (suc (suc (suc (suc zero))))))) h = refl
-once (suc (suc (suc (suc (suc (suc (suc (suc zero)))))))) h = refl
-once (suc (suc (suc (suc (suc (suc (suc (suc (suc zero))))))))) h = refl
-once (suc (suc (suc (suc (suc (suc (suc (suc (suc (suc zero)))))))))) h = refl
-once (suc (suc (suc (suc (suc (suc (suc (suc (suc (suc (suc zero))))))))))) h = refl
-once (suc (suc (suc (suc (suc (suc (suc (suc (suc (suc (suc (suc zero)))))))))))) h = refl
-once (suc (suc (suc (suc (suc (suc (suc (suc (suc (suc (suc (suc (suc zero))))))))))))) h = refl
-once (suc (suc (suc (suc (suc (suc (suc (suc (suc (suc (suc (suc (suc (suc zero)))))))))))))) h = refl
-once (suc (suc (suc (suc (suc (suc (suc (suc (suc (suc (suc (suc (suc (suc (suc zero))))))))))))))) h = refl
-once (suc (suc (suc (suc (suc (suc (suc (suc (suc (suc (suc (suc (suc (suc (suc (suc n)))))))))))))))) h = absurd (omega arith)
-
--- and of each bit as one byte
-pub once_of : (n : ℕ) → get_or once_entries (n % 16) 0
-    ≡ n / 8 % 2 + 256 * (n / 4 % 2) + 65536 * (n / 2 % 2) + 16777216 * (n % 2)
-once_of n = once (n % 16) (omega arith) ∙ omega arith
-
--- the bytes of a number of eight digits
-eight_digits : (n a b c d e f g h : ℕ) → a < 256 → b < 256 → c < 256 → d < 256 → e < 256 → f < 256 → g < 256 → h < 256 →
-    n ≡ a + 256 * b + 65536 * c + 16777216 * d + 4294967296 * e + 1099511627776 * f + 281474976710656 * g + 72057594037927936 * h →
-    to_le_bytes w64 n ≡ a ∷ b ∷ c ∷ d ∷ e ∷ f ∷ g ∷ h ∷ []
-eight_digits n a b c d e f g h la lb lc ld le lf lg lh is =
-    let at0 : n % 256 ≡ a = omega arith in
-    let at1 : n / 256 % 256 ≡ b = omega arith in
-    let at2 : n / 65536 % 256 ≡ c = omega arith in
-    let at3 : n / 16777216 % 256 ≡ d = omega arith in
-    let at4 : n / 4294967296 % 256 ≡ e = omega arith in
-    let at5 : n / 1099511627776 % 256 ≡ f = omega arith in
-    let at6 : n / 281474976710656 % 256 ≡ g = omega arith in
-    let at7 : n / 72057594037927936 % 256 ≡ h = omega arith in
-    rw (at0, at1, at2, at3, at4, at5, at6, at7)
-
--- of three words the last bits, and those eight places of them as bytes
-abbrev pub once_bits : ℕ → ℕ
-once_bits n = n / 8 % 2 + 256 * (n / 4 % 2) + 65536 * (n / 2 % 2) + 16777216 * (n % 2)
-
+-- the bytes of three words' last eight bits
 three_small : (a b c : ℕ) → a % 2 + 4 * (b % 2) + 16 * (c % 2) < 256
 three_small a b c = omega arith
 
@@ -93,15 +47,9 @@ sum_of_digits : (a b c d e f g h a' b' c' d' e' f' g' h' a'' b'' c'' d'' e'' f''
     + 72057594037927936 * (h + 4 * h' + 16 * h'')
 sum_of_digits a b c d e f g h a' b' c' d' e' f' g' h' a'' b'' c'' d'' e'' f'' g'' h'' = omega arith
 
-upper_bits : (n : ℕ) → once_bits (n / 16) ≡ n / 128 % 2 + 256 * (n / 64 % 2) + 65536 * (n / 32 % 2) + 16777216 * (n / 16 % 2)
-upper_bits n = simp div-div-eq-div-mul
-
-lower_bits : (n : ℕ) → once_bits n ≡ n / 8 % 2 + 256 * (n / 4 % 2) + 65536 * (n / 2 % 2) + 16777216 * (n / 1 % 2)
-lower_bits n = ap (λ (m : ℕ). n / 8 % 2 + 256 * (n / 4 % 2) + 65536 * (n / 2 % 2) + 16777216 * (m % 2)) (sym (div-one n))
-
 pub eight_bytes : (a b c : ℕ) →
-    to_le_bytes w64 (once_bits (a / 16) + 4 * once_bits (b / 16) + 16 * once_bits (c / 16)
-    + 4294967296 * (once_bits a + 4 * once_bits b + 16 * once_bits c))
+    to_le_bytes w64 (spread_bits (a / 16) + 4 * spread_bits (b / 16) + 16 * spread_bits (c / 16)
+    + 4294967296 * (spread_bits a + 4 * spread_bits b + 16 * spread_bits c))
     ≡ three_last 7 a b c ∷ three_last 6 a b c ∷ three_last 5 a b c ∷ three_last 4 a b c
     ∷ three_last 3 a b c ∷ three_last 2 a b c ∷ three_last 1 a b c ∷ three_last 0 a b c ∷ []
 eight_bytes a b c =

@@ -34,7 +34,12 @@ ink_number con0 con2 bits =
 abbrev pub is_held : ℕ → Bool
 is_held con0 = is_hold_and_modify con0 && not (is_dual_playfield con0) && not (is_hires con0)
 
+-- the bytes of four pixels that show COLOR00
+abbrev pub backdrop : List ℕ → List (List ℕ)
+backdrop palette = replicate 4 (colour_bytes (slice_index palette 0))
+
 -- the tables say what the registers do
-pub record HasTables (palette : List ℕ) (con0 con2 : ℕ) (rgb : List (List ℕ)) (names : List ℕ) : Type 0 where
+pub record HasTables (palette : List ℕ) (con0 con2 : ℕ) (rgb : List (List ℕ)) (names : List ℕ) (pixels : List (List ℕ)) : Type 0 where
   pub bytes : (n : ℕ) → n < 64 → slice_index_or rgb n [] ≡ colour_bytes (ink palette n)
   pub numbers : (bits : ℕ) → bits < 64 → slice_index names bits ≡ ink_number con0 con2 bits
+  pub backdrop : pixels ≡ replicate 4 (slice_index_or rgb 0 [])

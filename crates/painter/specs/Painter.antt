@@ -1,9 +1,12 @@
 -- What paints, against the picture state.
-use Rattle.std.specs.Prelude.{◌≡◌, ℕ, ◌+◌, ◌*◌, List, [], ◌∷◌}
+use Rattle.std.specs.Prelude.{◌≡◌, ℕ, ◌+◌, ◌*◌, ◌%◌, ◌==◌, ◌&&◌, ◌||◌, not, Bool, nat_le, List, [], ◌∷◌}
 use Rattle.serial_model.specs.declared.picture.Denise.{Denise}
 use Rattle.serial_model.specs.Picture.{pixel_colour, colour_bytes, held_after}
 use Rattle.painter.specs.declared.painter.Painter.{Painter}
+use Rattle.collisions.specs.Collision.{playfield_matches}
+use Rattle.serial_model.specs.Window.{is_inside}
 use Rattle.painter.specs.Line.{IsLineOf}
+use Rattle.painter.specs.SpriteState.{is_known_idle}
 
 -- it stands for a picture state with the same registers, loads that show the same, the same words that run,
 -- and the same held colour
@@ -41,3 +44,19 @@ abbrev pub clock_bytes : ℕ → ℕ → Denise → List (List ℕ)
 clock_bytes v h p =
     colour_bytes (held_after v h 1 p) ∷ colour_bytes (held_after v h 2 p)
     ∷ colour_bytes (held_after v h 3 p) ∷ colour_bytes (held_after v h 4 p) ∷ []
+
+-- Whether it is known of a clock where no plane shows a bit that the playfields' collision is gathered already: bit 0 of
+-- CLXDAT is set, or such playfields do not meet, or it is outside the display window.
+abbrev pub is_known_gathered : ℕ → ℕ → ℕ → Painter → Bool
+is_known_gathered v h clx now =
+    (clx % 2 == 1) || not (playfield_matches now.clxcon 0 1 && playfield_matches now.clxcon 0 2)
+    || not (is_inside v (2 * h) now.window.diwstrt now.window.diwstop || is_inside v (2 * h + 1) now.window.diwstrt now.window.diwstop)
+
+-- whether it is known that the planes show COLOR00 alone, behind the last load, and that their collision is gathered
+abbrev pub is_known_blank : ℕ → ℕ → ℕ → Painter → Bool
+is_known_blank v h clx now =
+    nat_le now.line.odd.end (4 * h) && nat_le now.line.even.end (4 * h) && is_known_gathered v h clx now
+
+-- the same, with no sprite near
+abbrev pub is_known_backdrop : ℕ → ℕ → ℕ → Painter → Bool
+is_known_backdrop v h clx now = is_known_blank v h clx now && is_known_idle h now.sprites

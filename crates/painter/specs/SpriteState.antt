@@ -1,5 +1,6 @@
 -- The sprites' registers and the words that run, as a working state.
-use Rattle.std.specs.Prelude.{◌≡◌, ◌≤◌, ℕ, zero, suc, ◌+◌, ◌*◌, ◌/◌, ◌%◌, ◌^◌, ◌==◌, ◌&&◌, List, length, replicate, map, slice_index, slice_index_or, slice_set, Option, Some, None, if◌then◌else◌}
+use Rattle.std.specs.Prelude.{◌≡◌, ◌≤◌, ℕ, zero, suc, ◌+◌, ◌*◌, ◌/◌, ◌%◌, ◌^◌, ◌==◌, ◌&&◌, ◌||◌, not, Bool, nat_le, max, List, length, replicate, map, slice_index, slice_index_or, slice_set, Option, Some, None, if◌then◌else◌}
+use Rattle.std.specs.List.{list_any}
 use Rattle.sprites.specs.declared.runs.Start.{Start}
 use Rattle.sprites.specs.SpriteValue.{sprite_value, kept_start}
 use Rattle.sprite_rows.specs.declared.rows.SpriteRows.{SpriteRows}
@@ -13,6 +14,8 @@ pub record SpriteRegisters : Type 0 where
   pub words_b : List ℕ
   pub armed : ℕ
   pub runs : List (Option Start)
+  -- the place behind the last that words which have begun on the line may show
+  pub quiet_from : ℕ
 
 abbrev pub no_sprites : SpriteRegisters
 no_sprites = record {
@@ -22,6 +25,7 @@ no_sprites = record {
   words_b = replicate 8 0;
   armed = 0;
   runs = replicate 8 None;
+  quiet_from = 0;
 }
 
 -- eight sprites, of whose words none shows a bit from a position on
@@ -36,11 +40,15 @@ pub record IsLaidOut (quiet_from exact_from : ℕ) (rows : SpriteRows) (runs : L
   pub begun : StartsBy exact_from runs
   pub laid : IsRowsOf exact_from rows runs
 
--- what runs of a sprite from low-resolution position x on, where this ran before: its words begin where it is armed and
--- the position is its HSTART
+-- whether a sprite's words begin at low-resolution position x: it is armed, and the position is its HSTART
+abbrev pub begins_at : ℕ → SpriteRegisters → ℕ → Bool
+begins_at x s sprite =
+    (s.armed / 2 ^ sprite % 2 == 1) && (2 * (slice_index s.pos sprite % 256) + slice_index s.ctl sprite % 2 == x)
+
+-- what runs of a sprite from there on, where this ran before
 abbrev pub run_or : ℕ → SpriteRegisters → ℕ → Option Start → Option Start
 run_or x s sprite before =
-    if (s.armed / 2 ^ sprite % 2 == 1) && (2 * (slice_index s.pos sprite % 256) + slice_index s.ctl sprite % 2 == x)
+    if begins_at x s sprite
     then Some (record { x = x; word_a = slice_index s.words_a sprite; word_b = slice_index s.words_b sprite })
     else before
 
@@ -54,6 +62,29 @@ runs_in x s = map (run_in x s) all_sprites
 unfoldable pub first_runs : ℕ → SpriteRegisters → ℕ → List (Option Start)
 first_runs x s zero = s.runs
 first_runs x s (suc n) = slice_set (first_runs x s n) n (run_in x s n)
+
+-- where the words end that may show, after those of one sprite or of the first so many begin at low-resolution position x
+abbrev pub quiet_or : ℕ → SpriteRegisters → ℕ → ℕ → ℕ
+quiet_or x s sprite before = if begins_at x s sprite then max before (x + 16) else before
+
+unfoldable pub first_quiet : ℕ → SpriteRegisters → ℕ → ℕ
+first_quiet x s zero = s.quiet_from
+first_quiet x s (suc n) = quiet_or x s n (first_quiet x s n)
+
+-- the registers after the words begin of the first so many sprites whose HSTART is a low-resolution position
+abbrev pub first_begun : ℕ → SpriteRegisters → ℕ → SpriteRegisters
+first_begun x s n = record s { runs = first_runs x s n; quiet_from = first_quiet x s n }
+
+abbrev pub words_begun : ℕ → SpriteRegisters → SpriteRegisters
+words_begun x s = record s { runs = runs_in x s; quiet_from = first_quiet x s 8 }
+
+-- whether a sprite, armed or not, has its HSTART at a clock
+abbrev pub has_start : ℕ → SpriteRegisters → Bool
+has_start h s = list_any (λ sprite. slice_index s.pos sprite % 256 == h) all_sprites
+
+-- whether it is known at a clock that nothing begins there, and nothing shows from it on
+abbrev pub is_known_idle : ℕ → SpriteRegisters → Bool
+is_known_idle h s = nat_le s.quiet_from (2 * h) && ((s.armed == 0) || not (has_start h s))
 
 -- the attached pairs
 abbrev pub attached_in : SpriteRegisters → ℕ

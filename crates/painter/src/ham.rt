@@ -37,6 +37,23 @@ pub fn modify(bits: u8, held: Held, inks: &Inks) -> Held
     }
 }
 
+/// The same for a pixel behind one that named this number before it: the same number makes the same
+/// colour of the held one, and so nothing new of it.
+#[inline(always)]
+pub fn modify_again(before: u8, bits: u8, held: Held, inks: &Inks) -> Held
+    requires before { before < 64 }
+    requires bits { bits < 64 }
+    ensures { (colour : ℕ) → IsHeld held (modified before colour inks.now.palette)
+        → IsHeld result (modified bits (modified before colour inks.now.palette)
+        inks.now.palette) }
+{
+    if bits == before {
+        held
+    } else {
+        modify(bits, held, inks)
+    }
+}
+
 /// A colour to be held.
 #[inline(always)]
 pub fn hold(bytes: &[u8; 3]) -> Held

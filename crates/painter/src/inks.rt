@@ -2,7 +2,7 @@
 
 ghost use Rattle.std.specs.Prelude.{◌≡◌, ◌<◌, ◌%◌, ◌/◌, slice_set};
 ghost use Rattle.serial_model.specs.Picture.{colour_bytes};
-ghost use Rattle.painter.specs.Inks.{ink, ink_number, halved, is_held};
+ghost use Rattle.painter.specs.Inks.{ink, ink_number, halved, is_held, backdrop};
 
 use crate::names::names_by;
 use std::marker::Model;
@@ -17,6 +17,8 @@ pub struct Inks {
     con2: u16,
     rgb: [[u8; 3]; 64],
     names: [u8; 64],
+    /// Four pixels of COLOR00.
+    backdrop: [[u8; 3]; 4],
 }
 
 impl Model for Inks {
@@ -26,7 +28,7 @@ impl Model for Inks {
 
     ghost view = { λ s. record { palette = s.palette; con0 = s.con0; con2 = s.con2 } };
 
-    ghost invariant = { λ s. HasTables s.palette s.con0 s.con2 s.rgb s.names };
+    ghost invariant = { λ s. HasTables s.palette s.con0 s.con2 s.rgb s.names s.backdrop };
 }
 
 impl Inks {
@@ -42,6 +44,7 @@ impl Inks {
             con2: 0,
             rgb: [[0; 3]; 64],
             names: [0; 64],
+            backdrop: [[0; 3]; 4],
         }
     }
 
@@ -56,6 +59,7 @@ impl Inks {
         self.palette[number] = colour;
         self.rgb[number] = bytes_of(colour);
         self.rgb[number + 32] = bytes_of(half_of(colour));
+        self.backdrop = [self.rgb[0]; 4];
     }
 
     /// A write to BPLCON0.
@@ -103,6 +107,14 @@ impl Inks {
         ensures few { result < 64 }
     {
         self.names[bits]
+    }
+
+    /// Four pixels of COLOR00.
+    #[inline(always)]
+    pub fn backdrop(&self) -> &[[u8; 3]; 4]
+        ensures { result.now ≡ backdrop self.now.palette }
+    {
+        &self.backdrop
     }
 
     /// The bytes of an ink.

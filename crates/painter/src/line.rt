@@ -1,6 +1,6 @@
 //! What the bitplanes show along a line.
 
-ghost use Rattle.std.specs.Prelude.{◌≡◌, ◌≤◌, ◌<◌, ◌+◌, ◌*◌, ◌∷◌, ◌++◌, [], ◌/◌, ◌%◌, ℕ, List, slice_index};
+ghost use Rattle.std.specs.Prelude.{◌≡◌, ◌≤◌, ◌<◌, ◌+◌, ◌*◌, ◌∷◌, ◌++◌, [], ◌/◌, ◌%◌, ℕ, ◌&&◌, true, nat_le, List, slice_index};
 ghost use Rattle.planes.specs.declared.load.Load.{Load};
 ghost use Rattle.planes.specs.PlaneBit.{load_of, delay};
 
@@ -50,6 +50,16 @@ impl Line {
         self.odd.lay(start_at(h, con1, hires), odd.as_flattened());
         self.even
             .lay(start_at(h, con1 / 16, hires), even.as_flattened());
+    }
+
+    /// Whether no load was laid at a high-resolution position or behind it, and so none shows a bit
+    /// there.
+    #[inline(always)]
+    pub fn is_blank_from(&self, x: usize) -> bool
+        ensures known { result ≡ (nat_le self.now.odd.end x && nat_le self.now.even.end x) }
+        ensures blank { result ≡ true → (y : ℕ) → x ≤ y → row_bits self.now y ≡ 0 }
+    {
+        self.odd.is_blank_from(x) && self.even.is_blank_from(x)
     }
 
     /// The bits of all six planes at a high-resolution position, plane p as bit p - 1.

@@ -1,11 +1,13 @@
 //! What paints: Denise as a working state, and the pixels of a clock.
 
-ghost use Rattle.std.specs.Prelude.{bit_or, ◌≡◌, ◌≤◌, ◌<◌, ◌+◌, ◌*◌, ◌/◌, ◌%◌, ◌∷◌, [], slice_set, true, false, flat_map};
+ghost use Rattle.std.specs.Prelude.{ℕ, bit_or, ◌≡◌, ◌≤◌, ◌<◌, ◌+◌, ◌*◌, ◌/◌, ◌%◌, ◌∷◌, [], slice_index, slice_set, true, false, flat_map};
 ghost use Rattle.serial_model.specs.Picture.{pixels, colour_bytes, held_after, runs_after, runs_at, sprite_values, clock_collisions};
 ghost use Rattle.collisions.specs.Collision.{collision_bits};
 ghost use Rattle.serial_model.specs.Window.{is_inside};
 ghost use Rattle.painter.specs.Overlay.{with_runs, shown_bits, covered_column, covered_collisions, column_over, column_collisions, clock_over, quiet_in_column, quiet_collisions};
-ghost use Rattle.painter.specs.Inks.{is_held};
+ghost use Rattle.painter.specs.Inks.{is_held, backdrop};
+ghost use Rattle.painter.specs.SpriteState.{IsIdle};
+ghost use Rattle.painter.specs.Line.{row_bits};
 ghost use Rattle.serial_model.specs.Beam.{is_visible as visible};
 
 use crate::ham::hold;
@@ -44,7 +46,7 @@ pub struct Painter {
 impl Painter {
     ghost use Rattle.serial_model.specs.declared.picture.Denise.{Denise};
     ghost use Rattle.serial_model.specs.Picture.{reset_picture, set_picture, set_sprite as set_sprite_of, add_load, clear_line as cleared, step_of, after_step};
-    ghost use Rattle.painter.specs.Painter.{IsPainterOf, first_colour, second_colour, with_held, clock_bytes};
+    ghost use Rattle.painter.specs.Painter.{IsPainterOf, first_colour, second_colour, with_held, clock_bytes, is_known_gathered, is_known_blank, is_known_backdrop};
 
     /// Denise at reset: every register is 0, and so every colour black.
     #[tactic(auto, unfolding(serial_model::specs::Picture::reset_picture))]
@@ -145,54 +147,80 @@ impl Painter {
         ensures clx { (p : Denise) → IsPainterOf self.old p
             → clx.new ≡ bit_or clx.old (step_of System.Pal beam.now.v beam.now.h p).clx }
     {
-        let shown = self.show_playfields(beam.v, beam.h, into);
-        self.show_sprites(beam.v, beam.h, into, clx);
-        shown
+        if self.is_backdrop(beam.v, beam.h, *clx) {
+            self.show_backdrop(into);
+            return is_visible(beam.v, beam.h);
+        }
+        self.show_any(beam, into, clx)
     }
 
-    /// The four pixels of a clock without sprites. The answer is true exactly where they are
-    /// visible, and only then `into` has them.
+    /// Whether it is known of a clock that its four pixels show COLOR00, with no sprite near, and
+    /// that its collisions are gathered already.
     #[inline(always)]
-    fn show_playfields(&mut self, v: u16, h: u16, into: &mut [[u8; 3]; 4]) -> bool
+    fn is_backdrop(&self, v: u16, h: u16, clx: u16) -> bool
         requires { h ≤ 226 }
-        ensures visible { result ≡ visible System.Pal v h }
-        ensures pixels { (p : Denise) → IsPainterOf self.old p → result ≡ true
-            → into.new ≡ clock_bytes v h p }
-        ensures held { (p : Denise) → IsPainterOf self.old p
-            → IsPainterOf self.new (with_held (held_after v h 4 p) p) }
+        ensures known { result ≡ is_known_backdrop v h clx self.now }
+        ensures idle { result ≡ true → IsIdle h self.now.sprites }
+        ensures pixels { result ≡ true → (p : Denise) → IsPainterOf self.now p
+            → backdrop self.now.inks.palette ≡ clock_bytes v h p }
+        ensures clx { result ≡ true → (p : Denise) → IsPainterOf self.now p
+            → clx ≡ bit_or clx (quiet_collisions v h p) }
     {
-        if is_visible(v, h) {
-            self.show_clock(v, h, into);
+        self.is_blank(v, h, clx) && self.sprites.is_idle(h)
+    }
+
+    /// The same of the playfields alone, behind the last load.
+    #[inline(always)]
+    fn is_blank(&self, v: u16, h: u16, clx: u16) -> bool
+        requires { h ≤ 226 }
+        ensures known { result ≡ is_known_blank v h clx self.now }
+        ensures pixels { result ≡ true → (p : Denise) → IsPainterOf self.now p
+            → backdrop self.now.inks.palette ≡ clock_bytes v h p }
+        ensures clx { result ≡ true → (p : Denise) → IsPainterOf self.now p
+            → clx ≡ bit_or clx (quiet_collisions v h p) }
+    {
+        self.line.is_blank_from(4 * h as usize) && self.is_gathered(v, h, clx)
+    }
+
+    /// Whether a clock where no plane shows a bit is known to add no collision of the playfields: bit
+    /// 0 of CLXDAT is set, or such playfields do not meet, or it is outside the display window.
+    #[inline(always)]
+    fn is_gathered(&self, v: u16, h: u16, clx: u16) -> bool
+        requires { h ≤ 226 }
+        ensures known { result ≡ is_known_gathered v h clx self.now }
+        ensures clx { result ≡ true → (p : Denise) → IsPainterOf self.now p
+            → ((x : ℕ) → 4 * h ≤ x → row_bits self.now.line x ≡ 0)
+            → clx ≡ bit_or clx (quiet_collisions v h p) }
+    {
+        if clx % 2 == 1 {
             return true;
         }
-        if self.inks.holds_colour() {
-            self.show_columns(v, h, into);
-        } else {
-            self.pass_clock(v, h);
+        if !do_playfields_meet(self.clxcon, 0) {
+            return true;
         }
-        false
+        self.window.excludes_clock(v, h)
     }
 
-    /// The held colour after a clock that shows nothing, where no pixel holds it.
-    fn pass_clock(&mut self, v: u16, h: u16)
-        requires place { h ≤ 226 }
-        requires plain { is_held self.old.inks.con0 ≡ false }
-        ensures { (p : Denise) → IsPainterOf self.old p
-            → IsPainterOf self.new (with_held (held_after v h 4 p) p) }
+    /// The four pixels of any clock, and all that `show` does.
+    #[inline(never)]
+    fn show_any(&mut self, beam: &Beam, into: &mut [[u8; 3]; 4], clx: &mut u16) -> bool
+        requires { beam.now.h ≤ 226 }
+        ensures visible { result ≡ visible System.Pal beam.now.v beam.now.h }
+        ensures pixels { (p : Denise) → IsPainterOf self.old p → result ≡ true
+            → flat_map (λ x. x) into.new ≡ pixels System.Pal beam.now.v beam.now.h p }
+        ensures held { (p : Denise) → IsPainterOf self.old p → IsPainterOf self.new
+            (after_step (step_of System.Pal beam.now.v beam.now.h p) p) }
+        ensures clx { (p : Denise) → IsPainterOf self.old p
+            → clx.new ≡ bit_or clx.old (step_of System.Pal beam.now.v beam.now.h p).clx }
     {
-        let column = 2 * h + 1;
-        let x = 2 * column as usize + 1;
-        let number = if self.window.has(v, column) {
-            self.inks.name(self.line.bits(x))
-        } else {
-            0
-        };
-        self.held = *self.inks.bytes(number);
+        self.show_playfields(beam.v, beam.h, into);
+        self.show_sprites(beam.v, beam.h, into, clx);
+        is_visible(beam.v, beam.h)
     }
 
-    /// The four pixels of a clock.
+    /// The four pixels of a clock without sprites.
     #[inline(always)]
-    fn show_clock(&mut self, v: u16, h: u16, into: &mut [[u8; 3]; 4])
+    fn show_playfields(&mut self, v: u16, h: u16, into: &mut [[u8; 3]; 4])
         requires { h ≤ 226 }
         ensures pixels { (p : Denise) → IsPainterOf self.old p → into.new ≡ clock_bytes v h p }
         ensures held { (p : Denise) → IsPainterOf self.old p
@@ -242,9 +270,19 @@ impl Painter {
         ensures held { (p : Denise) → IsPainterOf self.old p
             → IsPainterOf self.new (with_held (held_after v h 4 p) p) }
     {
-        show_border(&self.inks, 0, into);
-        show_border(&self.inks, 2, into);
-        self.held = into[3];
+        self.show_backdrop(into);
+    }
+
+    /// The four pixels of a clock that all show COLOR00.
+    #[inline(always)]
+    fn show_backdrop(&mut self, into: &mut [[u8; 3]; 4])
+        ensures pixels { into.new ≡ backdrop self.old.inks.palette }
+        ensures held { self.new ≡ record self.old {
+          held = colour_bytes (slice_index self.old.inks.palette 0);
+        } }
+    {
+        *into = *self.inks.backdrop();
+        self.held = *self.inks.bytes(0);
     }
 
     /// The four pixels of a clock inside the display window, in hold-and-modify.

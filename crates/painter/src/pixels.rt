@@ -5,7 +5,7 @@ ghost use Rattle.serial_model.specs.Picture.{colour_bytes};
 ghost use Rattle.painter.specs.Held.{IsHeld};
 ghost use Rattle.painter.specs.Pixels.{ink_at, modified_at};
 
-use crate::ham::{bytes_of, modify};
+use crate::ham::{bytes_of, modify, modify_again};
 use crate::held::Held;
 use crate::inks::Inks;
 use crate::line::Line;
@@ -57,8 +57,9 @@ pub fn show_modified(
         → (let first = modified_at inks.now line.now x colour in
         IsHeld result (modified_at inks.now line.now (x + 1) first)) }
 {
-    let first = modify(inks.name(line.bits(x)), held, inks);
-    let second = modify(inks.name(line.bits(x + 1)), first, inks);
+    let name = inks.name(line.bits(x));
+    let first = modify(name, held, inks);
+    let second = modify_again(name, inks.name(line.bits(x + 1)), first, inks);
     into[at] = bytes_of(first);
     into[at + 1] = bytes_of(second);
     second

@@ -1,6 +1,6 @@
 //! What the planes of one parity show along a line.
 
-ghost use Rattle.std.specs.Prelude.{◌≡◌, ◌≤◌, ◌+◌, ℕ, length, slice_index};
+ghost use Rattle.std.specs.Prelude.{◌≡◌, ◌≤◌, ◌+◌, ℕ, true, nat_le, length, slice_index};
 ghost use Rattle.painter.specs.Row.{laid, cut_off};
 
 /// How many high-resolution positions a row has: a line has 908, and a load may begin 36 after.
@@ -24,7 +24,8 @@ pub struct Row {
 impl Row {
     /// A row that shows nothing.
     pub fn new() -> Row
-        ensures { (x : ℕ) → slice_index result.shown x ≡ 0 }
+        ensures shown { (x : ℕ) → slice_index result.shown x ≡ 0 }
+        ensures end { result.end ≡ 0 }
     {
         Row {
             shown: [0; PLACES],
@@ -34,7 +35,8 @@ impl Row {
 
     /// Shows nothing any more, as at a line's start.
     pub fn clear(&mut self)
-        ensures { (x : ℕ) → slice_index self.new.shown x ≡ 0 }
+        ensures shown { (x : ℕ) → slice_index self.new.shown x ≡ 0 }
+        ensures end { self.new.end ≡ 0 }
     {
         wipe(&mut self.shown, 0, self.end);
         self.end = 0;
@@ -45,11 +47,22 @@ impl Row {
         requires room { start ≤ 992 }
         requires size { length bytes.now ≡ 32 }
         requires few { (x : ℕ) → slice_index bytes.now x ≤ 21 }
-        ensures { (x : ℕ) → slice_index self.new.shown x ≡ laid self.old.shown start bytes.now x }
+        ensures shown { (x : ℕ) →
+            slice_index self.new.shown x ≡ laid self.old.shown start bytes.now x }
+        ensures end { self.new.end ≡ start + 32 }
     {
         wipe(&mut self.shown, start + WIDTH, self.end);
         self.shown[start..start + WIDTH].copy_from_slice(bytes);
         self.end = start + WIDTH;
+    }
+
+    /// Whether no bytes were laid at a position or behind it, and so nothing is shown there.
+    #[inline(always)]
+    pub fn is_blank_from(&self, x: usize) -> bool
+        ensures known { result ≡ nat_le self.now.end x }
+        ensures blank { result ≡ true → (y : ℕ) → x ≤ y → slice_index self.now.shown y ≡ 0 }
+    {
+        self.end <= x
     }
 
     /// What is shown at a position.

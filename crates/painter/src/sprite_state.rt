@@ -5,7 +5,15 @@ ghost use Rattle.std.specs.List.{All};
 ghost use Rattle.serial_model.specs.Picture.{sprite_values};
 ghost use Rattle.sprites.specs.SpriteFront.{front_pixel as pixel_of_front};
 ghost use Rattle.collisions.specs.Collision.{collision_bits};
-ghost use Rattle.painter.specs.SpriteState.{run_in, runs_in, attached_in, IsIdle};
+ghost use Rattle.painter.specs.SpriteState.{
+  run_in,
+  quiet_or,
+  words_begun,
+  has_start,
+  is_known_idle,
+  attached_in,
+  IsIdle,
+};
 
 use collisions::{clx, playfields};
 use sprite_rows::{SpriteRows, collisions};
@@ -45,6 +53,7 @@ impl Model for SpriteState {
       words_b = s.words_b;
       armed = s.armed;
       runs = s.runs;
+      quiet_from = s.quiet_from;
     } };
 
     ghost invariant = { λ s. IsLaidOut s.quiet_from s.exact_from s.rows s.runs };
@@ -114,7 +123,7 @@ impl SpriteState {
 
     /// Forgets the words that run, as a line's start does.
     pub fn clear(&mut self)
-        ensures { self.new ≡ record self.old { runs = replicate 8 None } }
+        ensures { self.new ≡ record self.old { runs = replicate 8 None; quiet_from = 0 } }
     {
         self.runs = Runs::new();
         self.quiet_from = 0;
@@ -126,7 +135,7 @@ impl SpriteState {
     /// to 0 of SPRxPOS, with bit 0 of SPRxCTL as the lowest (this project's profile).
     pub fn begin_words(&mut self, column: u16)
         requires { column ≤ 453 }
-        ensures { self.new ≡ record self.old { runs = runs_in column self.old } }
+        ensures { self.new ≡ words_begun column self.old }
     {
         if self.armed == 0 || !self.may_begin(column / 2) {
             return;
@@ -142,6 +151,7 @@ impl SpriteState {
         requires place { column ≤ 453 }
         ensures { self.new ≡ record self.old {
           runs = slice_set self.old.runs sprite (run_in column self.old sprite);
+          quiet_from = quiet_or column self.old sprite self.old.quiet_from;
         } }
     {
         let at = sprite as usize;
@@ -164,15 +174,15 @@ impl SpriteState {
     #[inline(always)]
     pub fn is_idle(&self, h: u16) -> bool
         requires { h ≤ 226 }
-        ensures { result ≡ true → IsIdle h self.now }
+        ensures known { result ≡ is_known_idle h self.now }
+        ensures idle { result ≡ true → IsIdle h self.now }
     {
         self.quiet_from <= 2 * h && (self.armed == 0 || !self.may_begin(h))
     }
 
     /// Whether a sprite, armed or not, has its HSTART at this clock.
     fn may_begin(&self, h: u16) -> bool
-        ensures { result ≡ false → (sprite : ℕ) → sprite < 8
-            → slice_index self.now.pos sprite % 256 ≡ h → ⊥ }
+        ensures { result ≡ has_start h self.now }
     {
         let [a, b, c, d, e, f, g, i] = self.pos;
         (a % 256 == h)

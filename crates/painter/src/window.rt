@@ -1,6 +1,6 @@
 //! Places of the picture: the lines and clocks of a frame file, and the display window.
 
-ghost use Rattle.std.specs.Prelude.{◌≡◌, ◌≤◌, ◌+◌, ◌*◌, true, false};
+ghost use Rattle.std.specs.Prelude.{◌≡◌, ◌≤◌, ◌+◌, ◌*◌, ◌&&◌, ◌||◌, not, true, false};
 ghost use Rattle.serial_model.specs.Beam.{is_visible as visible};
 ghost use Rattle.serial_model.specs.Window.{is_inside};
 
@@ -81,6 +81,8 @@ impl Window {
     #[inline(always)]
     pub fn contains_clock(&self, v: u16, h: u16) -> bool
         requires { h ≤ 226 }
+        ensures both { result ≡ (is_inside v (2 * h) self.now.diwstrt self.now.diwstop
+            && is_inside v (2 * h + 1) self.now.diwstrt self.now.diwstop) }
         ensures first { result ≡ true
             → is_inside v (2 * h) self.now.diwstrt self.now.diwstop ≡ true }
         ensures second { result ≡ true
@@ -93,6 +95,8 @@ impl Window {
     #[inline(always)]
     pub fn excludes_clock(&self, v: u16, h: u16) -> bool
         requires { h ≤ 226 }
+        ensures neither { result ≡ not (is_inside v (2 * h) self.now.diwstrt self.now.diwstop
+            || is_inside v (2 * h + 1) self.now.diwstrt self.now.diwstop) }
         ensures first { result ≡ true
             → is_inside v (2 * h) self.now.diwstrt self.now.diwstop ≡ false }
         ensures second { result ≡ true

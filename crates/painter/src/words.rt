@@ -3,6 +3,8 @@
 ghost use Rattle.std.specs.Prelude.{◌≡◌, ◌+◌, ◌*◌, ◌/◌, ◌%◌, ◌∷◌, [], flat_map};
 ghost use Rattle.painter.specs.Words.{three_last, spread_bits};
 
+use sprite_rows::bits_as_bytes;
+
 /// Each bit of a number of four, the highest first, as two bytes, the first of them the lowest.
 const TWICE: [u64; 16] = [
     0x0000_0000_0000_0000,
@@ -21,26 +23,6 @@ const TWICE: [u64; 16] = [
     0x0101_0000_0101_0101,
     0x0000_0101_0101_0101,
     0x0101_0101_0101_0101,
-];
-
-/// The same with one byte for each bit.
-const ONCE: [u64; 16] = [
-    0x0000_0000,
-    0x0100_0000,
-    0x0001_0000,
-    0x0101_0000,
-    0x0000_0100,
-    0x0100_0100,
-    0x0001_0100,
-    0x0101_0100,
-    0x0000_0001,
-    0x0100_0001,
-    0x0001_0001,
-    0x0101_0001,
-    0x0000_0101,
-    0x0100_0101,
-    0x0001_0101,
-    0x0101_0101,
 ];
 
 /// What 32 positions from their start on show of the words of three planes of one parity: the
@@ -80,8 +62,8 @@ fn bytes_once(a: u16, b: u16, c: u16) -> [u8; 8]
         ∷ three_last 4 a b c ∷ three_last 3 a b c ∷ three_last 2 a b c
         ∷ three_last 1 a b c ∷ three_last 0 a b c ∷ [] }
 {
-    let high = bits_once(a / 16) + 4 * bits_once(b / 16) + 16 * bits_once(c / 16);
-    let low = bits_once(a) + 4 * bits_once(b) + 16 * bits_once(c);
+    let high = bits_as_bytes(a / 16) + 4 * bits_as_bytes(b / 16) + 16 * bits_as_bytes(c / 16);
+    let low = bits_as_bytes(a) + 4 * bits_as_bytes(b) + 16 * bits_as_bytes(c);
     (high + 0x1_0000_0000 * low).to_le_bytes()
 }
 
@@ -91,12 +73,4 @@ fn bits_twice(word: u16) -> u64
         + 0x101_0000_0000 * (word / 2 % 2) + 0x101_0000_0000_0000 * (word % 2) }
 {
     TWICE[(word % 16) as usize]
-}
-
-/// The last four bits of a word, each as a byte.
-fn bits_once(word: u16) -> u64
-    ensures { result ≡ word / 8 % 2 + 0x100 * (word / 4 % 2) + 0x1_0000 * (word / 2 % 2)
-        + 0x100_0000 * (word % 2) }
-{
-    ONCE[(word % 16) as usize]
 }

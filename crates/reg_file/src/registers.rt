@@ -2,7 +2,8 @@
 
 ghost use Rattle.std.specs.Prelude.{◌≡◌, ◌<◌, ◌%◌, true, if◌then◌else◌};
 ghost use Rattle.serial_model.specs.Registers.{no_registers, kept_word, pointer_at, with_pointer, with_word, words_after, effect_of};
-ghost use Rattle.serial_model.specs.Registers.{effect_in, word_at, set_or_clear as set_or_clear_of, is_closed as closed, bit_worth};
+ghost use Rattle.irq_cia.specs.Bits.{set_or_clear as set_or_clear_of};
+ghost use Rattle.serial_model.specs.Registers.{effect_in, word_at, is_closed as closed, bit_worth};
 ghost use Rattle.serial_model.specs.RegisterTable.{is_pointer_high};
 
 use crate::table::{kept_bits, reading, writing};

@@ -8,12 +8,18 @@ use Rattle.serial_model.specs.declared.bus.SideAsk.TheVariants as S
 use Rattle.serial_model.specs.declared.picture.Denise.{Denise}
 use Rattle.serial_model.specs.declared.picture.Touch.{Touch}
 use Rattle.serial_model.specs.Beam.{next_place}
-use Rattle.serial_model.specs.Events.{due_events, do_event, do_events, made_by_act, add_touch, touches_of, lines_by, event_lines}
+use Rattle.serial_model.specs.Events.{due_events, do_event, do_events, made_by_act, tell_chips, add_touch, touches_of, lines_by, event_lines}
 use Rattle.serial_model.specs.Laws.{MemoryNext, PictureNext, ShownNext, ClxNext, TraceNext, BeamNext, made_in, picture_before}
 use Rattle.serial_model.specs.Made.{word_of, memory_after, touch_of, lines_of}
 use Rattle.serial_model.specs.Picture.{touch_if_any, touch_in_order, step_of, after_step}
 use Rattle.serial_model.specs.Registers.{is_interlaced}
-use Rattle.serial_model.specs.State.{State}
+use Rattle.serial_model.specs.State.{Chips, State}
+use Rattle.serial_model.specs.Turns.{take_turn, run_chips, interrupt_of, taken_lines}
+use Rattle.serial_model.specs.Processor.{turn_of}
+use Rattle.serial_model.specs.declared.processor.CiaName.TheVariants.{A, B}
+use Rattle.serial_model.specs.declared.processor.Turn.{Turn}
+use Rattle.serial_model.specs.declared.processor.Turn.TheVariants.{Rests, Waits, Goes, Cia}
+use Rattle.serial_model.specs.declared.trace.TraceLine.{TraceLine}
 use Rattle.serial_model.specs.Tick.{start_clock, run_script, before_access, answer_state, make_access, tick}
 
 -- the script stores nothing
@@ -62,12 +68,21 @@ picture_touched (e ∷ events) s =
     (touch_if_any s.beam.h (word_of s.memory) (touch_of (made_by_act e.act)) s.picture)) (memory_by e.act s.memory)
     ∙ touch_by s.beam.h (word_of s.memory) (touch_of (made_by_act e.act)) (touches_of events) s.picture
 
--- its lines
+-- its lines: what joysticks, fire buttons and keys do comes into none
+lines_told : (act : Act) (s : State) → lines_of s.beam s.clx (tell_chips act s.chips) (made_by_act act) ≡ lines_by act s
+lines_told (Poke reg word) s = refl
+lines_told (Peek reg) s = refl
+lines_told (Joy port word) s = refl
+lines_told (Fire port down) s = refl
+lines_told (Key code) s = refl
+
 pub lines_added : (events : List At) (s : State) → (do_events events s).trace ≡ s.trace ++ event_lines events s
 unfolding do_events event_lines
 lines_added [] s = sym (append-nil s.trace)
 lines_added (e ∷ events) s =
-    lines_added events (do_event e.act s) ∙ append_assoc s.trace (lines_by e.act s) (event_lines events (do_event e.act s))
+    lines_added events (do_event e.act s)
+    ∙ ap (λ lines. (s.trace ++ lines) ++ event_lines events (do_event e.act s)) (lines_told e.act s)
+    ∙ append_assoc s.trace (lines_by e.act s) (event_lines events (do_event e.act s))
 
 -- the parts of the next state
 pub memory_next : MemoryNext
@@ -115,12 +130,31 @@ pub trace_next : TraceNext
 unfolding tick
 trace_next system events s =
     let b : State = answer_state S.Nothing (before_access system events s) in
-    ap (λ l. l ++ lines_of b.beam b.clx b.chips (made_in system events s)) (lines_added (due_events s.beam events) (start_clock s))
-    ∙ append_assoc s.trace (event_lines (due_events s.beam events) (start_clock s))
-    (lines_of b.beam b.clx b.chips (made_in system events s))
+    let done : State = make_access S.Nothing (before_access system events s) in
+    let told : List TraceLine = event_lines (due_events s.beam events) (start_clock s) in
+    let made : List TraceLine = lines_of b.beam b.clx b.chips (made_in system events s) in
+    let begun : List TraceLine = taken_lines done.beam (interrupt_of done.chips) in
+    ap (λ l. (l ++ made) ++ begun) (lines_added (due_events s.beam events) (start_clock s))
+    ∙ append_assoc (s.trace ++ told) made begun
+    ∙ append_assoc s.trace told (made ++ begun)
+
+-- the processor's part changes no register
+turn_keeps : (turn : Turn) (c : Chips) → (take_turn turn c).registers ≡ c.registers
+turn_keeps Rests c = refl
+turn_keeps (Waits spent) c = refl
+turn_keeps (Goes word) c = refl
+turn_keeps (Cia A reg None) c = refl
+turn_keeps (Cia A reg (Some byte)) c = refl
+turn_keeps (Cia B reg None) c = refl
+turn_keeps (Cia B reg (Some byte)) c = refl
+
+run_keeps : (c : Chips) → (run_chips c).registers ≡ c.registers
+unfolding run_chips
+run_keeps c = turn_keeps (turn_of c.processor) c
 
 pub beam_next : BeamNext
 unfolding tick
 beam_next system events s =
     let b : State = make_access S.Nothing (before_access system events s) in
+    ap (λ registers. next_place (is_interlaced registers) b.beam) (run_keeps b.chips) ∙
     ap (λ (p : Beam). next_place (is_interlaced b.chips.registers) (record p { lof = b.beam.lof })) (at_place events s)

@@ -17,7 +17,8 @@ use Rattle.serial_model.specs.declared.slots.SlotState.{SlotState}
 use Rattle.serial_model.specs.Beam.{is_line_start}
 use Rattle.serial_model.specs.Owner.{owner_of, is_refresh, if_asking, by_channel, first_asker, blitter_and_processor, processor_first}
 use Rattle.serial_model.specs.PlaneFetch.{IsLastUnit, fetched_plane, plane_ask, move_planes, move_if_fetched, move_plane_pointer, ask_for_plane}
-use Rattle.serial_model.specs.Registers.{kept_word, pointer_at, has_bits}
+use Rattle.irq_cia.specs.Bits.{has_bits}
+use Rattle.serial_model.specs.Registers.{kept_word, pointer_at}
 use Rattle.serial_model.specs.SpriteFetch.{kinds_at, kind_of, kind_by, no_kinds, sprite_of, is_sprite_slot, is_second_slot, sprite_in_slot, sprite_ask, ask_in_slot, ask_by_kind, asking_sprite, sprite_pointer, position_word, control_word, sprite_dma, move_sprites, move_sprite_pointer, move_if_asked}
 use Rattle.serial_model.proofs.FetchLaws.{IsFetch, IsNoPlanePointer, fetched_plane-is, kept_word-move_planes, move_pointer-other}
 

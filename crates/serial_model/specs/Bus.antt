@@ -1,5 +1,5 @@
 -- The access of a clock: who asks for the slot, who gets it, what answers it and what it makes.
-use Rattle.std.specs.Prelude.{ℕ, ◌+◌, ◌*◌, ◌%◌, Bool, true, false, ◌==◌, ◌&&◌, if◌then◌else◌, List, [], ◌∷◌, ◌++◌, Option, Some, None, is_some}
+use Rattle.std.specs.Prelude.{ℕ, ◌+◌, ◌*◌, ◌%◌, Bool, true, false, not, min, ◌==◌, ◌&&◌, if◌then◌else◌, List, [], ◌∷◌, ◌++◌, Option, Some, None, is_some}
 use Rattle.std.specs.Option.{option_map}
 use Rattle.ocs_base.specs.declared.addr.Addr.{Addr}
 use Rattle.blit_words.specs.Blitter.{blit_ask, is_done, blit_zero, blit_end}
@@ -13,6 +13,8 @@ use Rattle.serial_model.specs.declared.bus.Ask.TheVariants as A
 use Rattle.serial_model.specs.declared.bus.Half.TheVariants.{Both}
 use Rattle.serial_model.specs.declared.bus.Made.{Made}
 use Rattle.serial_model.specs.declared.bus.Made.TheVariants as M
+use Rattle.serial_model.specs.declared.bus.ProcessorAsk.{ProcessorAsk}
+use Rattle.serial_model.specs.declared.bus.ProcessorAsk.TheVariants as P
 use Rattle.serial_model.specs.declared.bus.SideAsk.{SideAsk}
 use Rattle.serial_model.specs.declared.bus.SideAsk.TheVariants as S
 use Rattle.serial_model.specs.declared.copper.CopperAct.{CopperAct}
@@ -25,16 +27,17 @@ use Rattle.serial_model.specs.declared.fetch.SpriteKind.{SpriteKind}
 use Rattle.serial_model.specs.declared.slots.Owner.{Owner}
 use Rattle.serial_model.specs.declared.slots.Owner.TheVariants.{Refresh, Disk, Audio, Plane, Sprite, Copper, Blitter, Processor, Free}
 use Rattle.serial_model.specs.declared.slots.SlotState.{SlotState}
-use Rattle.serial_model.specs.declared.trace.Source.TheVariants.{Copper as ByCopper}
+use Rattle.serial_model.specs.declared.trace.Source.TheVariants.{Copper as ByCopper, Processor as ByProcessor}
 use Rattle.serial_model.specs.BlitRegisters.{with_blit}
-use Rattle.serial_model.specs.Interrupts.{after_request}
+use Rattle.irq_cia.specs.Interrupts.{after_request}
 use Rattle.serial_model.specs.Registers.{copper_dma, blitter_dma, blitter_first, is_danger}
 use Rattle.serial_model.specs.Copper.{wish_of, step_copper, copper_act}
 use Rattle.serial_model.specs.Made.{word_of}
 use Rattle.serial_model.specs.Owner.{owner_of}
 use Rattle.serial_model.specs.PlaneFetch.{units_at, last_unit, plane_ask, move_plane_pointer}
 use Rattle.serial_model.specs.SpriteFetch.{kinds_at, sprite_ask, asking_sprite, move_sprite_pointer}
-use Rattle.serial_model.specs.State.{BlitUnderWay, Chips, is_busy}
+use Rattle.serial_model.specs.Processor.{processor_wish, give_processor}
+use Rattle.serial_model.specs.State.{BlitUnderWay, Chips, is_busy, read_word}
 
 -- the Copper takes part in even clocks while its DMA is on
 abbrev pub copper_runs : Beam → Chips → Bool
@@ -67,13 +70,14 @@ ask_of_blit run = blit_ask run.start run.answers
 abbrev pub blit_wish : Chips → Option SlotAsk
 blit_wish c = if blitter_dma c.registers then option_map ask_of_blit c.blit else None
 
--- what each asker wishes at a clock; the processor does not ask yet
+-- what each asker wishes at a clock
 pub record Wishes : Type 0 where
   pub side : SideAsk
   pub plane : Option PlaneAsk
   pub sprite : Option SpriteAsk
   pub copper : Option Addr
   pub blit : Option SlotAsk
+  pub processor : Option ProcessorAsk
 
 abbrev pub wishes_of : SideAsk → Beam → Chips → Wishes
 wishes_of side b c = record {
@@ -82,6 +86,7 @@ wishes_of side b c = record {
   sprite = sprite_wish b c;
   copper = copper_wish b c;
   blit = blit_wish c;
+  processor = processor_wish c.processor;
 }
 
 abbrev pub is_disk : SideAsk → Bool
@@ -104,8 +109,8 @@ slot_state b c w = record {
   sprite = option_map asking_sprite w.sprite;
   copper = is_some w.copper;
   blitter = is_some w.blit;
-  processor = false;
-  missed = 0;
+  processor = is_some w.processor;
+  missed = c.missed;
   nasty = blitter_first c.registers;
 }
 
@@ -135,6 +140,10 @@ blit_owner_ask (Some (Write at word)) = A.BlitWrite at word
 blit_owner_ask (Some Rest) = A.BlitRest
 blit_owner_ask (Some Done) = A.Free
 
+abbrev pub processor_ask : Option ProcessorAsk → Ask
+processor_ask None = A.Free
+processor_ask (Some ask) = A.Processor ask
+
 -- the ask of the slot's owner
 abbrev pub owner_ask : Owner → Wishes → Ask
 owner_ask Refresh w = A.Free
@@ -144,25 +153,33 @@ owner_ask (Plane plane) w = plane_owner_ask w.plane
 owner_ask (Sprite sprite) w = sprite_owner_ask w.sprite
 owner_ask Copper w = copper_ask w.copper
 owner_ask Blitter w = blit_owner_ask w.blit
-owner_ask Processor w = A.Free
+owner_ask Processor w = processor_ask w.processor
 owner_ask Free w = A.Free
 
 -- the ask of this clock, from the state as it is then
 unfoldable pub ask_at : SideAsk → Beam → Chips → Ask
 ask_at side b c = owner_ask (owner_of (slot_state b c (wishes_of side b c))) (wishes_of side b c)
 
--- the word that answers it, 0 where nothing is read
-abbrev pub answer_to : Ask → List ℕ → ℕ
-answer_to A.Free memory = 0
-answer_to (A.Disk at word) memory = 0
-answer_to (A.Audio channel at) memory = word_of memory at.value
-answer_to (A.Plane plane at) memory = word_of memory at.value
-answer_to (A.SpriteControl sprite second at) memory = word_of memory at.value
-answer_to (A.SpriteWords sprite second at) memory = word_of memory at.value
-answer_to (A.Copper at) memory = word_of memory at.value
-answer_to (A.BlitRead at) memory = word_of memory at.value
-answer_to (A.BlitWrite at word) memory = 0
-answer_to A.BlitRest memory = 0
+-- the word that answers it, 0 where nothing is read: a word of memory, or what a register gives where these collision bits
+-- were gathered
+abbrev pub answer_processor : ProcessorAsk → Beam → ℕ → Chips → List ℕ → ℕ
+answer_processor (P.Read at) b clx c memory = word_of memory at.value
+answer_processor (P.Write at half word) b clx c memory = 0
+answer_processor (P.ReadRegister reg) b clx c memory = read_word reg.offset b clx c
+answer_processor (P.WriteRegister reg word) b clx c memory = 0
+
+abbrev pub answer_to : Ask → Beam → ℕ → Chips → List ℕ → ℕ
+answer_to A.Free b clx c memory = 0
+answer_to (A.Disk at word) b clx c memory = 0
+answer_to (A.Audio channel at) b clx c memory = word_of memory at.value
+answer_to (A.Plane plane at) b clx c memory = word_of memory at.value
+answer_to (A.SpriteControl sprite second at) b clx c memory = word_of memory at.value
+answer_to (A.SpriteWords sprite second at) b clx c memory = word_of memory at.value
+answer_to (A.Copper at) b clx c memory = word_of memory at.value
+answer_to (A.BlitRead at) b clx c memory = word_of memory at.value
+answer_to (A.BlitWrite at word) b clx c memory = 0
+answer_to A.BlitRest b clx c memory = 0
+answer_to (A.Processor ask) b clx c memory = answer_processor ask b clx c memory
 
 -- the word that the Copper gets: that of its own ask alone
 abbrev pub copper_word : Ask → ℕ → Option ℕ
@@ -176,6 +193,7 @@ copper_word (A.Copper at) word = Some word
 copper_word (A.BlitRead at) word = None
 copper_word (A.BlitWrite at stored) word = None
 copper_word A.BlitRest word = None
+copper_word (A.Processor ask) word = None
 
 -- the Copper's step of this clock
 abbrev pub copper_after : Beam → Option ℕ → Chips → CopperState
@@ -199,7 +217,12 @@ abbrev pub give_blit : ℕ → Option BlitUnderWay → Chips → Chips
 give_blit word None c = c
 give_blit word (Some run) c = go_on (record run { answers = run.answers ++ word ∷ [] }) c
 
--- the chips once the owner of the slot has its answer: a fetch moves the pointer of its plane or sprite, and a blit goes on
+-- the processor has the word of its access, with which it goes on later in this clock
+abbrev pub give_chips : ℕ → Chips → Chips
+give_chips word c = record c { processor = give_processor word c.processor }
+
+-- the chips once the owner of the slot has its answer: a fetch moves the pointer of its plane or sprite, a blit goes on, and
+-- the processor has its word
 abbrev pub answer_owner : Beam → Ask → ℕ → Chips → Chips
 answer_owner b A.Free word c = c
 answer_owner b (A.Disk at stored) word c = c
@@ -212,6 +235,25 @@ answer_owner b (A.Copper at) word c = c
 answer_owner b (A.BlitRead at) word c = give_blit word c.blit c
 answer_owner b (A.BlitWrite at stored) word c = give_blit word c.blit c
 answer_owner b A.BlitRest word c = give_blit word c.blit c
+answer_owner b (A.Processor ask) word c = give_chips word c
+
+-- an ask of the processor
+abbrev pub is_processor_ask : Ask → Bool
+is_processor_ask A.Free = false
+is_processor_ask (A.Disk at stored) = false
+is_processor_ask (A.Audio channel at) = false
+is_processor_ask (A.Plane plane at) = false
+is_processor_ask (A.SpriteControl sprite second at) = false
+is_processor_ask (A.SpriteWords sprite second at) = false
+is_processor_ask (A.Copper at) = false
+is_processor_ask (A.BlitRead at) = false
+is_processor_ask (A.BlitWrite at stored) = false
+is_processor_ask A.BlitRest = false
+is_processor_ask (A.Processor ask) = true
+
+-- the count of clocks in a row at which the processor asked and did not get the slot, which stands still at 3
+abbrev pub missed_after : Option ProcessorAsk → Ask → ℕ → ℕ
+missed_after wish ask missed = if is_some wish && not (is_processor_ask ask) then min 3 (missed + 1) else 0
 
 -- the chips once each has its answer
 unfoldable pub answer_chips : Beam → Ask → ℕ → Chips → Chips
@@ -219,6 +261,7 @@ answer_chips b ask word c = record (answer_owner b ask word c) {
   units = units_now b c;
   kinds = kinds_now b c;
   copper = copper_after b (copper_word ask word) c;
+  missed = missed_after (processor_wish c.processor) ask c.missed;
 }
 
 -- a MOVE is a write by the Copper
@@ -229,6 +272,16 @@ made_by_copper (Move reg word) = M.Wrote reg word (Some ByCopper)
 -- SPRxPOS or, second, SPRxCTL of a sprite
 abbrev pub control_register : ℕ → Bool → Reg
 control_register sprite second = register_of (0x140 + 8 * sprite + (if second then 2 else 0))
+
+-- a read of CLXDAT by the processor clears the collision bits, and the trace tells it; other reads make nothing
+abbrev pub made_by_read : Reg → Made
+made_by_read reg = if reg.offset == 0x0e then M.Read reg ByProcessor else M.Nothing
+
+abbrev pub made_by_processor : ProcessorAsk → Made
+made_by_processor (P.Read at) = M.Nothing
+made_by_processor (P.Write at half word) = M.Stored at half word
+made_by_processor (P.ReadRegister reg) = made_by_read reg
+made_by_processor (P.WriteRegister reg word) = M.Wrote reg word (Some ByProcessor)
 
 -- what an access makes, with the word that answers it, of the chips as they were before
 unfoldable pub made_by_ask : Ask → ℕ → Chips → Made
@@ -241,4 +294,5 @@ made_by_ask (A.SpriteWords sprite second at) word c = M.Sprite sprite second at
 made_by_ask (A.BlitRead at) word c = M.Nothing
 made_by_ask (A.BlitWrite at stored) word c = M.Stored at Both stored
 made_by_ask A.BlitRest word c = M.Nothing
+made_by_ask (A.Processor ask) word c = made_by_processor ask
 made_by_ask (A.Copper at) word c = made_by_copper (copper_act (is_danger c.registers) (Some word) c.copper)

@@ -1,5 +1,6 @@
 -- The script's events of one clock.
-use Rattle.std.specs.Prelude.{Bool, ◌==◌, ◌&&◌, List, [], ◌∷◌, ◌++◌, filter, Option, Some, None}
+use Rattle.std.specs.Prelude.{ℕ, Bool, if◌then◌else◌, ◌==◌, ◌&&◌, List, [], ◌∷◌, ◌++◌, filter, Option, Some, None}
+use Rattle.irq_cia.specs.Cia.{after_key}
 use Rattle.ocs_base.specs.declared.beam.Beam.{Beam}
 use Rattle.ocs_base.specs.declared.script.At.{At}
 use Rattle.ocs_base.specs.declared.script.Act.{Act}
@@ -7,6 +8,7 @@ use Rattle.ocs_base.specs.declared.script.Act.TheVariants.{Poke, Peek, Joy, Fire
 use Rattle.serial_model.specs.declared.bus.Made.{Made}
 use Rattle.serial_model.specs.declared.bus.Made.TheVariants as M
 use Rattle.serial_model.specs.declared.picture.Touch.{Touch}
+use Rattle.serial_model.specs.declared.registers.Inputs.{Inputs}
 use Rattle.serial_model.specs.declared.trace.Source.TheVariants.{Script}
 use Rattle.serial_model.specs.declared.trace.TraceLine.{TraceLine}
 use Rattle.serial_model.specs.Made.{touch_of, lines_of, state_after}
@@ -28,9 +30,20 @@ made_by_act (Joy port word) = M.Nothing
 made_by_act (Fire port down) = M.Nothing
 made_by_act (Key code) = M.Nothing
 
--- what joysticks, fire buttons and keys do to the chips: nothing yet
+-- what joysticks, fire buttons and keys do to the chips: the word of JOY0DAT or JOY1DAT, a fire button down or up, and a code
+-- of the keyboard for CIA A
+abbrev pub with_joy : ℕ → ℕ → Inputs → Inputs
+with_joy port word i = record i { joy0 = if port == 0 then word else i.joy0; joy1 = if port == 0 then i.joy1 else word }
+
+abbrev pub with_fire : ℕ → Bool → Inputs → Inputs
+with_fire port down i = record i { fire0 = if port == 0 then down else i.fire0; fire1 = if port == 0 then i.fire1 else down }
+
 abbrev pub tell_chips : Act → Chips → Chips
-tell_chips act c = c
+tell_chips (Poke reg word) c = c
+tell_chips (Peek reg) c = c
+tell_chips (Joy port word) c = record c { inputs = with_joy port word c.inputs }
+tell_chips (Fire port down) c = record c { inputs = with_fire port down c.inputs }
+tell_chips (Key code) c = record c { cia_a = after_key code c.cia_a }
 
 -- an event happens
 abbrev pub do_event : Act → State → State

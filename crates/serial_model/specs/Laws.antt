@@ -15,6 +15,7 @@ use Rattle.serial_model.specs.Picture.{touch_if_any, touch_in_order, clear_line,
 use Rattle.serial_model.specs.Registers.{is_interlaced}
 use Rattle.serial_model.specs.Serial.{state_at, IsEnd}
 use Rattle.serial_model.specs.State.{State}
+use Rattle.serial_model.specs.Turns.{interrupt_of, taken_lines}
 use Rattle.serial_model.specs.Tick.{start_clock, run_script, before_access, made_of, answer_state, make_access, tick}
 
 -- what the access of the clock that begins in this state makes
@@ -52,13 +53,14 @@ abbrev pub ClxNext : Type 0
 ClxNext = (system : System) (events : List At) (s : State) → is_clx_read (made_in system events s) ≡ false →
     (tick system events s).clx ≡ bit_or (run_script events (start_clock s)).clx (picture_step system events s).clx
 
--- the trace: the lines of the script's events, and then those of the access
+-- the trace: the lines of the script's events, then those of the access, and then that of an interrupt that begins
 abbrev pub TraceNext : Type 0
 TraceNext = (system : System) (events : List At) (s : State) →
     (tick system events s).trace
     ≡ s.trace ++ (event_lines (due_events s.beam events) (start_clock s)
-    ++ (let b = answer_state S.Nothing (before_access system events s) in
-    lines_of b.beam b.clx b.chips (made_in system events s)))
+    ++ ((let b = answer_state S.Nothing (before_access system events s) in
+    lines_of b.beam b.clx b.chips (made_in system events s))
+    ++ (let b = make_access S.Nothing (before_access system events s) in taken_lines b.beam (interrupt_of b.chips))))
 
 -- the beam: the next place, where LOF is all that the writes of this clock can have changed
 abbrev pub BeamNext : Type 0

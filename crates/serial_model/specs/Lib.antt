@@ -7,7 +7,10 @@ pub mod Window
 pub mod PlaneFetch
 pub mod SpriteFetch
 pub mod Picture
+pub mod Processor
 pub mod State
+pub mod Cias
+pub mod Turns
 pub mod Write
 pub mod Made
 pub mod Bus
@@ -16,8 +19,6 @@ pub mod Tick
 pub mod Serial
 pub mod Outputs
 pub mod BlitRegisters
-pub mod Built
 pub mod TraceText
 pub mod MemoryText
-pub mod Interrupts
 pub mod Laws

@@ -38,11 +38,11 @@ lof_after (M.Stored at half word) lof = lof
 lof_after (M.Plane plane at) lof = lof
 lof_after (M.Sprite sprite second at) lof = lof
 
--- a stored word replaces the old one, and a byte one half of it
+-- a stored word replaces the old one, and its low byte one half of it
 abbrev pub merge_half : Half → ℕ → ℕ → ℕ
 merge_half Both old word = word
-merge_half High old byte = 256 * byte + old % 256
-merge_half Low old byte = old / 256 * 256 + byte
+merge_half High old byte = 256 * (byte % 256) + old % 256
+merge_half Low old byte = 256 * (old / 256) + byte % 256
 
 abbrev pub memory_after : Made → List ℕ → List ℕ
 memory_after M.Nothing memory = memory

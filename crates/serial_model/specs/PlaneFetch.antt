@@ -6,7 +6,8 @@ use Rattle.ocs_base.specs.declared.beam.Beam.{Beam}
 use Rattle.priority_ham.specs.PlaneCount.{is_hires, planes_of}
 use Rattle.serial_model.specs.declared.fetch.PlaneAsk.{PlaneAsk}
 use Rattle.serial_model.specs.Beam.{is_line_start}
-use Rattle.serial_model.specs.Registers.{kept_word, pointer_at, with_pointer, has_bits}
+use Rattle.irq_cia.specs.Bits.{has_bits}
+use Rattle.serial_model.specs.Registers.{kept_word, pointer_at, with_pointer}
 use Rattle.serial_model.specs.Window.{is_window_line}
 
 -- DMAEN, bit 9, and BPLEN, bit 8, of DMACON are both set

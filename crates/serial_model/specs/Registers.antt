@@ -1,5 +1,6 @@
 -- The kept words of the custom registers: what reads, writes and pointers make of them.
 use Rattle.std.specs.Prelude.{ℕ, ◌+◌, ◌-◌, ◌*◌, ◌/◌, ◌%◌, Bool, true, false, ◌&&◌, ◌==◌, nat_le, if◌then◌else◌, List, slice_index, slice_set, replicate, bit_and, bit_or}
+use Rattle.irq_cia.specs.Bits.{has_bits, set_or_clear}
 use Rattle.ocs_base.specs.AddressOf.{addr_at}
 use Rattle.ocs_base.specs.declared.addr.Addr.{Addr}
 use Rattle.serial_model.specs.declared.registers.Effect.{Effect}
@@ -29,10 +30,6 @@ pointer_at registers high = addr_at (65536 * kept_word registers high + kept_wor
 -- the table in which a pointer holds an address
 abbrev pub with_pointer : List ℕ → ℕ → ℕ → List ℕ
 with_pointer registers high address = with_word (with_word registers high (address / 65536)) (high + 2) (address % 65536)
-
--- all bits of the mask are set in the word
-abbrev pub has_bits : ℕ → ℕ → Bool
-has_bits word mask = bit_and word mask == mask
 
 -- DMAEN, bit 9, and COPEN, bit 7, of DMACON are both set
 abbrev pub copper_dma : List ℕ → Bool
@@ -73,10 +70,6 @@ effect_in Field word = E.Lof (nat_le 32768 word)
 -- the effect of a write
 unfoldable pub effect_of : Bool → ℕ → ℕ → Effect
 effect_of busy offset word = if is_closed busy offset then E.Nothing else effect_in (writing_at offset) word
-
--- a word whose bit 15 says whether its other 1 bits are set or cleared in the kept word, of the bits in the mask
-abbrev pub set_or_clear : ℕ → ℕ → ℕ → ℕ
-set_or_clear mask old word = if nat_le 32768 word then bit_or old (bit_and word mask) else bit_and old (65535 - word)
 
 -- the kept words after a write of a word to a register that is not closed
 abbrev pub words_in : Writing → List ℕ → ℕ → ℕ → List ℕ

@@ -7,7 +7,7 @@ use Rattle.serial_model.specs.Tick.{tick}
 
 -- the state after so many colour clocks
 unfoldable pub state_at : List ℕ → ScriptValue → ℕ → State
-state_at image script zero = reset image
+state_at image script zero = reset image script.cpu
 state_at image script (suc n) = tick Pal script.events (state_at image script n)
 
 -- the run ends with the first state whose frame is the script's number of frames

@@ -7,7 +7,8 @@ use Rattle.serial_model.specs.declared.fetch.SpriteKind.{SpriteKind}
 use Rattle.serial_model.specs.declared.fetch.SpriteKind.TheVariants.{Nothing, Control, Words}
 use Rattle.serial_model.specs.Beam.{is_line_start}
 use Rattle.serial_model.specs.PlaneFetch.{move_pointer}
-use Rattle.serial_model.specs.Registers.{kept_word, pointer_at, has_bits}
+use Rattle.irq_cia.specs.Bits.{has_bits}
+use Rattle.serial_model.specs.Registers.{kept_word, pointer_at}
 
 -- DMAEN, bit 9, and SPREN, bit 5, of DMACON are both set
 abbrev pub sprite_dma : List ℕ → Bool

@@ -1,20 +1,24 @@
 -- The state of the machine between two colour clocks.
-use Rattle.std.specs.Prelude.{ℕ, ◌==◌, Bool, true, if◌then◌else◌, List, [], Option, Some, None, is_some}
+use Rattle.std.specs.Prelude.{ℕ, ◌==◌, Bool, true, false, if◌then◌else◌, List, [], Option, Some, None, is_some}
 use Rattle.blit_words.specs.Blitter.{blit_zero}
 use Rattle.blit_words.specs.declared.blit.BlitRegs.{BlitRegs}
+use Rattle.irq_cia.specs.Cia.{reset_cia}
+use Rattle.irq_cia.specs.declared.cia.CiaState.{CiaState}
 use Rattle.ocs_base.specs.AddressOf.{addr_at}
 use Rattle.ocs_base.specs.declared.beam.Beam.{Beam}
 use Rattle.ocs_base.specs.Memory.{memory_of}
 use Rattle.serial_model.specs.declared.copper.CopperState.{CopperState}
 use Rattle.serial_model.specs.declared.fetch.SpriteKind.{SpriteKind}
 use Rattle.serial_model.specs.declared.picture.Denise.{Denise}
+use Rattle.serial_model.specs.declared.registers.Inputs.{Inputs}
 use Rattle.serial_model.specs.declared.registers.Live.{Live}
 use Rattle.serial_model.specs.declared.trace.TraceLine.{TraceLine}
 use Rattle.serial_model.specs.Beam.{first_place}
 use Rattle.serial_model.specs.Registers.{no_registers, word_at}
 use Rattle.serial_model.specs.Copper.{copper_from}
-use Rattle.serial_model.specs.Interrupts.{Interrupts, no_interrupts}
+use Rattle.irq_cia.specs.Interrupts.{Interrupts, no_interrupts}
 use Rattle.serial_model.specs.Picture.{reset_picture}
+use Rattle.serial_model.specs.Processor.{Processor, reset_processor}
 use Rattle.serial_model.specs.SpriteFetch.{no_kinds}
 
 -- a blit under way: its registers at the start, and the answers of its slots so far, of which only the words that it reads
@@ -22,6 +26,15 @@ use Rattle.serial_model.specs.SpriteFetch.{no_kinds}
 pub record BlitUnderWay : Type 0 where
   pub start : BlitRegs
   pub answers : List ℕ
+
+-- the joysticks at rest
+abbrev pub no_inputs : Inputs
+no_inputs = record {
+  joy0 = 0;
+  joy1 = 0;
+  fire0 = false;
+  fire1 = false;
+}
 
 -- everything but memory and picture
 pub record Chips : Type 0 where
@@ -38,6 +51,12 @@ pub record Chips : Type 0 where
   pub zero : Bool
   -- INTENA and INTREQ
   pub irq : Interrupts
+  pub processor : Processor
+  -- for how many clocks in a row the processor asked for the slot and did not get it, at most 3
+  pub missed : ℕ
+  pub cia_a : CiaState
+  pub cia_b : CiaState
+  pub inputs : Inputs
 
 pub record State : Type 0 where
   -- the number of colour clocks since reset
@@ -54,8 +73,8 @@ pub record State : Type 0 where
   -- the trace lines so far
   pub trace : List TraceLine
 
-abbrev pub reset_chips : Chips
-reset_chips = record {
+abbrev pub reset_chips : Bool → Chips
+reset_chips cpu = record {
   registers = no_registers;
   units = [];
   kinds = no_kinds;
@@ -63,14 +82,20 @@ reset_chips = record {
   blit = None;
   zero = true;
   irq = no_interrupts;
+  processor = reset_processor cpu;
+  missed = 0;
+  cia_a = reset_cia;
+  cia_b = reset_cia;
+  inputs = no_inputs;
 }
 
-unfoldable pub reset : List ℕ → State
-reset image = record {
+-- the state at reset, with the processor started or not
+unfoldable pub reset : List ℕ → Bool → State
+reset image cpu = record {
   t = 0;
   beam = first_place;
   memory = memory_of image;
-  chips = reset_chips;
+  chips = reset_chips cpu;
   picture = reset_picture;
   clx = 0;
   shown = [];
@@ -86,9 +111,9 @@ abbrev pub zero_of : Option BlitUnderWay → Bool → Bool
 zero_of None zero = zero
 zero_of (Some run) zero = blit_zero run.start run.answers
 
--- what a read sees beside the kept words: there is no joystick yet
+-- what a read sees beside the kept words
 abbrev pub live_words : Beam → Chips → Live
-live_words b c = record { beam = b; busy = is_busy c; zero = zero_of c.blit c.zero; joy0 = 0; joy1 = 0 }
+live_words b c = record { beam = b; busy = is_busy c; zero = zero_of c.blit c.zero; joy0 = c.inputs.joy0; joy1 = c.inputs.joy1 }
 
 -- what a read of a register gives, where these collision bits were gathered
 unfoldable pub read_word : ℕ → Beam → ℕ → Chips → ℕ

@@ -7,23 +7,32 @@ use Rattle.serial_model.specs.declared.bus.Ask.{Ask}
 use Rattle.serial_model.specs.declared.bus.Made.{Made}
 use Rattle.serial_model.specs.declared.bus.SideAsk.{SideAsk}
 use Rattle.serial_model.specs.declared.bus.SideAsk.TheVariants as S
-use Rattle.serial_model.specs.Beam.{next_place, is_field_start}
+use Rattle.serial_model.specs.Beam.{next_place, is_line_start, is_field_start}
 use Rattle.serial_model.specs.Bus.{ask_at, answer_to, answer_chips, made_by_ask}
 use Rattle.serial_model.specs.Events.{due_events, do_events}
-use Rattle.serial_model.specs.Interrupts.{after_request}
+use Rattle.irq_cia.specs.Cia.{after_tod_pulse}
+use Rattle.irq_cia.specs.Interrupts.{after_request}
 use Rattle.serial_model.specs.Made.{state_after}
 use Rattle.serial_model.specs.Picture.{clear_line, step_of, after_step}
 use Rattle.serial_model.specs.Registers.{is_interlaced}
 use Rattle.serial_model.specs.State.{Chips, State}
+use Rattle.serial_model.specs.Cias.{time_chips}
+use Rattle.serial_model.specs.Turns.{run_chips, interrupt_of, taken_lines}
 use Rattle.serial_model.specs.Write.{restart_copper}
 
--- first: at a field's first clock the Copper starts at COP1LC and VERTB, bit 5 of INTREQ, is requested, and at a line's first
--- clock Denise forgets the line before
+-- first: at a field's first clock the Copper starts at COP1LC, VERTB, bit 5 of INTREQ, is requested, and CIA A's time of day
+-- counts one; and at a line's first clock Denise forgets the line before, and CIA B's time of day counts one
 abbrev pub start_field : Chips → Chips
-start_field c = record (restart_copper 1 c) { irq = after_request 0x20 c.irq }
+start_field c = record (restart_copper 1 c) { irq = after_request 0x20 c.irq; cia_a = after_tod_pulse c.cia_a }
+
+abbrev pub start_line : Chips → Chips
+start_line c = record c { cia_b = after_tod_pulse c.cia_b }
+
+abbrev pub if_field_starts : Beam → Chips → Chips
+if_field_starts b c = if is_field_start b then start_field c else c
 
 abbrev pub start_chips : Beam → Chips → Chips
-start_chips b c = if is_field_start b then start_field c else c
+start_chips b c = if is_line_start b then start_line (if_field_starts b c) else if_field_starts b c
 
 abbrev pub start_clock : State → State
 start_clock s = record s { chips = start_chips s.beam s.chips; picture = clear_line s.beam s.picture }
@@ -32,9 +41,10 @@ start_clock s = record s { chips = start_chips s.beam s.chips; picture = clear_l
 abbrev pub run_script : List At → State → State
 run_script events s = do_events (due_events s.beam events) s
 
--- third: the timers of the CIAs, and requests of interrupts by the side, of which this machine has none yet
+-- third: the timers of the CIAs tick at each fifth clock, and interrupts are requested: these bits by the side, of which this
+-- machine has none yet, and those of the CIAs
 abbrev pub count_timers : ℕ → State → State
-count_timers bits s = s
+count_timers bits s = record s { chips = time_chips bits s.t s.chips }
 
 -- fourth: Denise shows the pixels of this clock and gathers their collisions
 abbrev pub show_pixels : System → State → State
@@ -49,7 +59,7 @@ abbrev pub ask_of : SideAsk → State → Ask
 ask_of side s = ask_at side s.beam s.chips
 
 abbrev pub answer_of : SideAsk → State → ℕ
-answer_of side s = answer_to (ask_of side s) s.memory
+answer_of side s = answer_to (ask_of side s) s.beam s.clx s.chips s.memory
 
 abbrev pub made_of : SideAsk → State → Made
 made_of side s = made_by_ask (ask_of side s) (answer_of side s) s.chips
@@ -60,9 +70,10 @@ answer_state side s = record s { chips = answer_chips s.beam (ask_of side s) (an
 abbrev pub make_access : SideAsk → State → State
 make_access side s = state_after (made_of side s) (answer_state side s)
 
--- sixth: the processor's part that needs no slot; this machine has no processor yet
+-- sixth: the processor's part that needs no slot. It takes the word of its access and goes on, or a clock passes of what it
+-- waits for; an interrupt that begins is traced
 abbrev pub run_processor : State → State
-run_processor s = s
+run_processor s = record s { chips = run_chips s.chips; trace = s.trace ++ taken_lines s.beam (interrupt_of s.chips) }
 
 -- seventh: the beam advances
 abbrev pub advance_beam : State → State

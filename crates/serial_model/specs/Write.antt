@@ -4,7 +4,7 @@ use Rattle.serial_model.specs.declared.registers.Effect.{Effect}
 use Rattle.serial_model.specs.declared.registers.Effect.TheVariants.{Kept, Nothing, Jump, Blit, Picture, Interrupt, Lof}
 use Rattle.serial_model.specs.BlitRegisters.{blit_start}
 use Rattle.serial_model.specs.Copper.{copper_from}
-use Rattle.serial_model.specs.Interrupts.{after_ena_write, after_req_write}
+use Rattle.irq_cia.specs.Interrupts.{after_ena_write, after_req_write}
 use Rattle.serial_model.specs.Registers.{words_after, effect_of, pointer_at}
 use Rattle.serial_model.specs.State.{Chips, is_busy}
 

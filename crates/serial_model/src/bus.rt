@@ -15,7 +15,8 @@ pub enum SideAsk {
 /// The access that the owner of the slot makes: none (a free slot, or refresh), a word stored by the disk, the
 /// read of a sample's word, of a word for the latch of a bitplane, 1 to 6, of a control word or an image word of
 /// a sprite, 0 to 7, or of an instruction's word by the Copper; or the blitter's slot, in which it reads or writes a
-/// word or makes no access. A sprite's `second` word is that for SPRxCTL or SPRxDATB.
+/// word or makes no access; or what the processor does. A sprite's `second`
+/// word is that for SPRxCTL or SPRxDATB.
 #[derive(Clone, Copy, Debug)]
 pub enum Ask {
     Free,
@@ -28,9 +29,19 @@ pub enum Ask {
     BlitRead { at: Addr },
     BlitWrite { at: Addr, word: u16 },
     BlitRest,
+    Processor { ask: ProcessorAsk },
 }
 
-/// Which bytes of a word of memory a write changes. A write of one byte has the byte as its word.
+/// What the processor does in its slot: it reads or writes a word of chip memory or a custom register.
+#[derive(Clone, Copy, Debug)]
+pub enum ProcessorAsk {
+    Read { at: Addr },
+    Write { at: Addr, half: Half, word: u16 },
+    ReadRegister { reg: Reg },
+    WriteRegister { reg: Reg, word: u16 },
+}
+
+/// Which bytes of a word of memory a write changes. A write of one byte has the byte as the low one of its word.
 #[derive(Clone, Copy, Debug)]
 pub enum Half {
     Both,

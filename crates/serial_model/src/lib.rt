@@ -7,14 +7,16 @@ pub mod copper;
 pub mod fetch;
 pub mod laws;
 pub mod picture;
+pub mod processor;
 pub mod registers;
 pub mod slots;
 pub mod trace;
 
-pub use bus::{Ask, Half, Made, SideAsk};
+pub use bus::{Ask, Half, Made, ProcessorAsk, SideAsk};
 pub use copper::{CopperAct, CopperInstruction, CopperPhase, CopperState};
 pub use fetch::{PlaneAsk, SpriteAsk, SpriteKind};
 pub use picture::{Denise, Touch};
-pub use registers::{Effect, Live, Reading, Writing};
+pub use processor::{CiaName, CiaRegister, Target, Turn, Wait};
+pub use registers::{Effect, Inputs, Live, Reading, Writing};
 pub use slots::{Owner, SlotState};
 pub use trace::{Source, TraceLine};

@@ -56,3 +56,12 @@ pub struct Live {
     pub joy0: u16,
     pub joy1: u16,
 }
+
+/// The joysticks of ports 0 and 1: what JOY0DAT and JOY1DAT read, and whether their fire buttons are down.
+#[derive(Clone, Copy, Debug)]
+pub struct Inputs {
+    pub joy0: u16,
+    pub joy1: u16,
+    pub fire0: bool,
+    pub fire1: bool,
+}

@@ -36,7 +36,7 @@ pub entry_of : (n : ℕ) → get_or entries (n % 16) 0
 entry_of n = entry (n % 16) (omega arith) ∙ omega arith
 
 -- the bytes of a number of eight digits
-eight_digits : (n a b c d e f g h : ℕ) → a < 256 → b < 256 → c < 256 → d < 256 → e < 256 → f < 256 → g < 256 → h < 256 →
+pub eight_digits : (n a b c d e f g h : ℕ) → a < 256 → b < 256 → c < 256 → d < 256 → e < 256 → f < 256 → g < 256 → h < 256 →
     n ≡ a + 256 * b + 65536 * c + 16777216 * d + 4294967296 * e + 1099511627776 * f + 281474976710656 * g + 72057594037927936 * h →
     to_le_bytes w64 n ≡ a ∷ b ∷ c ∷ d ∷ e ∷ f ∷ g ∷ h ∷ []
 eight_digits n a b c d e f g h la lb lc ld le lf lg lh is =
@@ -65,10 +65,10 @@ sum_of_digits : (a b c d e f g h a' b' c' d' e' f' g' h' : ℕ) →
     + 72057594037927936 * (h + 2 * h')
 sum_of_digits a b c d e f g h a' b' c' d' e' f' g' h' = omega arith
 
-upper_bits : (n : ℕ) → spread_bits (n / 16) ≡ n / 128 % 2 + 256 * (n / 64 % 2) + 65536 * (n / 32 % 2) + 16777216 * (n / 16 % 2)
+pub upper_bits : (n : ℕ) → spread_bits (n / 16) ≡ n / 128 % 2 + 256 * (n / 64 % 2) + 65536 * (n / 32 % 2) + 16777216 * (n / 16 % 2)
 upper_bits n = simp div-div-eq-div-mul
 
-lower_bits : (n : ℕ) → spread_bits n ≡ n / 8 % 2 + 256 * (n / 4 % 2) + 65536 * (n / 2 % 2) + 16777216 * (n / 1 % 2)
+pub lower_bits : (n : ℕ) → spread_bits n ≡ n / 8 % 2 + 256 * (n / 4 % 2) + 65536 * (n / 2 % 2) + 16777216 * (n / 1 % 2)
 lower_bits n = ap (λ (m : ℕ). n / 8 % 2 + 256 * (n / 4 % 2) + 65536 * (n / 2 % 2) + 16777216 * (m % 2)) (sym (div-one n))
 
 -- the bytes of two words' last eight bits

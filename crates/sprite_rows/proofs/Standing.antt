@@ -1,6 +1,6 @@
 -- Rows that stand for the sprites' last starts.
-use Rattle.std.proofs.Common.{◌≡◌, ◌≢◌, ℕ, zero, suc, ◌+◌, ◌-◌, ◌*◌, ◌/◌, ◌%◌, ◌<◌, ◌≤◌, Bool, true, false, nat_eq, nat_lt, List, [], ◌∷◌, Option, None, Some, length, get_or, slice_index, replicate, refl, sym, ◌∙◌, ap, subst, arith, rules}
-use Rattle.std.specs.Prelude.{slice_index_or, IsTrue}
+use Rattle.std.proofs.Common.{◌≡◌, ◌≢◌, ℕ, zero, suc, ◌+◌, ◌-◌, ◌*◌, ◌/◌, ◌%◌, ◌<◌, ◌≤◌, Bool, true, false, nat_eq, nat_lt, List, [], ◌∷◌, Option, None, Some, length, get_or, slice_index, replicate, refl, sym, ◌∙◌, ap, subst, arith}
+use Rattle.std.specs.Prelude.{slice_index_or, IsTrue, ◌↔◌}
 use Rattle.std.specs.Bool.{if◌then◌else◌}
 use Rattle.std.proofs.Math.ListN.{set, get_or-eq_default, length-set}
 use Rattle.std.proofs.lemmas.List.{get_or-replicate, length-replicate, get_or-set_same, get_or-set_other}
@@ -10,13 +10,13 @@ use Rattle.sprites.specs.SpriteValue.{value_of}
 use Rattle.sprites.specs.SpriteFront.{front_pixel}
 use Rattle.collisions.specs.Collision.{number_of}
 use Rattle.sprite_rows.specs.declared.rows.SpriteRows.{SpriteRows}
-use Rattle.sprite_rows.specs.Laid.{byte_of, with_value, laid_byte}
+use Rattle.sprite_rows.specs.Laid.{byte_of, is_blank_at, with_value, laid_byte}
 use Rattle.sprite_rows.specs.WordValues.{word_values}
 use Rattle.sprite_rows.specs.PairFront.{front_of_bytes}
 use Rattle.sprite_rows.specs.PairCollision.{is_byte_present, present_pairs}
 use Rattle.sprite_rows.specs.LineValues.{value_at, values_at, pair_byte, IsRowsOf, StartsBy, SpriteStartsBy}
 use Rattle.sprite_rows.proofs.LaidBytes.{is_among}
-use Rattle.sprite_rows.proofs.FrontByBytes.{AreZero, front_by_bytes}
+use Rattle.sprite_rows.proofs.FrontByBytes.{AreZero, each_zero, front_by_bytes}
 use Rattle.sprite_rows.proofs.Meeting.{present_by_bytes}
 use Rattle.sprite_rows.proofs.Values.{kept-none, sprite_value-le, value_at-none, value_at-past, value_at-other, value_at-new, value_of-within, value_of-past}
 
@@ -269,9 +269,24 @@ clear_from x y rows runs are end le lt =
     clear_at y rows runs (IsRowsOf-later x y rows runs are le) lt
     (record { first = rows.blank 0 y from; second = rows.blank 1 y from; third = rows.blank 2 y from; fourth = rows.blank 3 y from })
 
-pub true_of : (b : Bool) → IsTrue b → b ≡ true
-true_of true holds = refl
-true_of false holds = search rules
+-- whether no sprite shows at a position, by whether its four bytes are 0
+pair_is_blank : (x p : ℕ) (rows : SpriteRows) (runs : List (Option Start)) → IsRowsOf x rows runs → p < 4 → x < 512 →
+    value_at x runs (2 * p) ≡ 0 → value_at x runs (2 * p + 1) ≡ 0 → byte_of rows.pairs p x ≡ 0
+pair_is_blank x p rows runs are pair lt even odd = omega (arith, are.bytes p x pair (omega arith) lt, even, odd)
 
-pub is_zero : (n : ℕ) → nat_eq n 0 ≡ true → n ≡ 0
-is_zero n is = grind (arith, nat_tests)
+at_blank : (x : ℕ) (rows : SpriteRows) (runs : List (Option Start)) → IsRowsOf x rows runs → x < 512 → values_at x runs ≡ replicate 8 0 →
+    is_blank_at x rows.pairs ≡ true
+at_blank x rows runs are lt none =
+    let value : (k : ℕ) → slice_index (values_at x runs) k ≡ slice_index (replicate 8 0) k = λ (k : ℕ). ap (λ (l : List ℕ). slice_index l k) none in
+    let first : byte_of rows.pairs 0 x ≡ 0 = pair_is_blank x 0 rows runs are (omega arith) lt (value 0) (value 1) in
+    let second : byte_of rows.pairs 1 x ≡ 0 = pair_is_blank x 1 rows runs are (omega arith) lt (value 2) (value 3) in
+    let third : byte_of rows.pairs 2 x ≡ 0 = pair_is_blank x 2 rows runs are (omega arith) lt (value 4) (value 5) in
+    let fourth : byte_of rows.pairs 3 x ≡ 0 = pair_is_blank x 3 rows runs are (omega arith) lt (value 6) (value 7) in
+    rw (first, second, third, fourth) refl
+
+pub blank_is_clear : (x : ℕ) (rows : SpriteRows) (runs : List (Option Start)) (b : Bool) → IsRowsOf x rows runs → x < 512 →
+    b ≡ is_blank_at x rows.pairs → IsTrue b ↔ (values_at x runs ≡ replicate 8 0)
+blank_is_clear x rows runs b are lt is = (
+  λ holds. clear_at x rows runs are lt (each_zero _ _ _ _ (sym is ∙ holds)),
+  λ none. is ∙ at_blank x rows runs are lt none,
+)

@@ -6,10 +6,11 @@ pub mod collision;
 mod front;
 mod laying;
 pub mod rows;
-mod words;
+pub mod words;
 
 pub use collision::{collisions, playfield_worth};
 pub use rows::SpriteRows;
+pub use words::bits_as_bytes;
 
 #[cfg(test)]
 mod tests;

@@ -4,6 +4,8 @@ ghost use Rattle.std.specs.Prelude.{
   ◌≡◌,
   ◌≤◌,
   ◌<◌,
+  ◌+◌,
+  ◌↔◌,
   ℕ,
   List,
   Option,
@@ -11,12 +13,14 @@ ghost use Rattle.std.specs.Prelude.{
   None,
   IfSome,
   IsTrue,
+  max,
+  nat_le,
   replicate,
   slice_set,
 };
 ghost use Rattle.sprites.specs.declared.runs.Start.{Start};
 ghost use Rattle.sprites.specs.SpriteFront.{front_pixel};
-ghost use Rattle.sprite_rows.specs.Laid.{byte_of};
+ghost use Rattle.sprite_rows.specs.Laid.{byte_of, is_blank_at};
 ghost use Rattle.sprite_rows.specs.PairCollision.{present_pairs};
 
 use crate::collision::present_in;
@@ -53,7 +57,8 @@ impl SpriteRows {
 
     /// Rows on which no words run, as at a line's start.
     pub fn new() -> SpriteRows
-        ensures { IsRowsOf 0 result (replicate 8 None) }
+        ensures rows { IsRowsOf 0 result (replicate 8 None) }
+        ensures end { result.end ≡ 0 }
     {
         SpriteRows {
             pairs: [[0; 512]; 4],
@@ -63,7 +68,8 @@ impl SpriteRows {
 
     /// No words run any more, as at a line's start. Where none was laid this does nothing.
     pub fn clear(&mut self)
-        ensures { IsRowsOf 0 self.new (replicate 8 None) }
+        ensures rows { IsRowsOf 0 self.new (replicate 8 None) }
+        ensures end { self.new.end ≡ 0 }
     {
         if self.end > 0 {
             self.pairs = [[0; 512]; 4];
@@ -85,6 +91,7 @@ impl SpriteRows {
             SpriteStartsBy sprite x runs → IsRowsOf from self.old runs →
             IsRowsOf from self.new (slice_set runs sprite
             (Some (record { x = x; word_a = word_a; word_b = word_b }))) }
+        ensures end { self.new.end ≡ max self.old.end (x + 16) }
     {
         let values = values_of_words(word_a, word_b);
         let row = &mut self.pairs[(sprite / 2) as usize];
@@ -92,9 +99,10 @@ impl SpriteRows {
         self.end = self.end.max(x as usize + 16);
     }
 
-    /// Whether it is known that no sprite shows at position `x` or a later one.
+    /// Whether no words were laid at position `x` or a later one, and so no sprite shows there.
     pub fn is_clear_from(&self, x: u16) -> bool
-        ensures { IsTrue result → (runs : List (Option Start)) → IsRowsOf x self.now runs →
+        ensures known { result ≡ nat_le self.now.end x }
+        ensures clear { IsTrue result → (runs : List (Option Start)) → IsRowsOf x self.now runs →
             IsClearFrom x runs }
     {
         x as usize >= self.end
@@ -103,8 +111,9 @@ impl SpriteRows {
     /// Whether no sprite shows at position `x`.
     pub fn is_clear_at(&self, x: u16) -> bool
         requires { x ≤ 511 }
-        ensures { IsTrue result → (runs : List (Option Start)) → IsRowsOf x self.now runs →
-            values_at x runs ≡ replicate 8 0 }
+        ensures bytes { result ≡ is_blank_at x self.now.pairs }
+        ensures clear { (runs : List (Option Start)) → IsRowsOf x self.now runs →
+            (IsTrue result ↔ (values_at x runs ≡ replicate 8 0)) }
     {
         let at = x as usize;
         self.pairs[0][at] | self.pairs[1][at] | self.pairs[2][at] | self.pairs[3][at] == 0

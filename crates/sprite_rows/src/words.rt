@@ -1,4 +1,4 @@
-//! The values of a sprite's two words.
+//! The values of a sprite's two words, by a table that spreads four bits over four bytes.
 
 ghost use Rattle.std.specs.Prelude.{◌≡◌, ◌+◌, ◌*◌, ◌/◌, ◌%◌, ◌∷◌, [], flat_map};
 ghost use Rattle.sprite_rows.specs.WordValues.{last_value, word_values};
@@ -39,13 +39,14 @@ fn eight_values(a: u16, b: u16) -> [u8; 8]
     ensures { result ≡ last_value 7 a b ∷ last_value 6 a b ∷ last_value 5 a b ∷ last_value 4 a b
         ∷ last_value 3 a b ∷ last_value 2 a b ∷ last_value 1 a b ∷ last_value 0 a b ∷ [] }
 {
-    let high = spread(a / 16) + 2 * spread(b / 16);
-    let low = spread(a) + 2 * spread(b);
+    let high = bits_as_bytes(a / 16) + 2 * bits_as_bytes(b / 16);
+    let low = bits_as_bytes(a) + 2 * bits_as_bytes(b);
     (high + 0x1_0000_0000 * low).to_le_bytes()
 }
 
-/// The last four bits of a word, each as a byte.
-fn spread(word: u16) -> u64
+/// The last four bits of a word, the highest first, each as a byte, the first of them the lowest.
+#[inline(always)]
+pub fn bits_as_bytes(word: u16) -> u64
     ensures { result ≡ word / 8 % 2 + 0x100 * (word / 4 % 2) + 0x1_0000 * (word / 2 % 2)
         + 0x100_0000 * (word % 2) }
 {

@@ -1,26 +1,21 @@
-use Rattle.std.proofs.Common.{◌<◌, Err, ap, subst, ◌∙◌}
+use Rattle.std.proofs.Common.{◌<◌, subst, ◌∙◌}
 use Rattle.ocs_run.proofs.KeptLaws.{OnlyWrites-more, KeepsNames-more, AreGrowable-kept}
-use Rattle.ocs_run.proofs.RunLaws.{if_err, stop-tick, stop-flush, IsUnderway-tick, IsInStep-tick, IsUnderway-flush, IsInStep-flush}
+use Rattle.ocs_run.proofs.RunLaws.{on_err, stop-tick, stop-flush, IsUnderway-tick, IsInStep-tick, IsUnderway-flush, IsInStep-flush}
 use Rattle.ocs_run.proofs.run.run_clocks.Goals as goal
 
 pub returns-in_err-left-clause-stopped : goal.returns-in_err-left-clause-stopped
 returns-in_err-left-clause-stopped g c =
-    let going : c.loop-fore.fore.beam.frame < c.args.script.now.frames =
-    subst (λ n. c.loop-fore.fore.beam.frame < n) c.frames.ensures c.loop-fore-test.true in
-    if_err _ _ _ c.from_residual.ensures.1
-    (λ fault is. stop-tick c.args.script.now _ _ _ _ _ c.loop-fore.left.now c.in_err-left.field-0.0 fault c.loop-fore.invariant.step going
-    c.loop-fore.invariant.out c.loop-fore.invariant.runs (λ e. c.in_err-left.ensures.unbuilt (ap (λ f. Err f) e)) is)
+    on_err _ _ (stop-tick c.args.script.now _ _ _ _ c.loop-fore.invariant.out c.loop-fore.invariant.runs)
 
 pub returns-in_err-flush_lines-clause-stopped : goal.returns-in_err-flush_lines-clause-stopped
 returns-in_err-flush_lines-clause-stopped g c =
     let going : c.loop-fore.fore.beam.frame < c.args.script.now.frames =
     subst (λ n. c.loop-fore.fore.beam.frame < n) c.frames.ensures c.loop-fore-test.true in
-    if_err _ _ _ c.from_residual-in_err-flush_lines.ensures.1
-    (λ fault is. stop-flush c.args.script.now _ _ _ _ c.tick.new.self _ c.in_err-flush_lines.field-0.0 fault
+    on_err _ _ (stop-flush c.args.script.now _ _ _ _ c.tick.new.self
     (c.in_ok-left.ensures.next.names ∙ c.loop-fore.invariant.out)
     (λ image base so. IsUnderway-tick image c.args.script.now base _ c.loop-fore.left.now c.in_ok-left.left.now _ _ c.loop-fore.invariant.step going
-    c.in_ok-left.ensures.step c.in_ok-left.ensures.built c.in_ok-left.ensures.next (c.loop-fore.invariant.runs image base so))
-    c.in_err-flush_lines.ensures.parts is)
+    c.in_ok-left.ensures.step c.in_ok-left.ensures.next (c.loop-fore.invariant.runs image base so))
+    c.in_err-flush_lines.ensures.parts)
 
 pub loop-fore-preserved : goal.loop-fore-preserved
 loop-fore-preserved g c =
@@ -34,7 +29,7 @@ loop-fore-preserved g c =
           (IsInStep-tick c.args.script.now c.loop-fore.left.now c.in_ok-left.left.now _ _ c.loop-fore.invariant.step going c.in_ok-left.ensures.next);
       runs = λ image base so. IsUnderway-flush image c.args.script.now base _ _ _ _ flushes
           (IsUnderway-tick image c.args.script.now base _ c.loop-fore.left.now c.in_ok-left.left.now _ _ c.loop-fore.invariant.step going
-          c.in_ok-left.ensures.step c.in_ok-left.ensures.built c.in_ok-left.ensures.next (c.loop-fore.invariant.runs image base so));
+          c.in_ok-left.ensures.step c.in_ok-left.ensures.next (c.loop-fore.invariant.runs image base so));
       out = flushes.names ∙ c.in_ok-left.ensures.next.names ∙ c.loop-fore.invariant.out;
       kept = OnlyWrites-more _ _ _ c.loop-fore.invariant.kept c.in_ok-flush_lines.ensures.kept;
       names = KeepsNames-more _ _ _ _ _ _ c.loop-fore.invariant.names c.in_ok-flush_lines.ensures.names;

@@ -1,6 +1,19 @@
 use Rattle.ocs_run.proofs.EndLaws.{ends_where_told}
-use Rattle.ocs_run.proofs.TopLaws.{script_clause, kept_clause, complete_clause, said_clause}
+use Rattle.ocs_run.proofs.TopLaws.{script_clause, unread_clause, unwritten_clause, kept_clause, apart_clause, complete_clause, refused_clause, said_clause, apart_done_clause, said_done_clause}
 use Rattle.ocs_run.proofs.top.ocs_main.Goals as goal
+
+pub returns-in-Ok-clause-said : goal.returns-in-Ok-clause-said
+returns-in-Ok-clause-said g c = said_done_clause _ _ _ _ c.in-Ok.ensures.answer c.in-Ok.ensures.said
+
+pub returns-in-Ok-clause-apart : goal.returns-in-Ok-clause-apart
+returns-in-Ok-clause-apart g c scene = apart_done_clause _ _ _ _ c.in-Ok.ensures.answer scene
+
+pub returns-in-Err-clause-unread : goal.returns-in-Err-clause-unread
+returns-in-Err-clause-unread g c five = unread_clause _ _ _ _ c.in-Err.fault _ c.in-Err.ensures.answer c.status.ensures c.say_fault.ensures.kept five
+
+pub returns-in-Err-clause-unwritten : goal.returns-in-Err-clause-unwritten
+returns-in-Err-clause-unwritten g c six =
+    unwritten_clause _ _ _ _ c.in-Err.fault _ c.in-Err.ensures.answer c.status.ensures c.say_fault.ensures.kept six
 
 pub returns-in-Err-clause-script : goal.returns-in-Err-clause-script
 returns-in-Err-clause-script g c four = script_clause _ _ _ c.in-Err.fault _ c.in-Err.ensures.answer c.status.ensures four
@@ -8,11 +21,19 @@ returns-in-Err-clause-script g c four = script_clause _ _ _ c.in-Err.fault _ c.i
 pub returns-in-Err-clause-kept : goal.returns-in-Err-clause-kept
 returns-in-Err-clause-kept g c early = kept_clause _ _ _ _ c.in-Err.fault _ c.in-Err.ensures.answer c.status.ensures c.say_fault.ensures.kept early
 
+pub returns-in-Err-clause-apart : goal.returns-in-Err-clause-apart
+returns-in-Err-clause-apart g c scene = apart_clause _ _ _ _ c.in-Err.fault c.in-Err.ensures.answer c.say_fault.ensures.kept scene
+
+pub returns-in-Err-clause-refused : goal.returns-in-Err-clause-refused
+returns-in-Err-clause-refused g c six =
+    refused_clause _ _ _ _ c.in-Err.fault _ c.in-Err.ensures.answer c.status.ensures c.say_fault.ensures.kept six
+
 pub returns-in-Err-clause-complete : goal.returns-in-Err-clause-complete
 returns-in-Err-clause-complete g c = complete_clause _ _ _ _ c.in-Err.fault _ c.in-Err.ensures.answer c.status.ensures c.say_fault.ensures.kept
 
 pub returns-in-Err-clause-said : goal.returns-in-Err-clause-said
-returns-in-Err-clause-said g c = said_clause _ _ _ _ c.in-Err.fault _ c.in-Err.ensures.answer c.status.ensures c.in-Err.ensures.said c.say_fault.ensures.says
+returns-in-Err-clause-said g c =
+    said_clause _ _ _ _ c.in-Err.fault _ c.in-Err.ensures.answer c.status.ensures c.in-Err.ensures.said c.say_fault.ensures.kept c.say_fault.ensures.says
 
 pub returns-in-Err-clause-ends : goal.returns-in-Err-clause-ends
 returns-in-Err-clause-ends g c = ends_where_told _ _

@@ -14,6 +14,11 @@ returns-then-is_done c chips is =
       blit = c.self.inside.blit;
       zero = c.self.inside.zero;
       irq = c.self.inside.irq;
+      processor = c.self.inside.processor;
+      missed = c.self.inside.missed;
+      cia_a = c.self.inside.cia_a;
+      cia_b = c.self.inside.cia_b;
+      inputs = c.self.inside.inputs;
     } in
     let kept : c.self.inside.blit ≡ Some c.in-Some.blit.now = sym c.as_mut.ensures.value ∙ ap (λ r. option_copied_mut r) c.in-Some.is in
     blit_ended c.args.word old c.end_blit.new.self c.in-Some.blit.now c.give.new.self kept c.give.ensures

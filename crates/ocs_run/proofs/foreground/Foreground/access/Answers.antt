@@ -1,5 +1,4 @@
-use Rattle.std.proofs.Common.{refl, false}
-use Rattle.ocs_run.proofs.StepLaws.{HasMade-by, Makes-accessed, Accesses-made, KeepsPlace-more, KeepsPlace-made, KeepsPlace-does}
+use Rattle.ocs_run.proofs.StepLaws.{HasMade-by, Makes-accessed, KeepsPlace-more, KeepsPlace-made, KeepsPlace-does}
 use Rattle.ocs_run.proofs.foreground.Foreground.access.Goals as goal
 
 pub returns-clause-step : goal.returns-clause-step
@@ -14,8 +13,3 @@ returns-clause-place c =
     (KeepsPlace-made c.access-made.result _ _
     (HasMade-by c.access-made.result c.args.self.now _ _ c.access-made.ensures.memory c.access-made.ensures.access))
     (KeepsPlace-does _ _ _ c.in_ok-carry_out.ensures)
-
-pub returns-clause-built : goal.returns-clause-built
-returns-clause-built c =
-    Accesses-made _ _ c.access-made.result false
-    (HasMade-by c.access-made.result c.args.self.now _ _ c.access-made.ensures.memory c.access-made.ensures.access) refl

@@ -5,7 +5,7 @@ use Rattle.ocs_run.proofs.foreground.Foreground.run_script.Goals as goal
 pub loop-event-preserved : goal.loop-event-preserved
 loop-event-preserved c =
     turn _ _ _ c.in-Some.event.now _ _ _ c.requires.screen c.loop-event.invariant c.in-Some.ensures.cases.0
-    (sym c.is_due.ensures ∙ c.if-not-is_due.false) c.in_ok-act.ensures
+    (sym c.is_due.ensures ∙ c.if-not-is_due.false) c.in_ok-act.ensures.step c.in_ok-act.ensures.place
 
 pub returns-then-not-is_due-clause-step : goal.returns-then-not-is_due-clause-step
 returns-then-not-is_due-clause-step c =

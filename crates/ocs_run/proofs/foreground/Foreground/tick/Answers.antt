@@ -1,31 +1,16 @@
-use Rattle.std.proofs.Common.{◌≡◌, ◌+◌, subst, false, ap, Err}
+use Rattle.std.proofs.Common.{◌+◌, subst}
 use Rattle.ocs_base.specs.declared.beam.Beam.{Beam}
 use Rattle.serial_model.specs.Beam.{place_of}
 use Rattle.serial_model.specs.Registers.{is_interlaced}
 use Rattle.ocs_run.specs.Steps.{IsLeft, HasLater, KeepsPlace}
 use Rattle.ocs_run.proofs.StepLaws.{KeepsPlace-more}
-use Rattle.ocs_run.specs.declared.foreground.TickFault.TheVariants.{NotBuilt}
-use Rattle.ocs_run.proofs.TickLaws.{Makes-tick, Meets-tick, StopsAt-tick, HasNext-tick, handed_on}
+use Rattle.ocs_run.proofs.TickLaws.{Makes-tick, HasNext-tick}
 use Rattle.ocs_run.proofs.foreground.Foreground.tick.Goals as goal
 
 pub returns-clause-step : goal.returns-clause-step
 returns-clause-step c =
     Makes-tick c.args.events.now _ _ _ _ _ _ _ _ c.start.ensures.step c.in_ok-left.ensures.step c.count_timers.ensures.step
-    c.in_ok-show.ensures.step c.in_ok-access.ensures.step c.process.ensures.step c.advance.ensures.step
-
-pub returns-clause-built : goal.returns-clause-built
-returns-clause-built c =
-    Meets-tick c.args.events.now _ _ _ _ _ false c.start.ensures.step c.in_ok-left.ensures.step c.count_timers.ensures.step
-    c.in_ok-show.ensures.step c.in_ok-access.ensures.built
-
-pub returns-in_err-access-clause-unbuilt : goal.returns-in_err-access-clause-unbuilt
-returns-in_err-access-clause-unbuilt c same =
-    let came : c.in_err-access.field-0.0 ≡ NotBuilt = handed_on c.from_residual-in_err-access.result _ NotBuilt c.from_residual-in_err-access.ensures.1 same in
-    let kept : KeepsPlace c.args.self.now c.show.new.self =
-    KeepsPlace-more _ _ _ c.start.ensures.place (KeepsPlace-more _ _ _ c.in_ok-left.ensures.place
-    (KeepsPlace-more _ _ _ c.count_timers.ensures.place c.in_ok-show.ensures.place)) in
-    StopsAt-tick c.args.events.now _ _ _ _ _ _ c.start.ensures.step c.in_ok-left.ensures.step c.count_timers.ensures.step
-    c.in_ok-show.ensures.step (c.in_err-access.ensures.unbuilt (ap (λ f. Err f) came)) (c.in_err-access.ensures.kept (ap (λ f. Err f) came)) kept
+    c.in_ok-show.ensures.step c.in_ok-access.ensures.step c.in_ok-process.ensures.step c.advance.ensures.step
 
 pub returns-clause-next : goal.returns-clause-next
 returns-clause-next c =
@@ -34,7 +19,7 @@ returns-clause-next c =
     let kept : KeepsPlace c.args.self.now c.process.new.self =
     KeepsPlace-more _ _ _ c.start.ensures.place (KeepsPlace-more _ _ _ c.in_ok-left.ensures.place
     (KeepsPlace-more _ _ _ c.count_timers.ensures.place (KeepsPlace-more _ _ _ c.in_ok-show.ensures.place
-    (KeepsPlace-more _ _ _ c.in_ok-access.ensures.place c.process.ensures.place)))) in
+    (KeepsPlace-more _ _ _ c.in_ok-access.ensures.place c.in_ok-process.ensures.place)))) in
     HasNext-tick c.args.events.now _ c.args.self.now c.process.new.self c.advance.new.self (is_interlaced c.process.new.self.chips.registers)
     c.requires.screen kept c.advance.ensures.beam c.advance.ensures.count c.advance.ensures.names c.advance.ensures.memory
     c.requires.time

@@ -24,7 +24,7 @@ returns c loads is =
             second = sym c.start_at.ensures.value;
             third = sym c.start_at.ensures.value;
             spread = λ (x : ℕ). ap (λ (l : List ℕ). slice_index l x) (c.as_flattened.ensures.value ∙ c.spread-odd.ensures) ∙ spread_at _ _ _ _ x;
-            over = c.lay.ensures;
+            over = c.lay.ensures.shown;
           }) is.odd;
       even = laid_shows 2 c.start_at-2.result loads load c.as_flattened-2.result.now c.args.self.now.even.shown c.lay-2.new.self.shown
           (record {
@@ -32,6 +32,6 @@ returns c loads is =
             second = sym c.start_at-2.ensures.value;
             third = sym c.start_at-2.ensures.value;
             spread = λ (x : ℕ). ap (λ (l : List ℕ). slice_index l x) (c.as_flattened-2.ensures.value ∙ c.spread-even.ensures) ∙ spread_at _ _ _ _ x;
-            over = c.lay-2.ensures;
+            over = c.lay-2.ensures.shown;
           }) is.even;
     }

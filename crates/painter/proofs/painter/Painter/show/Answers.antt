@@ -1,35 +1,26 @@
 use Rattle.std.proofs.Common.{◌≡◌, ◌∙◌, true, bit_or, sym, ap}
 use Rattle.ocs_base.specs.declared.script.System.TheVariants.{Pal}
-use Rattle.serial_model.specs.declared.picture.Denise.{Denise}
 use Rattle.serial_model.specs.Beam.{is_visible}
-use Rattle.serial_model.specs.Picture.{held_after, step_of}
-use Rattle.painter.specs.Painter.{with_held}
-use Rattle.painter.proofs.Overlays.{clock_shown, clock_stands, bits_apart}
+use Rattle.serial_model.specs.Picture.{step_of}
+use Rattle.painter.proofs.Overlays.{backdrop_shown, backdrop_stands_after, backdrop_gathers}
 use Rattle.painter.proofs.painter.Painter.show.Goals as goal
 
-pub returns-clause-pixels : goal.returns-clause-pixels
-returns-clause-pixels c p stands shown =
-    let v = c.args.beam.now.v in
-    let h = c.args.beam.now.h in
-    let next : Denise = with_held (held_after c.args.beam.now.v c.args.beam.now.h 4 p) p in
-    let visible : is_visible Pal c.args.beam.now.v c.args.beam.now.h ≡ true = sym c.show_playfields-shown.ensures.visible ∙ shown in
-    clock_shown v h (held_after v h 4 p) p c.show_sprites.new.into c.show_playfields-shown.new.into visible
-    (c.show_playfields-shown.ensures.pixels p stands shown)
-    (c.show_sprites.ensures.pixels next (c.show_playfields-shown.ensures.held p stands))
+pub returns-then-is_backdrop-clause-pixels : goal.returns-then-is_backdrop-clause-pixels
+returns-then-is_backdrop-clause-pixels c p stands shown =
+    let visible : is_visible Pal c.args.beam.now.v c.args.beam.now.h ≡ true = sym c.is_visible.ensures ∙ shown in
+    backdrop_shown c.args.beam.now.v c.args.beam.now.h c.args.self.now p c.show_backdrop.new.into stands
+    (c.is_backdrop.ensures.idle c.if-is_backdrop.true) (c.is_backdrop.ensures.pixels c.if-is_backdrop.true p stands) visible
+    c.show_backdrop.ensures.pixels
 
-pub returns-clause-held : goal.returns-clause-held
-returns-clause-held c p stands =
-    let v = c.args.beam.now.v in
-    let h = c.args.beam.now.h in
-    let next : Denise = with_held (held_after c.args.beam.now.v c.args.beam.now.h 4 p) p in
-    clock_stands Pal v h c.show_sprites.new.self p
-    (c.show_sprites.ensures.runs next (c.show_playfields-shown.ensures.held p stands))
+pub returns-then-is_backdrop-clause-held : goal.returns-then-is_backdrop-clause-held
+returns-then-is_backdrop-clause-held c p stands =
+    backdrop_stands_after c.args.beam.now.v c.args.beam.now.h c.args.self.now c.show_backdrop.new.self p stands
+    (c.is_backdrop.ensures.idle c.if-is_backdrop.true) (c.is_backdrop.ensures.pixels c.if-is_backdrop.true p stands)
+    c.show_backdrop.ensures.held
 
-pub returns-clause-clx : goal.returns-clause-clx
+pub returns-then-is_backdrop-clause-clx : goal.returns-then-is_backdrop-clause-clx
 unfolding step_of
-returns-clause-clx c p stands =
-    let v = c.args.beam.now.v in
-    let h = c.args.beam.now.h in
-    let next : Denise = with_held (held_after c.args.beam.now.v c.args.beam.now.h 4 p) p in
-    c.show_sprites.ensures.clx next (c.show_playfields-shown.ensures.held p stands)
-    ∙ ap (bit_or c.args.clx.now) (bits_apart v h (held_after v h 4 p) p)
+returns-then-is_backdrop-clause-clx c p stands =
+    c.is_backdrop.ensures.clx c.if-is_backdrop.true p stands
+    ∙ ap (bit_or c.args.clx.now) (backdrop_gathers c.args.beam.now.v c.args.beam.now.h c.args.self.now p stands
+    (c.is_backdrop.ensures.idle c.if-is_backdrop.true))

@@ -1,7 +1,7 @@
 use Rattle.std.proofs.Common.{◌≡◌, ◌∙◌, ◌/◌, ℕ, List, Option, length, sym, ap, subst, refl, arith}
 use Rattle.sprites.specs.declared.runs.Start.{Start}
-use Rattle.painter.specs.SpriteState.{SpriteRegisters, first_runs}
-use Rattle.painter.proofs.Beginning.{NoneBegins, none_armed, none_starts, none_begun, one_more, all_begun}
+use Rattle.painter.specs.SpriteState.{SpriteRegisters, first_quiet, first_begun}
+use Rattle.painter.proofs.Beginning.{NoneBegins, none_armed, none_starts, none_there, none_begun_at_all, none_more, one_more, all_begun}
 use Rattle.painter.proofs.sprite_state.SpriteState.begin_words.Goals as goal
 use Rattle.painter.proofs.sprite_state.SpriteState.begin_words.Goals.{then-self-eq0-via-then-self-eq0, then-self-eq0-via-else-self-eq0+then-not-may_begin}
 
@@ -13,14 +13,13 @@ returns-then-self-eq0 c =
       | then-self-eq0-via-then-self-eq0 w ↦
           none_armed c.args.column c.args.self.now (ap (λ (s : SpriteRegisters). s.armed) (sym c.self.view_is) ∙ w.if-self-eq0.true)
       | then-self-eq0-via-else-self-eq0+then-not-may_begin w ↦
-          none_starts c.args.column (c.args.column / 2) c.args.self.now refl (w.may_begin.ensures w.if-not-may_begin.true)
+          none_starts c.args.column (c.args.column / 2) c.args.self.now refl
+          (none_there (c.args.column / 2) c.args.self.now (sym w.may_begin.ensures ∙ w.if-not-may_begin.true))
     ] in
-    ap (λ (l : List (Option Start)). record c.args.self.now { runs = l })
-    (sym (none_begun c.args.column c.args.self.now eight none))
+    none_begun_at_all c.args.column c.args.self.now eight none
 
 pub loop-sprite-init : goal.loop-sprite-init
-unfolding first_runs
-loop-sprite-init c = refl
+loop-sprite-init c = none_more c.args.column c.args.self.now
 
 pub loop-sprite-preserved : goal.loop-sprite-preserved
 loop-sprite-preserved c =
@@ -32,5 +31,6 @@ returns c =
     let eight : length c.args.self.now.runs ≡ 8 = subst (λ (s : SpriteRegisters). length s.runs ≡ 8) c.self.view_is c.self.invariant.still.eight in
     let all : c.loop-sprite.sprite ≡ 8 = omega arith in
     c.loop-sprite.invariant
-    ∙ ap (λ (n : ℕ). record c.args.self.now { runs = first_runs c.args.column c.args.self.now n }) all
-    ∙ ap (λ (l : List (Option Start)). record c.args.self.now { runs = l }) (all_begun c.args.column c.args.self.now eight)
+    ∙ ap (λ (n : ℕ). first_begun c.args.column c.args.self.now n) all
+    ∙ ap (λ (l : List (Option Start)). record c.args.self.now { runs = l; quiet_from = first_quiet c.args.column c.args.self.now 8 })
+    (all_begun c.args.column c.args.self.now eight)

@@ -10,10 +10,10 @@ invariant_of-self c = record {
   blank = λ (p x : ℕ) from. no_pixels-byte p x;
 }
 
-pub returns-then-self-gt0 : goal.returns-then-self-gt0
-returns-then-self-gt0 c = record { bytes = λ (p x : ℕ) pair from within. none_run (byte_of no_pixels p x) p x (no_pixels-byte p x) }
+pub returns-then-self-gt0-clause-rows : goal.returns-then-self-gt0-clause-rows
+returns-then-self-gt0-clause-rows c = record { bytes = λ (p x : ℕ) pair from within. none_run (byte_of no_pixels p x) p x (no_pixels-byte p x) }
 
-pub returns-else-self-gt0 : goal.returns-else-self-gt0
-returns-else-self-gt0 c = record {
+pub returns-else-self-gt0-clause-rows : goal.returns-else-self-gt0-clause-rows
+returns-else-self-gt0-clause-rows c = record {
   bytes = λ (p x : ℕ) pair from within. none_run (byte_of c.args.self.now.pairs p x) p x (c.args.self.now.blank p x (omega arith));
 }

@@ -10,5 +10,5 @@ invariant_of-result c = record {
   blank = λ (p x : ℕ) from. no_pixels-byte p x;
 }
 
-pub returns : goal.returns
-returns c = record { bytes = λ (p x : ℕ) pair from within. none_run (byte_of no_pixels p x) p x (no_pixels-byte p x) }
+pub returns-clause-rows : goal.returns-clause-rows
+returns-clause-rows c = record { bytes = λ (p x : ℕ) pair from within. none_run (byte_of no_pixels p x) p x (no_pixels-byte p x) }

@@ -1,0 +1,62 @@
+-- What the processor waits for, and its halt.
+use Rattle.std.proofs.Common.{◌≡◌, ℕ, ◌%◌, not, ◌&&◌, ◌==◌, if◌then◌else◌, List, arith, refl, ap, subst, sym, ◌∙◌, None, length}
+use Rattle.m68k_decode.specs.declared.regs.CpuRegs.{CpuRegs}
+use Rattle.m68k_decode.specs.declared.under.Under.{Under}
+use Rattle.m68k_decode.specs.Access.{Prog, Ask, End, Enter, Halt, Next, Asks, Ends, Halts, Read, Write, after, next_of}
+use Rattle.m68k_decode.specs.Walk.{program, next, advance, answered, stage}
+use Rattle.m68k_exec.specs.declared.ask.Ask.{Ask as Access}
+use Rattle.m68k_exec.specs.declared.ask.Ask.TheVariants as A
+use Rattle.m68k_exec.specs.declared.state.Cpu.{Cpu}
+use Rattle.m68k_exec.specs.Stands.{Stands, Reaches, wanted}
+use Rattle.ocs_base.proofs.Registers.{same_register}
+use Rattle.ocs_base.specs.Register.{register_of}
+use Rattle.serial_model.specs.Processor.{Processor, slot_wish, processor_wish, wait_of}
+use Rattle.cpu_bus.specs.declared.BusCpu.{BusCpu}
+use Rattle.cpu_bus.specs.Bus.{IsProcessorOf, wait_by, wish_shown}
+
+-- it waits for what the working processor asks for
+pub wait_is : (n : Next) → wait_of n ≡ wait_by (wanted n)
+unfolding wait_of wait_by
+wait_is (Asks (Read at byte)) = refl
+wait_is (Asks (Write at byte word)) = refl
+wait_is (Ends r idle u) = refl
+wait_is Halts = refl
+
+-- a halted processor asks for nothing, and nothing else asks so
+abbrev IsHalted : Access → Type 0
+IsHalted (A.Read at byte) = ⊥
+IsHalted (A.Write at byte word) = ⊥
+IsHalted (A.Idle clocks) = ⊥
+IsHalted A.Halted = Unit {0}
+
+halted_is : (ask : Access) → A.Halted ≡ ask → IsHalted ask
+halted_is ask is = subst IsHalted is tt
+
+by_prog : (p : Prog) (r : CpuRegs) (u : Under) (ws : List ℕ) (count word level : ℕ) → A.Halted ≡ wanted (next_of p count)
+    → stage r u ws ≡ answered p r u ws word level
+unfolding answered
+by_prog (Ask (Read at byte) k) r u ws count word level is = absurd (halted_is (A.Read at byte) is)
+by_prog (Ask (Write at byte stored) k) r u ws count word level is = absurd (halted_is (A.Write at byte stored) is)
+by_prog (End t r' u') r u ws count word level is = absurd (halted_is (wanted (next_of (End t r' u') count)) is)
+by_prog (Enter r' u') r u ws count word level is = absurd (halted_is (wanted (next_of (Enter r' u') count)) is)
+by_prog Halt r u ws count word level is = refl
+
+-- so it stays as it is
+pub halt_stays : (cpu : Cpu) (r : CpuRegs) (u : Under) (ws : List ℕ) (word level : ℕ) → Stands cpu r u ws → A.Halted ≡ wanted (next r u ws)
+    → Reaches cpu None (advance r u ws word level)
+unfolding next advance
+halt_stays cpu r u ws word level stands is =
+    subst (λ s. Reaches cpu None s) (by_prog (after (program r u) ws) r u ws (length ws) word level is)
+    (record { stands = stands; level = refl })
+
+-- the register at an address
+pub register_by : (a : ℕ) → register_of (a % 65536) ≡ register_of a
+register_by a = same_register (register_of (a % 65536)) (register_of a) (omega arith)
+
+-- what it keeps of its ask is the ask of the machine's processor
+pub wish_shown-is : (now : BusCpu) (p : Processor) → IsProcessorOf now p → wish_shown now ≡ processor_wish p
+unfolding processor_wish
+wish_shown-is now p is =
+    ap (λ on. if on && not (now.spent == 0) then slot_wish now.wait else None) (sym is.on)
+    ∙ ap (λ spent. if p.on && not (spent == 0) then slot_wish now.wait else None) (sym is.spent)
+    ∙ ap (λ wait. if p.on && not (p.spent == 0) then slot_wish wait else None) (sym is.wait)

@@ -1,0 +1,43 @@
+-- What the processor on the bus keeps stands for the processor of the machine.
+use Rattle.std.specs.Prelude.{◌≡◌, ℕ, not, ◌&&◌, ◌==◌, if◌then◌else◌, List, Option, None}
+use Rattle.m68k_decode.specs.declared.regs.CpuRegs.{CpuRegs}
+use Rattle.m68k_decode.specs.declared.under.Under.{Under}
+use Rattle.m68k_decode.specs.Walk.{advance}
+use Rattle.m68k_exec.specs.declared.ask.Ask.{Ask}
+use Rattle.m68k_exec.specs.declared.ask.Ask.TheVariants as A
+use Rattle.m68k_exec.specs.declared.state.Cpu.{Cpu}
+use Rattle.m68k_exec.specs.Stands.{Stands, Reaches}
+use Rattle.serial_model.specs.declared.bus.ProcessorAsk.{ProcessorAsk}
+use Rattle.serial_model.specs.declared.processor.Wait.{Wait}
+use Rattle.serial_model.specs.declared.processor.Wait.TheVariants as W
+use Rattle.serial_model.specs.Processor.{Processor, target_of, read_wait, write_wait, processor_wait, slot_wish, stage_after, go_on}
+use Rattle.cpu_bus.specs.declared.BusCpu.{BusCpu}
+
+-- it is on or off as that is, its registers and answers are kept by the working processor, and what it waits for is kept
+pub record IsProcessorOf (now : BusCpu) (p : Processor) : Type 0 where
+  pub on : p.on ≡ now.on
+  pub stands : Stands now.cpu p.regs p.under p.answers
+  pub wait : processor_wait p ≡ now.wait
+  pub spent : p.spent ≡ now.spent
+  pub given : p.given ≡ now.given
+
+-- what it asks for in its slot, as it keeps it
+abbrev pub wish_shown : BusCpu → Option ProcessorAsk
+wish_shown now = if now.on && not (now.spent == 0) then slot_wish now.wait else None
+
+-- what the working processor waits for, by what it asks for
+unfoldable pub wait_by : Ask → Wait
+wait_by (A.Read at byte) = read_wait (target_of at byte)
+wait_by (A.Write at byte word) = write_wait at byte word (target_of at byte)
+wait_by (A.Idle clocks) = W.Idle clocks
+wait_by A.Halted = W.Halted
+
+-- it goes on with a word, and this interrupt begins with it
+pub record GoesOn (word level : ℕ) (p : Processor) (begins : Option ℕ) (new : BusCpu) : Type 0 where
+  pub stands : IsProcessorOf new (go_on word level p)
+  pub interrupt : begins ≡ (stage_after word level p).begins
+
+-- the working processor has gone on with a word, whatever it stood for
+abbrev pub AdvancesBy : ℕ → ℕ → Cpu → Option ℕ → Cpu → Type 0
+AdvancesBy word level old begins new = (r : CpuRegs) (u : Under) (ws : List ℕ) → Stands old r u ws
+    → Reaches new begins (advance r u ws word level)

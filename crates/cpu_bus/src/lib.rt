@@ -1,0 +1,154 @@
+//! The processor on the bus: where its accesses go, what it waits for, and how its clocks pass.
+#![tactic(auto)]
+
+ghost use Rattle.std.specs.Prelude.{◌≡◌, ◌≤◌, Some};
+ghost use Rattle.cpu_bus.specs.Bus.{AdvancesBy};
+ghost use Rattle.serial_model.specs.Processor.{Processor, reset_processor, processor_wish, slot_wish, give_processor, turn_of, turn_by, after_clocks};
+
+mod target;
+
+use crate::target::wait_for;
+use m68k_exec::{Ask as Access, Cpu};
+use serial_model::{ProcessorAsk, Turn, Wait};
+
+/// The clocks of an access that goes nowhere, and of one to a CIA (profile).
+const UNMAPPED_CLOCKS: u32 = 2;
+
+const CIA_CLOCKS: u32 = 5;
+
+/// The processor, and how far it is with what it waits for. `spent` are the colour clocks that have passed of that,
+/// and `given` is the word of the access that it has just made in its slot.
+#[derive(Drop)]
+pub struct BusCpu {
+    on: bool,
+    cpu: Cpu,
+    wait: Wait,
+    spent: u32,
+    given: Option<u16>,
+}
+
+impl BusCpu {
+    ghost use Rattle.cpu_bus.specs.Bus.{IsProcessorOf, GoesOn, wish_shown};
+
+    /// The processor at reset; it begins the reset where it is `on`, and else does nothing at all.
+    pub fn reset(on: bool) -> BusCpu
+        ensures { IsProcessorOf result (reset_processor on) }
+    {
+        let cpu = Cpu::reset();
+        let wait = wait_for(cpu.ask());
+        BusCpu {
+            on,
+            cpu,
+            wait,
+            spent: 0,
+            given: None,
+        }
+    }
+
+    /// What it asks for in the slot of this clock: an access to memory or to a register asks at each clock but its
+    /// first, until it is given.
+    #[tactic(auto, unfolding(serial_model::specs::Processor::processor_wish))]
+    pub fn wish(&self) -> Option<ProcessorAsk>
+        ensures shown { result ≡ wish_shown self.now }
+        ensures wish { (p : Processor) → IsProcessorOf self.now p → result ≡ processor_wish p }
+    {
+        if self.on && self.spent != 0 {
+            slot_ask(&self.wait)
+        } else {
+            None
+        }
+    }
+
+    /// It got the slot: this word answers the access, 0 for a write.
+    pub fn give(&mut self, word: u16)
+        ensures { (p : Processor) → IsProcessorOf self.old p
+            → IsProcessorOf self.new (give_processor word p) }
+    {
+        self.given = Some(word);
+    }
+
+    /// What this clock makes of it, once the slot was given.
+    #[tactic(auto, unfolding(serial_model::specs::Processor::turn_of))]
+    pub fn turn(&self) -> Turn
+        ensures { (p : Processor) → IsProcessorOf self.now p → result ≡ turn_of p }
+    {
+        if !self.on {
+            return Turn::Rests;
+        }
+        match self.given {
+            Some(word) => Turn::Goes { word },
+            None => self.waiting_turn(),
+        }
+    }
+
+    /// What a clock makes of it while it waits.
+    fn waiting_turn(&self) -> Turn
+        ensures { result ≡ turn_by self.now.wait self.now.spent }
+    {
+        match self.wait {
+            Wait::Slot { .. } => Turn::Waits { spent: 1 },
+            Wait::Cia { cia, reg, byte } => self.turn_after(
+                CIA_CLOCKS,
+                Turn::Cia { cia, reg, byte },
+            ),
+            Wait::Unmapped => self.turn_after(UNMAPPED_CLOCKS, Turn::Goes { word: 0 }),
+            Wait::Idle { clocks } => self.turn_after(clocks, Turn::Goes { word: 0 }),
+            Wait::Halted => Turn::Rests,
+        }
+    }
+
+    /// What takes so many clocks is over with the last of them.
+    fn turn_after(&self, clocks: u32, over: Turn) -> Turn
+        ensures { result ≡ after_clocks clocks self.now.spent over }
+    {
+        match self.spent.checked_add(1) {
+            Some(spent) if spent < clocks => Turn::Waits { spent },
+            _ => over,
+        }
+    }
+
+    /// One more clock passes of what it waits for: these have passed now.
+    pub fn wait(&mut self, spent: u32)
+        ensures { (p : Processor) → IsProcessorOf self.old p
+            → IsProcessorOf self.new (record p { spent = spent }) }
+    {
+        self.spent = spent;
+    }
+
+    /// It goes on with the word of an access, which counts only for a read. `level` is the interrupt level of this
+    /// clock, 0 to 7. The answer is the level of an interrupt that begins with it.
+    pub fn go_on(&mut self, word: u16, level: u8) -> Option<u8>
+        requires { level ≤ 7 }
+        ensures { (p : Processor) → IsProcessorOf self.old p → GoesOn word level p result self.new }
+    {
+        let begins = advance(&mut self.cpu, word, level);
+        self.spent = 0;
+        self.given = None;
+        self.wait = wait_for(self.cpu.ask());
+        begins
+    }
+}
+
+/// The ask of what needs a slot.
+fn slot_ask(wait: &Wait) -> Option<ProcessorAsk>
+    ensures { result ≡ slot_wish wait.now }
+{
+    match wait {
+        Wait::Slot { ask } => Some(*ask),
+        _ => None,
+    }
+}
+
+/// The processor goes on with a word; once it is halted it stays as it is.
+fn advance(cpu: &mut Cpu, word: u16, level: u8) -> Option<u8>
+    requires { level ≤ 7 }
+    ensures { AdvancesBy word level cpu.old result cpu.new }
+{
+    if let Access::Halted = cpu.ask() {
+        return None;
+    }
+    cpu.answer(word, level)
+}
+
+#[cfg(test)]
+mod tests;

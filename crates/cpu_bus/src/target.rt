@@ -1,0 +1,158 @@
+//! Where an access of the processor goes, and what it waits for then.
+
+ghost use Rattle.std.specs.Prelude.{◌≡◌};
+ghost use Rattle.cpu_bus.specs.Bus.{wait_by};
+ghost use Rattle.ocs_base.specs.Register.{register_of};
+ghost use Rattle.serial_model.specs.Processor.{target_of, target_at, read_wait as read_wait_of, write_wait as write_wait_of};
+ghost use Rattle.serial_model.specs.Processor.{half_of, register_word as register_word_of, cia_byte as cia_byte_of, cia_register as cia_register_of, reaches_cia_a as reaches_a, reaches_cia_b as reaches_b};
+
+use m68k_exec::Ask as Access;
+use ocs_base::{Addr, Reg};
+use serial_model::{CiaName, CiaRegister, Half, ProcessorAsk, Target, Wait};
+
+/// What the processor waits for, by what it asks for.
+#[tactic(auto, unfolding(crate::specs::Bus::wait_by))]
+pub fn wait_for(access: Access) -> Wait
+    ensures { result ≡ wait_by access }
+{
+    match access {
+        Access::Read { at, byte } => read_wait(target(at, byte)),
+        Access::Write { at, byte, word } => write_wait(at, byte, word, target(at, byte)),
+        Access::Idle { clocks } => Wait::Idle { clocks },
+        Access::Halted => Wait::Halted,
+    }
+}
+
+/// Where an access goes, by the low 24 bits of its address.
+#[tactic(auto, unfolding(serial_model::specs::Processor::target_of))]
+fn target(at: u32, byte: bool) -> Target
+    ensures { result ≡ target_of at byte }
+{
+    let a = at % 0x100_0000;
+    if a < 0x8_0000 {
+        Target::Memory { at: Addr::at(a) }
+    } else if 0xdf_f000 <= a && a <= 0xdf_f1ff {
+        Target::Register {
+            reg: register_at(a),
+        }
+    } else if reaches_cia_a(a, byte) {
+        Target::Cia {
+            cia: CiaName::A,
+            reg: cia_register(a),
+        }
+    } else if reaches_cia_b(a, byte) {
+        Target::Cia {
+            cia: CiaName::B,
+            reg: cia_register(a),
+        }
+    } else {
+        Target::Unmapped
+    }
+}
+
+/// The register at an address: its bits 8 to 1 name it.
+fn register_at(a: u32) -> Reg
+    ensures { result ≡ register_of a }
+{
+    Reg::masked((a % 0x1_0000) as u16)
+}
+
+/// Whether an access reaches CIA A: in its range each odd byte, and each word.
+fn reaches_cia_a(a: u32, byte: bool) -> bool
+    ensures { result ≡ reaches_a a byte }
+{
+    0xbf_e000 <= a && a <= 0xbf_efff && (!byte || a % 2 == 1)
+}
+
+/// Whether an access reaches CIA B: in its range each even byte, and each word.
+fn reaches_cia_b(a: u32, byte: bool) -> bool
+    ensures { result ≡ reaches_b a byte }
+{
+    0xbf_d000 <= a && a <= 0xbf_dfff && (!byte || a % 2 == 0)
+}
+
+/// The register of a CIA that an address names: its bits 11 to 8.
+fn cia_register(a: u32) -> CiaRegister
+    ensures { result ≡ cia_register_of a }
+{
+    CiaRegister {
+        number: (a / 256 % 16) as u8,
+    }
+}
+
+/// What a read waits for.
+fn read_wait(target: Target) -> Wait
+    ensures { result ≡ read_wait_of target }
+{
+    match target {
+        Target::Memory { at } => Wait::Slot {
+            ask: ProcessorAsk::Read { at },
+        },
+        Target::Register { reg } => Wait::Slot {
+            ask: ProcessorAsk::ReadRegister { reg },
+        },
+        Target::Cia { cia, reg } => Wait::Cia {
+            cia,
+            reg,
+            byte: None,
+        },
+        Target::Unmapped => Wait::Unmapped,
+    }
+}
+
+/// What a write waits for; of the write of a byte the low byte of `word` counts.
+fn write_wait(at: u32, byte: bool, word: u16, target: Target) -> Wait
+    ensures { result ≡ write_wait_of at byte word target }
+{
+    match target {
+        Target::Memory { at: place } => Wait::Slot {
+            ask: ProcessorAsk::Write {
+                at: place,
+                half: half(at, byte),
+                word,
+            },
+        },
+        Target::Register { reg } => Wait::Slot {
+            ask: ProcessorAsk::WriteRegister {
+                reg,
+                word: register_word(byte, word),
+            },
+        },
+        Target::Cia { cia, reg } => Wait::Cia {
+            cia,
+            reg,
+            byte: Some(cia_byte(cia, byte, word)),
+        },
+        Target::Unmapped => Wait::Unmapped,
+    }
+}
+
+/// The bytes of a word of memory that a write changes.
+fn half(at: u32, byte: bool) -> Half
+    ensures { result ≡ half_of at byte }
+{
+    if !byte {
+        Half::Both
+    } else if at % 2 == 0 {
+        Half::High
+    } else {
+        Half::Low
+    }
+}
+
+/// The word that a register gets: of the write of a byte the byte in both halves.
+fn register_word(byte: bool, word: u16) -> u16
+    ensures { result ≡ register_word_of byte word }
+{
+    if byte { word % 256 * 257 } else { word }
+}
+
+/// The byte that a CIA gets: of a word CIA A has the low byte and CIA B the high one.
+fn cia_byte(cia: CiaName, byte: bool, word: u16) -> u8
+    ensures { result ≡ cia_byte_of cia byte word }
+{
+    match cia {
+        CiaName::B if !byte => (word / 256) as u8,
+        _ => (word % 256) as u8,
+    }
+}

@@ -1,0 +1,102 @@
+//! The processor on the bus, clock by clock, worked by hand.
+
+use crate::BusCpu;
+use serial_model::{CiaName, Half, ProcessorAsk, Turn, Wait};
+
+/// The clocks that pass until the processor goes on, where its slots are given at once with this word. The last is the
+/// one in which it goes on; 99 where it does not.
+fn clocks_to_go_on(cpu: &mut BusCpu, word: u16) -> u32 {
+    for clock in 1..99 {
+        if cpu.wish().is_some() {
+            cpu.give(word);
+        }
+        match cpu.turn() {
+            Turn::Rests => return 99,
+            Turn::Waits { spent } => cpu.wait(spent),
+            Turn::Goes { word } => {
+                let _level = cpu.go_on(word, 0);
+                return clock;
+            }
+            Turn::Cia { .. } => {
+                let _level = cpu.go_on(0, 0);
+                return clock;
+            }
+        }
+    }
+    99
+}
+
+/// The processor after its reset, with these words of a program given.
+fn after(words: &[u16]) -> BusCpu {
+    let mut cpu = BusCpu::reset(true);
+    for word in [0, 0x1000, 0, 8] {
+        let _clocks = clocks_to_go_on(&mut cpu, word);
+    }
+    let _idle = clocks_to_go_on(&mut cpu, 0);
+    for word in words {
+        let _clocks = clocks_to_go_on(&mut cpu, *word);
+    }
+    cpu
+}
+
+#[test]
+fn a_slot_is_asked_for_from_the_second_clock_on(rt: HostRuntime) {
+    let mut cpu = BusCpu::reset(true);
+    assert!(rt; cpu.wish().is_none());
+    assert!(rt; matches!(cpu.turn(), Turn::Waits { spent: 1 }));
+    cpu.wait(1);
+    assert!(rt; matches!(cpu.wish(), Some(ProcessorAsk::Read { .. })));
+    assert!(rt; matches!(cpu.turn(), Turn::Waits { spent: 1 }));
+    cpu.give(0);
+    assert!(rt; matches!(cpu.turn(), Turn::Goes { word: 0 }));
+    assert!(rt; cpu.go_on(0, 0).is_none());
+    assert!(rt; cpu.wish().is_none());
+}
+
+#[test]
+fn a_processor_that_is_off_rests(rt: HostRuntime) {
+    let mut cpu = BusCpu::reset(false);
+    cpu.wait(1);
+    assert!(rt; cpu.wish().is_none());
+    assert!(rt; matches!(cpu.turn(), Turn::Rests));
+}
+
+#[test]
+fn clocks_of_accesses_and_idle_clocks(rt: HostRuntime) {
+    let mut cpu = BusCpu::reset(true);
+    for (word, clocks) in [(0, 2), (0x1000, 2), (0, 2), (8, 2), (0, 12)] {
+        assert_eq!(rt; clocks_to_go_on(&mut cpu, word), clocks);
+    }
+    // MOVE.B of a byte of CIA A, of a byte that is nowhere, and of a word of memory.
+    for (program, clocks) in [
+        ([0x1039, 0x00bf, 0xe001], 5),
+        ([0x1039, 0x00bf, 0xe000], 2),
+        ([0x1039, 0x00bf, 0xd000], 5),
+        ([0x1039, 0x00bf, 0xd101], 2),
+        ([0x1039, 0x00f8, 0x0000], 2),
+        ([0x1039, 0x0007, 0xffff], 2),
+        ([0x3039, 0x00bf, 0xe000], 5),
+    ] {
+        let mut cpu = after(&program);
+        assert_eq!(rt; clocks_to_go_on(&mut cpu, 0), clocks, "{:?}", program);
+    }
+}
+
+#[test]
+fn where_accesses_go(rt: HostRuntime) {
+    // MOVE.B #$12 to a register, to CIA B's register 13, and to the odd byte of a word.
+    let register = after(&[0x13fc, 0x0012, 0x00df, 0xf181]);
+    assert!(rt;
+        matches!(register.wait, Wait::Slot { ask: ProcessorAsk::WriteRegister { reg, word: 0x1212 } }
+        if reg.raw() == 0x180)
+    );
+    let cia = after(&[0x13fc, 0x0012, 0x00bf, 0xdd00]);
+    assert!(rt;
+        matches!(cia.wait, Wait::Cia { cia: CiaName::B, reg, byte: Some(0x12) } if reg.number == 13)
+    );
+    let memory = after(&[0x13fc, 0x0012, 0xff00, 0x2001]);
+    assert!(rt;
+        matches!(memory.wait, Wait::Slot { ask: ProcessorAsk::Write { at, half: Half::Low, .. } }
+        if at.raw() == 0x2000)
+    );
+}

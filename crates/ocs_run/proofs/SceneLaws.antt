@@ -1,0 +1,136 @@
+-- The files of a scene's run: what they hold, and how long they are.
+use Rattle.std.proofs.Common.{◌≡◌, ℕ, zero, suc, ◌+◌, ◌*◌, ◌<◌, ◌≤◌, ◌%◌, ◌==◌, Bool, true, false, if◌then◌else◌, List, [], ◌∷◌, ◌++◌, length, codes, unwrap_or, Some, arith, refl, ap, ◌∙◌, append_assoc, length-append}
+use Rattle.std.proofs.lemmas.Bool.Decides.{nat_tests}
+use Rattle.std.proofs.lemmas.List.{length-set}
+use Rattle.std.specs.FinMap.{get, insert, empty}
+use Rattle.ocs_base.specs.Image.{is_image}
+use Rattle.ocs_base.specs.Script.{ScriptValue}
+use Rattle.ocs_base.specs.declared.script.System.TheVariants.{Pal}
+use Rattle.ocs_io.specs.Place.{Files, with_file}
+use Rattle.ocs_io.proofs.MapLaws.{get_inserted}
+use Rattle.mem_versions.proofs.WordsLaws.{length-memory_of}
+use Rattle.out_files.specs.Together.{three_files}
+use Rattle.scene_gen.specs.Scene.{scene_image, scene_script}
+use Rattle.scene_gen.proofs.ImageLaws.{is_image-scene}
+use Rattle.serial_model.specs.Laws.{made_in}
+use Rattle.serial_model.specs.Made.{memory_after}
+use Rattle.serial_model.specs.MemoryText.{memory_text}
+use Rattle.serial_model.specs.Outputs.{heading, heading_at, with_headings, frames_text, frame_bytes}
+use Rattle.serial_model.specs.Serial.{state_at}
+use Rattle.serial_model.specs.State.{State, reset}
+use Rattle.serial_model.specs.TraceText.{trace_text}
+use Rattle.serial_model.specs.declared.bus.Made.{Made}
+use Rattle.serial_model.specs.declared.bus.Made.TheVariants as M
+use Rattle.serial_model.proofs.NextLaws.{memory_next}
+use Rattle.ocs_run.specs.SceneAnswers.{HasSceneFiles, scene_names}
+use Rattle.ocs_run.specs.SceneSummary.{IsSummary, summary_text}
+
+pub four_lines : (t0 t1 t2 t3 first picture trace memory : List ℕ) → t0 ≡ first → t1 ≡ t0 ++ picture → t2 ≡ t1 ++ trace → t3 ≡ t2 ++ memory
+    → t3 ≡ first ++ (picture ++ (trace ++ memory))
+four_lines t0 t1 t2 t3 first picture trace memory begin e f g =
+    g ∙ ap (λ t. t ++ memory) (f ∙ ap (λ t. t ++ trace) (e ∙ ap (λ t. t ++ picture) begin))
+    ∙ append_assoc (first ++ picture) trace memory ∙ append_assoc first picture (trace ++ memory)
+
+-- ---- how long the texts are
+
+heading_fits : (b : Bool) → length (if b then heading else []) ≤ 15
+unfolding heading
+heading_fits true = omega arith
+heading_fits false = omega arith
+
+length-with_headings : (n : ℕ) (bytes : List ℕ) → length (with_headings n bytes) ≤ 16 * length bytes
+unfolding with_headings
+length-with_headings n [] = omega arith
+length-with_headings n (byte ∷ bytes) =
+    let first : length (heading_at n) ≤ 15 = heading_fits (n % frame_bytes == 0) in
+    let rest : length (with_headings (n + 1) bytes) ≤ 16 * length bytes = length-with_headings (n + 1) bytes in
+    omega (arith, first, rest, length-append (heading_at n) (byte ∷ with_headings (n + 1) bytes))
+
+length-memory_after : (made : Made) (memory : List ℕ) → length (memory_after made memory) ≡ length memory
+length-memory_after M.Nothing memory = refl
+length-memory_after (M.Wrote reg word by) memory = refl
+length-memory_after (M.Read reg by) memory = refl
+length-memory_after (M.Stored at half word) memory = length-set memory _ _
+length-memory_after (M.Plane plane at) memory = refl
+length-memory_after (M.Sprite sprite second at) memory = refl
+
+length-memory : (image : List ℕ) (script : ScriptValue) (n : ℕ) → length image ≤ 524288 → length (state_at image script n).memory ≡ 262144
+unfolding state_at reset
+length-memory image script zero fits = length-memory_of image fits
+length-memory image script (suc n) fits =
+    ap length (memory_next Pal script.events (state_at image script n))
+    ∙ length-memory_after (made_in Pal script.events (state_at image script n)) (state_at image script n).memory
+    ∙ length-memory image script n fits
+
+length-memory_text : (words : List ℕ) → length (memory_text words) ≡ 2 * length words
+unfolding memory_text
+length-memory_text [] = refl
+length-memory_text (word ∷ words) = let rest : length (memory_text words) ≡ 2 * length words = length-memory_text words in omega (arith, rest)
+
+image_fits : (bytes : List ℕ) → is_image bytes ≡ true → length bytes ≤ 524288
+image_fits bytes good = grind (arith, nat_tests, good)
+
+-- ---- what the files hold
+
+three_held : (files : Files) (frames trace memory : List ℕ) → Some files ≡ three_files scene_names (Some empty) frames trace memory
+    → files ≡ insert (insert (insert empty (codes "frames") frames) (codes "trace") trace) (codes "memory") memory
+unfolding with_file
+three_held files frames trace memory held = ap (λ f. unwrap_or f files) held
+
+module _ (files : Files) (frames trace memory : List ℕ) (held : Some files ≡ three_files scene_names (Some empty) frames trace memory) where
+  abbrev first : Files
+  first = insert empty (codes "frames") frames
+
+  abbrev second : Files
+  second = insert first (codes "trace") trace
+
+  memory_held : unwrap_or (get files (codes "memory")) [] ≡ memory
+  memory_held = ap (λ f. unwrap_or (get f (codes "memory")) []) (three_held files frames trace memory held)
+      ∙ ap (λ found. unwrap_or found []) (get_inserted second (codes "memory") memory (codes "memory"))
+
+  trace_held : unwrap_or (get files (codes "trace")) [] ≡ trace
+  trace_held = ap (λ f. unwrap_or (get f (codes "trace")) []) (three_held files frames trace memory held)
+      ∙ ap (λ found. unwrap_or found []) (get_inserted second (codes "memory") memory (codes "trace")
+      ∙ get_inserted first (codes "trace") trace (codes "trace"))
+
+  frames_held : unwrap_or (get files (codes "frames")) [] ≡ frames
+  frames_held = ap (λ f. unwrap_or (get f (codes "frames")) []) (three_held files frames trace memory held)
+      ∙ ap (λ found. unwrap_or found []) (get_inserted second (codes "memory") memory (codes "frames")
+      ∙ get_inserted first (codes "trace") trace (codes "frames")
+      ∙ get_inserted empty (codes "frames") frames (codes "frames"))
+
+pub frames_fit : (number : ℕ) (files : Files) (bytes : List ℕ) → HasSceneFiles number files → bytes ≡ unwrap_or (get files (codes "frames")) []
+    → length bytes < 4294967296
+unfolding scene_script
+frames_fit number files bytes has is =
+    let s : State = state_at (scene_image number) (scene_script number) has.clocks in
+    let same : bytes ≡ frames_text s.shown = is ∙ frames_held files _ _ _ has.files in
+    let count : length bytes ≡ length (frames_text s.shown) = ap length same in
+    let most : length (frames_text s.shown) ≤ 16 * length s.shown = length-with_headings 0 s.shown in
+    let shown : length s.shown ≡ 10 * frame_bytes = has.shown in
+    omega (arith, count, most, shown)
+
+pub memory_fits : (number : ℕ) (files : Files) (bytes : List ℕ) → HasSceneFiles number files → bytes ≡ unwrap_or (get files (codes "memory")) []
+    → length bytes < 4294967296
+memory_fits number files bytes has is =
+    let s : State = state_at (scene_image number) (scene_script number) has.clocks in
+    let same : bytes ≡ memory_text s.memory = is ∙ memory_held files _ _ _ has.files in
+    let count : length bytes ≡ length (memory_text s.memory) = ap length same in
+    let words : length s.memory ≡ 262144 =
+    length-memory (scene_image number) (scene_script number) has.clocks (image_fits (scene_image number) (is_image-scene number)) in
+    omega (arith, count, length-memory_text s.memory, words)
+
+pub is_summary : (number : ℕ) (files : Files) (frames trace memory text : List ℕ) → HasSceneFiles number files
+    → frames ≡ unwrap_or (get files (codes "frames")) [] → trace ≡ unwrap_or (get files (codes "trace")) []
+    → memory ≡ unwrap_or (get files (codes "memory")) [] → text ≡ summary_text frames trace memory → IsSummary number text
+is_summary number files frames trace memory text has first second third is =
+    let s : State = state_at (scene_image number) (scene_script number) has.clocks in
+    let f : frames ≡ frames_text s.shown = first ∙ frames_held files _ _ _ has.files in
+    let t : trace ≡ trace_text s.trace = second ∙ trace_held files _ _ _ has.files in
+    let m : memory ≡ memory_text s.memory = third ∙ memory_held files _ _ _ has.files in
+    record {
+      clocks = has.clocks;
+      end = has.end;
+      is = is ∙ ap (λ x. summary_text x trace memory) f ∙ ap (λ x. summary_text (frames_text s.shown) x memory) t
+          ∙ ap (λ x. summary_text (frames_text s.shown) (trace_text s.trace) x) m;
+    }

@@ -1,0 +1,87 @@
+//! The commands of the command line, by its first word.
+
+ghost use Rattle.std.specs.Prelude.{◌≡◌, map, string_bytes, IfSome};
+ghost use Rattle.ocs_run.specs.Words.{command_of, scene_order_of, number_of, is_gen as has_gen};
+ghost use Rattle.ocs_run.specs.Asked.{IsCommand, IsSceneOrder, WritesApart};
+
+use crate::order::{Order, read_band, read_order, read_workers};
+use ocs_io::dec;
+
+/// What the words `gen N BAND WORKERS` ask for: the scene of `number`. `band` is 1 to 313 lines, and
+/// `workers` at most 32.
+#[derive(Clone, Copy)]
+pub struct SceneOrder {
+    pub number: u32,
+    pub band: u64,
+    pub workers: u64,
+}
+
+/// A command and what it is asked.
+#[derive(Clone, Copy)]
+pub enum Command<'a> {
+    Run(Order<'a>),
+    Gen(SceneOrder),
+}
+
+/// Reads the words; None exactly where they are of no command.
+pub fn read_command(words: &[String]) -> Option<Command<'_>>
+    ensures command { IsCommand (command_of (map string_bytes words.now)) result }
+    ensures apart { IfSome result WritesApart }
+{
+    if is_gen(words) {
+        match read_scene_order(words) {
+            Some(scene) => Some(Command::Gen(scene)),
+            None => None,
+        }
+    } else {
+        match read_order(words) {
+            Some(order) => Some(Command::Run(order)),
+            None => None,
+        }
+    }
+}
+
+/// Whether the first word is `gen`.
+pub fn is_gen(words: &[String]) -> bool
+    ensures { result ≡ has_gen (map string_bytes words.now) }
+{
+    match words {
+        [command, ..] => command.as_str() == "gen",
+        [] => false,
+    }
+}
+
+/// Reads the words behind `gen`.
+fn read_scene_order(words: &[String]) -> Option<SceneOrder>
+    ensures { IsSceneOrder (scene_order_of (map string_bytes words.now)) result }
+{
+    let [_, number, band, workers] = words else {
+        return None;
+    };
+    let Some(number) = read_number(number.as_str()) else {
+        return None;
+    };
+    let Some(band) = read_band(band.as_str()) else {
+        return None;
+    };
+    let Some(workers) = read_workers(workers.as_str()) else {
+        return None;
+    };
+    Some(SceneOrder {
+        number,
+        band,
+        workers,
+    })
+}
+
+/// The number of a scene.
+fn read_number(text: &str) -> Option<u32>
+    ensures { result ≡ number_of text.now }
+{
+    let number = dec(text.as_bytes())?;
+    if number <= 4_294_967_295 {
+        Some(number as u32)
+    } else {
+        None
+    }
+}
