@@ -1,0 +1,13 @@
+pub mod Fits
+pub mod AllFit
+pub mod Counting
+pub mod Parts
+pub mod General
+pub mod Lawful
+pub mod Rows
+pub mod CountedRows
+pub mod Lists
+pub mod Flow
+pub mod Entries
+pub mod Whole
+pub mod Stages
