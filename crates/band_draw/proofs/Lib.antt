@@ -1,0 +1,10 @@
+pub mod Kept
+pub mod Shows
+pub mod Sounding
+pub mod Touching
+pub mod Registers
+pub mod Dues
+pub mod Giving
+pub mod Turning
+pub mod Beginning
+pub mod Keeping

@@ -1,0 +1,421 @@
+-- A clock of a band is drawn: what its steps need, and where they come to.
+use Rattle.std.proofs.Common.{◌≡◌, ◌≤◌, ◌<◌, ℕ, zero, suc, ◌+◌, ◌-◌, ◌*◌, Bool, true, false, ◌==◌, List, [], ◌∷◌, ◌++◌, length, take, drop, map, Option, Some, None, refl, sym, ap, ◌∙◌, subst, arith, bit_or, nat_le, replicate, slice_index, length-append, length-drop}
+use Rattle.std.specs.Bool.{if◌then◌else◌}
+use Rattle.std.proofs.lemmas.Bool.Decides.{nat_tests}
+use Rattle.std.proofs.lemmas.List.{drop-drop, take_all}
+use Rattle.std.proofs.lemmas.List.{length-map}
+use Rattle.std.proofs.lemmas.List.{length-take}
+use Rattle.ocs_base.specs.declared.addr.Addr.{Addr}
+use Rattle.ocs_base.specs.declared.beam.Beam.{Beam}
+use Rattle.ocs_base.specs.declared.script.System.TheVariants.{Pal}
+use Rattle.mem_versions.specs.MemView.{ViewValue, word_then}
+use Rattle.serial_model.specs.Beam.{IsOnScreen, place_of, is_visible}
+use Rattle.serial_model.specs.Events.{due_events, touches_of}
+use Rattle.serial_model.specs.Made.{word_of}
+use Rattle.serial_model.specs.declared.picture.Denise.{Denise}
+use Rattle.serial_model.specs.declared.picture.Touch.{Touch}
+use Rattle.serial_model.specs.Picture.{clear_line, step_of, touch_in_order, touch_if_any}
+use Rattle.serial_model.proofs.EndLaws.{on_screen}
+use Rattle.serial_bands.specs.declared.event.Event.{Event}
+use Rattle.serial_bands.specs.Run.{RunValue, beam_at, run_memory}
+use Rattle.serial_bands.specs.Clock.{sets_at, bytes_at, bus_touch_at, fetch_alone, opening_at}
+use Rattle.serial_bands.specs.ClockLaws.{IsNextInField}
+use Rattle.serial_bands.specs.Bands.{begins}
+use Rattle.serial_bands.specs.BandShown.{bytes_from, IsRightDrawn}
+use Rattle.serial_bands.specs.StandsFor.{StandsFor}
+use Rattle.serial_bands.specs.RightJob.{HasMemory, events_from, script_events, bus_events}
+use Rattle.serial_bands.specs.EventReading.{touch_of_event, bus_touch_of}
+use Rattle.serial_bands.specs.ReplayLaws.{with_script, with_fetch, step_of_kept, after_kept}
+use Rattle.serial_bands.specs.DrawnTo.{IsDrawnTo, touch_by_address, behind_script, behind_clock, with_access}
+use Rattle.serial_bands.proofs.Drawing.{words_are_found, touch_is_next, drawing_goes_on, last_fetch_is_next, drawing_ends}
+use Rattle.serial_bands.proofs.NextClock.{bytes_are_of_step, next_in_band, events_by_place}
+use Rattle.serial_bands.proofs.Reading.{script_comes_first, script_events_are_sets}
+use Rattle.serial_bands.proofs.Standing.{stands_for_itself, stands_on, stands_cleared}
+use Rattle.band_draw.specs.declared.progress.Progress.{Progress}
+use Rattle.band_draw.specs.Due.{IsLeft}
+use Rattle.band_draw.specs.Given.{IsGiven, filled_after}
+use Rattle.band_draw.specs.Keeps.{Keeps}
+use Rattle.band_draw.specs.Progress.{IsSource, IsSamePlace, IsAt, IsEnded}
+use Rattle.band_draw.specs.Sound.{IsSound}
+use Rattle.band_draw.specs.Touched.{touched_by, touched_by_events}
+use Rattle.band_draw.proofs.Sounding.{sound_opening, sound_kept}
+
+-- how many bytes there are
+size_by : (b : Bool) (n : ℕ) (l : List ℕ) → length l ≡ 12 → (if b then n + 12 else n) ≡ n + length (if b then l else [])
+size_by true n l is = omega (arith, is)
+size_by false n l is = omega arith
+
+step_size : (v h n : ℕ) (p : Denise) → filled_after v h n ≡ n + length (step_of Pal v h p).bytes
+unfolding step_of
+step_size v h n p = size_by (is_visible Pal v h) n _ refl
+
+clock_size : (run : RunValue) (c n : ℕ) → filled_after (beam_at run c).v (beam_at run c).h n ≡ n + length (bytes_at run c)
+clock_size run c n =
+    step_size (beam_at run c).v (beam_at run c).h n _ ∙ ap (λ (l : List ℕ). n + length l) (sym (bytes_are_of_step run c))
+
+more_size : (run : RunValue) (from n : ℕ) → length (bytes_from run from (suc n)) ≡ length (bytes_from run from n) + length (bytes_at run (from + n))
+unfolding bytes_from
+more_size run from n = length-append (bytes_from run from n) (bytes_at run (from + n))
+
+none_more : (n : ℕ) → n + 0 ≡ n
+none_more n = omega arith
+
+one_more : (n k : ℕ) → n + suc k ≡ suc (n + k)
+one_more n k = omega arith
+
+size_grows : (run : RunValue) (from n k : ℕ) → length (bytes_from run from n) ≤ length (bytes_from run from (n + k))
+size_grows run from n zero = omega (arith, ap (λ m. length (bytes_from run from m)) (none_more n))
+size_grows run from n (suc k) =
+    omega (arith, ap (λ m. length (bytes_from run from m)) (one_more n k), more_size run from (n + k), size_grows run from n k)
+
+size_within : (run : RunValue) (from n most : ℕ) → n ≤ most → length (bytes_from run from n) ≤ length (bytes_from run from most)
+size_within run from n most order =
+    let there : n + (most - n) ≡ most = omega arith in
+    subst (λ m. length (bytes_from run from n) ≤ length (bytes_from run from m)) there (size_grows run from n (most - n))
+
+pub filled_next : (run : RunValue) (from c v h filled : ℕ) → from ≤ c → v ≡ (beam_at run c).v → h ≡ (beam_at run c).h
+    → filled ≡ length (bytes_from run from (c - from)) → filled_after v h filled ≡ length (bytes_from run from (c + 1 - from))
+filled_next run from c v h filled least line clock is =
+    let here : from + (c - from) ≡ c = omega arith in
+    let count : suc (c - from) ≡ c + 1 - from = omega arith in
+    ap (λ k. filled_after k h filled) line ∙ ap (λ k. filled_after (beam_at run c).v k filled) clock
+    ∙ clock_size run c filled
+    ∙ ap (λ k. k + length (bytes_at run c)) is
+    ∙ ap (λ k. length (bytes_from run from (c - from)) + length (bytes_at run k)) (sym here)
+    ∙ sym (more_size run from (c - from))
+    ∙ ap (λ k. length (bytes_from run from k)) count
+
+filled_if : (b : Bool) (filled most : ℕ) → b ≡ true → (if b then filled + 12 else filled) ≤ most → filled + 12 ≤ most
+filled_if true filled most is within = within
+filled_if false filled most is within = cc
+
+visible_filled : (v h filled most : ℕ) → is_visible Pal v h ≡ true → filled_after v h filled ≤ most → filled + 12 ≤ most
+visible_filled v h filled most is = filled_if (is_visible Pal v h) filled most is
+
+pub room_there : (run : RunValue) (events : List Event) (room : List ℕ) (p : Progress) → IsAt run events room p
+    → is_visible Pal p.beam.v p.beam.h ≡ true → p.filled + 12 ≤ length room
+room_there run events room p at visible =
+    visible_filled p.beam.v p.beam.h p.filled (length room) visible
+    (omega (
+      arith,
+      filled_next run p.from p.clock p.beam.v p.beam.h p.filled at.drawn.least at.place.line at.place.clock at.filled,
+      size_within run p.from (p.clock + 1 - p.from) (p.to - p.from) (omega (arith, at.drawn.most, at.drawn.least)),
+      at.size,
+    ))
+
+pub filled_within : (run : RunValue) (events : List Event) (room : List ℕ) (p : Progress) → IsAt run events room p → p.filled ≤ length room
+filled_within run events room p at =
+    omega (arith, at.filled, at.size, size_within run p.from (p.clock - p.from) (p.to - p.from) (omega (arith, at.drawn.most, at.drawn.least)))
+
+-- the picture state and the place
+pub sound_there : (run : RunValue) (events : List Event) (room : List ℕ) (p : Progress) → IsAt run events room p → IsSound p.denise
+sound_there run events room p at =
+    sound_kept (4 * (beam_at run p.clock).h) p.denise (opening_at run p.clock) at.drawn.stands (sound_opening run p.clock)
+
+same_screen : (b other : Beam) → IsSamePlace b other → IsOnScreen other → IsOnScreen b
+same_screen b other same on = record {
+  line = subst (λ k. k < 313) (sym same.line) on.line;
+  clock = subst (λ k. k < 227) (sym same.clock) on.clock;
+}
+
+pub screen_there : (run : RunValue) (events : List Event) (room : List ℕ) (p : Progress) → IsAt run events room p → IsOnScreen p.beam
+screen_there run events room p at = same_screen p.beam (beam_at run p.clock) at.place (on_screen run.image run.script p.clock)
+
+-- the script's events of the clock
+script_part : (run : RunValue) (events : List Event) (c n next sets : ℕ) → drop next events ≡ events_from run c n
+    → sets ≡ length (sets_at run c) → take sets (drop next events) ≡ script_events run c
+script_part run events c n next sets log is =
+    ap (λ l. take sets l) log ∙ ap (λ k. take k (events_from run c n)) is ∙ script_comes_first run c n
+
+pub part_there : (run : RunValue) (events : List Event) (room : List ℕ) (p : Progress) → IsAt run events room p
+    → p.next + p.sets ≤ length events
+part_there run events room p at =
+    let c : ℕ = p.clock in
+    let part : length (take p.sets (drop p.next events)) ≡ length (sets_at run c) =
+    ap (λ (l : List Event). length l) (script_part run events c (p.to - c - 1) p.next p.sets at.drawn.log at.sets)
+    ∙ length-map (sets_at run c) _ in
+    omega (arith, part, at.sets, at.next, length-take p.sets (drop p.next events), length-drop p.next events)
+
+all_found : (run : RunValue) (from to c : ℕ) (word_found : ℕ → Addr → ℕ) (touches : List Touch) (p : Denise)
+    → HasMemory run from to word_found → from ≤ c → c ≤ to
+    → touched_by (beam_at run c).h (word_found c) touches p ≡ touch_in_order (beam_at run c).h (word_of (run_memory run c)) touches p
+unfolding touch_in_order
+all_found run from to c word_found [] p has least most = refl
+all_found run from to c word_found (touch ∷ touches) p has least most =
+    all_found run from to c word_found touches _ has least most
+    ∙ ap (λ q. touch_in_order (beam_at run c).h (word_of (run_memory run c)) touches q)
+    (words_are_found run from to c word_found (Some touch) p has least most)
+
+script_drawn : (run : RunValue) (events : List Event) (view : ViewValue) (room : List ℕ) (p : Progress) → IsSource run p.from p.to view
+    → IsAt run events room p
+    → touched_by_events (beam_at run p.clock).h (word_then view p.clock) (take p.sets (drop p.next events)) p.denise
+    ≡ with_script run p.clock p.denise
+script_drawn run events view room p source at =
+    let c : ℕ = p.clock in
+    let h : ℕ = (beam_at run c).h in
+    ap (λ l. touched_by h (word_then view c) (map touch_of_event l) p.denise)
+    (script_part run events c (p.to - c - 1) p.next p.sets at.drawn.log at.sets)
+    ∙ ap (λ l. touched_by h (word_then view c) l p.denise) (script_events_are_sets run c)
+    ∙ all_found run p.from p.to c (word_then view) (sets_at run c) p.denise source.memory at.drawn.least (omega (arith, at.drawn.most))
+
+-- what the clock shows
+abbrev pub IsGivenBy : Progress → List Event → ViewValue → List ℕ → List ℕ → Denise → ℕ → Type 0
+IsGivenBy p events view before after shown clx = (q : Denise) → StandsFor (4 * p.beam.h) p.denise q →
+    IsGiven p.beam.v p.beam.h (touched_by_events p.beam.h (word_then view p.clock) (take p.sets (drop p.next events)) q) shown before after clx
+
+given_here : (run : RunValue) (events : List Event) (view : ViewValue) (room before after : List ℕ) (p : Progress) (shown : Denise) (clx : ℕ)
+    → IsSource run p.from p.to view → IsAt run events room p → IsGivenBy p events view before after shown clx
+    → IsGiven (beam_at run p.clock).v (beam_at run p.clock).h (with_script run p.clock p.denise) shown before after clx
+given_here run events view room before after p shown clx source at given =
+    let b : Beam = beam_at run p.clock in
+    let part : List Event = take p.sets (drop p.next events) in
+    subst (λ q. IsGiven b.v b.h q shown before after clx) (script_drawn run events view room p source at)
+    (subst (λ k. IsGiven b.v k (touched_by_events k (word_then view p.clock) part p.denise) shown before after clx) at.place.clock
+    (subst (λ k. IsGiven k p.beam.h (touched_by_events p.beam.h (word_then view p.clock) part p.denise) shown before after clx) at.place.line
+    (given p.denise (stands_for_itself (4 * p.beam.h) p.denise))))
+
+-- the events behind the script's
+pub rest_there : (run : RunValue) (events : List Event) (room : List ℕ) (p : Progress) → IsAt run events room p
+    → drop (p.next + p.sets) events ≡ behind_script run p.clock (drop p.next events)
+rest_there run events room p at =
+    sym (drop-drop p.sets p.next events) ∙ ap (λ k. drop k (drop p.next events)) at.sets
+
+behind : (h : ℕ) → 4 * h ≤ 4 * h + 4
+behind h = omega arith
+
+-- with the access's touch, whichever it is found to be
+accessed : (run : RunValue) (events : List Event) (view : ViewValue) (room : List ℕ) (p : Progress) (shown touched after : Denise)
+    (found there : Option Touch) → IsSource run p.from p.to view → IsAt run events room p → found ≡ there
+    → StandsFor (4 * (beam_at run p.clock).h + 4) shown after
+    → Keeps (4 * p.beam.h) (touch_by_address p.beam.h (word_then view p.clock) found) shown touched
+    → StandsFor (4 * (beam_at run p.clock).h + 4) touched
+    (touch_if_any (beam_at run p.clock).h (word_of (run_memory run p.clock)) there after)
+accessed run events view room p shown touched after found there source at is stands keeps =
+    let c : ℕ = p.clock in
+    let h : ℕ = (beam_at run c).h in
+    let here : Keeps (4 * h) (touch_by_address h (word_then view c) there) shown touched =
+    subst (λ t. Keeps (4 * h) (touch_by_address h (word_then view c) t) shown touched) is
+    (subst (λ k. Keeps (4 * k) (touch_by_address k (word_then view c) found) shown touched) at.place.clock keeps) in
+    subst (λ q. StandsFor (4 * h + 4) touched q)
+    (words_are_found run p.from p.to c (word_then view) there after source.memory at.drawn.least (omega (arith, at.drawn.most)))
+    (here (4 * h + 4) after (behind h) stands)
+
+-- the next place
+next_clock : (c : ℕ) → suc c ≡ c + 1
+next_clock c = omega arith
+
+nexts : (run : RunValue) (c : ℕ) → begins run (c + 1) ≡ false → IsNextInField (beam_at run c) (beam_at run (c + 1))
+nexts run c none =
+    subst (λ k. IsNextInField (beam_at run c) (beam_at run k)) (next_clock c)
+    (next_in_band run c (subst (λ k. begins run k ≡ false) (sym (next_clock c)) none))
+
+line_by : (h k v w : ℕ) → h ≡ k → v ≡ w → (if nat_le 226 h then v + 1 else v) ≡ (if nat_le 226 k then w + 1 else w)
+line_by h k v w clock line = ap (λ x. if nat_le 226 x then v + 1 else v) clock ∙ ap (λ x. if nat_le 226 k then x + 1 else x) line
+
+same_next : (b beam other next : Beam) → IsSamePlace b other → IsNextInField b beam → IsNextInField other next → IsSamePlace beam next
+same_next b beam other next same one two = record {
+  frame = one.frame ∙ same.frame ∙ sym two.frame;
+  line = one.line ∙ line_by b.h other.h b.v other.v same.clock same.line ∙ sym two.line;
+  clock = one.clock ∙ ap (λ h. if nat_le 226 h then 0 else h + 1) same.clock ∙ sym two.clock;
+}
+
+inner_next : (run : RunValue) (events : List Event) (view : ViewValue) (room : List ℕ) (p : Progress) → IsSource run p.from p.to view
+    → IsAt run events room p → p.clock + 1 < p.to → begins run (p.clock + 1) ≡ false
+inner_next run events view room p source at more = source.inner (p.clock + 1) (omega (arith, at.drawn.least)) more
+
+pub place_next : (run : RunValue) (events : List Event) (view : ViewValue) (room : List ℕ) (p : Progress) (beam : Beam)
+    → IsSource run p.from p.to view → IsAt run events room p → p.clock + 1 < p.to → IsNextInField p.beam beam
+    → IsSamePlace beam (beam_at run (p.clock + 1))
+place_next run events view room p beam source at more next =
+    same_next p.beam beam (beam_at run p.clock) (beam_at run (p.clock + 1)) at.place next
+    (nexts run p.clock (inner_next run events view room p source at more))
+
+pub screen_next : (run : RunValue) (events : List Event) (view : ViewValue) (room : List ℕ) (p : Progress) (beam : Beam)
+    → IsSource run p.from p.to view → IsAt run events room p → p.clock + 1 < p.to → IsNextInField p.beam beam → IsOnScreen beam
+screen_next run events view room p beam source at more next =
+    same_screen beam (beam_at run (p.clock + 1)) (place_next run events view room p beam source at more next)
+    (on_screen run.image run.script (p.clock + 1))
+
+one_place_on : (frame v h line clock : ℕ) → h < 227 → line ≡ (if nat_le 226 h then v + 1 else v) → clock ≡ (if nat_le 226 h then 0 else h + 1)
+    → (frame * 313 + v) * 227 + h + 1 ≡ (frame * 313 + line) * 227 + clock
+one_place_on frame v h line clock within one two = grind (arith, nat_tests)
+
+place_on : (b beam : Beam) → b.h < 227 → IsNextInField b beam → place_of b + 1 ≡ place_of beam
+place_on b beam within next =
+    one_place_on b.frame b.v b.h beam.v beam.h within next.line next.clock ∙ ap (λ k. (k * 313 + beam.v) * 227 + beam.h) (sym next.frame)
+
+pub left_there : (run : RunValue) (events : List Event) (room : List ℕ) (p : Progress) (beam : Beam) → IsAt run events room p
+    → IsNextInField p.beam beam → IsLeft (place_of beam) run.script.events (drop p.due run.script.events)
+left_there run events room p beam at next =
+    subst (λ k. IsLeft k run.script.events (drop p.due run.script.events))
+    (place_on p.beam beam (screen_there run events room p at).clock next) at.left
+
+-- the clearing
+same_clear : (b other : Beam) (p : Denise) → b.h ≡ other.h → clear_line b p ≡ clear_line other p
+unfolding clear_line
+same_clear b other p same =
+    ap (λ h. if h == 0 then record p { loads = []; runs = replicate 8 None; held = record { 0 = slice_index p.palette 0 } } else p) same
+
+clear_by : (b : Bool) (h next : ℕ) → next ≡ (if b then 0 else h + 1) → (next == 0) ≡ false → 4 * h + 4 ≤ 4 * next
+clear_by true h next is none = absurd (grind (arith, nat_tests))
+clear_by false h next is none = omega (arith, is)
+
+clear_order : (h next : ℕ) → next ≡ (if nat_le 226 h then 0 else h + 1) → (next == 0) ≡ false → 4 * h + 4 ≤ 4 * next
+clear_order h next is none = clear_by (nat_le 226 h) h next is none
+
+-- what a clock before the last comes to
+pub record IsTurn (run : RunValue) (events : List Event) (view : ViewValue) (room after : List ℕ) (p : Progress)
+    (shown touched cleared : Denise) (filled clx : ℕ) (beam : Beam) (sets due count : ℕ) : Type 0 where
+  pub given : IsGivenBy p events view (take p.filled room) (take filled after) shown clx
+  pub bytes : filled ≡ filled_after p.beam.v p.beam.h p.filled
+  pub size : length after ≡ length room
+  pub place : IsNextInField p.beam beam
+  pub coming : sets ≡ length (touches_of (due_events beam run.script.events))
+  pub left : IsLeft (place_of beam + 1) run.script.events (drop due run.script.events)
+  pub bound : due ≤ length run.script.events
+  pub access : Keeps (4 * p.beam.h)
+      (touch_by_address p.beam.h (word_then view p.clock) (bus_touch_of p.clock sets (drop (p.next + p.sets) events))) shown touched
+  pub counted : count ≡ length (bus_events p.clock (bus_touch_of p.clock sets (drop (p.next + p.sets) events)))
+  pub within : count ≤ length (drop (p.next + p.sets) events)
+  pub clean : cleared ≡ clear_line beam touched
+
+touch_next : (run : RunValue) (events : List Event) (view : ViewValue) (room : List ℕ) (p : Progress) (beam : Beam) (sets : ℕ)
+    → IsSource run p.from p.to view → IsAt run events room p → p.clock + 1 < p.to → IsNextInField p.beam beam
+    → sets ≡ length (touches_of (due_events beam run.script.events))
+    → bus_touch_of p.clock sets (drop (p.next + p.sets) events) ≡ bus_touch_at run p.clock
+touch_next run events view room p beam sets source at more next is =
+    let place : IsSamePlace beam (beam_at run (p.clock + 1)) = place_next run events view room p beam source at more next in
+    let coming : sets ≡ length (sets_at run (p.clock + 1)) =
+    is ∙ ap (λ l. length (touches_of l)) (events_by_place run.script.events beam (beam_at run (p.clock + 1)) place.frame place.line place.clock) in
+    ap (λ l. bus_touch_of p.clock sets l) (rest_there run events room p at)
+    ∙ ap (λ k. bus_touch_of p.clock k (behind_script run p.clock (drop p.next events))) coming
+    ∙ touch_is_next run p.from p.to p.clock p.denise (drop p.next events) (take p.filled room) p.clx at.drawn more
+
+pub next_within : (run : RunValue) (events : List Event) (room : List ℕ) (p : Progress) (count : ℕ) → IsAt run events room p
+    → count ≤ length (drop (p.next + p.sets) events) → p.next + (p.sets + count) ≤ length events
+next_within run events room p count at within =
+    omega (arith, within, length-drop (p.next + p.sets) events, part_there run events room p at)
+
+abbrev pub come_to : Progress → Denise → ℕ → ℕ → Beam → ℕ → ℕ → ℕ → Progress
+come_to p cleared filled clx beam sets due count = record {
+  from = p.from;
+  to = p.to;
+  clock = p.clock + 1;
+  beam = beam;
+  denise = cleared;
+  sets = sets;
+  due = due;
+  next = p.next + (p.sets + count);
+  filled = filled;
+  clx = bit_or p.clx clx;
+}
+
+stands_next : (run : RunValue) (events : List Event) (view : ViewValue) (room after : List ℕ) (p : Progress)
+    (shown touched cleared : Denise) (filled clx : ℕ) (beam : Beam) (sets due count : ℕ)
+    → IsSource run p.from p.to view → IsAt run events room p → p.clock + 1 < p.to
+    → IsTurn run events view room after p shown touched cleared filled clx beam sets due count
+    → StandsFor (4 * (beam_at run (p.clock + 1)).h) cleared
+    (clear_line (beam_at run (p.clock + 1)) (with_access run p.clock (after_kept run p.clock p.denise)))
+stands_next run events view room after p shown touched cleared filled clx beam sets due count source at more turn =
+    let c : ℕ = p.clock in
+    let next : Beam = beam_at run (c + 1) in
+    let h : ℕ = (beam_at run c).h in
+    let place : IsSamePlace beam next = place_next run events view room p beam source at more turn.place in
+    let stands : StandsFor (4 * h + 4) touched (with_access run c (after_kept run c p.denise)) =
+    accessed run events view room p shown touched (after_kept run c p.denise) _ _ source at
+    (touch_next run events view room p beam sets source at more turn.place turn.coming)
+    (given_here run events view room (take p.filled room) (take filled after) p shown clx source at turn.given).stands turn.access in
+    subst (λ q. StandsFor (4 * next.h) q (clear_line next (with_access run c (after_kept run c p.denise))))
+    (sym (turn.clean ∙ same_clear beam next touched place.clock))
+    (stands_cleared (4 * h + 4) next touched (with_access run c (after_kept run c p.denise)) stands
+    (clear_order h next.h (nexts run c (inner_next run events view room p source at more)).clock))
+
+drop_clock : (run : RunValue) (events : List Event) (view : ViewValue) (room : List ℕ) (p : Progress) (beam : Beam) (sets count : ℕ)
+    → IsSource run p.from p.to view → IsAt run events room p → p.clock + 1 < p.to → IsNextInField p.beam beam
+    → sets ≡ length (touches_of (due_events beam run.script.events))
+    → count ≡ length (bus_events p.clock (bus_touch_of p.clock sets (drop (p.next + p.sets) events)))
+    → drop (p.next + (p.sets + count)) events ≡ behind_clock run p.clock (drop p.next events)
+drop_clock run events view room p beam sets count source at more next is counted =
+    let there : p.next + (p.sets + count) ≡ p.next + p.sets + count = omega arith in
+    ap (λ k. drop k events) there
+    ∙ sym (drop-drop count (p.next + p.sets) events)
+    ∙ ap (λ l. drop count l) (rest_there run events room p at)
+    ∙ ap (λ k. drop k (behind_script run p.clock (drop p.next events)))
+    (counted ∙ ap (λ t. length (bus_events p.clock t)) (touch_next run events view room p beam sets source at more next is))
+
+kept_on : (run : RunValue) (from to c : ℕ) (kept other : Denise) (events left : List Event) (bytes others : List ℕ) (clx more : ℕ)
+    → IsDrawnTo run from to c kept events bytes clx → StandsFor (4 * (beam_at run c).h) other kept → left ≡ events → others ≡ bytes → more ≡ clx
+    → IsDrawnTo run from to c other left others more
+kept_on run from to c kept other events left bytes others clx more drawn stands log shown gathered = record {
+  least = drawn.least;
+  most = drawn.most;
+  stands = stands_on (4 * (beam_at run c).h) other kept (opening_at run c) stands drawn.stands;
+  log = log ∙ drawn.log;
+  shown = shown ∙ drawn.shown;
+  gathered = gathered ∙ drawn.gathered;
+}
+
+pub turned : (run : RunValue) (events : List Event) (view : ViewValue) (room after : List ℕ) (p : Progress)
+    (shown touched cleared : Denise) (filled clx : ℕ) (beam : Beam) (sets due count : ℕ)
+    → IsSource run p.from p.to view → IsAt run events room p → p.clock + 1 < p.to
+    → IsTurn run events view room after p shown touched cleared filled clx beam sets due count
+    → IsAt run events after (come_to p cleared filled clx beam sets due count)
+turned run events view room after p shown touched cleared filled clx beam sets due count source at more turn =
+    let c : ℕ = p.clock in
+    let given : IsGiven (beam_at run c).v (beam_at run c).h (with_script run c p.denise) shown (take p.filled room) (take filled after) clx =
+    given_here run events view room (take p.filled room) (take filled after) p shown clx source at turn.given in
+    let place : IsSamePlace beam (beam_at run (c + 1)) = place_next run events view room p beam source at more turn.place in
+    record {
+      drawn =
+          kept_on run p.from p.to (c + 1) _ cleared _ (drop (p.next + (p.sets + count)) events) _ (take filled after) _ (bit_or p.clx clx)
+          (drawing_goes_on run p.from p.to c p.denise (drop p.next events) (take p.filled room) p.clx at.drawn more)
+          (stands_next run events view room after p shown touched cleared filled clx beam sets due count source at more turn)
+          (drop_clock run events view room p beam sets count source at more turn.place turn.coming turn.counted)
+          given.bytes
+          (ap (λ k. bit_or p.clx k) given.bits);
+      place = place;
+      sets =
+          turn.coming
+          ∙ ap (λ l. length (touches_of l)) (events_by_place run.script.events beam (beam_at run (c + 1)) place.frame place.line place.clock);
+      left = turn.left;
+      due = turn.bound;
+      next = next_within run events room p count at turn.within;
+      filled =
+          turn.bytes ∙ filled_next run p.from c p.beam.v p.beam.h p.filled at.drawn.least at.place.line at.place.clock at.filled;
+      size = turn.size ∙ at.size;
+    }
+
+-- the last clock
+pub ended : (run : RunValue) (events : List Event) (view : ViewValue) (room after : List ℕ) (p : Progress)
+    (shown touched : Denise) (filled clx coming : ℕ)
+    → IsSource run p.from p.to view → IsAt run events room p → p.clock + 1 ≡ p.to
+    → IsGivenBy p events view (take p.filled room) (take filled after) shown clx
+    → filled ≡ filled_after p.beam.v p.beam.h p.filled → length after ≡ length room
+    → Keeps (4 * p.beam.h)
+    (touch_by_address p.beam.h (word_then view p.clock) (bus_touch_of p.clock coming (drop (p.next + p.sets) events))) shown touched
+    → IsEnded run p.from p.to after touched (bit_or p.clx clx)
+ended run events view room after p shown touched filled clx coming source at last given filled_is size access n band =
+    let c : ℕ = p.clock in
+    let here : IsGiven (beam_at run c).v (beam_at run c).h (with_script run c p.denise) shown (take p.filled room) (take filled after) clx =
+    given_here run events view room (take p.filled room) (take filled after) p shown clx source at given in
+    let touch : bus_touch_of c coming (drop (p.next + p.sets) events) ≡ fetch_alone (bus_touch_at run c) =
+    ap (λ l. bus_touch_of c coming l) (rest_there run events room p at)
+    ∙ last_fetch_is_next run p.from p.to c coming p.denise (drop p.next events) (take p.filled room) p.clx at.drawn last in
+    let stands : StandsFor (4 * (beam_at run c).h + 4) touched (with_fetch run c (after_kept run c p.denise)) =
+    accessed run events view room p shown touched (after_kept run c p.denise) _ _ source at touch here.stands access in
+    let whole : filled ≡ length (bytes_from run p.from (p.to - p.from)) =
+    filled_is ∙ filled_next run p.from c p.beam.v p.beam.h p.filled at.drawn.least at.place.line at.place.clock at.filled
+    ∙ ap (λ k. length (bytes_from run p.from (k - p.from))) last in
+    let full : length after ≤ filled = omega (arith, size, at.size, whole) in
+    subst (λ l. IsRightDrawn run n p.from p.to l (bit_or p.clx clx) touched) (sym here.bytes ∙ take_all filled after full)
+    (subst (λ k. IsRightDrawn run n p.from p.to (take p.filled room ++ (step_of_kept run c p.denise).bytes) (bit_or p.clx k) touched)
+    (sym here.bits)
+    (drawing_ends run n p.from p.to c p.denise touched (drop p.next events) (take p.filled room) p.clx band at.drawn last stands))
+
+pub given_part : (p : Progress) (events : List Event) (view : ViewValue) (part : List Event) (before after : List ℕ) (shown : Denise) (clx : ℕ)
+    → part ≡ take p.sets (drop p.next events)
+    → ((q : Denise) → StandsFor (4 * p.beam.h) p.denise q
+    → IsGiven p.beam.v p.beam.h (touched_by_events p.beam.h (word_then view p.clock) part q) shown before after clx)
+    → IsGivenBy p events view before after shown clx
+given_part p events view part before after shown clx is given q stands =
+    subst (λ l. IsGiven p.beam.v p.beam.h (touched_by_events p.beam.h (word_then view p.clock) l q) shown before after clx) is (given q stands)

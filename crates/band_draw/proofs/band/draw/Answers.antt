@@ -1,0 +1,47 @@
+use Rattle.std.proofs.Common.{length, refl, sym, ◌∙◌, subst}
+use Rattle.std.specs.Arc.{arc_value}
+use Rattle.mem_versions.specs.MemView.{word_then}
+use Rattle.serial_bands.specs.RightJob.{IsRightJob}
+use Rattle.band_log.specs.declared.job.Job.{Job}
+use Rattle.band_draw.specs.Progress.{IsSource, IsAt, IsEnded}
+use Rattle.band_draw.proofs.Beginning.{job_screen, job_source}
+use Rattle.band_draw.proofs.band.draw.Goals as goal
+
+pub begin-start-requires : goal.begin-start-requires
+begin-start-requires c =
+    let job : Job = c.args.job in
+    job_screen (arc_value job.run) job.number job.from.0 job.to.0 job.beam job.opening job.events (word_then job.view) (length job.room) c.requires.parts
+
+pub draw_into-end-requires-clause-source : goal.draw_into-end-requires-clause-source
+draw_into-end-requires-clause-source c =
+    let job : Job = c.args.job in
+    let start = c.begin-start in
+    subst (λ r. IsSource r start.result.from start.result.to job.view) (sym c.deref-2.ensures)
+    (subst (λ k. IsSource (arc_value job.run) k start.result.to job.view) (sym start.ensures.from)
+    (subst (λ k. IsSource (arc_value job.run) job.from.0 k job.view) (sym start.ensures.to)
+    (job_source (arc_value job.run) job.number job.from.0 job.to.0 job.beam job.opening job.events job.view (length job.room) c.requires.parts
+    c.requires.covered)))
+
+pub draw_into-end-requires-clause-at : goal.draw_into-end-requires-clause-at
+draw_into-end-requires-clause-at c =
+    let job : Job = c.args.job in
+    subst (λ r. IsAt r c.list.result.now job.room c.begin-start.result) (c.deref.ensures ∙ sym c.deref-2.ensures)
+    (subst (λ l. IsAt c.deref.result.now l job.room c.begin-start.result) (sym c.list.ensures)
+    (c.begin-start.ensures.at job.number job.events (word_then job.view) job.room
+    (subst (λ r. IsRightJob r job.number job.from.0 job.to.0 job.beam job.opening job.events (word_then job.view) (length job.room))
+    (sym c.deref.ensures) c.requires.parts)))
+
+pub returns-clause-right : goal.returns-clause-right
+returns-clause-right c =
+    let job : Job = c.args.job in
+    let start = c.begin-start in
+    let end = c.draw_into-end in
+    record {
+      owner = refl;
+      numbered = refl;
+      shown =
+          subst (λ r. IsEnded r job.from.0 job.to.0 end.new.room end.result.denise end.result.clx) c.deref-2.ensures
+          (subst (λ k. IsEnded c.deref-2.result.now k job.to.0 end.new.room end.result.denise end.result.clx) start.ensures.from
+          (subst (λ k. IsEnded c.deref-2.result.now start.result.from k end.new.room end.result.denise end.result.clx) start.ensures.to end.ensures))
+          job.number c.requires.parts.band;
+    }

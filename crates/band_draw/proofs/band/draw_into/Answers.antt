@@ -1,0 +1,10 @@
+use Rattle.std.proofs.Common.{ℕ, List, length, sym, ap, ◌∙◌, subst}
+use Rattle.serial_bands.specs.BandShown.{IsRightDrawn}
+use Rattle.band_draw.proofs.Beginning.{given_back}
+use Rattle.band_draw.proofs.band.draw_into.Goals as goal
+
+pub returns : goal.returns
+returns c n band =
+    subst (λ l. IsRightDrawn c.args.run.now n c.args.start.from c.args.start.to l c.draw_all.new.p.clx c.draw_all.new.p.denise)
+    (sym (given_back c.args.room.now c.draw_all.new.room
+    (c.draw_all.ensures.size ∙ ap (λ (l : List ℕ). length l) c.pixels_mut.ensures.bytes))) (c.draw_all.ensures.ended n band)

@@ -1,0 +1,9 @@
+pub mod Keeps
+pub mod Sound
+pub mod Begun
+pub mod Shown
+pub mod Touched
+pub mod Due
+pub mod Given
+pub mod Progress
+pub mod Direct

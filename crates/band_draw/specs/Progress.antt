@@ -1,0 +1,42 @@
+-- How far a band is drawn from its job.
+use Rattle.std.specs.Prelude.{◌≡◌, ◌≤◌, ◌<◌, ℕ, ◌+◌, ◌-◌, false, List, length, take, drop}
+use Rattle.ocs_base.specs.declared.beam.Beam.{Beam}
+use Rattle.mem_versions.specs.MemView.{ViewValue, Covers, word_then}
+use Rattle.serial_model.specs.Beam.{place_of}
+use Rattle.serial_model.specs.declared.picture.Denise.{Denise}
+use Rattle.serial_bands.specs.declared.event.Event.{Event}
+use Rattle.serial_bands.specs.Run.{RunValue, beam_at}
+use Rattle.serial_bands.specs.Clock.{sets_at}
+use Rattle.serial_bands.specs.Bands.{begins, IsBand}
+use Rattle.serial_bands.specs.BandShown.{bytes_from, IsRightDrawn}
+use Rattle.serial_bands.specs.RightJob.{HasMemory}
+use Rattle.serial_bands.specs.DrawnTo.{IsDrawnTo}
+use Rattle.band_draw.specs.Due.{IsLeft}
+use Rattle.band_draw.specs.declared.progress.Progress.{Progress}
+
+-- what a band is drawn from: no other begins within it, and a view has the run's memory at each of its clocks
+pub record IsSource (run : RunValue) (from to : ℕ) (view : ViewValue) : Type 0 where
+  pub inner : (c : ℕ) → from < c → c < to → begins run c ≡ false
+  pub covered : (c : ℕ) → from ≤ c → c ≤ to → Covers view c
+  pub memory : HasMemory run from to (word_then view)
+
+-- places with the same frame, line and clock, whatever LOF is
+pub record IsSamePlace (b other : Beam) : Type 0 where
+  pub frame : b.frame ≡ other.frame
+  pub line : b.v ≡ other.v
+  pub clock : b.h ≡ other.h
+
+-- It is drawn up to, not including, its clock, from so many of the events, and with so many bytes of the room filled.
+pub record IsAt (run : RunValue) (events : List Event) (room : List ℕ) (p : Progress) : Type 0 where
+  pub drawn : IsDrawnTo run p.from p.to p.clock p.denise (drop p.next events) (take p.filled room) p.clx
+  pub place : IsSamePlace p.beam (beam_at run p.clock)
+  pub sets : p.sets ≡ length (sets_at run p.clock)
+  pub left : IsLeft (place_of p.beam + 1) run.script.events (drop p.due run.script.events)
+  pub due : p.due ≤ length run.script.events
+  pub next : p.next ≤ length events
+  pub filled : p.filled ≡ length (bytes_from run p.from (p.clock - p.from))
+  pub size : length room ≡ length (bytes_from run p.from (p.to - p.from))
+
+-- what was drawn is right for the band of that range
+abbrev pub IsEnded : RunValue → ℕ → ℕ → List ℕ → Denise → ℕ → Type 0
+IsEnded run from to room closing clx = (n : ℕ) → IsBand run n from to → IsRightDrawn run n from to room clx closing

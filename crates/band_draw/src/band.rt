@@ -1,0 +1,134 @@
+//! A whole band.
+
+ghost use Rattle.std.specs.Prelude.{◌≡◌, ◌≤◌, ◌<◌, ℕ, List, length};
+ghost use Rattle.std.specs.Arc.{arc_value};
+ghost use Rattle.ocs_base.specs.declared.addr.Addr.{Addr as AddrValue};
+ghost use Rattle.serial_model.specs.Beam.{IsOnScreen};
+ghost use Rattle.serial_bands.specs.declared.event.Event.{Event as EventValue};
+ghost use Rattle.serial_bands.specs.RightJob.{IsRightJob as AreRightParts};
+ghost use Rattle.band_log.specs.Right.{IsRightJob, IsRightDrawn};
+ghost use Rattle.band_draw.specs.Progress.{IsSource, IsAt, IsEnded};
+
+use crate::due::{due_from, first_from};
+use crate::progress::Progress;
+use band_log::{Drawn, Event, Job, Room, Run};
+use mem_versions::MemView;
+use ocs_base::{Beam, Clock};
+use serial_model::Denise;
+
+/// Draws the band of a job that is right for its own run and number. It takes no memory: the pixels
+/// go into the room of the job, which is handed back with all else as it was.
+pub fn draw(job: Job) -> Drawn
+    requires { IsRightJob (arc_value job.run) job.number job }
+    ensures right { IsRightDrawn (arc_value job.run) job.number result }
+    ensures job { result.job ≡ record job { room = result.job.room } }
+{
+    let Job {
+        run,
+        number,
+        from,
+        to,
+        beam,
+        opening,
+        events,
+        view,
+        mut room,
+    } = job;
+    let start = begin(&run, from, to, beam, &opening);
+    let end = draw_into(start, &run, events.list(), &view, &mut room);
+    Drawn {
+        clx: end.clx,
+        closing: end.denise,
+        job: Job {
+            run,
+            number,
+            from,
+            to,
+            beam,
+            opening,
+            events,
+            view,
+            room,
+        },
+    }
+}
+
+/// A band of which no clock is drawn.
+fn begin(run: &Run, from: Clock, to: Clock, beam: Beam, opening: &Denise) -> Progress
+    requires { IsOnScreen beam }
+    ensures at { (n : ℕ) (events : List EventValue) (words : ℕ → AddrValue → ℕ) (room : List ℕ)
+        → AreRightParts run.now n from.0 to.0 beam opening.now events words (length room)
+        → IsAt run.now events room result }
+    ensures from { result.from ≡ from.0 }
+    ensures to { result.to ≡ to.0 }
+{
+    let script = run.script().events();
+    let first = first_from(script, &beam);
+    let due = due_from(script, first, &beam);
+    Progress {
+        from: from.0,
+        to: to.0,
+        clock: from.0,
+        beam,
+        denise: copied(opening),
+        sets: due.sets,
+        due: due.next,
+        next: 0,
+        filled: 0,
+        clx: 0,
+    }
+}
+
+/// The same picture state once more. It takes no memory.
+fn copied(d: &Denise) -> Denise
+    ensures { result ≡ d.now }
+{
+    Denise {
+        palette: d.palette,
+        con0: d.con0,
+        con1: d.con1,
+        con2: d.con2,
+        diwstrt: d.diwstrt,
+        diwstop: d.diwstop,
+        clxcon: d.clxcon,
+        latches: d.latches,
+        loads: d.loads.copied(),
+        runs: d.runs,
+        pos: d.pos,
+        ctl: d.ctl,
+        words_a: d.words_a,
+        words_b: d.words_b,
+        armed: d.armed,
+        held: d.held,
+    }
+}
+
+/// Draws all clocks that are left, into a room.
+fn draw_into(
+    start: Progress,
+    run: &Run,
+    events: &[Event],
+    view: &MemView,
+    room: &mut Room,
+) -> Progress
+    requires source { IsSource run.now start.from start.to view.now }
+    requires at { IsAt run.now events.now room.old start }
+    ensures { IsEnded run.now start.from start.to room.new result.denise result.clx }
+{
+    let mut progress = start;
+    draw_all(&mut progress, run, events, view, room.pixels_mut());
+    progress
+}
+
+/// Draws all clocks that are left.
+fn draw_all(p: &mut Progress, run: &Run, events: &[Event], view: &MemView, room: &mut [u8])
+    requires source { IsSource run.now p.old.from p.old.to view.now }
+    requires at { IsAt run.now events.now room.old p.old }
+    ensures ended { IsEnded run.now p.old.from p.old.to room.new p.new.denise p.new.clx }
+    ensures size { length room.new ≡ length room.old }
+{
+    while p.clock < p.to - 1 {
+        p.turn(run, events, view, room);
+    }
+    p.finish(run, events, view, room);
+}

@@ -1,0 +1,120 @@
+//! The script's events of a clock, by a cursor into the script.
+
+ghost use Rattle.std.specs.Prelude.{◌≡◌, ◌≤◌, ◌<◌, ◌+◌, ◌^◌, ℕ, length, drop, slice_get, true};
+ghost use Rattle.serial_model.specs.Beam.{IsOnScreen, place_of};
+ghost use Rattle.serial_model.specs.Events.{due_events, touches_of, is_due as due_at};
+ghost use Rattle.serial_model.specs.Registers.{is_picture_register};
+ghost use Rattle.ocs_base.specs.Limits.{time_of, order_of};
+ghost use Rattle.band_draw.specs.Due.{IsLeft, is_set as sets, before_if, due_if, sets_if};
+
+use ocs_base::{Act, At, Beam, Reg};
+
+/// The place of the first event of a script that is not before the beam's place.
+pub fn first_from(script: &[At], beam: &Beam) -> usize
+    requires { IsLeft 0 script.now script.now }
+    ensures left { IsLeft (place_of beam.now) script.now (drop result script.now) }
+    ensures within { result ≤ length script.now }
+{
+    let place = order(beam.frame, beam.v, beam.h);
+    let mut at = 0;
+    while is_before(script, at, place) {
+        at += 1;
+    }
+    at
+}
+
+/// Whether there is an event at this place of a script that is before a place in the order of time.
+fn is_before(script: &[At], at: usize, place: u64) -> bool
+    ensures before { result ≡ before_if place (slice_get script.now at) }
+    ensures there { result ≡ true → at < length script.now }
+{
+    match script.get(at) {
+        Some(event) => order(event.frame, event.v, event.h) < place,
+        None => false,
+    }
+}
+
+/// A place in the order of time, as one number.
+fn order(frame: u32, v: u16, h: u16) -> u64
+    ensures { result ≡ order_of frame v h }
+{
+    (frame as u64 * 313 + v as u64) * 227 + h as u64
+}
+
+/// What of a script is due at a place.
+#[derive(Clone, Copy, Debug)]
+pub struct Due {
+    /// How many events write to one of Denise's registers.
+    pub sets: usize,
+    /// The place of the first event behind.
+    pub next: usize,
+}
+
+/// What is due at the beam's place of a script, of which the events before the place `at` are
+/// before it.
+pub fn due_from(script: &[At], at: usize, beam: &Beam) -> Due
+    requires screen { IsOnScreen beam.now }
+    requires left { IsLeft (place_of beam.now) script.now (drop at script.now) }
+    requires within { at ≤ length script.now }
+    ensures sets { result.sets ≡ length (touches_of (due_events beam.now script.now)) }
+    ensures left { IsLeft (place_of beam.now + 1) script.now (drop result.next script.now) }
+    ensures within { result.next ≤ length script.now }
+{
+    let mut sets = 0;
+    let mut next = at;
+    while is_next_due(script, next, beam) {
+        sets += set_count(script, next);
+        next += 1;
+    }
+    Due { sets, next }
+}
+
+/// Whether there is an event at this place of a script that is due.
+fn is_next_due(script: &[At], at: usize, beam: &Beam) -> bool
+    ensures due { result ≡ due_if beam.now (slice_get script.now at) }
+    ensures there { result ≡ true → at < length script.now }
+{
+    match script.get(at) {
+        Some(event) => is_due(beam, event),
+        None => false,
+    }
+}
+
+/// How many writes to Denise's registers, one or none, are at this place of a script.
+fn set_count(script: &[At], at: usize) -> usize
+    ensures count { result ≡ sets_if (slice_get script.now at) }
+    ensures few { result ≤ 1 }
+{
+    match script.get(at) {
+        Some(event) => is_set(&event.act) as usize,
+        None => 0,
+    }
+}
+
+/// Whether an event is at this place of the beam.
+fn is_due(beam: &Beam, event: &At) -> bool
+    ensures { result ≡ due_at beam.now event.now }
+{
+    event.frame == beam.frame && event.v == beam.v && event.h == beam.h
+}
+
+/// Whether an act writes to one of Denise's registers.
+fn is_set(act: &Act) -> bool
+    ensures { result ≡ sets act.now }
+{
+    match act {
+        Act::Poke { reg, .. } => is_picture(*reg),
+        _ => false,
+    }
+}
+
+/// Whether this is one of Denise's registers.
+#[tactic(auto, using(crate::proofs::Registers::picture_law, std::proofs::lemmas::Bool::Decides::nat_tests))]
+fn is_picture(reg: Reg) -> bool
+    ensures { result ≡ is_picture_register reg.offset }
+{
+    matches!(
+        reg.offset,
+        0x08e | 0x090 | 0x098 | 0x100..=0x104 | 0x110..=0x11a | 0x140..=0x17e | 0x180..=0x1be
+    )
+}

@@ -1,0 +1,18 @@
+//! Draws bands from their jobs, clock by clock.
+#![tactic(auto)]
+
+pub mod band;
+pub mod clock;
+pub mod direct;
+pub mod due;
+pub mod progress;
+pub mod room;
+pub mod set;
+pub mod show;
+pub mod touch;
+
+pub use band::draw;
+pub use direct::Direct;
+
+#[cfg(test)]
+mod tests;

@@ -1,0 +1,4 @@
+pub mod Right
+pub mod Raster
+pub mod Lending
+pub mod Laws

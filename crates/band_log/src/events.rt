@@ -1,0 +1,50 @@
+//! The events of a band.
+
+ghost use Rattle.std.specs.Prelude.{◌≡◌, ◌++◌, ◌∷◌, [], OnOk, OnErr};
+
+use ocs_base::OutOfMemory;
+use serial_bands::Event;
+use std::alloc::Global;
+use std::marker::Model;
+
+/// The events of a band, in the order in which they were pushed.
+#[derive(Drop)]
+pub struct Events {
+    list: Vec<Event>,
+}
+
+impl Model for Events {
+    ghost use Rattle.std.specs.Prelude.{List};
+    ghost use Rattle.serial_bands.specs.declared.event.Event.{Event};
+
+    ghost Value = { List Event };
+
+    ghost view = { λ e. e.list.items };
+}
+
+impl Events {
+    /// No events.
+    pub fn new(alloc: Global) -> Events
+        ensures { result ≡ [] }
+    {
+        Events {
+            list: Vec::new(alloc),
+        }
+    }
+
+    /// Appends an event. After a refusal, for want of memory, all is as before.
+    pub fn push(&mut self, e: Event) -> Result<(), OutOfMemory>
+        ensures ok { OnOk result (self.new ≡ self.old ++ e ∷ []) }
+        ensures refused { OnErr result (self.new ≡ self.old) }
+    {
+        self.list.push(e)?;
+        Ok(())
+    }
+
+    /// The events in order.
+    pub fn list(&self) -> &[Event]
+        ensures { result.now ≡ self.now }
+    {
+        self.list.as_slice()
+    }
+}

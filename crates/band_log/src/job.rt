@@ -1,0 +1,45 @@
+//! The job of a band, and the band once it is drawn.
+
+use crate::events::Events;
+use crate::room::Room;
+use crate::run::Run;
+use mem_versions::MemView;
+use ocs_base::{Beam, Clock};
+use serial_model::Denise;
+use std::sync::Arc;
+
+/// All that a band of a run is drawn from. `IsRightJob` says of which run and number it is right.
+#[derive(Drop)]
+pub struct Job {
+    /// The run that the band is of.
+    pub run: Arc<Run>,
+    /// The band's number in the run, from 0.
+    pub number: u64,
+    /// The band's first picture step.
+    pub from: Clock,
+    /// The picture step behind its last.
+    pub to: Clock,
+    /// The place of the beam at the first picture step.
+    pub beam: Beam,
+    /// A picture state that stands for that after the first step of that clock.
+    pub opening: Denise,
+    /// What touches the picture state in the band, in the order of happening.
+    pub events: Events,
+    /// The chip memory at each clock of the band, and at that behind its last.
+    pub view: MemView,
+    /// Room for three bytes of each visible pixel of the band.
+    pub room: Room,
+}
+
+/// A band that was drawn: its pixels are in the room of its job. `IsRightFor` says of which run and
+/// number it is right, and under which tint.
+#[derive(Drop)]
+pub struct Drawn {
+    /// The job that it was drawn from.
+    pub job: Job,
+    /// A picture state that stands for that at the end of the band's last clock, without the write
+    /// of a register by that clock's access.
+    pub closing: Denise,
+    /// The collision bits of the band's pixels, in the places of CLXDAT.
+    pub clx: u16,
+}

@@ -1,0 +1,73 @@
+//! A run: what it takes, and how high its bands are.
+
+ghost use Rattle.std.specs.Prelude.{◌≡◌, ◌≤◌, true};
+ghost use Rattle.ocs_base.specs.Image.{is_image};
+ghost use Rattle.ocs_base.specs.Limits.{IsRunnable};
+ghost use Rattle.serial_bands.specs.Run.{IsGoodRun};
+
+use ocs_base::Script;
+use std::marker::Model;
+
+/// A run of the machine, which all of its jobs share by an `Arc`: the bytes from which chip memory is
+/// made, the script, and the height of a band in lines. Every one is good, as `IsGoodRun` says.
+#[derive(Drop)]
+pub struct Run {
+    image: Vec<u8>,
+    script: Script,
+    height: u16,
+}
+
+impl Model for Run {
+    ghost use Rattle.serial_bands.specs.Run.{RunValue, IsGoodRun};
+
+    ghost Value = { RunValue };
+
+    ghost view = { λ r. record { image = r.image.items; script = r.script; height = r.height } };
+
+    ghost invariant = { λ r. IsGoodRun
+        (record { image = r.image.items; script = r.script; height = r.height }) };
+}
+
+impl Run {
+    /// A run of an image of an even number of 8 to 524,288 bytes, a script of 1 to 1000 frames whose
+    /// events are in its limits and in order of time, and bands of 1 to 313 lines.
+    pub fn new(image: Vec<u8>, script: Script, height: u16) -> Run
+        requires image { is_image image.items ≡ true }
+        requires script { IsRunnable script }
+        requires least { 1 ≤ height }
+        requires most { height ≤ 313 }
+        ensures { result ≡ record { image = image.items; script = script; height = height } }
+    {
+        Run {
+            image,
+            script,
+            height,
+        }
+    }
+
+    /// The bytes from which chip memory is made: an even number of 8 to 524,288.
+    pub fn image(&self) -> &[u8]
+        ensures bytes { result.now ≡ self.now.image }
+        ensures good { IsGoodRun self.now }
+    {
+        self.image.as_slice()
+    }
+
+    /// The script, which is in its limits and in order of time.
+    pub fn script(&self) -> &Script
+        ensures value { result.now ≡ self.now.script }
+        ensures good { IsGoodRun self.now }
+    {
+        &self.script
+    }
+
+    /// The height of a band in lines, 1 to 313.
+    pub fn height(&self) -> u16
+        ensures value { result ≡ self.now.height }
+        ensures least { 1 ≤ result }
+        ensures most { result ≤ 313 }
+        ensures good { IsGoodRun self.now }
+    {
+        self.height
+    }
+}

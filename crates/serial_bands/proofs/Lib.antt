@@ -1,0 +1,13 @@
+pub mod NextClock
+pub mod Ors
+pub mod Ranges
+pub mod BandOrder
+pub mod WholeRun
+pub mod Standing
+pub mod Replay
+pub mod Reading
+pub mod Counts
+pub mod Storing
+pub mod Opening
+pub mod Drawing
+pub mod Shading

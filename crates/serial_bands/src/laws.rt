@@ -1,0 +1,171 @@
+//! Laws of the definitions, each the contract of a function that does nothing.
+
+ghost use Rattle.serial_bands.specs.ClockLaws.{WritesReadNothing, PictureOfTick, OpeningOfTick, ReadGivesClx, ClxOfEvents, ClxBefore, ClxAfter, ClxOfTick, PlaceOfTick, NextMemory, NextOpening, DisplayedIsStep, BytesAreOfStep, ClxIsOfStep, ClosingHasFetch, NextShown, ClxAtStart, ClxAtAccess, NextClx, NextInBand, EventsByPlace, FramesRise};
+ghost use Rattle.serial_bands.specs.RangeLaws.{ShownInRange, BytesOfTwo, ClxOfTwo, ReadByAccess, ReadByScript, EventsOfOneMore};
+ghost use Rattle.serial_bands.specs.BandLaws.{FirstBand, NextBand, OneBand, BegunInBand, OneBandMore, BytesOfBands, ClxOfBands, OpeningOfNextBand, ClockHasBand, NumberHasBand, BandsOfRun, ShownByBands, ReadAfterBands, PeekAfterBands, BandsAreFew, NumberIsSmall, NoTint, AccessReadsFew, LatchedAreFew};
+ghost use Rattle.serial_bands.specs.StandsLaws.{StandsForItself, StandsLater, StandsOn, StandsWritten, StandsTouched, StandsTouchedInOrder, StandsCleared, StandsShown, StandsAfter};
+ghost use Rattle.serial_bands.specs.ReplayLaws.{BytesOfKept, ClxOfKept, ClosingOfKept, OpeningOfKept};
+ghost use Rattle.serial_bands.specs.EventReading.{ScriptEventsAreSets, ScriptComesFirst, RestBehindScript, LastBehindScript, BusTouchIsFound, LastFetchIsFound};
+ghost use Rattle.serial_bands.specs.Stores.{StoresMakeMemory, MemoryByStores, ViewHasMemory};
+ghost use Rattle.serial_bands.specs.OpenBand.{BandOpens, BandGoesOn, BandCloses};
+ghost use Rattle.serial_bands.specs.DrawnTo.{WordsAreFound, DrawingBegins, TouchIsNext, DrawingGoesOn, LastFetchIsNext, DrawingEnds};
+ghost use Rattle.serial_bands.specs.Shadows.{ShadowOfPicture, ShadowOfKept, FirstShadow, ShadowTouched, ShadowShown, ShadowCleared, NextShadow, ShadowFound, LineOpens};
+
+/// What one colour clock makes of any state: the picture with the access's write of a register apart,
+/// the collision bits before and after the picture step, and the place of the beam where no field
+/// starts.
+pub fn clock_of_state()
+    ensures write { WritesReadNothing }
+    ensures picture { PictureOfTick }
+    ensures opening { OpeningOfTick }
+    ensures read { ReadGivesClx }
+    ensures events { ClxOfEvents }
+    ensures before { ClxBefore }
+    ensures after { ClxAfter }
+    ensures clx { ClxOfTick }
+    ensures place { PlaceOfTick }
+{}
+
+/// What a clock of a run shows, from its opening, the script and the memory of that clock alone.
+pub fn clock_of_run()
+    ensures displayed { DisplayedIsStep }
+    ensures bytes { BytesAreOfStep }
+    ensures clx { ClxIsOfStep }
+    ensures closing { ClosingHasFetch }
+{}
+
+/// How the next clock of a run follows: its memory, its opening, the bytes and collision bits so far,
+/// and its place where no band begins with it.
+pub fn next_clock()
+    ensures memory { NextMemory }
+    ensures opening { NextOpening }
+    ensures shown { NextShown }
+    ensures start { ClxAtStart }
+    ensures access { ClxAtAccess }
+    ensures clx { NextClx }
+    ensures place { NextInBand }
+    ensures events { EventsByPlace }
+    ensures frames { FramesRise }
+{}
+
+/// What a range of clocks shows: its bytes are the run's, its collision bits since a read are what the
+/// next read sees, and all of it is put together range by range, as its events are clock by clock.
+pub fn ranges()
+    ensures shown { ShownInRange }
+    ensures bytes { BytesOfTwo }
+    ensures clx { ClxOfTwo }
+    ensures access { ReadByAccess }
+    ensures script { ReadByScript }
+    ensures events { EventsOfOneMore }
+{}
+
+/// The order of bands: they follow one another from the first clock on, a number has one range, and
+/// what bands show one after another is what their clocks show.
+pub fn order_of_bands()
+    ensures first { FirstBand }
+    ensures next { NextBand }
+    ensures one { OneBand }
+    ensures within { BegunInBand }
+    ensures joined { OneBandMore }
+    ensures bytes { BytesOfBands }
+    ensures clx { ClxOfBands }
+    ensures opening { OpeningOfNextBand }
+{}
+
+/// The bands of a whole run: each of its clocks is in one, there is one of each number below their
+/// count, together they are the run and show its bytes, those since a read of CLXDAT have the bits that
+/// the next read sees, and in the limits of scripts there are fewer than 2^32.
+pub fn bands_of_run()
+    ensures clock { ClockHasBand }
+    ensures number { NumberHasBand }
+    ensures all { BandsOfRun }
+    ensures shown { ShownByBands }
+    ensures read { ReadAfterBands }
+    ensures peek { PeekAfterBands }
+    ensures few { BandsAreFew }
+    ensures small { NumberIsSmall }
+{}
+
+/// A picture state whose loads show the same from a position on may stand in for another: every change
+/// of a clock keeps that, and what is shown is the same.
+pub fn kept_picture()
+    ensures itself { StandsForItself }
+    ensures later { StandsLater }
+    ensures on { StandsOn }
+    ensures written { StandsWritten }
+    ensures touched { StandsTouched }
+    ensures in_order { StandsTouchedInOrder }
+    ensures cleared { StandsCleared }
+    ensures shown { StandsShown }
+    ensures after { StandsAfter }
+{}
+
+/// A clock drawn later from a picture state that stands for its opening shows what the clock showed,
+/// and leaves one that stands for its closing and, with the write of the access made, for the next
+/// opening.
+pub fn clock_drawn_later()
+    ensures bytes { BytesOfKept }
+    ensures clx { ClxOfKept }
+    ensures closing { ClosingOfKept }
+    ensures opening { OpeningOfKept }
+{}
+
+/// The events of a range tell what touched the picture at each clock, and whether a write was the
+/// script's or that of the access of the clock before, where the script's of each clock are counted.
+pub fn events_read_back()
+    ensures sets { ScriptEventsAreSets }
+    ensures script { ScriptComesFirst }
+    ensures rest { RestBehindScript }
+    ensures last { LastBehindScript }
+    ensures bus { BusTouchIsFound }
+    ensures fetch { LastFetchIsFound }
+{}
+
+/// The tint 0 changes nothing, an access reads at most one word, and a band leaves at most 22 to look
+/// up.
+pub fn counts()
+    ensures tint { NoTint }
+    ensures access { AccessReadsFew }
+    ensures latched { LatchedAreFew }
+{}
+
+/// The writes of memory of a range, kept with their clocks, make the memory of each of its clocks, and
+/// a view that is cut at its end has them.
+pub fn memory_of_range()
+    ensures end { StoresMakeMemory }
+    ensures clock { MemoryByStores }
+    ensures view { ViewHasMemory }
+{}
+
+/// A band that is kept clock by clock from its first one on is right for its job when the next band
+/// begins.
+pub fn open_band()
+    ensures opens { BandOpens }
+    ensures on { BandGoesOn }
+    ensures closes { BandCloses }
+{}
+
+/// A right job that is drawn clock by clock, each touch found in its events and each word in its
+/// memory, comes to what the band shows.
+pub fn drawn_band()
+    ensures words { WordsAreFound }
+    ensures begins { DrawingBegins }
+    ensures touch { TouchIsNext }
+    ensures on { DrawingGoesOn }
+    ensures fetch { LastFetchIsNext }
+    ensures ends { DrawingEnds }
+{}
+
+/// A shadow of the picture state follows it from clock to clock without a word of a plane or a sprite,
+/// and with those words, found in old memory, it is the opening of a line.
+pub fn shadow_of_picture()
+    ensures picture { ShadowOfPicture }
+    ensures kept { ShadowOfKept }
+    ensures first { FirstShadow }
+    ensures touched { ShadowTouched }
+    ensures shown { ShadowShown }
+    ensures cleared { ShadowCleared }
+    ensures next { NextShadow }
+    ensures found { ShadowFound }
+    ensures opening { LineOpens }
+{}
