@@ -7,11 +7,14 @@ from faults import BadFile
 from frames import FramesFile
 
 
-def parse_range(text: str) -> tuple[int, int]:
-    """The first and last frame of `A-B`, or of `A` alone."""
+def parse_range(text: str) -> tuple[int, int | None]:
+    """The first and last frame of `A-B`, or of `A` alone; None is the last of `A-`, which goes on to the file's end."""
     first, dash, last = text.partition("-")
-    if not (first.isascii() and first.isdigit()) or (dash and not (last.isascii() and last.isdigit())):
-        raise argparse.ArgumentTypeError(f"'{text}' is not A-B or A, numbers of frames")
+    numbers = [first] if text == first + "-" else [first, last] if dash else [first]
+    if not all(number.isascii() and number.isdigit() for number in numbers):
+        raise argparse.ArgumentTypeError(f"'{text}' is not A-B, A- or A, numbers of frames")
+    if dash and not last:
+        return int(first), None
     pair = int(first), int(last if dash else first)
     if pair[0] > pair[1]:
         raise argparse.ArgumentTypeError(f"'{text}' ends before it begins")
@@ -20,17 +23,17 @@ def parse_range(text: str) -> tuple[int, int]:
 
 def add_range(parser: argparse.ArgumentParser, usual: str) -> None:
     """Gives a tool the word --frames, as `range`; `usual` says which frames it takes without it."""
-    says = f"these frames alone, counted from 0; without it {usual}"
+    says = f"these frames alone, counted from 0, to the end where B is left out; without it {usual}"
     parser.add_argument("--frames", dest="range", metavar="A-B", type=parse_range, help=says)
 
 
-def frames_in_range(file: FramesFile, wanted: tuple[int, int] | None, most: int | None = None) -> range:
-    """The frames of `file` that are asked for: all, at most `most`, where no range is named."""
+def frames_in_range(file: FramesFile, wanted: tuple[int, int | None] | None, most: int | None = None) -> range:
+    """The frames of `file` that are asked for: where no last one is named, to the end, and at most `most`."""
     if file.count == 0:
         raise BadFile(file.path, file.cut_short)
-    if wanted is None:
-        return range(file.count if most is None else min(most, file.count))
-    first, last = wanted
-    if last >= file.count:
+    first, last = wanted or (0, None)
+    if max(first, last or 0) >= file.count:
         raise BadFile(file.path, f"has frames 0 to {file.count - 1}: there is no frame {max(first, file.count)}")
-    return range(first, last + 1)
+    if last is not None:
+        return range(first, last + 1)
+    return range(first, file.count if most is None else min(first + most, file.count))

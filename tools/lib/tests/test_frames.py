@@ -78,3 +78,10 @@ class PngTest(Tools):
         self.assertEqual(self.refused("png", "f", "out"), "png: out/frame-001.png: is there already")
         self.assertEqual(sorted(os.listdir(self.place("out"))), ["frame-001.png", "frame-002.png"])
         self.assertIn("there is no frame 3", self.refused("png", "f", "more", "--frames", "2-3"))
+
+    def test_frames_to_the_end(self) -> None:
+        self.write("f", frame({}) * 3)
+        done = self.run_tool("png", "f", "out", "--frames", "1-")
+        self.assertEqual(done.stdout, "out/frame-001.png\nout/frame-002.png\n")
+        self.assertIn("there is no frame 3", self.refused("png", "f", "more", "--frames", "3-"))
+        self.assertIn("'-1' is not A-B, A- or A", self.refused("png", "f", "more", "--frames=-1"))
