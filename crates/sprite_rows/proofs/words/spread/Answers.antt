@@ -1,5 +1,0 @@
-use Rattle.sprite_rows.proofs.Spreading.{entry_of}
-use Rattle.sprite_rows.proofs.words.spread.Goals as goal
-
-pub returns : goal.returns
-returns c = entry_of c.args.word
