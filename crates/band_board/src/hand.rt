@@ -1,6 +1,6 @@
 //! A hand: it claims offered bands and delivers them drawn.
 
-ghost use Rattle.std.specs.Prelude.{◌≡◌, ℕ, ◌<◌, [], length, if◌then◌else◌, Option, Some, None, IsSomeAnd};
+ghost use Rattle.std.specs.Prelude.{◌≡◌, ℕ, ◌^◌, ◌<◌, ◌≤◌, [], length, if◌then◌else◌, Option, Some, None, IsSomeAnd};
 ghost use Rattle.band_board.specs.Seats.{IsHand};
 
 use crate::board::{Board, CLOSED, PLACES};
@@ -153,9 +153,10 @@ impl<W: Work> Hand<W> {
         board.table.shared.load::<Looks>(&mut self.seat, CLOSED) == 1
     }
 
-    /// How many bands the hand delivered.
+    /// How many bands the hand delivered: at most 2^32.
     pub fn count(&self) -> u64
-        ensures { result ≡ length (hand_view self.now).done }
+        ensures count { result ≡ length (hand_view self.now).done }
+        ensures most { result ≤ 2 ^ 32 }
     {
         self.count
     }

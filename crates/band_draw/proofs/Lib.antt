@@ -1,5 +1,5 @@
 pub mod Kept
-pub mod Shows
+pub mod Painting
 pub mod Sounding
 pub mod Touching
 pub mod Registers

@@ -1,5 +1,5 @@
 -- A clock of a band is drawn: what its steps need, and where they come to.
-use Rattle.std.proofs.Common.{◌≡◌, ◌≤◌, ◌<◌, ℕ, zero, suc, ◌+◌, ◌-◌, ◌*◌, Bool, true, false, ◌==◌, List, [], ◌∷◌, ◌++◌, length, take, drop, map, Option, Some, None, refl, sym, ap, ◌∙◌, subst, arith, bit_or, nat_le, replicate, slice_index, length-append, length-drop}
+use Rattle.std.proofs.Common.{◌≡◌, ◌≤◌, ◌<◌, ℕ, zero, suc, ◌+◌, ◌-◌, ◌*◌, Bool, true, false, ◌==◌, List, [], ◌∷◌, ◌++◌, length, take, drop, map, Option, Some, None, refl, sym, ap, ◌∙◌, subst, arith, nat_le, replicate, slice_index, length-append, length-drop}
 use Rattle.std.specs.Bool.{if◌then◌else◌}
 use Rattle.std.proofs.lemmas.Bool.Decides.{nat_tests}
 use Rattle.std.proofs.lemmas.List.{drop-drop, take_all}
@@ -30,15 +30,15 @@ use Rattle.serial_bands.specs.DrawnTo.{IsDrawnTo, touch_by_address, behind_scrip
 use Rattle.serial_bands.proofs.Drawing.{words_are_found, touch_is_next, drawing_goes_on, last_fetch_is_next, drawing_ends}
 use Rattle.serial_bands.proofs.NextClock.{bytes_are_of_step, next_in_band, events_by_place}
 use Rattle.serial_bands.proofs.Reading.{script_comes_first, script_events_are_sets}
-use Rattle.serial_bands.proofs.Standing.{stands_for_itself, stands_on, stands_cleared}
 use Rattle.band_draw.specs.declared.progress.Progress.{Progress}
 use Rattle.band_draw.specs.Due.{IsLeft}
 use Rattle.band_draw.specs.Given.{IsGiven, filled_after}
-use Rattle.band_draw.specs.Keeps.{Keeps}
+use Rattle.band_draw.specs.declared.band_painter.BandPainter.{BandPainter}
+use Rattle.band_draw.specs.BandPainter.{IsBandPainterOf, Paints}
 use Rattle.band_draw.specs.Progress.{IsSource, IsSamePlace, IsAt, IsEnded}
 use Rattle.band_draw.specs.Sound.{IsSound}
 use Rattle.band_draw.specs.Touched.{touched_by, touched_by_events}
-use Rattle.band_draw.proofs.Sounding.{sound_opening, sound_kept}
+use Rattle.band_draw.proofs.Sounding.{sound_opening, sound_kept, sound_in_order, sound_after, sound_touched}
 
 -- how many bytes there are
 size_by : (b : Bool) (n : ℕ) (l : List ℕ) → length l ≡ 12 → (if b then n + 12 else n) ≡ n + length (if b then l else [])
@@ -108,9 +108,9 @@ filled_within run events room p at =
     omega (arith, at.filled, at.size, size_within run p.from (p.clock - p.from) (p.to - p.from) (omega (arith, at.drawn.most, at.drawn.least)))
 
 -- the picture state and the place
-pub sound_there : (run : RunValue) (events : List Event) (room : List ℕ) (p : Progress) → IsAt run events room p → IsSound p.denise
+pub sound_there : (run : RunValue) (events : List Event) (room : List ℕ) (p : Progress) (at : IsAt run events room p) → IsSound at.picture
 sound_there run events room p at =
-    sound_kept (4 * (beam_at run p.clock).h) p.denise (opening_at run p.clock) at.drawn.stands (sound_opening run p.clock)
+    sound_kept (4 * (beam_at run p.clock).h) at.picture (opening_at run p.clock) at.drawn.stands (sound_opening run p.clock)
 
 same_screen : (b other : Beam) → IsSamePlace b other → IsOnScreen other → IsOnScreen b
 same_screen b other same on = record {
@@ -147,32 +147,32 @@ all_found run from to c word_found (touch ∷ touches) p has least most =
     (words_are_found run from to c word_found (Some touch) p has least most)
 
 script_drawn : (run : RunValue) (events : List Event) (view : ViewValue) (room : List ℕ) (p : Progress) → IsSource run p.from p.to view
-    → IsAt run events room p
-    → touched_by_events (beam_at run p.clock).h (word_then view p.clock) (take p.sets (drop p.next events)) p.denise
-    ≡ with_script run p.clock p.denise
+    → (at : IsAt run events room p)
+    → touched_by_events (beam_at run p.clock).h (word_then view p.clock) (take p.sets (drop p.next events)) at.picture
+    ≡ with_script run p.clock at.picture
 script_drawn run events view room p source at =
     let c : ℕ = p.clock in
     let h : ℕ = (beam_at run c).h in
-    ap (λ l. touched_by h (word_then view c) (map touch_of_event l) p.denise)
+    ap (λ l. touched_by h (word_then view c) (map touch_of_event l) at.picture)
     (script_part run events c (p.to - c - 1) p.next p.sets at.drawn.log at.sets)
-    ∙ ap (λ l. touched_by h (word_then view c) l p.denise) (script_events_are_sets run c)
-    ∙ all_found run p.from p.to c (word_then view) (sets_at run c) p.denise source.memory at.drawn.least (omega (arith, at.drawn.most))
+    ∙ ap (λ l. touched_by h (word_then view c) l at.picture) (script_events_are_sets run c)
+    ∙ all_found run p.from p.to c (word_then view) (sets_at run c) at.picture source.memory at.drawn.least (omega (arith, at.drawn.most))
 
 -- what the clock shows
-abbrev pub IsGivenBy : Progress → List Event → ViewValue → List ℕ → List ℕ → Denise → ℕ → Type 0
-IsGivenBy p events view before after shown clx = (q : Denise) → StandsFor (4 * p.beam.h) p.denise q →
-    IsGiven p.beam.v p.beam.h (touched_by_events p.beam.h (word_then view p.clock) (take p.sets (drop p.next events)) q) shown before after clx
+abbrev pub IsGivenBy : Progress → List Event → ViewValue → List ℕ → List ℕ → BandPainter → ℕ → Type 0
+IsGivenBy p events view before after shown clx = (q : Denise) → IsBandPainterOf (4 * p.beam.h) p.painter q →
+    IsGiven p.beam.v p.beam.h (touched_by_events p.beam.h (word_then view p.clock) (take p.sets (drop p.next events)) q) shown before after p.clx clx
 
-given_here : (run : RunValue) (events : List Event) (view : ViewValue) (room before after : List ℕ) (p : Progress) (shown : Denise) (clx : ℕ)
-    → IsSource run p.from p.to view → IsAt run events room p → IsGivenBy p events view before after shown clx
-    → IsGiven (beam_at run p.clock).v (beam_at run p.clock).h (with_script run p.clock p.denise) shown before after clx
+given_here : (run : RunValue) (events : List Event) (view : ViewValue) (room before after : List ℕ) (p : Progress) (shown : BandPainter) (clx : ℕ)
+    → IsSource run p.from p.to view → (at : IsAt run events room p) → IsGivenBy p events view before after shown clx
+    → IsGiven (beam_at run p.clock).v (beam_at run p.clock).h (with_script run p.clock at.picture) shown before after p.clx clx
 given_here run events view room before after p shown clx source at given =
     let b : Beam = beam_at run p.clock in
     let part : List Event = take p.sets (drop p.next events) in
-    subst (λ q. IsGiven b.v b.h q shown before after clx) (script_drawn run events view room p source at)
-    (subst (λ k. IsGiven b.v k (touched_by_events k (word_then view p.clock) part p.denise) shown before after clx) at.place.clock
-    (subst (λ k. IsGiven k p.beam.h (touched_by_events p.beam.h (word_then view p.clock) part p.denise) shown before after clx) at.place.line
-    (given p.denise (stands_for_itself (4 * p.beam.h) p.denise))))
+    subst (λ q. IsGiven b.v b.h q shown before after p.clx clx) (script_drawn run events view room p source at)
+    (subst (λ k. IsGiven b.v k (touched_by_events k (word_then view p.clock) part at.picture) shown before after p.clx clx) at.place.clock
+    (subst (λ k. IsGiven k p.beam.h (touched_by_events p.beam.h (word_then view p.clock) part at.picture) shown before after p.clx clx) at.place.line
+    (given at.picture at.painted)))
 
 -- the events behind the script's
 pub rest_there : (run : RunValue) (events : List Event) (room : List ℕ) (p : Progress) → IsAt run events room p
@@ -184,21 +184,21 @@ behind : (h : ℕ) → 4 * h ≤ 4 * h + 4
 behind h = omega arith
 
 -- with the access's touch, whichever it is found to be
-accessed : (run : RunValue) (events : List Event) (view : ViewValue) (room : List ℕ) (p : Progress) (shown touched after : Denise)
+accessed : (run : RunValue) (events : List Event) (view : ViewValue) (room : List ℕ) (p : Progress) (shown touched : BandPainter) (after : Denise)
     (found there : Option Touch) → IsSource run p.from p.to view → IsAt run events room p → found ≡ there
-    → StandsFor (4 * (beam_at run p.clock).h + 4) shown after
-    → Keeps (4 * p.beam.h) (touch_by_address p.beam.h (word_then view p.clock) found) shown touched
-    → StandsFor (4 * (beam_at run p.clock).h + 4) touched
+    → IsBandPainterOf (4 * (beam_at run p.clock).h + 4) shown after
+    → Paints (4 * p.beam.h) (touch_by_address p.beam.h (word_then view p.clock) found) shown touched
+    → IsBandPainterOf (4 * (beam_at run p.clock).h + 4) touched
     (touch_if_any (beam_at run p.clock).h (word_of (run_memory run p.clock)) there after)
-accessed run events view room p shown touched after found there source at is stands keeps =
+accessed run events view room p shown touched after found there source at is painted paints =
     let c : ℕ = p.clock in
     let h : ℕ = (beam_at run c).h in
-    let here : Keeps (4 * h) (touch_by_address h (word_then view c) there) shown touched =
-    subst (λ t. Keeps (4 * h) (touch_by_address h (word_then view c) t) shown touched) is
-    (subst (λ k. Keeps (4 * k) (touch_by_address k (word_then view c) found) shown touched) at.place.clock keeps) in
-    subst (λ q. StandsFor (4 * h + 4) touched q)
+    let here : Paints (4 * h) (touch_by_address h (word_then view c) there) shown touched =
+    subst (λ t. Paints (4 * h) (touch_by_address h (word_then view c) t) shown touched) is
+    (subst (λ k. Paints (4 * k) (touch_by_address k (word_then view c) found) shown touched) at.place.clock paints) in
+    subst (λ q. IsBandPainterOf (4 * h + 4) touched q)
     (words_are_found run p.from p.to c (word_then view) there after source.memory at.drawn.least (omega (arith, at.drawn.most)))
-    (here (4 * h + 4) after (behind h) stands)
+    (here (4 * h + 4) after (behind h) painted)
 
 -- the next place
 next_clock : (c : ℕ) → suc c ≡ c + 1
@@ -265,7 +265,7 @@ clear_order h next is none = clear_by (nat_le 226 h) h next is none
 
 -- what a clock before the last comes to
 pub record IsTurn (run : RunValue) (events : List Event) (view : ViewValue) (room after : List ℕ) (p : Progress)
-    (shown touched cleared : Denise) (filled clx : ℕ) (beam : Beam) (sets due count : ℕ) : Type 0 where
+    (shown touched cleared : BandPainter) (filled clx : ℕ) (beam : Beam) (sets due count : ℕ) : Type 0 where
   pub given : IsGivenBy p events view (take p.filled room) (take filled after) shown clx
   pub bytes : filled ≡ filled_after p.beam.v p.beam.h p.filled
   pub size : length after ≡ length room
@@ -273,11 +273,13 @@ pub record IsTurn (run : RunValue) (events : List Event) (view : ViewValue) (roo
   pub coming : sets ≡ length (touches_of (due_events beam run.script.events))
   pub left : IsLeft (place_of beam + 1) run.script.events (drop due run.script.events)
   pub bound : due ≤ length run.script.events
-  pub access : Keeps (4 * p.beam.h)
+  pub access : Paints (4 * p.beam.h)
       (touch_by_address p.beam.h (word_then view p.clock) (bus_touch_of p.clock sets (drop (p.next + p.sets) events))) shown touched
   pub counted : count ≡ length (bus_events p.clock (bus_touch_of p.clock sets (drop (p.next + p.sets) events)))
   pub within : count ≤ length (drop (p.next + p.sets) events)
-  pub clean : cleared ≡ clear_line beam touched
+  pub clean : (from : ℕ) (q : Denise) → IsBandPainterOf from touched q → ((beam.h == 0) ≡ false → from ≤ 4 * beam.h)
+      → IsBandPainterOf (4 * beam.h) cleared (clear_line beam q)
+  pub kept : cleared.keeps ≡ false → p.clock + 1 + 227 < p.to + beam.h
 
 touch_next : (run : RunValue) (events : List Event) (view : ViewValue) (room : List ℕ) (p : Progress) (beam : Beam) (sets : ℕ)
     → IsSource run p.from p.to view → IsAt run events room p → p.clock + 1 < p.to → IsNextInField p.beam beam
@@ -289,46 +291,46 @@ touch_next run events view room p beam sets source at more next is =
     is ∙ ap (λ l. length (touches_of l)) (events_by_place run.script.events beam (beam_at run (p.clock + 1)) place.frame place.line place.clock) in
     ap (λ l. bus_touch_of p.clock sets l) (rest_there run events room p at)
     ∙ ap (λ k. bus_touch_of p.clock k (behind_script run p.clock (drop p.next events))) coming
-    ∙ touch_is_next run p.from p.to p.clock p.denise (drop p.next events) (take p.filled room) p.clx at.drawn more
+    ∙ touch_is_next run p.from p.to p.clock at.picture (drop p.next events) (take p.filled room) p.clx at.drawn more
 
 pub next_within : (run : RunValue) (events : List Event) (room : List ℕ) (p : Progress) (count : ℕ) → IsAt run events room p
     → count ≤ length (drop (p.next + p.sets) events) → p.next + (p.sets + count) ≤ length events
 next_within run events room p count at within =
     omega (arith, within, length-drop (p.next + p.sets) events, part_there run events room p at)
 
-abbrev pub come_to : Progress → Denise → ℕ → ℕ → Beam → ℕ → ℕ → ℕ → Progress
+abbrev pub come_to : Progress → BandPainter → ℕ → ℕ → Beam → ℕ → ℕ → ℕ → Progress
 come_to p cleared filled clx beam sets due count = record {
   from = p.from;
   to = p.to;
   clock = p.clock + 1;
   beam = beam;
-  denise = cleared;
+  painter = cleared;
   sets = sets;
   due = due;
   next = p.next + (p.sets + count);
   filled = filled;
-  clx = bit_or p.clx clx;
+  clx = clx;
 }
 
-stands_next : (run : RunValue) (events : List Event) (view : ViewValue) (room after : List ℕ) (p : Progress)
-    (shown touched cleared : Denise) (filled clx : ℕ) (beam : Beam) (sets due count : ℕ)
-    → IsSource run p.from p.to view → IsAt run events room p → p.clock + 1 < p.to
+painted_next : (run : RunValue) (events : List Event) (view : ViewValue) (room after : List ℕ) (p : Progress)
+    (shown touched cleared : BandPainter) (filled clx : ℕ) (beam : Beam) (sets due count : ℕ)
+    → IsSource run p.from p.to view → (at : IsAt run events room p) → p.clock + 1 < p.to
     → IsTurn run events view room after p shown touched cleared filled clx beam sets due count
-    → StandsFor (4 * (beam_at run (p.clock + 1)).h) cleared
-    (clear_line (beam_at run (p.clock + 1)) (with_access run p.clock (after_kept run p.clock p.denise)))
-stands_next run events view room after p shown touched cleared filled clx beam sets due count source at more turn =
+    → IsBandPainterOf (4 * beam.h) cleared
+    (clear_line (beam_at run (p.clock + 1)) (with_access run p.clock (after_kept run p.clock at.picture)))
+painted_next run events view room after p shown touched cleared filled clx beam sets due count source at more turn =
     let c : ℕ = p.clock in
     let next : Beam = beam_at run (c + 1) in
     let h : ℕ = (beam_at run c).h in
+    let left : Denise = with_access run c (after_kept run c at.picture) in
     let place : IsSamePlace beam next = place_next run events view room p beam source at more turn.place in
-    let stands : StandsFor (4 * h + 4) touched (with_access run c (after_kept run c p.denise)) =
-    accessed run events view room p shown touched (after_kept run c p.denise) _ _ source at
+    let painted : IsBandPainterOf (4 * h + 4) touched left =
+    accessed run events view room p shown touched (after_kept run c at.picture) _ _ source at
     (touch_next run events view room p beam sets source at more turn.place turn.coming)
-    (given_here run events view room (take p.filled room) (take filled after) p shown clx source at turn.given).stands turn.access in
-    subst (λ q. StandsFor (4 * next.h) q (clear_line next (with_access run c (after_kept run c p.denise))))
-    (sym (turn.clean ∙ same_clear beam next touched place.clock))
-    (stands_cleared (4 * h + 4) next touched (with_access run c (after_kept run c p.denise)) stands
-    (clear_order h next.h (nexts run c (inner_next run events view room p source at more)).clock))
+    (given_here run events view room (take p.filled room) (take filled after) p shown clx source at turn.given).painted turn.access in
+    subst (λ q. IsBandPainterOf (4 * beam.h) cleared q) (same_clear beam next left place.clock)
+    (turn.clean (4 * h + 4) left painted
+    (clear_order h beam.h (place.clock ∙ (nexts run c (inner_next run events view room p source at more)).clock)))
 
 drop_clock : (run : RunValue) (events : List Event) (view : ViewValue) (room : List ℕ) (p : Progress) (beam : Beam) (sets count : ℕ)
     → IsSource run p.from p.to view → IsAt run events room p → p.clock + 1 < p.to → IsNextInField p.beam beam
@@ -343,36 +345,38 @@ drop_clock run events view room p beam sets count source at more next is counted
     ∙ ap (λ k. drop k (behind_script run p.clock (drop p.next events)))
     (counted ∙ ap (λ t. length (bus_events p.clock t)) (touch_next run events view room p beam sets source at more next is))
 
-kept_on : (run : RunValue) (from to c : ℕ) (kept other : Denise) (events left : List Event) (bytes others : List ℕ) (clx more : ℕ)
-    → IsDrawnTo run from to c kept events bytes clx → StandsFor (4 * (beam_at run c).h) other kept → left ≡ events → others ≡ bytes → more ≡ clx
-    → IsDrawnTo run from to c other left others more
-kept_on run from to c kept other events left bytes others clx more drawn stands log shown gathered = record {
+drawn_on : (run : RunValue) (from to c : ℕ) (kept : Denise) (events left : List Event) (bytes others : List ℕ) (clx more : ℕ)
+    → IsDrawnTo run from to c kept events bytes clx → left ≡ events → others ≡ bytes → more ≡ clx
+    → IsDrawnTo run from to c kept left others more
+drawn_on run from to c kept events left bytes others clx more drawn log shown gathered = record {
   least = drawn.least;
   most = drawn.most;
-  stands = stands_on (4 * (beam_at run c).h) other kept (opening_at run c) stands drawn.stands;
+  stands = drawn.stands;
   log = log ∙ drawn.log;
   shown = shown ∙ drawn.shown;
   gathered = gathered ∙ drawn.gathered;
 }
 
 pub turned : (run : RunValue) (events : List Event) (view : ViewValue) (room after : List ℕ) (p : Progress)
-    (shown touched cleared : Denise) (filled clx : ℕ) (beam : Beam) (sets due count : ℕ)
+    (shown touched cleared : BandPainter) (filled clx : ℕ) (beam : Beam) (sets due count : ℕ)
     → IsSource run p.from p.to view → IsAt run events room p → p.clock + 1 < p.to
     → IsTurn run events view room after p shown touched cleared filled clx beam sets due count
     → IsAt run events after (come_to p cleared filled clx beam sets due count)
 turned run events view room after p shown touched cleared filled clx beam sets due count source at more turn =
     let c : ℕ = p.clock in
-    let given : IsGiven (beam_at run c).v (beam_at run c).h (with_script run c p.denise) shown (take p.filled room) (take filled after) clx =
+    let given : IsGiven (beam_at run c).v (beam_at run c).h (with_script run c at.picture) shown (take p.filled room) (take filled after) p.clx clx =
     given_here run events view room (take p.filled room) (take filled after) p shown clx source at turn.given in
     let place : IsSamePlace beam (beam_at run (c + 1)) = place_next run events view room p beam source at more turn.place in
     record {
+      picture = clear_line (beam_at run (c + 1)) (with_access run c (after_kept run c at.picture));
+      kept = turn.kept;
+      painted = painted_next run events view room after p shown touched cleared filled clx beam sets due count source at more turn;
       drawn =
-          kept_on run p.from p.to (c + 1) _ cleared _ (drop (p.next + (p.sets + count)) events) _ (take filled after) _ (bit_or p.clx clx)
-          (drawing_goes_on run p.from p.to c p.denise (drop p.next events) (take p.filled room) p.clx at.drawn more)
-          (stands_next run events view room after p shown touched cleared filled clx beam sets due count source at more turn)
+          drawn_on run p.from p.to (c + 1) _ _ (drop (p.next + (p.sets + count)) events) _ (take filled after) _ clx
+          (drawing_goes_on run p.from p.to c at.picture (drop p.next events) (take p.filled room) p.clx at.drawn more)
           (drop_clock run events view room p beam sets count source at more turn.place turn.coming turn.counted)
           given.bytes
-          (ap (λ k. bit_or p.clx k) given.bits);
+          given.bits;
       place = place;
       sets =
           turn.coming
@@ -386,36 +390,51 @@ turned run events view room after p shown touched cleared filled clx beam sets d
     }
 
 -- the last clock
+sound_end : (run : RunValue) (events : List Event) (room : List ℕ) (p : Progress) (at : IsAt run events room p)
+    → IsSound (with_fetch run p.clock (after_kept run p.clock at.picture))
+sound_end run events room p at =
+    let c : ℕ = p.clock in
+    let b : Beam = beam_at run c in
+    let words : ℕ → ℕ = word_of (run_memory run c) in
+    let script : IsSound (with_script run c at.picture) =
+    sound_in_order b.h words (sets_at run c) at.picture (sound_there run events room p at) in
+    sound_touched b.h words (fetch_alone (bus_touch_at run c)) (after_kept run c at.picture)
+    (sound_after b.v b.h (with_script run c at.picture) script)
+
 pub ended : (run : RunValue) (events : List Event) (view : ViewValue) (room after : List ℕ) (p : Progress)
-    (shown touched : Denise) (filled clx coming : ℕ)
+    (shown touched : BandPainter) (closing : Denise) (filled clx coming : ℕ)
     → IsSource run p.from p.to view → IsAt run events room p → p.clock + 1 ≡ p.to
     → IsGivenBy p events view (take p.filled room) (take filled after) shown clx
     → filled ≡ filled_after p.beam.v p.beam.h p.filled → length after ≡ length room
-    → Keeps (4 * p.beam.h)
+    → Paints (4 * p.beam.h)
     (touch_by_address p.beam.h (word_then view p.clock) (bus_touch_of p.clock coming (drop (p.next + p.sets) events))) shown touched
-    → IsEnded run p.from p.to after touched (bit_or p.clx clx)
-ended run events view room after p shown touched filled clx coming source at last given filled_is size access n band =
+    → ((from : ℕ) (q : Denise) → IsBandPainterOf from touched q → q.held.0 ≤ 4095 → StandsFor from closing q)
+    → IsEnded run p.from p.to after closing clx
+ended run events view room after p shown touched closing filled clx coming source at last given filled_is size access close n band =
     let c : ℕ = p.clock in
-    let here : IsGiven (beam_at run c).v (beam_at run c).h (with_script run c p.denise) shown (take p.filled room) (take filled after) clx =
+    let left : Denise = with_fetch run c (after_kept run c at.picture) in
+    let here : IsGiven (beam_at run c).v (beam_at run c).h (with_script run c at.picture) shown (take p.filled room) (take filled after) p.clx clx =
     given_here run events view room (take p.filled room) (take filled after) p shown clx source at given in
     let touch : bus_touch_of c coming (drop (p.next + p.sets) events) ≡ fetch_alone (bus_touch_at run c) =
     ap (λ l. bus_touch_of c coming l) (rest_there run events room p at)
-    ∙ last_fetch_is_next run p.from p.to c coming p.denise (drop p.next events) (take p.filled room) p.clx at.drawn last in
-    let stands : StandsFor (4 * (beam_at run c).h + 4) touched (with_fetch run c (after_kept run c p.denise)) =
-    accessed run events view room p shown touched (after_kept run c p.denise) _ _ source at touch here.stands access in
+    ∙ last_fetch_is_next run p.from p.to c coming at.picture (drop p.next events) (take p.filled room) p.clx at.drawn last in
+    let painted : IsBandPainterOf (4 * (beam_at run c).h + 4) touched left =
+    accessed run events view room p shown touched (after_kept run c at.picture) _ _ source at touch here.painted access in
+    let stands : StandsFor (4 * (beam_at run c).h + 4) closing left =
+    close (4 * (beam_at run c).h + 4) left painted (sound_end run events room p at).held in
     let whole : filled ≡ length (bytes_from run p.from (p.to - p.from)) =
     filled_is ∙ filled_next run p.from c p.beam.v p.beam.h p.filled at.drawn.least at.place.line at.place.clock at.filled
     ∙ ap (λ k. length (bytes_from run p.from (k - p.from))) last in
     let full : length after ≤ filled = omega (arith, size, at.size, whole) in
-    subst (λ l. IsRightDrawn run n p.from p.to l (bit_or p.clx clx) touched) (sym here.bytes ∙ take_all filled after full)
-    (subst (λ k. IsRightDrawn run n p.from p.to (take p.filled room ++ (step_of_kept run c p.denise).bytes) (bit_or p.clx k) touched)
+    subst (λ l. IsRightDrawn run n p.from p.to l clx closing) (sym here.bytes ∙ take_all filled after full)
+    (subst (λ k. IsRightDrawn run n p.from p.to (take p.filled room ++ (step_of_kept run c at.picture).bytes) k closing)
     (sym here.bits)
-    (drawing_ends run n p.from p.to c p.denise touched (drop p.next events) (take p.filled room) p.clx band at.drawn last stands))
+    (drawing_ends run n p.from p.to c at.picture closing (drop p.next events) (take p.filled room) p.clx band at.drawn last stands))
 
-pub given_part : (p : Progress) (events : List Event) (view : ViewValue) (part : List Event) (before after : List ℕ) (shown : Denise) (clx : ℕ)
+pub given_part : (p : Progress) (events : List Event) (view : ViewValue) (part : List Event) (before after : List ℕ) (shown : BandPainter) (clx : ℕ)
     → part ≡ take p.sets (drop p.next events)
-    → ((q : Denise) → StandsFor (4 * p.beam.h) p.denise q
-    → IsGiven p.beam.v p.beam.h (touched_by_events p.beam.h (word_then view p.clock) part q) shown before after clx)
+    → ((q : Denise) → IsBandPainterOf (4 * p.beam.h) p.painter q
+    → IsGiven p.beam.v p.beam.h (touched_by_events p.beam.h (word_then view p.clock) part q) shown before after p.clx clx)
     → IsGivenBy p events view before after shown clx
-given_part p events view part before after shown clx is given q stands =
-    subst (λ l. IsGiven p.beam.v p.beam.h (touched_by_events p.beam.h (word_then view p.clock) l q) shown before after clx) is (given q stands)
+given_part p events view part before after shown clx is given q painted =
+    subst (λ l. IsGiven p.beam.v p.beam.h (touched_by_events p.beam.h (word_then view p.clock) l q) shown before after p.clx clx) is (given q painted)

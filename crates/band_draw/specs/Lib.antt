@@ -1,7 +1,6 @@
 pub mod Keeps
 pub mod Sound
-pub mod Begun
-pub mod Shown
+pub mod BandPainter
 pub mod Touched
 pub mod Due
 pub mod Given

@@ -1,5 +1,5 @@
 -- How far a band is drawn from its job.
-use Rattle.std.specs.Prelude.{◌≡◌, ◌≤◌, ◌<◌, ℕ, ◌+◌, ◌-◌, false, List, length, take, drop}
+use Rattle.std.specs.Prelude.{◌≡◌, ◌≤◌, ◌<◌, ℕ, ◌+◌, ◌-◌, ◌*◌, false, List, length, take, drop}
 use Rattle.ocs_base.specs.declared.beam.Beam.{Beam}
 use Rattle.mem_versions.specs.MemView.{ViewValue, Covers, word_then}
 use Rattle.serial_model.specs.Beam.{place_of}
@@ -11,6 +11,7 @@ use Rattle.serial_bands.specs.Bands.{begins, IsBand}
 use Rattle.serial_bands.specs.BandShown.{bytes_from, IsRightDrawn}
 use Rattle.serial_bands.specs.RightJob.{HasMemory}
 use Rattle.serial_bands.specs.DrawnTo.{IsDrawnTo}
+use Rattle.band_draw.specs.BandPainter.{IsBandPainterOf}
 use Rattle.band_draw.specs.Due.{IsLeft}
 use Rattle.band_draw.specs.declared.progress.Progress.{Progress}
 
@@ -26,9 +27,14 @@ pub record IsSamePlace (b other : Beam) : Type 0 where
   pub line : b.v ≡ other.v
   pub clock : b.h ≡ other.h
 
--- It is drawn up to, not including, its clock, from so many of the events, and with so many bytes of the room filled.
+-- It is drawn up to, not including, its clock, from so many of the events, and with so many bytes of the room filled: what
+-- paints does so from a picture state that stands for the opening of the clock.
 pub record IsAt (run : RunValue) (events : List Event) (room : List ℕ) (p : Progress) : Type 0 where
-  pub drawn : IsDrawnTo run p.from p.to p.clock p.denise (drop p.next events) (take p.filled room) p.clx
+  pub picture : Denise
+  pub painted : IsBandPainterOf (4 * p.beam.h) p.painter picture
+  -- where no loads are kept, another line starts in the band
+  pub kept : p.painter.keeps ≡ false → p.clock + 227 < p.to + p.beam.h
+  pub drawn : IsDrawnTo run p.from p.to p.clock picture (drop p.next events) (take p.filled room) p.clx
   pub place : IsSamePlace p.beam (beam_at run p.clock)
   pub sets : p.sets ≡ length (sets_at run p.clock)
   pub left : IsLeft (place_of p.beam + 1) run.script.events (drop p.due run.script.events)

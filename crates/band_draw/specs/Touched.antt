@@ -6,7 +6,8 @@ use Rattle.serial_model.specs.declared.picture.Touch.{Touch}
 use Rattle.serial_bands.specs.declared.event.Event.{Event}
 use Rattle.serial_bands.specs.EventReading.{touch_of_event}
 use Rattle.serial_bands.specs.DrawnTo.{touch_by_address}
-use Rattle.band_draw.specs.Keeps.{Keeps}
+use Rattle.band_draw.specs.declared.band_painter.BandPainter.{BandPainter}
+use Rattle.band_draw.specs.BandPainter.{Paints}
 
 -- touches in their order, by words that are found by address
 abbrev pub touched_by : ℕ → (Addr → ℕ) → List Touch → Denise → Denise
@@ -17,8 +18,8 @@ touched_by h word_found (touch ∷ touches) p = touched_by h word_found touches 
 abbrev pub touched_by_events : ℕ → (Addr → ℕ) → List Event → Denise → Denise
 touched_by_events h word_found events p = touched_by h word_found (map touch_of_event events) p
 
--- so far the first i of some events have: what keeps the others from here keeps all from the start
-abbrev pub HaveTouched : ℕ → (Addr → ℕ) → List Event → ℕ → Denise → Denise → Type 0
-HaveTouched h word_found events i start now = (end : Denise) →
-    Keeps (4 * h) (touched_by_events h word_found (drop i events)) now end →
-    Keeps (4 * h) (touched_by_events h word_found events) start end
+-- so far the first i of some events have: what paints the others from here paints all from the start
+abbrev pub HaveTouched : ℕ → (Addr → ℕ) → List Event → ℕ → BandPainter → BandPainter → Type 0
+HaveTouched h word_found events i start now = (end : BandPainter) →
+    Paints (4 * h) (touched_by_events h word_found (drop i events)) now end →
+    Paints (4 * h) (touched_by_events h word_found events) start end

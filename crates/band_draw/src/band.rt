@@ -9,6 +9,7 @@ ghost use Rattle.serial_bands.specs.RightJob.{IsRightJob as AreRightParts};
 ghost use Rattle.band_log.specs.Right.{IsRightJob, IsRightDrawn};
 ghost use Rattle.band_draw.specs.Progress.{IsSource, IsAt, IsEnded};
 
+use crate::band_painter::BandPainter;
 use crate::due::{due_from, first_from};
 use crate::progress::Progress;
 use band_log::{Drawn, Event, Job, Room, Run};
@@ -38,7 +39,7 @@ pub fn draw(job: Job) -> Drawn
     let end = draw_into(start, &run, events.list(), &view, &mut room);
     Drawn {
         clx: end.clx,
-        closing: end.denise,
+        closing: end.closing,
         job: Job {
             run,
             number,
@@ -55,7 +56,8 @@ pub fn draw(job: Job) -> Drawn
 
 /// A band of which no clock is drawn.
 fn begin(run: &Run, from: Clock, to: Clock, beam: Beam, opening: &Denise) -> Progress
-    requires { IsOnScreen beam }
+    requires screen { IsOnScreen beam }
+    requires eight { length opening.now.runs ≡ 8 }
     ensures at { (n : ℕ) (events : List EventValue) (words : ℕ → AddrValue → ℕ) (room : List ℕ)
         → AreRightParts run.now n from.0 to.0 beam opening.now events words (length room)
         → IsAt run.now events room result }
@@ -70,7 +72,7 @@ fn begin(run: &Run, from: Clock, to: Clock, beam: Beam, opening: &Denise) -> Pro
         to: to.0,
         clock: from.0,
         beam,
-        denise: copied(opening),
+        painter: BandPainter::open(opening, &beam),
         sets: due.sets,
         due: due.next,
         next: 0,
@@ -79,56 +81,44 @@ fn begin(run: &Run, from: Clock, to: Clock, beam: Beam, opening: &Denise) -> Pro
     }
 }
 
-/// The same picture state once more. It takes no memory.
-fn copied(d: &Denise) -> Denise
-    ensures { result ≡ d.now }
-{
-    Denise {
-        palette: d.palette,
-        con0: d.con0,
-        con1: d.con1,
-        con2: d.con2,
-        diwstrt: d.diwstrt,
-        diwstop: d.diwstop,
-        clxcon: d.clxcon,
-        latches: d.latches,
-        loads: d.loads.copied(),
-        runs: d.runs,
-        pos: d.pos,
-        ctl: d.ctl,
-        words_a: d.words_a,
-        words_b: d.words_b,
-        armed: d.armed,
-        held: d.held,
-    }
+/// What a band that is drawn leaves.
+#[derive(Drop)]
+struct End {
+    /// The picture state after its last clock.
+    closing: Denise,
+    /// Its collision bits.
+    clx: u16,
 }
 
 /// Draws all clocks that are left, into a room.
-fn draw_into(
-    start: Progress,
+fn draw_into(start: Progress, run: &Run, events: &[Event], view: &MemView, room: &mut Room) -> End
+    requires source { IsSource run.now start.from start.to view.now }
+    requires at { IsAt run.now events.now room.old start }
+    ensures { IsEnded run.now start.from start.to room.new result.closing result.clx }
+{
+    let mut progress = start;
+    let closing = draw_all(&mut progress, run, events, view, room.pixels_mut());
+    End {
+        closing,
+        clx: progress.clx,
+    }
+}
+
+/// Draws all clocks that are left, and closes with the picture state after the last.
+fn draw_all(
+    p: &mut Progress,
     run: &Run,
     events: &[Event],
     view: &MemView,
-    room: &mut Room,
-) -> Progress
-    requires source { IsSource run.now start.from start.to view.now }
-    requires at { IsAt run.now events.now room.old start }
-    ensures { IsEnded run.now start.from start.to room.new result.denise result.clx }
-{
-    let mut progress = start;
-    draw_all(&mut progress, run, events, view, room.pixels_mut());
-    progress
-}
-
-/// Draws all clocks that are left.
-fn draw_all(p: &mut Progress, run: &Run, events: &[Event], view: &MemView, room: &mut [u8])
+    room: &mut [u8],
+) -> Denise
     requires source { IsSource run.now p.old.from p.old.to view.now }
     requires at { IsAt run.now events.now room.old p.old }
-    ensures ended { IsEnded run.now p.old.from p.old.to room.new p.new.denise p.new.clx }
+    ensures ended { IsEnded run.now p.old.from p.old.to room.new result p.new.clx }
     ensures size { length room.new ≡ length room.old }
 {
     while p.clock < p.to - 1 {
         p.turn(run, events, view, room);
     }
-    p.finish(run, events, view, room);
+    p.finish(run, events, view, room)
 }

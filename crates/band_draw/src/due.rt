@@ -110,7 +110,7 @@ fn is_set(act: &Act) -> bool
 
 /// Whether this is one of Denise's registers.
 #[tactic(auto, using(crate::proofs::Registers::picture_law, std::proofs::lemmas::Bool::Decides::nat_tests))]
-fn is_picture(reg: Reg) -> bool
+pub fn is_picture(reg: Reg) -> bool
     ensures { result ≡ is_picture_register reg.offset }
 {
     matches!(

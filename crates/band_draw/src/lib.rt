@@ -2,13 +2,13 @@
 #![tactic(auto)]
 
 pub mod band;
+pub mod band_painter;
 pub mod clock;
 pub mod direct;
 pub mod due;
 pub mod progress;
 pub mod room;
 pub mod set;
-pub mod show;
 pub mod touch;
 
 pub use band::draw;

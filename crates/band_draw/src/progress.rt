@@ -1,12 +1,12 @@
 //! How far a band is drawn, and the steps from clock to clock.
 
-ghost use Rattle.std.specs.Prelude.{◌≡◌, ◌≤◌, ◌<◌, ◌+◌, ◌*◌, ◌^◌, ℕ, bit_or, length, take, drop};
+ghost use Rattle.std.specs.Prelude.{◌≡◌, ◌≤◌, ◌<◌, ◌+◌, ◌*◌, ◌^◌, ℕ, length, take, drop};
 ghost use Rattle.serial_bands.specs.DrawnTo.{IsDrawnTo};
 ghost use Rattle.band_draw.specs.Progress.{IsSource, IsAt, IsEnded};
 
+use crate::band_painter::BandPainter;
 use crate::clock::{behind, next_place, part, show_clock, touch_access};
 use crate::due::due_from;
-use crate::set::clear;
 use band_log::{Event, Run};
 use mem_versions::MemView;
 use ocs_base::{Beam, Clock};
@@ -21,8 +21,8 @@ pub struct Progress {
     /// The clock that comes next, and its place.
     pub clock: u64,
     pub beam: Beam,
-    /// A picture state that stands for that after the first step of that clock.
-    pub denise: Denise,
+    /// What paints, from the picture state after the first step of that clock on.
+    pub painter: BandPainter,
     /// How many of the script's events of that clock touch the picture, and the place in the script
     /// behind them.
     pub sets: usize,
@@ -50,52 +50,54 @@ impl Progress {
         let h = self.beam.h;
         let clock = Clock(self.clock);
         let due = part(events, self.next, self.sets);
-        let given = show_clock(
-            &mut self.denise,
+        let filled = show_clock(
+            &mut self.painter,
             &self.beam,
             due,
             clock,
             view,
             room,
             self.filled,
+            &mut self.clx,
         );
         let rest = behind(events, self.next + self.sets);
-        let beam = next_place(&self.beam);
-        let coming = due_from(run.script().events(), self.due, &beam);
-        let count = touch_access(&mut self.denise, h, rest, coming.sets, clock, view);
-        clear(&mut self.denise, &beam);
+        next_place(&mut self.beam);
+        let coming = due_from(run.script().events(), self.due, &self.beam);
+        let count = touch_access(&mut self.painter, h, rest, coming.sets, clock, view);
+        let is_last_line = self.to - self.clock <= 228;
+        self.painter.clear_line(&self.beam, is_last_line);
         self.clock += 1;
-        self.beam = beam;
         self.next += self.sets + count;
         self.sets = coming.sets;
         self.due = coming.next;
-        self.filled = given.filled;
-        self.clx |= given.clx;
+        self.filled = filled;
     }
 
-    /// Draws the last clock. The write of a register by its access is left out.
-    pub fn finish(&mut self, run: &Run, events: &[Event], view: &MemView, room: &mut [u8])
+    /// Draws the last clock, and closes with the picture state after it. The write of a register by
+    /// its access is left out.
+    pub fn finish(&mut self, run: &Run, events: &[Event], view: &MemView, room: &mut [u8]) -> Denise
         requires source { IsSource run.now self.old.from self.old.to view.now }
         requires at { IsAt run.now events.now room.old self.old }
         requires last { self.old.clock + 1 ≡ self.old.to }
         ensures ended { IsEnded run.now self.old.from self.old.to
-            room.new self.new.denise self.new.clx }
+            room.new result self.new.clx }
         ensures size { length room.new ≡ length room.old }
     {
         let h = self.beam.h;
         let clock = Clock(self.clock);
         let due = part(events, self.next, self.sets);
-        let given = show_clock(
-            &mut self.denise,
+        show_clock(
+            &mut self.painter,
             &self.beam,
             due,
             clock,
             view,
             room,
             self.filled,
+            &mut self.clx,
         );
         let rest = behind(events, self.next + self.sets);
-        touch_access(&mut self.denise, h, rest, 0, clock, view);
-        self.clx |= given.clx;
+        touch_access(&mut self.painter, h, rest, 0, clock, view);
+        self.painter.close()
     }
 }

@@ -1,4 +1,4 @@
-//! Writes to Denise's registers, and the clearing at a line's start.
+//! Picture states: writes to Denise's registers, the clearing at a line's start, and copies.
 
 ghost use Rattle.std.specs.Prelude.{◌≡◌, ◌≢◌, ◌≤◌, ◌<◌, ◌*◌, ◌-◌, ◌/◌, ◌%◌, ◌^◌, ℕ, bit_and, bit_or, slice_set};
 ghost use Rattle.serial_model.specs.declared.picture.Denise.{Denise as DeniseValue};
@@ -82,5 +82,29 @@ pub fn clear(d: &mut Denise, beam: &Beam)
         d.loads.clear();
         d.runs = Runs::new();
         d.held = Colour(d.palette[0]);
+    }
+}
+
+/// The same picture state once more. It takes no memory.
+pub fn copied(d: &Denise) -> Denise
+    ensures { result ≡ d.now }
+{
+    Denise {
+        palette: d.palette,
+        con0: d.con0,
+        con1: d.con1,
+        con2: d.con2,
+        diwstrt: d.diwstrt,
+        diwstop: d.diwstop,
+        clxcon: d.clxcon,
+        latches: d.latches,
+        loads: d.loads.copied(),
+        runs: d.runs,
+        pos: d.pos,
+        ctl: d.ctl,
+        words_a: d.words_a,
+        words_b: d.words_b,
+        armed: d.armed,
+        held: d.held,
     }
 }

@@ -1,9 +1,9 @@
 //! Single clocks worked by hand, and a raster without bands.
 
-ghost use Rattle.std.specs.Prelude.{◌≡◌, IfOk};
-ghost use Rattle.band_draw.specs.Sound.{IsSound};
+ghost use Rattle.std.specs.Prelude.{◌≡◌, true, IfOk};
 
 use crate::Direct;
+use crate::band_painter::BandPainter;
 use crate::clock::show_clock;
 use crate::touch::bus_count;
 use band_log::{Denise, Event, Raster, Reset};
@@ -17,8 +17,9 @@ use std::alloc::Global;
 fn a_colour_shows_from_its_clock_on(rt: HostRuntime) -> Result<(), OutOfMemory> {
     let view = small_view(rt.alloc())?;
     let mut room = [7; 30];
-    let mut before = fresh();
-    let given = show_clock(
+    let mut clx = 0;
+    let mut before = fresh(&place(100, 99));
+    let filled = show_clock(
         &mut before,
         &place(100, 99),
         &[],
@@ -26,15 +27,16 @@ fn a_colour_shows_from_its_clock_on(rt: HostRuntime) -> Result<(), OutOfMemory> 
         &view,
         &mut room,
         0,
+        &mut clx,
     );
-    assert_eq!(rt; given.filled, 12);
+    assert_eq!(rt; filled, 12);
     let event = Event::Set {
         at: Clock(22_800),
         reg: Reg::masked(0x180),
         word: 0x0f00,
     };
-    let mut after = fresh();
-    let given = show_clock(
+    let mut after = fresh(&place(100, 100));
+    let filled = show_clock(
         &mut after,
         &place(100, 100),
         &[event],
@@ -42,8 +44,10 @@ fn a_colour_shows_from_its_clock_on(rt: HostRuntime) -> Result<(), OutOfMemory> 
         &view,
         &mut room,
         12,
+        &mut clx,
     );
-    assert_eq!(rt; given.filled, 24);
+    assert_eq!(rt; filled, 24);
+    assert_eq!(rt; after.close().palette[0], 0x0f00);
     assert_eq!(rt;
         room,
         [
@@ -76,10 +80,10 @@ fn a_raster_without_bands(rt: HostRuntime) -> Result<(), OutOfMemory> {
     Ok(())
 }
 
-fn fresh() -> Denise
-    ensures { IsSound result }
+fn fresh(beam: &Beam) -> BandPainter
+    ensures { result.keeps ≡ true }
 {
-    Denise::reset()
+    BandPainter::open(&Denise::reset(), beam)
 }
 
 fn place(v: u16, h: u16) -> Beam

@@ -5,14 +5,13 @@ ghost use Rattle.mem_versions.specs.MemView.{Covers, word_then};
 ghost use Rattle.serial_bands.specs.DrawnTo.{touch_by_address};
 ghost use Rattle.serial_bands.specs.EventReading.{touch_of_event, bus_touch_of, is_write_at as is_write};
 ghost use Rattle.serial_bands.specs.RightJob.{bus_events};
-ghost use Rattle.band_draw.specs.Keeps.{Keeps};
+ghost use Rattle.band_draw.specs.BandPainter.{Paints};
 ghost use Rattle.band_draw.specs.Touched.{touched_by};
 
-use crate::set::set;
+use crate::band_painter::BandPainter;
 use band_log::Event;
 use mem_versions::MemView;
 use ocs_base::Clock;
-use serial_model::Denise;
 
 /// BPL1DAT lies two behind this.
 const LATCHES: u16 = 0x10e;
@@ -21,27 +20,34 @@ const LATCHES: u16 = 0x10e;
 const SPRITE_DATA: u16 = 0x144;
 
 /// Events at clock `h` of the line in their order. The word of a fetch is that of the colour clock.
-pub fn touch_all(d: &mut Denise, h: u16, events: &[Event], clock: Clock, view: &MemView)
-    requires { Covers view.now clock.0 }
-    ensures { Keeps (4 * h)
-        (touched_by h (word_then view.now clock.0) (map touch_of_event events.now)) d.old d.new }
+#[inline(always)]
+pub fn touch_all(painter: &mut BandPainter, h: u16, events: &[Event], clock: Clock, view: &MemView)
+    requires place { h ≤ 226 }
+    requires covered { Covers view.now clock.0 }
+    ensures paints { Paints (4 * h)
+        (touched_by h (word_then view.now clock.0) (map touch_of_event events.now))
+        painter.old painter.new }
+    ensures keeps { painter.new.keeps ≡ painter.old.keeps }
 {
     for event in events {
-        touch(d, h, event, clock, view);
+        touch(painter, h, event, clock, view);
     }
 }
 
 /// One event at clock `h` of the line.
-fn touch(d: &mut Denise, h: u16, event: &Event, clock: Clock, view: &MemView)
-    requires { Covers view.now clock.0 }
-    ensures { Keeps (4 * h) (touch_by_address h (word_then view.now clock.0)
-        (Some (touch_of_event event.now))) d.old d.new }
+#[inline(never)]
+fn touch(painter: &mut BandPainter, h: u16, event: &Event, clock: Clock, view: &MemView)
+    requires place { h ≤ 226 }
+    requires covered { Covers view.now clock.0 }
+    ensures paints { Paints (4 * h) (touch_by_address h (word_then view.now clock.0)
+        (Some (touch_of_event event.now))) painter.old painter.new }
+    ensures keeps { painter.new.keeps ≡ painter.old.keeps }
 {
     match event {
-        Event::Set { reg, word, .. } => set(d, h, reg.offset, *word),
+        Event::Set { reg, word, .. } => painter.set(h, reg.offset, *word),
         Event::Plane { plane, addr, .. } => {
             let word = view.at(clock, *addr);
-            set(d, h, LATCHES + 2 * *plane as u16, word);
+            painter.set(h, LATCHES + 2 * *plane as u16, word);
         }
         Event::Sprite {
             sprite,
@@ -51,7 +57,7 @@ fn touch(d: &mut Denise, h: u16, event: &Event, clock: Clock, view: &MemView)
         } => {
             let word = view.at(clock, *addr);
             let half = if *second { 2 } else { 0 };
-            set(d, h, SPRITE_DATA + 8 * *sprite as u16 + half, word);
+            painter.set(h, SPRITE_DATA + 8 * *sprite as u16 + half, word);
         }
     }
 }
@@ -59,6 +65,7 @@ fn touch(d: &mut Denise, h: u16, event: &Event, clock: Clock, view: &MemView)
 /// How many of the events behind the script's of a clock are those of its access: one, or none. A
 /// write is the access's where it is seen by the next clock first and as many writes of that clock
 /// follow behind it as the script has there, which are `coming`.
+#[inline(always)]
 pub fn bus_count(clock: u64, coming: usize, rest: &[Event]) -> usize
     requires { clock + 1 < 2 ^ 64 }
     ensures count { result ≡ length (bus_events clock (bus_touch_of clock coming rest.now)) }

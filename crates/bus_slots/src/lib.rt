@@ -39,7 +39,7 @@ pub fn slot_owner(s: &SlotState) -> Owner
 }
 
 /// Whether refresh takes this clock of a line.
-fn is_refresh(h: u16) -> bool
+pub fn is_refresh(h: u16) -> bool
     ensures { result ≡ takes_refresh h }
 {
     matches!(h, 1 | 3 | 5 | 225)

@@ -1,345 +1,376 @@
 -- The run over plain values: its start, its turns, its end and its stops.
-use Rattle.std.proofs.Common.{◌≡◌, ℕ, suc, ◌+◌, ◌<◌, ◌≤◌, Bool, List, [], ◌++◌, Option, Result, Ok, Err, OnOk, OnErr, arith, refl, ap, ◌∙◌, sym, subst, add-one, inl, inr, ◌∷◌, lit<}
-use Rattle.std.proofs.lemmas.Bool.{cases_eq}
-use Rattle.std.proofs.lemmas.Result.{on_ok_weaker, on_err_weaker}
-use Rattle.ocs_base.specs.Limits.{IsRunnable, AreFrom}
+use Rattle.std.proofs.Common.{◌≡◌, ℕ, ◌+◌, ◌-◌, ◌*◌, ◌<◌, ◌≤◌, Bool, false, ◌==◌, List, [], ◌++◌, length, Option, Some, None, Result, Ok, Err, OnErr, IfErr, IsErrAnd, arith, refl, ap, ◌∙◌, sym, subst, append_assoc, append-nil, inl}
 use Rattle.ocs_base.specs.Script.{ScriptValue}
-use Rattle.ocs_base.specs.declared.script.At.{At}
-use Rattle.ocs_base.specs.declared.script.System.TheVariants.{Pal}
-use Rattle.ocs_io.specs.Place.{Files, Outside}
+use Rattle.ocs_io.specs.Place.{Files, Outside, OnlyWrites, Rose}
+use Rattle.out_files.specs.Answers.{CreateAnswers, NamesFile}
 use Rattle.out_files.specs.OutFiles.{OutNames, OutFilesValue, all_given}
 use Rattle.out_files.specs.Together.{three_files, AreTogether, HoldParts, StayTogether, LeavesParts, Completes, Begins}
-use Rattle.serial_model.specs.Beam.{place_of, first_place}
-use Rattle.serial_model.specs.Events.{due_events, do_events}
+use Rattle.out_files.specs.declared.fault.WriteFault.{WriteFault}
+use Rattle.out_files.specs.declared.fault.WriteFault.TheVariants.{Failed, OutOfMemory as NoRoomToWrite}
+use Rattle.serial_model.specs.declared.trace.TraceLine.{TraceLine}
 use Rattle.serial_model.specs.MemoryText.{memory_text}
-use Rattle.serial_model.specs.Outputs.{frames_text}
+use Rattle.serial_model.specs.Outputs.{frames_text, with_headings}
 use Rattle.serial_model.specs.Serial.{state_at, IsEnd}
 use Rattle.serial_model.specs.State.{State, reset}
 use Rattle.serial_model.specs.TraceText.{trace_text}
-use Rattle.serial_model.specs.declared.bus.SideAsk.TheVariants as S
-use Rattle.serial_model.specs.Tick.{start_clock, count_timers, show_pixels, make_access, run_processor, advance_beam, tick}
 use Rattle.serial_model.proofs.EndLaws.{frames_are_whole}
-use Rattle.ocs_run.specs.Prefix.{LeavesPrefixes}
-use Rattle.ocs_run.proofs.PrefixLaws.{LeavesPrefixes-parts, LeavesPrefixes-end, LeavesPrefixes-all}
-use Rattle.ocs_run.specs.Chips.{IsChipsOf}
-use Rattle.painter.specs.Painter.{IsPainterOf}
-use Rattle.ocs_run.specs.Run.{HasFiles, HasParts, HasEndParts, HasCreated}
+use Rattle.serial_model.proofs.HeadingLaws.{with_headings-append}
+use Rattle.serial_bands.specs.Run.{RunValue, state_of}
+use Rattle.serial_bands.specs.BandShown.{bytes_from}
+use Rattle.serial_bands.proofs.Ranges.{shown_in_range, bytes_of_two}
+use Rattle.serial_bands.proofs.Counts.{no_tint}
+use Rattle.serial_bands.proofs.BandRanges.{bands_rise}
+use Rattle.band_log.specs.Raster.{RasterValue, Takes}
+use Rattle.foreground.specs.Clock.{HasGivenPart}
+use Rattle.ocs_run.specs.Fault.{IsWrite, of_write}
 use Rattle.ocs_run.specs.declared.fault.RunFault.{RunFault}
-use Rattle.out_files.specs.Answers.{CreateAnswers}
-use Rattle.out_files.specs.declared.fault.WriteFault.{WriteFault}
-use Rattle.out_files.specs.declared.fault.WriteFault.TheVariants.{Failed, OutOfMemory as NoRoomToWrite}
-use Rattle.ocs_run.specs.Steps.{Written, Stands, Makes, KeepsTime, HasNext}
-use Rattle.ocs_run.specs.Underway.{IsReset, IsUnderway, IsInStep, Flushes, ForgetsWrites, Runs, IsStopped, StopsFinish, Finishes, IsFresh}
-use Rattle.ocs_run.specs.declared.foreground.Foreground.{Foreground}
+use Rattle.std.proofs.lemmas.Bool.Decides.{nat_tests}
+use Rattle.foreground.specs.Fore.{ForeValue, IsNew, is_done, Advances, HasAdvanced, HasSettled, Settles, GivesPart, IsUnderway as IsForeUnderway}
+use Rattle.foreground.specs.Gathered.{tinted_range}
+use Rattle.ocs_run.specs.Prefix.{LeavesPrefixes}
+use Rattle.ocs_run.specs.Run.{HasFiles, HasRun, HasParts, HasEndParts}
+use Rattle.ocs_run.specs.Underway.{IsUnderway, CanRun, Runs, IsStopped, IsFresh, IsEmpty, Ends, IsCut, IsSettledRun, IsWritten, StartsRun, EndsFromStart, IsCutFromStart}
+use Rattle.ocs_run.proofs.PrefixLaws.{LeavesPrefixes-parts, LeavesPrefixes-end, LeavesPrefixes-all}
 
--- a tick looks at the events that are due, and at no others
-tick-due : (events left : List At) (s : State) → due_events s.beam events ≡ due_events s.beam left → tick Pal events s ≡ tick Pal left s
-unfolding tick
-tick-due events left s same = ap (λ acts. advance_beam (run_processor
-    (make_access S.Nothing (show_pixels Pal (count_timers 0 (do_events acts (start_clock s))))))) same
+-- what a run has shown at a clock are the bytes of its clocks
+shown_to : (run : RunValue) (t : ℕ) → (state_of run t).shown ≡ bytes_from run 0 t
+unfolding state_at reset
+shown_to run t =
+    let e : t ≡ 0 + t = omega arith in
+    ap (λ n. (state_of run n).shown) e ∙ shown_in_range run 0 t
 
--- nothing was appended
-pub Flushes-none : (fore : Foreground) (files : Option Files) → Flushes fore fore files files
-unfolding StayTogether
-Flushes-none fore files = record {
-  t = refl;
-  beam = refl;
-  memory = refl;
-  time = λ before. before;
-  chips = refl;
-  picture = refl;
-  clx = refl;
-  names = refl;
-  files = λ base pixels lines so_far. so_far;
-}
+-- those of two ranges, the first from the run's begin on
+two_from : (run : RunValue) (n m : ℕ) → bytes_from run 0 n ++ bytes_from run n m ≡ bytes_from run 0 (n + m)
+two_from run n m =
+    let e : n ≡ 0 + n = omega arith in
+    ap (λ c. bytes_from run 0 n ++ bytes_from run c m) e ∙ sym (bytes_of_two run 0 n m)
 
--- what the memory forgets is not looked at
-pub Flushes-forgot : (old mid new : Foreground) (before after : Option Files) → ForgetsWrites old mid → Flushes mid new before after
-    → Flushes old new before after
-unfolding StayTogether
-Flushes-forgot old mid new before after forgot flushes =
-    let has : Flushes (record old { chip = mid.chip }) new before after = subst (λ f. Flushes f new before after) forgot.same flushes in
-    let keeps : KeepsTime old (record old { chip = mid.chip }) = subst (λ f. KeepsTime old f) forgot.same forgot.time in
+-- pixels without a tint follow those before
+joined : (run : RunValue) (tint first until : ℕ) → first ≤ until → tint ≡ 0
+    → bytes_from run 0 first ++ tinted_range run tint first until ≡ bytes_from run 0 until
+joined run tint first until le plain =
+    let whole : first + (until - first) ≡ until = omega arith in
+    ap (λ t. bytes_from run 0 first ++ tinted_range run t first until) plain
+    ∙ ap (λ bytes. bytes_from run 0 first ++ bytes) (no_tint (bytes_from run first (until - first)))
+    ∙ two_from run first (until - first) ∙ ap (λ n. bytes_from run 0 n) whole
+
+-- the bands that were gathered are of clocks that are done
+gathered_before : (fore : ForeValue) (first : ℕ) (seen : RasterValue) → IsForeUnderway fore first seen → first ≤ fore.machine.t
+gathered_before fore first seen is =
+    let rise : first + is.at.fits.count ≤ fore.log.band.from = bands_rise fore.run is.at.fits.least is.at.fits.count first fore.log.band.from is.at.fits.bands in
+    omega (arith, rise, is.at.logged.least)
+
+-- one clock more
+pub IsUnderway-advanced : (base files : Option Files) (old new : ForeValue) (seen after : RasterValue) (out given : OutFilesValue)
+    → Advances old new seen after out given → new.run ≡ old.run → new.machine.t ≡ old.machine.t + 1 → new.spent ≡ false
+    → IsUnderway base files old seen out → IsUnderway base files new after given
+IsUnderway-advanced base files old new seen after out given advances run count fresh is =
+    let so : HasAdvanced old new is.first seen after out given = advances is.first is.stands in
+    let text : AreTogether given base files (bytes_from old.run 0 is.first ++ tinted_range old.run seen.tint is.first so.until)
+    ((state_of old.run old.machine.t).trace ++ so.lines) = so.gives.text.text base files _ _ is.text in
+    let pixels : AreTogether given base files (bytes_from old.run 0 so.until) ((state_of old.run old.machine.t).trace ++ so.lines) =
+    subst (λ bytes. AreTogether given base files bytes ((state_of old.run old.machine.t).trace ++ so.lines))
+    (joined old.run seen.tint is.first so.until so.gives.least is.plain) text in
+    let lines : AreTogether given base files (bytes_from old.run 0 so.until) (state_of old.run (old.machine.t + 1)).trace =
+    subst (λ traced. AreTogether given base files (bytes_from old.run 0 so.until) traced) (sym so.trace) pixels in
     record {
-      t = has.t;
-      beam = has.beam;
-      memory = has.memory ∙ forgot.words;
-      time = λ first. has.time (keeps first);
-      chips = has.chips;
-      picture = has.picture;
-      clx = has.clx;
-      names = has.names;
-      files = has.files;
+      first = so.until;
+      stands = so.stands;
+      plain = so.gives.mark.tint ∙ is.plain;
+      fresh = fresh;
+      text = subst (λ r. AreTogether given base files (bytes_from r 0 so.until) (state_of r new.machine.t).trace) (sym run)
+          (subst (λ t. AreTogether given base files (bytes_from old.run 0 so.until) (state_of old.run t).trace) (sym count) lines);
     }
 
--- where nothing was appended each file has the part that it had
-LeavesParts-none : (out : OutFilesValue) (files : Option Files) → LeavesParts out files files []
-unfolding LeavesParts
-LeavesParts-none out files base pixels lines so_far = record {
-  frames = so_far.frames;
-  trace = so_far.trace;
+pub CanRun-advanced : (old new : ForeValue) (seen after : RasterValue) (out given : OutFilesValue) → Advances old new seen after out given
+    → new.spent ≡ false → CanRun old seen → CanRun new after
+CanRun-advanced old new seen after out given advances fresh can =
+    let so : HasAdvanced old new can.first seen after out given = advances can.first can.stands in
+    record { first = so.until; stands = so.stands; plain = so.gives.mark.tint ∙ can.plain; fresh = fresh }
+
+-- a flush
+pub IsUnderway-flushed : (base before after : Option Files) (fore : ForeValue) (seen : RasterValue) (old new : OutFilesValue)
+    → StayTogether old new before after → IsUnderway base before fore seen old → IsUnderway base after fore seen new
+unfolding StayTogether
+IsUnderway-flushed base before after fore seen old new stays is = record {
+  first = is.first;
+  stands = is.stands;
+  plain = is.plain;
+  fresh = is.fresh;
+  text = stays base _ _ is.text;
+}
+
+-- where the run stops, each file has a part of its text
+frames_part : (run : RunValue) (first t : ℕ) (frames rest : List ℕ) → first ≤ t → frames ++ rest ≡ frames_text (bytes_from run 0 first)
+    → frames ++ (rest ++ with_headings (0 + length (bytes_from run 0 first)) (bytes_from run first (t - first))) ≡ frames_text (state_of run t).shown
+frames_part run first t frames rest le part =
+    let whole : first + (t - first) ≡ t = omega arith in
+    let all : bytes_from run 0 first ++ bytes_from run first (t - first) ≡ (state_of run t).shown =
+    two_from run first (t - first) ∙ ap (λ n. bytes_from run 0 n) whole ∙ sym (shown_to run t) in
+    sym (append_assoc frames rest (with_headings (0 + length (bytes_from run 0 first)) (bytes_from run first (t - first))))
+    ∙ ap (λ x. x ++ with_headings (0 + length (bytes_from run 0 first)) (bytes_from run first (t - first))) part
+    ∙ sym (with_headings-append 0 (bytes_from run 0 first) (bytes_from run first (t - first))) ∙ ap (λ bytes. frames_text bytes) all
+
+parts_at : (run : RunValue) (first t : ℕ) (names : OutNames) (base files : Option Files) → first ≤ t
+    → HoldParts names base files (bytes_from run 0 first) (state_of run t).trace []
+    → HoldParts names base files (state_of run t).shown (state_of run t).trace []
+parts_at run first t names base files le has = record {
+  frames = has.frames;
+  trace = has.trace;
+  bytes = has.bytes;
+  frames_rest = has.frames_rest ++ with_headings (0 + length (bytes_from run 0 first)) (bytes_from run first (t - first));
+  trace_rest = has.trace_rest;
+  bytes_rest = has.bytes_rest;
+  held = has.held;
+  frames_part = frames_part run first t has.frames has.frames_rest le has.frames_part;
+  trace_part = has.trace_part;
+  bytes_part = has.bytes_part;
+}
+
+-- files and pending text are parts of the texts
+parts_together : (out : OutFilesValue) (base files : Option Files) (pixels : List ℕ) (lines : List TraceLine) → AreTogether out base files pixels lines
+    → HoldParts out.names base files pixels lines []
+parts_together out base files pixels lines is = record {
+  frames = is.frames;
+  trace = is.trace;
   bytes = [];
   frames_rest = out.frames;
   trace_rest = out.trace;
   bytes_rest = [];
-  held = so_far.held;
-  frames_part = so_far.pixels_given;
-  trace_part = so_far.lines_given;
+  held = is.held;
+  frames_part = is.pixels_given;
+  trace_part = is.lines_given;
   bytes_part = refl;
 }
 
-pub if_err_parts : {A B : Type 0} (r : Result A B) (out : OutFilesValue) (files : Option Files) → OnErr r (LeavesParts out files files [])
-if_err_parts (Ok v) out files = tt
-if_err_parts (Err f) out files = LeavesParts-none out files
+run_so_far : (fore : ForeValue) (first : ℕ) (seen : RasterValue) → IsForeUnderway fore first seen
+    → HasRun fore.run.image fore.run.script fore.machine.t
+run_so_far fore first seen is = record { running = is.running }
 
-pub ForgetsWrites-out : (old mid : Foreground) → ForgetsWrites old mid → mid.out ≡ old.out
-ForgetsWrites-out old mid forgot = ap (λ (f : Foreground). f.out) forgot.same
-
--- pending text and files, from what the foreground stands for and back
-together : (fore : Foreground) (written : Written) (s : State) (base files : Option Files) → Stands fore written s
-    → files ≡ three_files fore.out.names base written.frames written.trace [] → AreTogether fore.out base files s.shown s.trace
-together fore written s base files is held = record {
-  frames = written.frames;
-  trace = written.trace;
-  held = held;
-  pixels_given = is.text.frames;
-  lines_given = is.text.trace;
-  place = is.text.given;
+pub HasParts-now : (base files : Option Files) (fore : ForeValue) (seen : RasterValue) (out : OutFilesValue) → IsUnderway base files fore seen out
+    → HasParts fore.run.image fore.run.script out.names base files fore.machine.t
+HasParts-now base files fore seen out is = record {
+  run = run_so_far fore is.first seen is.stands;
+  parts = parts_at fore.run is.first fore.machine.t out.names base files (gathered_before fore is.first seen is.stands)
+      (parts_together out base files _ _ is.text);
 }
 
--- the start: the files were created, and the foreground is the machine at reset
-pub IsUnderway-start : (image : List ℕ) (script : ScriptValue) (base files : Option Files) (out : OutFilesValue) (fore : Foreground)
-    → out.frames ≡ [] → out.trace ≡ [] → out.given ≡ 0 → Begins out base files → IsReset image script.cpu out fore → IsUnderway image script base files fore
-unfolding Begins state_at reset trace_text
-IsUnderway-start image script base files out fore frames trace given begins is =
-    let so_far : AreTogether out base files [] [] = begins frames trace given in
-    subst (λ n. IsUnderway image script base files (record fore { t = n })) (sym is.t) (record {
-      written = record { frames = so_far.frames; trace = so_far.trace };
-      held = so_far.held ∙ ap (λ (o : OutFilesValue). three_files o.names base so_far.frames so_far.trace []) (sym is.out);
-      stands = record {
-        t = refl;
-        beam = sym is.beam;
-        memory = sym is.memory;
-        chips = is.chips;
-        picture = is.picture;
-        clx = sym is.clx;
-        text = record {
-          frames = ap (λ (o : OutFilesValue). so_far.frames ++ o.frames) is.out ∙ so_far.pixels_given;
-          given = ap (λ (o : OutFilesValue). o.given) is.out ∙ so_far.place;
-          trace = ap (λ (o : OutFilesValue). so_far.trace ++ o.trace) is.out ∙ so_far.lines_given;
-        };
-      };
-      run = record { running = λ n below. absurd (omega arith) };
-    })
-
--- one clock more
-IsUnderway-more : (image : List ℕ) (script : ScriptValue) (base files : Option Files) (left : List At) (old new : Foreground)
-    → IsUnderway image script base files old → due_events old.beam script.events ≡ due_events old.beam left → old.beam.frame < script.frames
-    → Makes (tick Pal left) old new → new.t ≡ old.t + 1 → new.out.names ≡ old.out.names → IsUnderway image script base files new
-unfolding state_at
-IsUnderway-more image script base files left old new so same going makes count names =
-    let s : State = state_at image script old.t in
-    let here : due_events s.beam script.events ≡ due_events s.beam left =
-    ap (λ b. due_events b script.events) so.stands.beam ∙ same ∙ ap (λ b. due_events b left) (sym so.stands.beam) in
-    let next : Stands new so.written (tick Pal left s) = makes so.written s so.stands in
-    let now : Stands new so.written (tick Pal script.events s) = subst (λ n. Stands new so.written n) (sym (tick-due script.events left s here)) next in
-    let one : new.t ≡ suc old.t = count ∙ add-one old.t in
-    subst (λ n. IsUnderway image script base files (record new { t = n })) (sym one) (record {
-      written = so.written;
-      held = so.held ∙ ap (λ ns. three_files ns base so.written.frames so.written.trace []) (sym names);
-      stands = subst (λ n. Stands (record new { t = n }) so.written (tick Pal script.events s)) one now;
-      run = record {
-        running = λ n below. more n old.t (λ m. (state_at image script m).beam.frame < script.frames) so.run.running
-            (subst (λ b. b.frame < script.frames) (sym so.stands.beam) going) below;
-      };
-    })
-  where
-    more : (n t : ℕ) (P : ℕ → Type 0) → ((m : ℕ) → m < t → P m) → P t → n < suc t → P n
-    more n t P below here lt = elim (cases_eq n t) [
-      | inl e ↦ (let s : t ≡ n = sym e in subst P s here)
-      | inr other ↦ below n
-          (let o : n ≡ t → ⊥ = other in omega arith)
-    ]
-
-pub IsInStep-start : (script : ScriptValue) (fore : Foreground) → IsRunnable script → fore.t ≡ 0 → fore.beam ≡ first_place
-    → fore.chip.newest ≡ 0 → IsInStep script script.events fore
-IsInStep-start script fore good count place newest =
-    subst (λ b. IsInStep script script.events (record fore { beam = b })) (sym place)
-    (subst (λ n. IsInStep script script.events (record fore { t = n; beam = first_place })) (sym count) (record {
-      screen = record { line = lit< {m = 0} {n = 313} tt; clock = lit< {m = 0} {n = 227} tt };
-      count = omega arith;
-      frame = omega (arith, good.least);
-      queue = record { frames = script.frames; queue = record { from = all_from script.events; order = good.order; limits = good.limits } };
-      time = omega (arith, newest);
-      same = λ b on later. refl;
-    }))
-  where
-    all_from : (events : List At) → AreFrom 0 events
-    all_from [] = tt
-    all_from (e ∷ events) = (omega arith, all_from events)
-
--- the turn of the loop: one clock more, and the events that are left then
-pub IsUnderway-tick : (image : List ℕ) (script : ScriptValue) (base files : Option Files) (left rest : List At) (old new : Foreground)
-    → IsInStep script left old → old.beam.frame < script.frames → Makes (tick Pal left) old new → HasNext left rest old new
-    → IsUnderway image script base files old → IsUnderway image script base files new
-IsUnderway-tick image script base files left rest old new step going makes next so =
-    IsUnderway-more image script base files left old new so (step.same old.beam step.screen (omega arith)) going makes next.count next.names
-
-pub IsInStep-tick : (script : ScriptValue) (left rest : List At) (old new : Foreground) → IsInStep script left old → old.beam.frame < script.frames
-    → HasNext left rest old new → IsInStep script rest new
-IsInStep-tick script left rest old new step going next = record {
-  screen = next.screen;
-  count = omega (arith, step.count, next.later, next.count);
-  frame = omega (arith, next.one);
-  queue = next.queue;
-  time = next.time;
-  same = λ b on later.
-      let old_later : place_of old.beam < place_of b = omega (arith, next.later) in
-      step.same b on (omega arith) ∙ next.same b on old_later;
-}
-
--- a flush
-pub IsUnderway-flush : (image : List ℕ) (script : ScriptValue) (base before after : Option Files) (old new : Foreground)
-    → Flushes old new before after → IsUnderway image script base before old → IsUnderway image script base after new
-unfolding StayTogether
-IsUnderway-flush image script base before after old new flushes so =
-    let s : State = state_at image script old.t in
-    let now : AreTogether new.out base after s.shown s.trace =
-    flushes.files base s.shown s.trace (together old so.written s base before so.stands so.held) in
-    let stands : Stands new (record { frames = now.frames; trace = now.trace }) s = record {
-      t = so.stands.t ∙ sym flushes.t;
-      beam = so.stands.beam ∙ sym flushes.beam;
-      memory = so.stands.memory ∙ sym flushes.memory;
-      chips = subst (λ c. IsChipsOf c s.chips) (sym flushes.chips) so.stands.chips;
-      picture = subst (λ p. IsPainterOf p s.picture) (sym flushes.picture) so.stands.picture;
-      clx = so.stands.clx ∙ sym flushes.clx;
-      text = record { frames = now.pixels_given; given = now.place; trace = now.lines_given };
-    } in
-    subst (λ n. IsUnderway image script base after (record new { t = n })) (sym flushes.t) (record {
-      written = record { frames = now.frames; trace = now.trace };
-      held = now.held;
-      stands = subst (λ n. Stands (record new { t = n }) (record { frames = now.frames; trace = now.trace }) s) flushes.t stands;
-      run = so.run;
-    })
-
-pub IsInStep-flush : (script : ScriptValue) (left : List At) (before after : Option Files) (old new : Foreground)
-    → Flushes old new before after → IsInStep script left old → IsInStep script left new
-IsInStep-flush script left before after old new flushes step =
-    subst (λ b. IsInStep script left (record new { beam = b })) (sym flushes.beam)
-    (subst (λ n. IsInStep script left (record new { t = n; beam = old.beam })) (sym flushes.t) (record {
-      screen = step.screen;
-      count = step.count;
-      frame = step.frame;
-      queue = step.queue;
-      time = subst (λ n. new.chip.newest ≤ n) flushes.t (flushes.time step.time);
-      same = step.same;
-    }))
-
--- where the run stops, each file has a part of its text
-pub HasParts-now : (image : List ℕ) (script : ScriptValue) (base files : Option Files) (fore : Foreground)
-    → IsUnderway image script base files fore → HasParts image script fore.out.names base files fore.t
-HasParts-now image script base files fore so = record {
-  run = so.run;
-  parts = record {
-    frames = so.written.frames;
-    trace = so.written.trace;
-    bytes = [];
-    frames_rest = fore.out.frames;
-    trace_rest = fore.out.trace;
-    bytes_rest = [];
-    held = so.held;
-    frames_part = so.stands.text.frames;
-    trace_part = so.stands.text.trace;
-    bytes_part = refl;
-  };
-}
-
-pub HasParts-refused : (image : List ℕ) (script : ScriptValue) (base before after : Option Files) (fore : Foreground)
-    → LeavesParts fore.out before after [] → IsUnderway image script base before fore → HasParts image script fore.out.names base after fore.t
+pub HasParts-refused : (base before after : Option Files) (fore : ForeValue) (seen : RasterValue) (out : OutFilesValue)
+    → LeavesParts out before after [] → IsUnderway base before fore seen out
+    → HasParts fore.run.image fore.run.script out.names base after fore.machine.t
 unfolding LeavesParts
-HasParts-refused image script base before after fore leaves so =
-    let s : State = state_at image script fore.t in
-    record { run = so.run; parts = leaves base s.shown s.trace (together fore so.written s base before so.stands so.held) }
-
--- the end
-pub IsEnd-here : (image : List ℕ) (script : ScriptValue) (base files : Option Files) (fore : Foreground) → fore.beam.frame ≡ script.frames
-    → IsUnderway image script base files fore → IsEnd image script fore.t
-IsEnd-here image script base files fore ended so = record {
-  ended = ap (λ b. b.frame) so.stands.beam ∙ ended;
-  running = so.run.running;
+HasParts-refused base before after fore seen out leaves is = record {
+  run = run_so_far fore is.first seen is.stands;
+  parts = parts_at fore.run is.first fore.machine.t out.names base after (gathered_before fore is.first seen is.stands)
+      (leaves base _ _ is.text);
 }
 
-pub HasFiles-end : (image : List ℕ) (script : ScriptValue) (base before after : Option Files) (fore : Foreground) → 1 ≤ script.frames
-    → fore.beam.frame ≡ script.frames
-    → fore.out.frames ≡ [] → fore.out.trace ≡ [] → Completes fore.out before after (memory_text fore.chip.words)
-    → IsUnderway image script base before fore → HasFiles image script fore.out.names base after
-unfolding Completes
-HasFiles-end image script base before after fore some ended frames trace completes so =
-    let s : State = state_at image script fore.t in
-    record {
-      clocks = fore.t;
-      end = IsEnd-here image script base before fore ended so;
-      run = so.run;
-      shown = frames_are_whole image script fore.t some (IsEnd-here image script base before fore ended so);
-      files = completes base s.shown s.trace frames trace (together fore so.written s base before so.stands so.held)
-          ∙ ap (λ words. three_files fore.out.names base (frames_text s.shown) (trace_text s.trace) (memory_text words)) (sym so.stands.memory);
-    }
-
-pub HasEndParts-end : (image : List ℕ) (script : ScriptValue) (base before after : Option Files) (fore : Foreground) → fore.beam.frame ≡ script.frames
-    → LeavesParts fore.out before after (memory_text fore.chip.words) → IsUnderway image script base before fore
-    → HasEndParts image script fore.out.names base after fore.t
-unfolding LeavesParts
-HasEndParts-end image script base before after fore ended leaves so =
-    let s : State = state_at image script fore.t in
-    record {
-      end = IsEnd-here image script base before fore ended so;
-      run = so.run;
-      parts = subst (λ words. HoldParts fore.out.names base after s.shown s.trace (memory_text words)) (sym so.stands.memory)
-          (leaves base s.shown s.trace (together fore so.written s base before so.stands so.held));
-    }
-
--- what a fault leaves, at a tick and at a flush
+-- what a fault leaves
 pub on_err : {T E : Type 0} (r : Result T E) (P : Type 0) → P → OnErr r P
 on_err (Ok v) P p = tt
 on_err (Err e) P p = p
 
-pub stop-tick : (script : ScriptValue) (before now : Option Files) (first old : Foreground) → old.out.names ≡ first.out.names
-    → Runs script first old before now → IsStopped script first before now
-stop-tick script before now first old names runs image base so =
-    subst (λ ns. (clocks : ℕ) × HasParts image script ns base now clocks) names
-    (old.t, HasParts-now image script base now old (runs image base so))
+abbrev RunParts : RunValue → OutNames → Option Files → Option Files → Type 0
+RunParts run names base files = (clocks : ℕ) × HasParts run.image run.script names base files clocks
 
-pub stop-flush : (script : ScriptValue) (before now after : Option Files) (first fore : Foreground) → fore.out.names ≡ first.out.names
-    → Runs script first fore before now → LeavesParts fore.out now after [] → IsStopped script first before after
-stop-flush script before now after first fore names runs leaves image base so =
-    subst (λ ns. (clocks : ℕ) × HasParts image script ns base after clocks) names
-    (fore.t, HasParts-refused image script base now after fore leaves (runs image base so))
+pub stop-advance : (before now : Option Files) (first old : ForeValue) (seen last : RasterValue) (out given : OutFilesValue)
+    → old.run ≡ first.run → given.names ≡ out.names → Runs first old seen last out given before now → IsStopped first seen out before now
+stop-advance before now first old seen last out given run names runs base is =
+    let parts : RunParts old.run given.names base now = (old.machine.t, HasParts-now base now old last given (runs base is)) in
+    subst (λ ns. RunParts first.run ns base now) names (subst (λ r. RunParts r given.names base now) run parts)
 
--- the end of a run and its stops
-pub StopsFinish-flush : (before after : Option Files) (fore : Foreground) → LeavesParts fore.out before after [] → StopsFinish fore before after
-StopsFinish-flush before after fore leaves image script base ended so =
-    LeavesPrefixes-parts image script _ base after fore.t (HasParts-refused image script base before after fore leaves so)
+pub stop-flush : (before now after : Option Files) (first fore : ForeValue) (seen last : RasterValue) (out given : OutFilesValue)
+    → fore.run ≡ first.run → given.names ≡ out.names → Runs first fore seen last out given before now → LeavesParts given now after []
+    → IsStopped first seen out before after
+stop-flush before now after first fore seen last out given run names runs leaves base is =
+    let parts : RunParts fore.run given.names base after = (fore.machine.t, HasParts-refused base now after fore last given leaves (runs base is)) in
+    subst (λ ns. RunParts first.run ns base after) names (subst (λ r. RunParts r given.names base after) run parts)
 
-end_parts : (before now after : Option Files) (old fore : Foreground) (image : List ℕ) (script : ScriptValue) (base : Option Files)
-    → Flushes old fore before now
-    → old.beam.frame ≡ script.frames → LeavesParts fore.out now after (memory_text fore.chip.words) → IsUnderway image script base before old
-    → HasEndParts image script old.out.names base after fore.t
-end_parts before now after old fore image script base flushes ended leaves so =
-    subst (λ ns. HasEndParts image script ns base after fore.t) flushes.names
-    (HasEndParts-end image script base now after fore (ap (λ b. b.frame) flushes.beam ∙ ended) leaves
-    (IsUnderway-flush image script base before now old fore flushes so))
+-- the end: all bands are gathered
+pub IsSettledRun-settled : (base files : Option Files) (old new : ForeValue) (seen after : RasterValue) (out given : OutFilesValue)
+    → ((first : ℕ) → IsForeUnderway old first seen → HasSettled old new first seen after out given)
+    → IsUnderway base files old seen out → IsSettledRun base files new given
+IsSettledRun-settled base files old new seen after out given settles is =
+    let so : HasSettled old new is.first seen after out given = settles is.first is.stands in
+    let t : ℕ = old.machine.t in
+    let text : AreTogether given base files (bytes_from old.run 0 is.first ++ tinted_range old.run seen.tint is.first t)
+    ((state_of old.run t).trace ++ []) = so.gives.text.text base files _ _ is.text in
+    let bytes : bytes_from old.run 0 is.first ++ tinted_range old.run seen.tint is.first t ≡ (state_of old.run t).shown =
+    joined old.run seen.tint is.first t so.gives.least is.plain ∙ sym (shown_to old.run t) in
+    let whole : AreTogether given base files (state_of old.run t).shown (state_of old.run t).trace =
+    subst (λ lines. AreTogether given base files (state_of old.run t).shown lines) (append-nil (state_of old.run t).trace)
+    (subst (λ pixels. AreTogether given base files pixels ((state_of old.run t).trace ++ [])) bytes text) in
+    record {
+      memory = so.settled.machine.memory;
+      end = so.settled.end;
+      text = subst (λ r. AreTogether given base files (state_of r new.machine.t).shown (state_of r new.machine.t).trace) (sym so.same)
+          (subst (λ n. AreTogether given base files (state_of old.run n).shown (state_of old.run n).trace) (sym so.clock) whole);
+    }
 
-pub StopsFinish-memory : (before now after : Option Files) (old fore : Foreground) → Flushes old fore before now
-    → LeavesParts fore.out now after (memory_text fore.chip.words) → StopsFinish old before after
-StopsFinish-memory before now after old fore flushes leaves image script base ended so =
-    LeavesPrefixes-end image script _ base after fore.t (end_parts before now after old fore image script base flushes ended leaves so)
+HasRun-end : (image : List ℕ) (script : ScriptValue) (clocks : ℕ) → IsEnd image script clocks → HasRun image script clocks
+HasRun-end image script clocks end = record { running = end.running }
 
-pub Finishes-all : (before now after : Option Files) (old fore : Foreground) → Flushes old fore before now → fore.out ≡ all_given old.out
-    → Completes fore.out now after (memory_text fore.chip.words) → Finishes old before after
-Finishes-all before now after old fore flushes empty completes image script base some ended so =
-    subst (λ ns. HasFiles image script ns base after) flushes.names
-    (HasFiles-end image script base now after fore some (ap (λ b. b.frame) flushes.beam ∙ ended) (ap (λ o. o.frames) empty) (ap (λ o. o.trace) empty) completes
-    (IsUnderway-flush image script base before now old fore flushes so))
+pub HasFiles-written : (base mid after : Option Files) (fore : ForeValue) (out : OutFilesValue) → 1 ≤ fore.run.script.frames
+    → Completes out mid after (memory_text fore.machine.chip.words) → IsWritten base mid fore out
+    → HasFiles fore.run.image fore.run.script out.names base after
+unfolding Completes
+HasFiles-written base mid after fore out some completes is =
+    let s : State = state_of fore.run fore.machine.t in
+    record {
+      clocks = fore.machine.t;
+      end = is.settled.end;
+      run = HasRun-end fore.run.image fore.run.script fore.machine.t is.settled.end;
+      shown = frames_are_whole fore.run.image fore.run.script fore.machine.t some is.settled.end;
+      files = completes base s.shown s.trace is.frames is.trace is.settled.text
+          ∙ ap (λ words. three_files out.names base (frames_text s.shown) (trace_text s.trace) (memory_text words)) (sym is.settled.memory);
+    }
+
+pub HasParts-flush : (base mid after : Option Files) (fore : ForeValue) (out : OutFilesValue) → LeavesParts out mid after []
+    → IsSettledRun base mid fore out → HasParts fore.run.image fore.run.script out.names base after fore.machine.t
+unfolding LeavesParts
+HasParts-flush base mid after fore out leaves is = record {
+  run = HasRun-end fore.run.image fore.run.script fore.machine.t is.end;
+  parts = leaves base _ _ is.text;
+}
+
+pub HasEndParts-written : (base mid after : Option Files) (fore : ForeValue) (out : OutFilesValue)
+    → LeavesParts out mid after (memory_text fore.machine.chip.words) → IsWritten base mid fore out
+    → HasEndParts fore.run.image fore.run.script out.names base after fore.machine.t
+unfolding LeavesParts
+HasEndParts-written base mid after fore out leaves is =
+    let s : State = state_of fore.run fore.machine.t in
+    record {
+      end = is.settled.end;
+      run = HasRun-end fore.run.image fore.run.script fore.machine.t is.settled.end;
+      parts = subst (λ words. HoldParts out.names base after s.shown s.trace (memory_text words)) (sym is.settled.memory)
+          (leaves base s.shown s.trace is.settled.text);
+    }
+
+-- the start: a foreground at reset, a raster without bands, and files that were created
+pub CanRun-start : (run : RunValue) (fore : ForeValue) (seen : RasterValue) → IsNew run fore → IsEmpty run seen → CanRun fore seen
+CanRun-start run fore seen new empty = record {
+  first = 0;
+  stands = new.fits seen empty.outstanding empty.next empty.bound;
+  plain = empty.plain;
+  fresh = new.fresh;
+}
+
+pub IsUnderway-start : (base files : Option Files) (run : RunValue) (fore : ForeValue) (seen : RasterValue) (out : OutFilesValue) → IsFresh out
+    → Begins out base files → IsNew run fore → IsEmpty run seen → IsUnderway base files fore seen out
+unfolding Begins bytes_from state_at reset
+IsUnderway-start base files run fore seen out fresh begins new empty = record {
+  first = 0;
+  stands = new.fits seen empty.outstanding empty.next empty.bound;
+  plain = empty.plain;
+  fresh = new.fresh;
+  text = subst (λ t. AreTogether out base files [] (state_of fore.run t).trace) (sym new.clock) (begins fresh.frames fresh.trace fresh.given);
+}
+
+-- a run that was cut, at each place
+pub IsCut-clocks : (fore : ForeValue) (seen : RasterValue) (out : OutFilesValue) (before after : Option Files) → IsStopped fore seen out before after
+    → IsCut fore seen out before after
+IsCut-clocks fore seen out before after stopped base is =
+    let parts = stopped base is in
+    LeavesPrefixes-parts fore.run.image fore.run.script out.names base after parts.0 parts.1
+
+pub IsCut-settle : (old fore : ForeValue) (seen last : RasterValue) (out given : OutFilesValue) (before now : Option Files) → fore.run ≡ old.run
+    → given.names ≡ out.names → Runs old fore seen last out given before now → IsCut old seen out before now
+IsCut-settle old fore seen last out given before now run names runs base is =
+    let parts = stop-advance before now old fore seen last out given run names runs base is in
+    LeavesPrefixes-parts old.run.image old.run.script out.names base now parts.0 parts.1
+
+abbrev CutParts : RunValue → OutNames → Option Files → Option Files → Type 0
+CutParts run names base files = LeavesPrefixes run.image run.script names base files
+
+-- the run has come to its end, and all is settled
+pub record IsSettling (old new : ForeValue) (seen after : RasterValue) (out given : OutFilesValue) (before mid : Option Files) : Type 0 where
+  pub run : new.run ≡ old.run
+  pub names : given.names ≡ out.names
+  pub settled : (base : Option Files) → IsUnderway base before old seen out → IsSettledRun base mid new given
+
+pub IsSettling-settled : (old fore new : ForeValue) (seen last after : RasterValue) (out given settled : OutFilesValue) (before mid : Option Files)
+    → fore.run ≡ old.run → new.run ≡ fore.run → given.names ≡ out.names → settled.names ≡ given.names
+    → Runs old fore seen last out given before mid
+    → ((first : ℕ) → IsForeUnderway fore first last → HasSettled fore new first last after given settled)
+    → IsSettling old new seen after out settled before mid
+IsSettling-settled old fore new seen last after out given settled before mid first_run run first_names names runs settles = record {
+  run = run ∙ first_run;
+  names = names ∙ first_names;
+  settled = λ base is. IsSettledRun-settled base mid fore new last after given settled settles (runs base is);
+}
+
+pub IsCut-flush : (old new : ForeValue) (seen last : RasterValue) (out settled : OutFilesValue) (before mid after : Option Files)
+    → IsSettling old new seen last out settled before mid → LeavesParts settled mid after [] → IsCut old seen out before after
+IsCut-flush old new seen last out settled before mid after so leaves base is =
+    let parts : HasParts new.run.image new.run.script settled.names base after new.machine.t = HasParts-flush base mid after new settled leaves (so.settled base is) in
+    let cut : CutParts new.run settled.names base after =
+    LeavesPrefixes-parts new.run.image new.run.script settled.names base after new.machine.t parts in
+    subst (λ ns. CutParts old.run ns base after) so.names (subst (λ r. CutParts r settled.names base after) so.run cut)
+
+-- a flush that has nothing to append
+pub StayTogether-none : (out : OutFilesValue) (files : Option Files) → StayTogether out out files files
+unfolding StayTogether
+StayTogether-none out files base pixels lines so_far = so_far
+
+-- all is appended
+pub Ends-flushed : (old new : ForeValue) (seen last : RasterValue) (out settled given : OutFilesValue) (before mid after : Option Files)
+    → IsSettling old new seen last out settled before mid → StayTogether settled given mid after → given ≡ all_given settled
+    → Ends old new seen out given before after
+unfolding StayTogether
+Ends-flushed old new seen last out settled given before mid after so stays empty base is =
+    let at : IsSettledRun base mid new settled = so.settled base is in
+    record {
+      settled = record { memory = at.memory; end = at.end; text = stays base _ _ at.text };
+      frames = ap (λ o. o.frames) empty;
+      trace = ap (λ o. o.trace) empty;
+    }
+
+-- the mark of a raster stays
+pub mark_advanced : (old new : ForeValue) (seen after : RasterValue) (out given : OutFilesValue) → Advances old new seen after out given
+    → CanRun old seen → after.mark ≡ seen.mark
+mark_advanced old new seen after out given advances can =
+    let so : HasAdvanced old new can.first seen after out given = advances can.first can.stands in
+    so.gives.mark.mark
+
+pub mark_part : (old : ForeValue) (seen after : RasterValue) (out given : OutFilesValue) → GivesPart old seen after out given → CanRun old seen
+    → after.mark ≡ seen.mark
+mark_part old seen after out given part can =
+    let so : HasGivenPart old.run can.first seen after out given = part can.first can.stands in
+    so.mark.mark
+
+pub mark_settled : (old new : ForeValue) (seen after : RasterValue) (out given : OutFilesValue) → Settles old new seen after out given → CanRun old seen
+    → after.mark ≡ seen.mark
+mark_settled old new seen after out given settles can =
+    let so : HasSettled old new can.first seen after out given = settles can.first can.stands in
+    so.gives.mark.mark
+
+-- from a run that goes on to one at whatever raster without bands
+empty_raster : RasterValue
+empty_raster = record { outstanding = []; next = 0; bound = None; mark = 0; tint = 0 }
+
+is_empty : (run : RunValue) → IsEmpty run empty_raster
+unfolding empty_raster
+is_empty run = record { outstanding = refl; next = refl; bound = tt; plain = refl }
+
+pub IsCutFromStart-now : (run : RunValue) (fore : ForeValue) (out : OutFilesValue) (files : Option Files) → IsNew run fore
+    → IsCutFromStart run fore out files files
+IsCutFromStart-now run fore out files new base begins =
+    let parts : HasParts fore.run.image fore.run.script out.names base files fore.machine.t =
+    HasParts-now base files fore empty_raster out (begins empty_raster (is_empty run)) in
+    subst (λ r. CutParts r out.names base files) new.run_of
+    (LeavesPrefixes-parts fore.run.image fore.run.script out.names base files fore.machine.t parts)
+
+pub IsCutFromStart-cut : (run : RunValue) (fore : ForeValue) (seen : RasterValue) (out : OutFilesValue) (before after : Option Files) → IsNew run fore
+    → IsEmpty run seen → IsCut fore seen out before after → IsCutFromStart run fore out before after
+IsCutFromStart-cut run fore seen out before after new empty cut base begins =
+    subst (λ r. CutParts r out.names base after) new.run_of (cut base (begins seen empty))
+
+pub EndsFromStart-ends : (run : RunValue) (old new : ForeValue) (seen : RasterValue) (out given : OutFilesValue) (before after : Option Files)
+    → IsEmpty run seen → Ends old new seen out given before after → EndsFromStart run old new out given before after
+EndsFromStart-ends run old new seen out given before after empty ends base begins = ends base (begins seen empty)
+
+abbrev RunFiles : RunValue → OutNames → Option Files → Option Files → Type 0
+RunFiles run names base files = HasFiles run.image run.script names base files
 
 -- the whole run and its stops
 pub LeavesPrefixes-create_refused : (image : List ℕ) (script : ScriptValue) (names : OutNames) (old new : Outside) (f : WriteFault)
@@ -348,52 +379,91 @@ LeavesPrefixes-create_refused image script names old new (Failed file) made =
     LeavesPrefixes-all image script names old.files new.files (inl (made.0, made.3))
 LeavesPrefixes-create_refused image script names old new NoRoomToWrite made = LeavesPrefixes-all image script names old.files new.files (inl made)
 
-pub HasCreated-all : (names : OutNames) (old new : Outside) → CreateAnswers names old new (Ok tt) → HasCreated names old.files new.files
-HasCreated-all names old new made = (3, made)
+begins_created : (base mid : Option Files) (run : RunValue) (fore : ForeValue) (out created : OutFilesValue) → IsFresh out → created ≡ out
+    → Begins created base mid → IsNew run fore → StartsRun run base mid fore created
+begins_created base mid run fore out created fresh same begins new seen empty =
+    IsUnderway-start base mid run fore seen created (subst IsFresh (sym same) fresh) begins new empty
 
--- from the creates to the end of a whole run
--- the machine as it was made, once the files were created
-pub IsReset-created : (image : List ℕ) (cpu : Bool) (out created : OutFilesValue) (fore : Foreground) → IsReset image cpu out fore → created ≡ fore.out
-    → IsReset image cpu out (record fore { out = created })
-IsReset-created image cpu out created fore reset same = record {
-  t = reset.t;
-  beam = reset.beam;
-  memory = reset.memory;
-  newest = reset.newest;
-  chips = reset.chips;
-  picture = reset.picture;
-  clx = reset.clx;
-  out = same ∙ reset.out;
+pub HasFiles-run : (base mid now after : Option Files) (run : RunValue) (fore last : ForeValue) (out created given : OutFilesValue)
+    → IsFresh out → created ≡ out → Begins created base mid → IsNew run fore → 1 ≤ run.script.frames
+    → EndsFromStart run fore last created given mid now → last.run ≡ fore.run → given.names ≡ created.names
+    → Completes given now after (memory_text last.machine.chip.words) → HasFiles run.image run.script out.names base after
+HasFiles-run base mid now after run fore last out created given fresh same begins new some ends kept names completes =
+    let written : IsWritten base now last given = ends base (begins_created base mid run fore out created fresh same begins new) in
+    let is : last.run ≡ run = kept ∙ new.run_of in
+    let has : RunFiles last.run given.names base after =
+    HasFiles-written base now after last given (subst (λ (r : RunValue). 1 ≤ r.script.frames) (sym is) some) completes written in
+    subst (λ ns. RunFiles run ns base after) (names ∙ ap (λ o. o.names) same) (subst (λ r. RunFiles r given.names base after) is has)
+
+pub LeavesPrefixes-run : (base mid after : Option Files) (run : RunValue) (fore : ForeValue) (out created : OutFilesValue)
+    → IsFresh out → created ≡ out → Begins created base mid → IsNew run fore → IsCutFromStart run fore created mid after
+    → LeavesPrefixes run.image run.script out.names base after
+LeavesPrefixes-run base mid after run fore out created fresh same begins new cut =
+    subst (λ o. CutParts run o.names base after) same (cut base (begins_created base mid run fore out created fresh same begins new))
+
+pub LeavesPrefixes-memory : (base mid now after : Option Files) (run : RunValue) (fore last : ForeValue) (out created given : OutFilesValue)
+    → IsFresh out → created ≡ out → Begins created base mid → IsNew run fore
+    → EndsFromStart run fore last created given mid now → last.run ≡ fore.run → given.names ≡ created.names
+    → LeavesParts given now after (memory_text last.machine.chip.words) → LeavesPrefixes run.image run.script out.names base after
+LeavesPrefixes-memory base mid now after run fore last out created given fresh same begins new ends kept names leaves =
+    let written : IsWritten base now last given = ends base (begins_created base mid run fore out created fresh same begins new) in
+    let parts : HasEndParts last.run.image last.run.script given.names base after last.machine.t = HasEndParts-written base now after last given leaves written in
+    let cut : CutParts last.run given.names base after =
+    LeavesPrefixes-end last.run.image last.run.script given.names base after last.machine.t parts in
+    subst (λ ns. CutParts run ns base after) (names ∙ ap (λ o. o.names) same)
+    (subst (λ r. CutParts r given.names base after) (kept ∙ new.run_of) cut)
+
+-- the names of the files stay
+pub names_advanced : (old new : ForeValue) (seen after : RasterValue) (out given : OutFilesValue) → Advances old new seen after out given
+    → CanRun old seen → given.names ≡ out.names
+names_advanced old new seen after out given advances can =
+    let so : HasAdvanced old new can.first seen after out given = advances can.first can.stands in
+    so.gives.text.names
+
+pub names_settled : (old new : ForeValue) (seen after : RasterValue) (out given : OutFilesValue) → Settles old new seen after out given → CanRun old seen
+    → given.names ≡ out.names
+names_settled old new seen after out given settles can =
+    let so : HasSettled old new can.first seen after out given = settles can.first can.stands in
+    so.gives.text.names
+
+-- the clocks that are left grow fewer
+clock_below : (fore : ForeValue) (first : ℕ) (seen : RasterValue) → IsForeUnderway fore first seen → fore.machine.beam.frame < fore.run.script.frames
+    → fore.machine.t < fore.run.script.frames * 71051
+clock_below fore first seen is going = omega (arith, is.count, is.screen.line, is.screen.clock)
+
+not_done : (frame frames : ℕ) → frame ≤ frames → (frame == frames) ≡ false → frame < frames
+not_done frame frames le not = grind (arith, nat_tests)
+
+pub fewer_clocks : (old new : ForeValue) (seen : RasterValue) (done : Bool) → CanRun old seen → done ≡ is_done old → done ≡ false → new.run ≡ old.run
+    → new.machine.t ≡ old.machine.t + 1
+    → new.run.script.frames * 71051 - new.machine.t < old.run.script.frames * 71051 - old.machine.t
+fewer_clocks old new seen done can is not run count =
+    let going : old.machine.beam.frame < old.run.script.frames = not_done _ _ can.stands.frame (sym is ∙ not) in
+    let below : old.machine.t < old.run.script.frames * 71051 = clock_below old can.first seen can.stands going in
+    let same : new.run.script.frames ≡ old.run.script.frames = ap (λ (r : RunValue). r.script.frames) run in
+    omega (arith, below, same, count)
+
+-- a count that has risen since later has risen since before
+rose_later : (a b c : ℕ) → a ≤ b → Rose b c → Rose a c
+rose_later a b c le rose = omega arith
+
+-- a fault of the last call is one of all of them
+pub cause_later : (a b c : Outside) (f : WriteFault) → OnlyWrites a b → OnlyWrites b c → (NamesFile f → Rose b.write_faults c.write_faults)
+    → IsWrite (of_write f) → Rose a.write_faults c.write_faults
+cause_later a b c (Failed file) first second cause is = rose_later a.write_faults b.write_faults c.write_faults first.write_faults (cause tt)
+cause_later a b c NoRoomToWrite first second cause is = absurd is
+
+pub cause_err : {T : Type 0} (r : Result T RunFault) (a b c : Outside) (f : WriteFault) → IsErrAnd r (λ x. x ≡ of_write f) → OnlyWrites a b
+    → OnlyWrites b c → (NamesFile f → Rose b.write_faults c.write_faults) → IfErr r (λ fault. IsWrite fault → Rose a.write_faults c.write_faults)
+cause_err (Ok v) a b c f is first second cause = tt
+cause_err (Err x) a b c f is first second cause = λ write. cause_later a b c f first second cause (subst IsWrite is write)
+
+-- a new crew is a raster without bands
+pub IsEmpty-new : (run : RunValue) (seen : RasterValue)
+    → seen ≡ record { outstanding = []; next = 0; bound = Some run; mark = seen.mark; tint = 0 } → IsEmpty run seen
+IsEmpty-new run seen is = record {
+  outstanding = ap (λ (s : RasterValue). s.outstanding) is;
+  next = ap (λ (s : RasterValue). s.next) is;
+  bound = subst (λ b. Takes b run) (sym (ap (λ (s : RasterValue). s.bound) is)) refl;
+  plain = ap (λ (s : RasterValue). s.tint) is;
 }
-
-begun : (image : List ℕ) (script : ScriptValue) (base mid : Option Files) (out : OutFilesValue) (fore : Foreground) → IsFresh out
-    → Begins fore.out base mid → IsReset image script.cpu out fore → IsUnderway image script base mid fore
-begun image script base mid out fore fresh begins reset =
-    IsUnderway-start image script base mid out fore fresh.frames fresh.trace fresh.given (subst (λ o. Begins o base mid) reset.out begins) reset
-
-named : (image : List ℕ) (cpu : Bool) (out : OutFilesValue) (fore : Foreground) → IsReset image cpu out fore → fore.out.names ≡ out.names
-named image cpu out fore reset = ap (λ o. o.names) reset.out
-
-pub run-stopped : (image : List ℕ) (script : ScriptValue) (base mid new : Option Files) (out : OutFilesValue) (fore : Foreground)
-    → IsFresh out → Begins fore.out base mid → IsReset image script.cpu out fore → IsStopped script fore mid new
-    → LeavesPrefixes image script out.names base new
-run-stopped image script base mid new out fore fresh begins reset stopped =
-    let parts = stopped image base (begun image script base mid out fore fresh begins reset) in
-    subst (λ ns. LeavesPrefixes image script ns base new) (named image script.cpu out fore reset)
-    (LeavesPrefixes-parts image script _ base new parts.0 parts.1)
-
-pub run-done : (image : List ℕ) (script : ScriptValue) (base mid before new : Option Files) (out : OutFilesValue) (fore last : Foreground)
-    (r : Result (Unit {0}) RunFault) → IsRunnable script → IsFresh out → Begins fore.out base mid → IsReset image script.cpu out fore
-    → Runs script fore last mid before → last.beam.frame ≡ script.frames → last.out.names ≡ fore.out.names
-    → OnOk r (Finishes last before new) → OnOk r (HasFiles image script out.names base new)
-run-done image script base mid before new out fore last r good fresh begins reset runs ended names finishes =
-    on_ok_weaker r (λ finish. subst (λ ns. HasFiles image script ns base new) (names ∙ named image script.cpu out fore reset)
-    (finish image script base good.least ended (runs image base (begun image script base mid out fore fresh begins reset)))) finishes
-
-pub run-finish-stopped : (image : List ℕ) (script : ScriptValue) (base mid before new : Option Files) (out : OutFilesValue) (fore last : Foreground)
-    (r : Result (Unit {0}) RunFault) → IsFresh out → Begins fore.out base mid → IsReset image script.cpu out fore → Runs script fore last mid before
-    → last.beam.frame ≡ script.frames → last.out.names ≡ fore.out.names → OnErr r (StopsFinish last before new)
-    → OnErr r (LeavesPrefixes image script out.names base new)
-run-finish-stopped image script base mid before new out fore last r fresh begins reset runs ended names stops =
-    on_err_weaker r (λ stop. subst (λ ns. LeavesPrefixes image script ns base new) (names ∙ named image script.cpu out fore reset)
-    (stop image script base ended (runs image base (begun image script base mid out fore fresh begins reset)))) stops

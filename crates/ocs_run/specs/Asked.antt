@@ -1,5 +1,5 @@
 -- What a reader of the command line answers.
-use Rattle.std.specs.Prelude.{◌≡◌, ◌≢◌, Option, Some, None}
+use Rattle.std.specs.Prelude.{◌≡◌, ◌≤◌, ℕ, ◌≢◌, Option, Some, None}
 use Rattle.ocs_run.specs.Order.{OrderValue, RunWordsValue}
 use Rattle.ocs_run.specs.Words.{SceneOrderValue, CommandValue, Run as RunValue, Gen as GenValue}
 use Rattle.ocs_run.specs.declared.order.Order.{Order}
@@ -66,3 +66,17 @@ IsCommand command (Some c) = command ≡ Some (command_value c)
 abbrev pub WritesApart : Command → Type 0
 WritesApart (Run order) = AreApart order
 WritesApart (Gen scene) = Unit {0}
+
+-- a band has 1 to 313 lines
+pub record IsHeight (band : ℕ) : Type 0 where
+  pub least : 1 ≤ band
+  pub most : band ≤ 313
+
+abbrev pub HasHeight : Command → Type 0
+HasHeight (Run order) = IsHeight order.band
+HasHeight (Gen scene) = IsHeight scene.band
+
+-- at most 32 workers draw
+abbrev pub HasFewWorkers : Command → Type 0
+HasFewWorkers (Run order) = order.workers ≤ 32
+HasFewWorkers (Gen scene) = scene.workers ≤ 32

@@ -1,15 +1,12 @@
 pub mod Asked
 pub mod Command
-pub mod Chips
 pub mod Fault
 pub mod Inputs
 pub mod Order
-pub mod Out
 pub mod Prefix
 pub mod Run
 pub mod SceneAnswers
 pub mod SceneSummary
-pub mod Steps
 pub mod Texts
 pub mod Top
 pub mod Underway

@@ -1,53 +1,76 @@
 //! The command `run`: the inputs read and tested, and the run.
 
-ghost use Rattle.std.specs.Prelude.{◌≡◌, true, string_bytes, IfOk, IfErr};
+ghost use Rattle.std.specs.Prelude.{◌≡◌, ◌≤◌, true, string_bytes, IfOk, IfErr};
 ghost use Rattle.ocs_base.specs.Image.{is_image};
 ghost use Rattle.ocs_base.specs.Limits.{IsRunnable};
-ghost use Rattle.ocs_run.specs.Asked.{value_of, AreApart};
+ghost use Rattle.ocs_run.specs.Asked.{value_of, AreApart, IsHeight};
 ghost use Rattle.ocs_run.specs.Command.{OrderAnswers, out_names, IsOutOf, RunAnswers, KeepsSaid};
 
 use crate::fault::Fault;
 use crate::inputs::{read_image, read_script_file};
 use crate::order::Order;
-use crate::run::run_files;
+use crate::run::{Drawing, run_files};
+use band_log::Run;
+use crew::Gate;
 use ocs_base::Script;
 use ocs_io::Place;
 use out_files::OutFiles;
 use std::alloc::Global;
+use std::sync::Wait;
+use std::thread::Threads;
 
 /// Does what an order asks for: the image is read and tested, then the script, and then it is run.
 #[tactic(auto, using(crate::proofs::PrefixLaws::prefixes_kept))]
-pub fn run_order<P: Place>(alloc: Global, order: &Order<'_>, place: &mut P) -> Result<(), Fault>
+pub fn run_order<
+    R: Threads + Wait + Clone + Drop + Send + Sync + 'static,
+    P: Place,
+    G: Gate + Drop + Send + Sync + 'static,
+>(rt: &R, alloc: Global, order: &Order<'_>, gate: G, place: &mut P) -> Result<(), Fault>
     requires image { P.readable place.old order.now.image.now }
     requires script { P.readable place.old order.now.script.now }
     requires apart { AreApart order.now }
+    requires height { IsHeight order.now.band }
+    requires few { order.now.workers ≤ 32 }
     ensures answer { OrderAnswers (value_of order.now) (P.outside place.old)
         (P.outside place.new) result }
     ensures said { KeepsSaid (P.outside place.old) (P.outside place.new) }
 {
     let image = read_image(alloc, order.image, place)?;
     let script = read_script_file(alloc, order.script, place)?;
-    run_inputs(alloc, order, &image, &script, place)
+    run_inputs(rt, alloc, order, gate, image, script, place)
 }
 
 /// Runs a good script over a good image.
 #[tactic(auto, using(crate::proofs::PrefixLaws::prefixes_kept))]
-fn run_inputs<P: Place>(
+fn run_inputs<
+    R: Threads + Wait + Clone + Drop + Send + Sync + 'static,
+    P: Place,
+    G: Gate + Drop + Send + Sync + 'static,
+>(
+    rt: &R,
     alloc: Global,
     order: &Order<'_>,
-    image: &[u8],
-    script: &Script,
+    gate: G,
+    image: Vec<u8>,
+    script: Script,
     place: &mut P,
 ) -> Result<(), Fault>
-    requires image { is_image image.now ≡ true }
-    requires script { IsRunnable script.now }
+    requires image { is_image image.items ≡ true }
+    requires script { IsRunnable script }
     requires apart { AreApart order.now }
-    ensures answer { RunAnswers (value_of order.now) image.now script.now (P.outside place.old)
+    requires height { IsHeight order.now.band }
+    requires few { order.now.workers ≤ 32 }
+    ensures answer { RunAnswers (value_of order.now) image.items script (P.outside place.old)
         (P.outside place.new) result }
     ensures said { KeepsSaid (P.outside place.old) (P.outside place.new) }
 {
     let out = out_files(alloc, order)?;
-    run_files(alloc, image, script, out, place)?;
+    let run = Run::new(image, script, order.band as u16);
+    let drawing = Drawing {
+        workers: order.workers as u8,
+        gate,
+    };
+    run_files(rt, alloc, drawing, run, out, place)?;
     Ok(())
 }
 

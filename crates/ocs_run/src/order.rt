@@ -2,7 +2,7 @@
 
 ghost use Rattle.std.specs.Prelude.{◌≡◌, ◌<◌, ◌≤◌, map, length, string_bytes, IfSome};
 ghost use Rattle.ocs_run.specs.Order.{order_of, order_from, run_words_of, is_new as new_name, are_names as names_of, band_of, workers_of};
-ghost use Rattle.ocs_run.specs.Asked.{AreApart, IsOrder, AreRunWords, words_value};
+ghost use Rattle.ocs_run.specs.Asked.{AreApart, IsHeight, IsOrder, AreRunWords, words_value};
 
 use ocs_io::dec;
 
@@ -35,6 +35,8 @@ struct RunWords<'a> {
 pub fn read_order(words: &[String]) -> Option<Order<'_>>
     ensures order { IsOrder (order_of (map string_bytes words.now)) result }
     ensures apart { IfSome result AreApart }
+    ensures height { IfSome result (λ order. IsHeight order.band) }
+    ensures few { IfSome result (λ order. order.workers ≤ 32) }
 {
     match run_words(words) {
         Some(words) => order_in(words),
@@ -67,6 +69,8 @@ fn run_words(words: &[String]) -> Option<RunWords<'_>>
 fn order_in(words: RunWords<'_>) -> Option<Order<'_>>
     ensures order { IsOrder (order_from (words_value words.entry)) result }
     ensures apart { IfSome result AreApart }
+    ensures height { IfSome result (λ order. IsHeight order.band) }
+    ensures few { IfSome result (λ order. order.workers ≤ 32) }
 {
     let RunWords {
         image,
@@ -121,7 +125,8 @@ fn is_new(name: &str, others: &[&str]) -> bool
 
 /// The number of lines of a band.
 pub fn read_band(text: &str) -> Option<u64>
-    ensures { result ≡ band_of text.now }
+    ensures value { result ≡ band_of text.now }
+    ensures height { IfSome result IsHeight }
 {
     let band = dec(text.as_bytes())?;
     if (1..=313).contains(&band) {
@@ -133,7 +138,8 @@ pub fn read_band(text: &str) -> Option<u64>
 
 /// The number of workers.
 pub fn read_workers(text: &str) -> Option<u64>
-    ensures { result ≡ workers_of text.now }
+    ensures value { result ≡ workers_of text.now }
+    ensures few { IfSome result (λ workers. workers ≤ 32) }
 {
     let workers = dec(text.as_bytes())?;
     if workers <= 32 { Some(workers) } else { None }

@@ -1,107 +1,239 @@
 //! A run: the clocks from reset to the last of the script's frames, and the files.
 
-ghost use Rattle.std.specs.Prelude.{◌≡◌, ◌≤◌, true, OnOk, OnErr, IfErr};
+ghost use Rattle.std.specs.Prelude.{◌≡◌, ◌≤◌, ◌%◌, [], true, OnOk, OnErr, IfOk, IfErr};
+ghost use Rattle.std.specs.Arc.{arc_value};
+ghost use Rattle.ocs_run.specs.declared.fault.RunFault.TheVariants as RunFault;
 ghost use Rattle.ocs_io.specs.Place.{Rose, OnlyWrites, KeepsNames};
-ghost use Rattle.ocs_base.specs.Image.{is_image};
-ghost use Rattle.ocs_base.specs.Limits.{IsRunnable};
 ghost use Rattle.out_files.specs.Answers.{AreGrowable, NamesFile};
-ghost use Rattle.out_files.specs.Together.{Completes, LeavesParts};
+ghost use Rattle.out_files.specs.OutFiles.{all_given};
+ghost use Rattle.out_files.specs.Together.{Completes, LeavesParts, StayTogether};
 ghost use Rattle.serial_model.specs.MemoryText.{memory_text};
+ghost use Rattle.crew.specs.Crew.{crew_seen};
+ghost use Rattle.foreground.specs.Fore.{is_done, IsNew};
 ghost use Rattle.ocs_run.specs.Fault.{IsWrite};
 ghost use Rattle.ocs_run.specs.Prefix.{LeavesPrefixes};
 ghost use Rattle.ocs_run.specs.Run.{HasFiles};
-ghost use Rattle.ocs_run.specs.Underway.{IsInStep, Runs, IsStopped, IsFresh, Finishes, StopsFinish};
+ghost use Rattle.ocs_run.specs.Underway.{CanRun, Runs, IsStopped, IsFresh, Ends, IsCut, EndsFromStart, IsCutFromStart};
 
 use crate::fault::RunFault;
-use crate::foreground::Foreground;
-use ocs_base::Script;
+use band_log::{Raster, Run};
+use crew::{Crew, Gate, with_crew};
+use foreground::Fore;
+use ocs_base::{Beam, Script};
 use ocs_io::Place;
 use out_files::{OutFiles, WriteFault};
 use std::alloc::Global;
+use std::sync::{Arc, Wait};
+use std::thread::Threads;
 
-/// Runs the clocks up to the first state whose frame is the script's number of frames.
-fn run_clocks<P: Place>(
-    fore: &mut Foreground,
-    script: &Script,
+/// Who draws: so many workers, at most 32, and the gate that is called before each band is drawn.
+#[derive(Drop)]
+pub struct Drawing<G> {
+    pub workers: u8,
+    pub gate: G,
+}
+
+/// Runs the script over the image, in bands of `height` lines that so many workers draw, and writes
+/// the three files, which it creates once the machine is made. Without a fault they are the texts of
+/// the run, whole; after one each of them is as before or has a part of its text. The gate is called
+/// before each band is drawn. It may wait.
+pub fn run_files<
+    R: Threads + Wait + Clone + Drop + Send + Sync + 'static,
+    P: Place,
+    G: Gate + Drop + Send + Sync + 'static,
+>(
+    rt: &R,
+    alloc: Global,
+    drawing: Drawing<G>,
+    run: Run,
+    out: OutFiles,
     place: &mut P,
 ) -> Result<(), RunFault>
-    requires growable { AreGrowable (P.growable place.old) fore.old.out.names }
-    requires step { IsInStep script.now script.now.events fore.old }
-    requires frames { script.now.frames ≤ 1000 }
-    ensures runs { OnOk result (Runs script.now fore.old fore.new (P.outside place.old).files
+    requires workers { drawing.workers ≤ 32 }
+    requires fresh { IsFresh out }
+    ensures done { OnOk result (HasFiles run.image run.script out.names (P.outside place.old).files
         (P.outside place.new).files) }
-    ensures ended { OnOk result (fore.new.beam.frame ≡ script.now.frames) }
-    ensures out { OnOk result (fore.new.out.names ≡ fore.old.out.names) }
-    ensures stopped { OnErr result (IsStopped script.now fore.old (P.outside place.old).files
-        (P.outside place.new).files) }
+    ensures stopped { OnErr result (LeavesPrefixes run.image run.script out.names
+        (P.outside place.old).files (P.outside place.new).files) }
+    ensures kept { OnlyWrites (P.outside place.old) (P.outside place.new) }
+    ensures cause { IfErr result (λ fault. IsWrite fault
+        → Rose (P.outside place.old).write_faults (P.outside place.new).write_faults) }
+{
+    let _good = run.script();
+    let run = share(alloc, run)?;
+    let mut fore = Fore::new(alloc, shared(&run)?)?;
+    let mut out = out;
+    out.create(place)?;
+    draw_with_crew(rt, alloc, drawing, run, &mut fore, &mut out, place)?;
+    write_memory(fore, &mut out, place)?;
+    Ok(())
+}
+
+/// Runs all clocks of a foreground at reset, whose bands a crew draws.
+fn draw_with_crew<
+    R: Threads + Wait + Clone + Drop + Send + Sync + 'static,
+    P: Place,
+    G: Gate + Drop + Send + Sync + 'static,
+>(
+    rt: &R,
+    alloc: Global,
+    drawing: Drawing<G>,
+    run: Arc<Run>,
+    fore: &mut Fore,
+    out: &mut OutFiles,
+    place: &mut P,
+) -> Result<(), RunFault>
+    requires workers { drawing.workers ≤ 32 }
+    requires growable { AreGrowable (P.growable place.old) out.old.names }
+    requires new { IsNew (arc_value run) fore.old }
+    ensures done { OnOk result (EndsFromStart (arc_value run) fore.old fore.new out.old out.new
+        (P.outside place.old).files (P.outside place.new).files) }
+    ensures stopped { OnErr result (IsCutFromStart (arc_value run) fore.old out.old
+        (P.outside place.old).files (P.outside place.new).files) }
+    ensures run { OnOk result (fore.new.run ≡ fore.old.run) }
+    ensures out { OnOk result (out.new.names ≡ out.old.names) }
     ensures kept { OnlyWrites (P.outside place.old) (P.outside place.new) }
     ensures cause { IfErr result (λ fault. IsWrite fault
         → Rose (P.outside place.old).write_faults (P.outside place.new).write_faults) }
     ensures names { KeepsNames (P.readable place.old) (P.growable place.old) (P.readable place.new)
         (P.growable place.new) }
 {
-    let mut left = script.events();
-    while fore.beam.frame < script.frames() {
-        left = fore.tick(left)?;
-        fore.flush_lines(place)?;
+    let Drawing { workers, gate } = drawing;
+    let mut body = |crew: &mut Crew<R, G>| -> Result<(), RunFault>
+        requires growable { AreGrowable (P.growable place.now) out.now.names }
+        requires able { CanRun fore.now (crew_seen crew.old) }
+        ensures done { OnOk result (Ends fore.entry.now fore.exit.now (crew_seen crew.old)
+            out.entry.now out.exit.now (P.outside place.entry.now).files
+            (P.outside place.exit.now).files) }
+        ensures stopped { OnErr result (IsCut fore.entry.now (crew_seen crew.old) out.entry.now
+            (P.outside place.entry.now).files (P.outside place.exit.now).files) }
+        ensures run { OnOk result (fore.exit.now.run ≡ fore.entry.now.run) }
+        ensures out { OnOk result (out.exit.now.names ≡ out.entry.now.names) }
+        ensures mark { (crew_seen crew.new).mark ≡ (crew_seen crew.old).mark }
+        ensures kept { OnlyWrites (P.outside place.entry.now) (P.outside place.exit.now) }
+        ensures cause { IfErr result (λ fault. IsWrite fault
+            → Rose (P.outside place.entry.now).write_faults
+            (P.outside place.exit.now).write_faults) }
+        ensures names { KeepsNames (P.readable place.entry.now) (P.growable place.entry.now)
+            (P.readable place.exit.now) (P.growable place.exit.now) }
+    { run_whole(fore, crew, out, place) };
+    let (answer, _totals) = with_crew(rt, alloc, run, workers, gate, &mut body)?;
+    answer
+}
+
+/// The run in an `Arc`, which its jobs share.
+fn share(alloc: Global, run: Run) -> Result<Arc<Run>, RunFault>
+    ensures run { IfOk result (λ shared. arc_value shared ≡ run) }
+    ensures memory { IfErr result (λ fault. fault ≡ RunFault.OutOfMemory) }
+{
+    match Arc::new(alloc, run) {
+        Ok(shared) => Ok(shared),
+        Err(_) => Err(RunFault::OutOfMemory),
     }
+}
+
+/// One share more of the run.
+fn shared(run: &Arc<Run>) -> Result<Arc<Run>, RunFault>
+    ensures run { IfOk result (λ shared. arc_value shared ≡ arc_value run.now) }
+    ensures memory { IfErr result (λ fault. fault ≡ RunFault.OutOfMemory) }
+{
+    match Arc::try_clone(run) {
+        Ok(shared) => Ok(shared),
+        Err(_) => Err(RunFault::OutOfMemory),
+    }
+}
+
+/// Runs all clocks of a foreground over a raster, and appends what is pending.
+pub fn run_whole<P: Place, Q: Raster>(
+    fore: &mut Fore,
+    raster: &mut Q,
+    out: &mut OutFiles,
+    place: &mut P,
+) -> Result<(), RunFault>
+    requires growable { AreGrowable (P.growable place.old) out.old.names }
+    requires able { CanRun fore.old (Q.seen raster.old) }
+    ensures done { OnOk result (Ends fore.old fore.new (Q.seen raster.old) out.old out.new
+        (P.outside place.old).files (P.outside place.new).files) }
+    ensures stopped { OnErr result (IsCut fore.old (Q.seen raster.old) out.old
+        (P.outside place.old).files (P.outside place.new).files) }
+    ensures run { OnOk result (fore.new.run ≡ fore.old.run) }
+    ensures out { OnOk result (out.new.names ≡ out.old.names) }
+    ensures mark { (Q.seen raster.new).mark ≡ (Q.seen raster.old).mark }
+    ensures kept { OnlyWrites (P.outside place.old) (P.outside place.new) }
+    ensures cause { IfErr result (λ fault. IsWrite fault
+        → Rose (P.outside place.old).write_faults (P.outside place.new).write_faults) }
+    ensures names { KeepsNames (P.readable place.old) (P.growable place.old) (P.readable place.new)
+        (P.growable place.new) }
+{
+    run_clocks(fore, raster, out, place)?;
+    fore.settle(raster, out)?;
+    out.flush(place)?;
     Ok(())
 }
 
-/// Runs the script over the image and writes the three files, which it creates once the machine is
-/// made. Without a fault they are the texts of the run, whole; after one each of them is as before or
-/// has a part of its text.
-pub fn run_files<P: Place>(
-    alloc: Global,
-    image: &[u8],
-    script: &Script,
-    out: OutFiles,
+/// Runs the clocks up to the first state whose frame is the script's number of frames.
+fn run_clocks<P: Place, Q: Raster>(
+    fore: &mut Fore,
+    raster: &mut Q,
+    out: &mut OutFiles,
     place: &mut P,
 ) -> Result<(), RunFault>
-    requires image { is_image image.now ≡ true }
-    requires script { IsRunnable script.now }
-    requires fresh { IsFresh out }
-    ensures done { OnOk result (HasFiles image.now script.now out.names (P.outside place.old).files
-        (P.outside place.new).files) }
-    ensures stopped { OnErr result (LeavesPrefixes image.now script.now out.names
+    requires growable { AreGrowable (P.growable place.old) out.old.names }
+    requires able { CanRun fore.old (Q.seen raster.old) }
+    ensures runs { OnOk result (Runs fore.old fore.new (Q.seen raster.old) (Q.seen raster.new)
+        out.old out.new (P.outside place.old).files (P.outside place.new).files) }
+    ensures able { OnOk result (CanRun fore.new (Q.seen raster.new)) }
+    ensures ended { OnOk result (is_done fore.new ≡ true) }
+    ensures run { OnOk result (fore.new.run ≡ fore.old.run) }
+    ensures out { OnOk result (out.new.names ≡ out.old.names) }
+    ensures mark { (Q.seen raster.new).mark ≡ (Q.seen raster.old).mark }
+    ensures stopped { OnErr result (IsStopped fore.old (Q.seen raster.old) out.old
         (P.outside place.old).files (P.outside place.new).files) }
     ensures kept { OnlyWrites (P.outside place.old) (P.outside place.new) }
     ensures cause { IfErr result (λ fault. IsWrite fault
         → Rose (P.outside place.old).write_faults (P.outside place.new).write_faults) }
+    ensures names { KeepsNames (P.readable place.old) (P.growable place.old) (P.readable place.new)
+        (P.growable place.new) }
 {
-    let mut fore = Foreground::new(alloc, image, script, out)?;
-    fore.out.create(place)?;
-    run_clocks(&mut fore, script, place)?;
-    finish(&mut fore, place)
+    while !fore.done() {
+        fore.advance(raster, out)?;
+        flush_lines(&fore.beam(), out, place)?;
+    }
+    Ok(())
 }
 
-/// Appends what is pending and the memory, at the end of a run.
-fn finish<P: Place>(fore: &mut Foreground, place: &mut P) -> Result<(), RunFault>
-    requires { AreGrowable (P.growable place.old) fore.old.out.names }
-    ensures done { OnOk result (Finishes fore.old (P.outside place.old).files
+/// Appends what is pending at the first clock of every 32nd line.
+fn flush_lines<P: Place>(beam: &Beam, out: &mut OutFiles, place: &mut P) -> Result<(), WriteFault>
+    requires { AreGrowable (P.growable place.old) out.old.names }
+    ensures together { OnOk result (StayTogether out.old out.new (P.outside place.old).files
         (P.outside place.new).files) }
-    ensures stopped { OnErr result (StopsFinish fore.old (P.outside place.old).files
-        (P.outside place.new).files) }
+    ensures out { OnOk result (out.new.names ≡ out.old.names) }
+    ensures parts { OnErr result
+        (LeavesParts out.old (P.outside place.old).files (P.outside place.new).files []) }
     ensures kept { OnlyWrites (P.outside place.old) (P.outside place.new) }
-    ensures cause { IfErr result (λ fault. IsWrite fault
+    ensures cause { IfErr result (λ fault. NamesFile fault
         → Rose (P.outside place.old).write_faults (P.outside place.new).write_faults) }
+    ensures names { KeepsNames (P.readable place.old) (P.growable place.old)
+        (P.readable place.new) (P.growable place.new) }
+    ensures empty { OnOk result (beam.now.h ≡ 0 → beam.now.v % 32 ≡ 0 → out.new ≡ all_given out.old) }
 {
-    fore.flush(place)?;
-    write_memory(fore, place)?;
+    if beam.h == 0 && beam.v % 32 == 0 {
+        return out.flush(place);
+    }
     Ok(())
 }
 
 /// Appends the words of chip memory to the memory file.
-fn write_memory<P: Place>(fore: &mut Foreground, place: &mut P) -> Result<(), WriteFault>
-    requires { AreGrowable (P.growable place.old) fore.old.out.names }
-    ensures whole { OnOk result (Completes fore.old.out (P.outside place.old).files
-        (P.outside place.new).files (memory_text fore.old.chip.words)) }
-    ensures parts { OnErr result (LeavesParts fore.old.out (P.outside place.old).files
-        (P.outside place.new).files (memory_text fore.old.chip.words)) }
+fn write_memory<P: Place>(fore: Fore, out: &mut OutFiles, place: &mut P) -> Result<(), WriteFault>
+    requires { AreGrowable (P.growable place.old) out.old.names }
+    ensures whole { OnOk result (Completes out.old (P.outside place.old).files
+        (P.outside place.new).files (memory_text fore.machine.chip.words)) }
+    ensures parts { OnErr result (LeavesParts out.old (P.outside place.old).files
+        (P.outside place.new).files (memory_text fore.machine.chip.words)) }
     ensures kept { OnlyWrites (P.outside place.old) (P.outside place.new) }
     ensures cause { IfErr result (λ fault. NamesFile fault
         → Rose (P.outside place.old).write_faults (P.outside place.new).write_faults) }
 {
-    let Foreground { chip, out, .. } = fore;
-    out.memory(chip, place)
+    let mut chip = fore.finish();
+    out.memory(&mut chip, place)
 }

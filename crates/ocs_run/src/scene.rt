@@ -1,28 +1,41 @@
 //! The command `gen`: a scene is made from a number and run on files of its own, and the summary of these
 //! is said.
 
-ghost use Rattle.std.specs.Prelude.{◌≡◌, ◌++◌, ◌^◌, ◌<◌, ◌==◌, [], length, sum, decimal, codes, unwrap_or, IfOk, IfErr, OnOk};
+ghost use Rattle.std.specs.Prelude.{◌≡◌, ◌++◌, ◌^◌, ◌<◌, ◌≤◌, ◌==◌, [], length, sum, decimal, codes, unwrap_or, IfOk, IfErr, OnOk};
 ghost use Rattle.std.specs.FinMap.{get};
 ghost use Rattle.ocs_io.specs.Place.{OnlySays};
+ghost use Rattle.ocs_run.specs.Asked.{IsHeight};
 ghost use Rattle.ocs_run.specs.Command.{IsOutOf};
 ghost use Rattle.ocs_run.specs.SceneAnswers.{SceneAnswers, HasSceneFiles, scene_names};
 ghost use Rattle.ocs_run.specs.SceneSummary.{IsSummary, summary_text, number_line, line_count};
 
 use crate::command::owned;
 use crate::fault::Fault;
-use crate::run::run_files;
+use crate::run::{Drawing, run_files};
+use crate::words::SceneOrder;
+use band_log::Run;
+use crew::Gate;
 use ocs_base::OutOfMemory;
 use ocs_io::{Place, SureShelf, WriteRefusal, put_dec};
 use out_files::OutFiles;
 use scene_gen::scene;
 use std::alloc::Global;
+use std::sync::Wait;
+use std::thread::Threads;
 
 /// Runs the scene of the number and says the summary.
-pub fn run_scene<P: Place>(alloc: Global, number: u32, place: &mut P) -> Result<(), Fault>
-    ensures answer { SceneAnswers number (P.outside place.old) (P.outside place.new) result }
+pub fn run_scene<
+    R: Threads + Wait + Clone + Drop + Send + Sync + 'static,
+    P: Place,
+    G: Gate + Drop + Send + Sync + 'static,
+>(rt: &R, alloc: Global, order: SceneOrder, gate: G, place: &mut P) -> Result<(), Fault>
+    requires height { IsHeight order.band }
+    requires few { order.workers ≤ 32 }
+    ensures answer { SceneAnswers order.number (P.outside place.old)
+        (P.outside place.new) result }
     ensures kept { OnlySays (P.outside place.old) (P.outside place.new) }
 {
-    let text = summarize(alloc, number)?;
+    let text = summarize(rt, alloc, order, gate)?;
     match place.say(&text) {
         Ok(()) => Ok(()),
         Err(WriteRefusal::Failed) => Err(Fault::Unsaid),
@@ -31,11 +44,16 @@ pub fn run_scene<P: Place>(alloc: Global, number: u32, place: &mut P) -> Result<
 }
 
 /// The summary of the scene's run.
-fn summarize(alloc: Global, number: u32) -> Result<Vec<u8>, Fault>
-    ensures summary { IfOk result (λ text. IsSummary number text.items) }
+fn summarize<
+    R: Threads + Wait + Clone + Drop + Send + Sync + 'static,
+    G: Gate + Drop + Send + Sync + 'static,
+>(rt: &R, alloc: Global, order: SceneOrder, gate: G) -> Result<Vec<u8>, Fault>
+    requires height { IsHeight order.band }
+    requires few { order.workers ≤ 32 }
+    ensures summary { IfOk result (λ text. IsSummary order.number text.items) }
     ensures memory { IfErr result (λ fault. fault ≡ Fault.OutOfMemory) }
 {
-    let shelf = run_on_shelf(alloc, number)?;
+    let shelf = run_on_shelf(rt, alloc, order, gate)?;
     let text = make_text(
         alloc,
         bytes_of(&shelf, "frames"),
@@ -46,14 +64,24 @@ fn summarize(alloc: Global, number: u32) -> Result<Vec<u8>, Fault>
 }
 
 /// The files of the scene's run. Nothing refuses to write them.
-fn run_on_shelf(alloc: Global, number: u32) -> Result<SureShelf, Fault>
-    ensures files { IfOk result (λ shelf. HasSceneFiles number shelf.files) }
+fn run_on_shelf<
+    R: Threads + Wait + Clone + Drop + Send + Sync + 'static,
+    G: Gate + Drop + Send + Sync + 'static,
+>(rt: &R, alloc: Global, order: SceneOrder, gate: G) -> Result<SureShelf, Fault>
+    requires height { IsHeight order.band }
+    requires few { order.workers ≤ 32 }
+    ensures files { IfOk result (λ shelf. HasSceneFiles order.number shelf.files) }
     ensures memory { IfErr result (λ fault. fault ≡ Fault.OutOfMemory) }
 {
-    let (image, script) = scene(alloc, number)?;
+    let (image, script) = scene(alloc, order.number)?;
     let out = out_files(alloc)?;
     let mut shelf = SureShelf::new(alloc);
-    run_files(alloc, &image, &script, out, &mut shelf)?;
+    let run = Run::new(image, script, order.band as u16);
+    let drawing = Drawing {
+        workers: order.workers as u8,
+        gate,
+    };
+    run_files(rt, alloc, drawing, run, out, &mut shelf)?;
     Ok(shelf)
 }
 

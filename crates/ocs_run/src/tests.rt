@@ -4,6 +4,8 @@ use crate::{NoGate, ocs_main};
 use ocs_base::OutOfMemory;
 use ocs_io::Shelf;
 use std::alloc::Global;
+use std::sync::Wait;
+use std::thread::Threads;
 
 mod blit_runs;
 mod cases;
@@ -47,12 +49,17 @@ fn shelf(alloc: Global, image: &[u8], script: &[u8]) -> Result<Shelf, OutOfMemor
 }
 
 /// The status of the command with these words.
-fn run(alloc: Global, texts: &[&str], shelf: &mut Shelf) -> Result<u8, OutOfMemory> {
+fn run<R: Threads + Wait + Clone + Drop + Send + Sync + 'static>(
+    rt: &R,
+    alloc: Global,
+    texts: &[&str],
+    shelf: &mut Shelf,
+) -> Result<u8, OutOfMemory> {
     let mut words = Vec::new(alloc);
     for text in texts {
         words.push(String::from_str(alloc, text)?)?;
     }
-    Ok(ocs_main(alloc, &words, shelf, NoGate))
+    Ok(ocs_main(rt, alloc, &words, shelf, NoGate))
 }
 
 /// A frame file image of runs of pixels of one colour.
@@ -99,7 +106,7 @@ fn files_of_pokes(rt: HostRuntime) -> Result<(), OutOfMemory> {
         ),
     ] {
         let mut shelf = shelf(alloc, &IMAGE, script(alloc, events)?.as_bytes())?;
-        assert_eq!(rt; run(alloc, &WORDS, &mut shelf)?, 0, "{events}");
+        assert_eq!(rt; run(&rt, rt.alloc(), &WORDS, &mut shelf)?, 0, "{events}");
         assert!(rt; holds(&shelf, "frames", frames), "frames of {events}");
         assert!(rt;
             holds(&shelf, "trace", trace.as_bytes()),
@@ -146,12 +153,16 @@ fn bars_for_every_band_and_worker(rt: HostRuntime) -> Result<(), OutOfMemory> {
     )?;
     let mut memory = Vec::from_slice(alloc, &image)?;
     memory.resize(524_288, 0)?;
-    for (band, workers) in [("1", "0"), ("3", "4"), ("313", "0"), ("313", "4")] {
+    for (band, workers) in [("1", "0"), ("3", "4"), ("20", "1"), ("313", "4")] {
         let words = [
             "run", "image", "script", "frames", "trace", "memory", band, workers,
         ];
         let mut shelf = shelf(alloc, &image, text.as_bytes())?;
-        assert_eq!(rt; run(alloc, &words, &mut shelf)?, 0, "{band} {workers}");
+        assert_eq!(rt;
+            run(&rt, rt.alloc(), &words, &mut shelf)?,
+            0,
+            "{band} {workers}"
+        );
         assert!(rt; holds(&shelf, "frames", &frames), "frames");
         assert!(rt; holds(&shelf, "trace", BAR_TRACE.as_bytes()), "trace");
         assert!(rt; holds(&shelf, "memory", &memory), "memory");
@@ -160,7 +171,8 @@ fn bars_for_every_band_and_worker(rt: HostRuntime) -> Result<(), OutOfMemory> {
 }
 
 /// The trace of a run of this image and of a script with these lines of events.
-fn trace_of(
+fn trace_of<R: Threads + Wait + Clone + Drop + Send + Sync + 'static>(
+    rt: &R,
     alloc: Global,
     image: &[u16],
     frames: &str,
@@ -175,7 +187,7 @@ fn trace_of(
         text.push_str(part)?;
     }
     let mut shelf = shelf(alloc, &bytes, text.as_bytes())?;
-    let status = run(alloc, &WORDS, &mut shelf)?;
+    let status = run(rt, alloc, &WORDS, &mut shelf)?;
     let mut trace = String::new(alloc);
     if status == 0 {
         if let Some(bytes) = shelf.file("trace") {
@@ -189,7 +201,8 @@ fn trace_of(
 
 /// Whether a Copper list at address 8 gives these lines of the trace. Events and lines of the script stand
 /// before those that start the list.
-fn list_gives(
+fn list_gives<R: Threads + Wait + Clone + Drop + Send + Sync + 'static>(
+    rt: &R,
     alloc: Global,
     list: &[u16],
     before: (&str, &str),
@@ -200,13 +213,12 @@ fn list_gives(
     let mut wanted = String::from_str(alloc, before.1)?;
     wanted.push_str(STARTED)?;
     wanted.push_str(lines)?;
-    let trace = trace_of(alloc, list, "frames 1\n", &script)?;
+    let trace = trace_of(rt, alloc, list, "frames 1\n", &script)?;
     Ok(trace.as_str() == wanted.as_str())
 }
 
 #[test]
 fn skips_and_waits(rt: HostRuntime) -> Result<(), OutOfMemory> {
-    let alloc = rt.alloc();
     let plain = ("", "");
     let holds = [
         0x0001u16, 0xffff, 0x0180, 0x0f00, 0x0180, 0x00f0, 0xffff, 0xfffe,
@@ -215,39 +227,36 @@ fn skips_and_waits(rt: HostRuntime) -> Result<(), OutOfMemory> {
         0x6401u16, 0xffff, 0x0180, 0x0f00, 0x0180, 0x00f0, 0xffff, 0xfffe,
     ];
     let both = "0 0 6 W 180 0f00 C\n0 0 10 W 180 00f0 C\n";
-    assert!(rt; list_gives(alloc, &holds, plain, "0 0 6 W 180 00f0 C\n")?);
-    assert!(rt; list_gives(alloc, &not, plain, both)?);
+    assert!(rt; list_gives(&rt, rt.alloc(), &holds, plain, "0 0 6 W 180 00f0 C\n")?);
+    assert!(rt; list_gives(&rt, rt.alloc(), &not, plain, both)?);
     let wait = [0x3041u16, 0x7ffe, 0x0180, 0x0f00, 0xffff, 0xfffe];
-    assert!(rt; list_gives(alloc, &wait, plain, "0 48 68 W 180 0f00 C\n")?);
+    assert!(rt; list_gives(&rt, rt.alloc(), &wait, plain, "0 48 68 W 180 0f00 C\n")?);
     Ok(())
 }
 
 #[test]
 fn forbidden_moves(rt: HostRuntime) -> Result<(), OutOfMemory> {
-    let alloc = rt.alloc();
     let plain = ("", "");
     let danger = ("at 0 0 0 poke 02e 0002\n", "0 0 0 W 02e 0002 S\n");
     let list = [0x0040u16, 0x0000, 0x0180, 0x0f00, 0xffff, 0xfffe];
     let both = "0 0 2 W 040 0000 C\n0 0 6 W 180 0f00 C\n";
-    assert!(rt; list_gives(alloc, &list, plain, "")?);
-    assert!(rt; list_gives(alloc, &list, danger, both)?);
+    assert!(rt; list_gives(&rt, rt.alloc(), &list, plain, "")?);
+    assert!(rt; list_gives(&rt, rt.alloc(), &list, danger, both)?);
     Ok(())
 }
 
 #[test]
 fn second_copper_list(rt: HostRuntime) -> Result<(), OutOfMemory> {
-    let alloc = rt.alloc();
     let list = [0x0180u16, 0x000f, 0xffff, 0xfffe];
     let events = "at 0 0 0 poke 086 0008\nat 0 0 0 poke 08a 0000\nat 0 0 0 poke 096 8280\n";
     let wanted = "0 0 0 W 086 0008 S\n0 0 0 W 08a 0000 S\n0 0 0 W 096 8280 S\n0 0 2 W 180 000f C\n";
-    let trace = trace_of(alloc, &list, "frames 1\n", events)?;
+    let trace = trace_of(&rt, rt.alloc(), &list, "frames 1\n", events)?;
     assert!(rt; trace.as_str() == wanted, "{trace}");
     Ok(())
 }
 
 #[test]
 fn peeks_of_beam_and_field(rt: HostRuntime) -> Result<(), OutOfMemory> {
-    let alloc = rt.alloc();
     for (events, wanted) in [
         (
             "at 0 0 0 poke 100 0004\nat 0 300 5 peek 004\nat 0 300 5 peek 006\nat 1 10 0 peek 004\n",
@@ -266,7 +275,7 @@ fn peeks_of_beam_and_field(rt: HostRuntime) -> Result<(), OutOfMemory> {
             "0 0 0 W 096 8683 S\n0 0 0 R 002 2683 S\n0 0 0 R 180 0000 S\n0 0 0 R 00a 0000 S\n",
         ),
     ] {
-        let trace = trace_of(alloc, &[], "frames 2\n", events)?;
+        let trace = trace_of(&rt, rt.alloc(), &[], "frames 2\n", events)?;
         assert!(rt; trace.as_str() == wanted, "{trace}");
     }
     Ok(())
@@ -284,7 +293,7 @@ fn scripts_of_the_processor_and_of_inputs(rt: HostRuntime) -> Result<(), OutOfMe
         "ocs 1\ncpu off\nframes 1\nat 0 0 0 key 45\nend\n",
     ] {
         let mut shelf = shelf(alloc, &IMAGE, text.as_bytes())?;
-        assert_eq!(rt; run(alloc, &WORDS, &mut shelf)?, 0, "{text}");
+        assert_eq!(rt; run(&rt, rt.alloc(), &WORDS, &mut shelf)?, 0, "{text}");
         assert!(rt; shelf.said().is_empty(), "{text}");
         assert!(rt; holds(&shelf, "frames", &black), "frames of {text}");
         assert!(rt; holds(&shelf, "trace", &[]), "trace of {text}");
@@ -313,12 +322,12 @@ fn answers_and_their_texts(rt: HostRuntime) -> Result<(), OutOfMemory> {
         (&IMAGE, falling.as_str(), 4, "bad script: line 5: order\n"),
     ] {
         let mut shelf = shelf(alloc, image, text.as_bytes())?;
-        assert_eq!(rt; run(alloc, &WORDS, &mut shelf)?, status, "{said}");
+        assert_eq!(rt; run(&rt, rt.alloc(), &WORDS, &mut shelf)?, status, "{said}");
         assert!(rt; shelf.said() == said.as_bytes(), "{said}");
         assert!(rt; shelf.file("frames").is_none(), "created for {said}");
     }
     let mut shelf = shelf(alloc, &whole, good.as_bytes())?;
-    assert_eq!(rt; run(alloc, &WORDS, &mut shelf)?, 0);
+    assert_eq!(rt; run(&rt, rt.alloc(), &WORDS, &mut shelf)?, 0);
     assert!(rt; shelf.said().is_empty());
     assert!(rt; holds(&shelf, "memory", &whole), "memory of a whole image");
     Ok(())
@@ -347,7 +356,7 @@ fn scripts_that_are_too_long(rt: HostRuntime) -> Result<(), OutOfMemory> {
         ),
     ] {
         let mut shelf = shelf(alloc, &IMAGE, text)?;
-        assert_eq!(rt; run(alloc, &WORDS, &mut shelf)?, 4, "{said}");
+        assert_eq!(rt; run(&rt, rt.alloc(), &WORDS, &mut shelf)?, 4, "{said}");
         assert!(rt; shelf.said() == said.as_bytes(), "{said}");
     }
     Ok(())
@@ -370,11 +379,11 @@ fn words_that_are_no_run(rt: HostRuntime) -> Result<(), OutOfMemory> {
         ];
         let mut shelf = shelf(alloc, &IMAGE, text.as_bytes())?;
         shelf.fail_at(0)?;
-        assert_eq!(rt; run(alloc, &words, &mut shelf)?, 2);
+        assert_eq!(rt; run(&rt, rt.alloc(), &words, &mut shelf)?, 2);
     }
     let mut shelf = shelf(alloc, &IMAGE, &[])?;
     let six = ["run", "image", "script", "frames", "trace", "memory"];
-    assert_eq!(rt; run(alloc, &six, &mut shelf)?, 2);
+    assert_eq!(rt; run(&rt, rt.alloc(), &six, &mut shelf)?, 2);
     assert!(rt; shelf.said() == USAGE);
     Ok(())
 }
@@ -388,6 +397,8 @@ fn has_part(shelf: &Shelf, name: &str, text: &[u8], count: Option<usize>) -> boo
     }
 }
 
+/// The beam passes what is pending on at every 32nd line. The trace line stands there from line 128 on. Of bands
+/// of one line 16 are not collected yet, so that line 64 finds rows 26 to 46 of a frame.
 #[test]
 fn faults_of_the_place(rt: HostRuntime) -> Result<(), OutOfMemory> {
     let alloc = rt.alloc();
@@ -395,43 +406,83 @@ fn faults_of_the_place(rt: HostRuntime) -> Result<(), OutOfMemory> {
     let frames = picture(alloc, &[(53_492, BLACK), (152_428, RED)])?;
     let trace = b"0 100 100 W 180 0f00 S\n".as_slice();
     let memory = vec![in alloc; 0u8; 524_288]?;
-    for (call, status, said, counts) in [
-        (0, 5, "cannot read image\n", [None, None, None]),
-        (1, 5, "cannot read script\n", [None, None, None]),
-        (2, 6, "cannot write frames\n", [None, None, None]),
-        (3, 6, "cannot write trace\n", [Some(0), None, None]),
-        (4, 6, "cannot write memory\n", [Some(0), Some(0), None]),
+    for (band, call, status, said, counts) in [
+        ("313", 0, 5, "cannot read image\n", [None, None, None]),
+        ("313", 1, 5, "cannot read script\n", [None, None, None]),
+        ("313", 2, 6, "cannot write frames\n", [None, None, None]),
+        ("313", 3, 6, "cannot write trace\n", [Some(0), None, None]),
         (
+            "313",
+            4,
+            6,
+            "cannot write memory\n",
+            [Some(0), Some(0), None],
+        ),
+        (
+            "313",
+            5,
+            6,
+            "cannot write trace\n",
+            [Some(0), Some(11), Some(0)],
+        ),
+        (
+            "313",
+            6,
+            6,
+            "cannot write frames\n",
+            [Some(308_887), Some(23), Some(0)],
+        ),
+        (
+            "313",
+            7,
+            6,
+            "cannot write memory\n",
+            [Some(617_775), Some(23), Some(262_144)],
+        ),
+        (
+            "1",
             5,
             6,
             "cannot write frames\n",
-            [Some(6_487), Some(0), Some(0)],
+            [Some(22_687), Some(0), Some(0)],
         ),
         (
-            9,
+            "1",
+            8,
             6,
             "cannot write trace\n",
-            [Some(220_335), Some(11), Some(0)],
+            [Some(183_615), Some(11), Some(0)],
         ),
         (
+            "1",
             16,
             6,
             "cannot write memory\n",
             [Some(617_775), Some(23), Some(262_144)],
         ),
     ] {
+        let words = [
+            "run", "image", "script", "frames", "trace", "memory", band, "2",
+        ];
         let mut shelf = shelf(alloc, &IMAGE, text.as_bytes())?;
         shelf.fail_at(call)?;
-        assert_eq!(rt; run(alloc, &WORDS, &mut shelf)?, status, "call {call}");
-        assert!(rt; shelf.said() == said.as_bytes(), "call {call}");
+        assert_eq!(rt;
+            run(&rt, rt.alloc(), &words, &mut shelf)?,
+            status,
+            "{band} {call}"
+        );
+        assert!(rt; shelf.said() == said.as_bytes(), "{band} {call}");
         assert!(rt;
             has_part(&shelf, "frames", &frames, counts[0]),
-            "call {call}"
+            "{band} {call}"
         );
-        assert!(rt; has_part(&shelf, "trace", trace, counts[1]), "call {call}");
+        assert!(rt;
+            has_part(&shelf, "trace", trace, counts[1]),
+            "{band} {call}"
+        );
         assert!(rt;
             has_part(&shelf, "memory", &memory, counts[2]),
-            "call {call}"
+            "{band} {call}"
         );
     }
     Ok(())

@@ -10,12 +10,14 @@ ghost use Rattle.ocs_run.specs.Top.{ReadableInputs, CommandAnswers, SaysNothingE
 
 use crate::command::run_order;
 use crate::fault::Fault;
-use crate::gate::Gate;
 use crate::scene::run_scene;
 use crate::texts::say_fault;
 use crate::words::{Command, read_command};
+use crew::Gate;
 use ocs_io::Place;
 use std::alloc::Global;
+use std::sync::Wait;
+use std::thread::Threads;
 
 /// Does what the words ask for and answers the exit status.
 ///
@@ -29,13 +31,14 @@ use std::alloc::Global;
 /// the sum of the memory file's bytes. 0 done; 2 the words are not of this form; 6 the lines could not be
 /// said, and no other text is; 7 memory was wanting.
 ///
-/// BAND and WORKERS are read and have no effect yet; `gate` is not called yet.
-pub fn ocs_main<P: Place, G: Gate + Drop + Send + Sync + 'static>(
-    alloc: Global,
-    words: &[String],
-    place: &mut P,
-    gate: G,
-) -> u8
+/// BAND is the height of the bands of lines in which the picture is drawn, and WORKERS the number of
+/// threads that draw them beside the caller's own; no file depends on either. `gate` is called before
+/// each band is drawn, on the thread that draws it. The call may wait.
+pub fn ocs_main<
+    R: Threads + Wait + Clone + Drop + Send + Sync + 'static,
+    P: Place,
+    G: Gate + Drop + Send + Sync + 'static,
+>(rt: &R, alloc: Global, words: &[String], place: &mut P, gate: G) -> u8
     requires { ReadableInputs (P.readable place.old) (command_of (map string_bytes words.now)) }
 
     // Done: the three files of a run are the texts of the serial run, whole, and every other file is as
@@ -81,8 +84,7 @@ pub fn ocs_main<P: Place, G: Gate + Drop + Send + Sync + 'static>(
     ensures said { SaysStatus (map string_bytes words.now) (P.outside place.old)
         (P.outside place.new) result }
 {
-    drop(gate);
-    match run_words(alloc, words, place) {
+    match run_words(rt, alloc, words, gate, place) {
         Ok(()) => 0,
         Err(fault) => {
             say_fault(alloc, words, fault, place);
@@ -92,7 +94,11 @@ pub fn ocs_main<P: Place, G: Gate + Drop + Send + Sync + 'static>(
 }
 
 /// Does what the words ask for, and says no text of a fault.
-fn run_words<P: Place>(alloc: Global, words: &[String], place: &mut P) -> Result<(), Fault>
+fn run_words<
+    R: Threads + Wait + Clone + Drop + Send + Sync + 'static,
+    P: Place,
+    G: Gate + Drop + Send + Sync + 'static,
+>(rt: &R, alloc: Global, words: &[String], gate: G, place: &mut P) -> Result<(), Fault>
     requires { ReadableInputs (P.readable place.old) (command_of (map string_bytes words.now)) }
     ensures answer { CommandAnswers (command_of (map string_bytes words.now)) (P.outside place.old)
         (P.outside place.new) result }
@@ -100,8 +106,8 @@ fn run_words<P: Place>(alloc: Global, words: &[String], place: &mut P) -> Result
         (P.outside place.old) (P.outside place.new) }
 {
     match read_command(words) {
-        Some(Command::Run(order)) => run_order(alloc, &order, place),
-        Some(Command::Gen(scene)) => run_scene(alloc, scene.number, place),
+        Some(Command::Run(order)) => run_order(rt, alloc, &order, gate, place),
+        Some(Command::Gen(scene)) => run_scene(rt, alloc, scene, gate, place),
         None => Err(Fault::Usage),
     }
 }

@@ -1,8 +1,8 @@
 //! The commands of the command line, by its first word.
 
-ghost use Rattle.std.specs.Prelude.{◌≡◌, map, string_bytes, IfSome};
+ghost use Rattle.std.specs.Prelude.{◌≡◌, ◌≤◌, map, string_bytes, IfSome};
 ghost use Rattle.ocs_run.specs.Words.{command_of, scene_order_of, number_of, is_gen as has_gen};
-ghost use Rattle.ocs_run.specs.Asked.{IsCommand, IsSceneOrder, WritesApart};
+ghost use Rattle.ocs_run.specs.Asked.{IsCommand, IsSceneOrder, WritesApart, IsHeight, HasHeight, HasFewWorkers};
 
 use crate::order::{Order, read_band, read_order, read_workers};
 use ocs_io::dec;
@@ -27,6 +27,8 @@ pub enum Command<'a> {
 pub fn read_command(words: &[String]) -> Option<Command<'_>>
     ensures command { IsCommand (command_of (map string_bytes words.now)) result }
     ensures apart { IfSome result WritesApart }
+    ensures height { IfSome result HasHeight }
+    ensures few { IfSome result HasFewWorkers }
 {
     if is_gen(words) {
         match read_scene_order(words) {
@@ -53,7 +55,9 @@ pub fn is_gen(words: &[String]) -> bool
 
 /// Reads the words behind `gen`.
 fn read_scene_order(words: &[String]) -> Option<SceneOrder>
-    ensures { IsSceneOrder (scene_order_of (map string_bytes words.now)) result }
+    ensures order { IsSceneOrder (scene_order_of (map string_bytes words.now)) result }
+    ensures height { IfSome result (λ order. IsHeight order.band) }
+    ensures few { IfSome result (λ order. order.workers ≤ 32) }
 {
     let [_, number, band, workers] = words else {
         return None;

@@ -36,7 +36,7 @@ pub none_quiet : IsQuiet 0 (replicate 8 None)
 unfolding sprite_value
 none_quiet = record {
   eight = length-replicate {A = Option Start} 8 None;
-  quiet = λ x sprite h. ap (λ (o : Option Start). sprite_value x (option_to_list o)) (none_by sprite (nat_le 8 sprite) refl);
+  quiet = λ few x sprite h. ap (λ (o : Option Start). sprite_value x (option_to_list o)) (none_by sprite (nat_le 8 sprite) refl);
 }
 
 -- the words of a start show nothing from their sixteenth place on
@@ -48,23 +48,23 @@ passed_by x start h =
     rw come (rw past refl)
 
 set_by : (q column : ℕ) (runs : List (Option Start)) (sprite : ℕ) (start : Start) → IsQuiet q runs → sprite < 8 → start.x ≡ column →
-    (x n : ℕ) → max q (column + 16) ≤ x → (b : Bool) → nat_eq n sprite ≡ b → sprite_value x (kept_start (slice_set runs sprite (Some start)) n) ≡ 0
-set_by q column runs sprite start quiet within at x n h true is =
+    (x n : ℕ) → max q (column + 16) < 512 → max q (column + 16) ≤ x → (b : Bool) → nat_eq n sprite ≡ b → sprite_value x (kept_start (slice_set runs sprite (Some start)) n) ≡ 0
+set_by q column runs sprite start quiet within at x n few h true is =
     let here : n ≡ sprite = grind (arith, nat_tests) in
     ap (λ (m : ℕ). sprite_value x (kept_start (slice_set runs sprite (Some start)) m)) here
     ∙ ap (λ (o : Option Start). sprite_value x (option_to_list o)) (get_or-set_same runs sprite (Some start) None (omega (arith, quiet.eight)))
     ∙ passed_by x start (omega (arith, at, h))
-set_by q column runs sprite start quiet within at x n h false is =
+set_by q column runs sprite start quiet within at x n few h false is =
     let differ : n ≡ sprite → ⊥ = λ e. grind (arith, nat_tests) in
     ap (λ (o : Option Start). sprite_value x (option_to_list o)) (get_or-set_other runs sprite n (Some start) None differ)
-    ∙ quiet.quiet x n (omega (arith, h))
+    ∙ quiet.quiet (omega (arith, few)) x n (omega (arith, h))
 
 -- words that begin show for sixteen places
 pub begun_quiet : (q column : ℕ) (runs : List (Option Start)) (sprite : ℕ) (start : Start) → IsQuiet q runs → sprite < 8 → start.x ≡ column →
     IsQuiet (max q (column + 16)) (slice_set runs sprite (Some start))
 begun_quiet q column runs sprite start quiet within at = record {
   eight = length-set runs sprite (Some start) ∙ quiet.eight;
-  quiet = λ x n h. set_by q column runs sprite start quiet within at x n h (nat_eq n sprite) refl;
+  quiet = λ few x n h. set_by q column runs sprite start quiet within at x n few h (nat_eq n sprite) refl;
 }
 
 -- sprites that are not among the first so many
@@ -173,17 +173,17 @@ pub none_starts : (x h : ℕ) (s : SpriteRegisters) → x / 2 ≡ h → ((n : �
 unfolding NoneBegins
 none_starts x h s at none n lt = elsewhere (s.armed / 2 ^ n % 2 == 1) (slice_index s.pos n) (slice_index s.ctl n) h x at (none n lt)
 
-quiet_values : (q x : ℕ) (runs : List (Option Start)) → IsQuiet q runs → q ≤ x → sprite_values x runs ≡ replicate 8 0
-quiet_values q x runs quiet h =
+quiet_values : (q x : ℕ) (runs : List (Option Start)) → IsQuiet q runs → q < 512 → q ≤ x → sprite_values x runs ≡ replicate 8 0
+quiet_values q x runs quiet few h =
     rw (
-      quiet.quiet x 0 h,
-      quiet.quiet x 1 h,
-      quiet.quiet x 2 h,
-      quiet.quiet x 3 h,
-      quiet.quiet x 4 h,
-      quiet.quiet x 5 h,
-      quiet.quiet x 6 h,
-      quiet.quiet x 7 h,
+      quiet.quiet few x 0 h,
+      quiet.quiet few x 1 h,
+      quiet.quiet few x 2 h,
+      quiet.quiet few x 3 h,
+      quiet.quiet few x 4 h,
+      quiet.quiet few x 5 h,
+      quiet.quiet few x 6 h,
+      quiet.quiet few x 7 h,
     ) refl
 
 -- whether one of eight passes a test
@@ -232,9 +232,9 @@ pub known_by : (h : ℕ) (s : SpriteRegisters) (quiet unarmed start : Bool) → 
     has_start h s ≡ start → (quiet && (unarmed || not start)) ≡ is_known_idle h s
 known_by h s quiet unarmed start one two three = rw (one, two, three) refl
 
-pub idle : (h q : ℕ) (s : SpriteRegisters) → IsQuiet q s.runs → q ≤ 2 * h → NoneBegins (2 * h) s → NoneBegins (2 * h + 1) s → IsIdle h s
-idle h q s quiet le first second = record {
+pub idle : (h q : ℕ) (s : SpriteRegisters) → IsQuiet q s.runs → q < 512 → q ≤ 2 * h → NoneBegins (2 * h) s → NoneBegins (2 * h + 1) s → IsIdle h s
+idle h q s quiet few le first second = record {
   first = none_begun (2 * h) s quiet.eight first;
   second = none_begun (2 * h + 1) s quiet.eight second;
-  values = λ x from. quiet_values q x s.runs quiet (omega (arith, le, from));
+  values = λ x from. quiet_values q x s.runs quiet few (omega (arith, le, from));
 }

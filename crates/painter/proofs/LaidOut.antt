@@ -1,5 +1,5 @@
 -- The sprites' pixels in rows, which are exact from a position on.
-use Rattle.std.proofs.Common.{◌≡◌, ℕ, ◌+◌, ◌*◌, ◌≤◌, ◌<◌, ◌&&◌, Bool, true, false, nat_eq, max, List, slice_index_or, slice_set, replicate, Option, Some, None, refl, sym, ◌∙◌, ap, arith}
+use Rattle.std.proofs.Common.{◌≡◌, ℕ, ◌+◌, ◌*◌, ◌≤◌, ◌<◌, ◌&&◌, Bool, true, false, nat_eq, max, List, length, slice_index_or, slice_set, replicate, Option, Some, None, refl, sym, ◌∙◌, ap, arith}
 use Rattle.std.specs.Bool.{if◌then◌else◌}
 use mir.Val.{bool_byte}
 use Rattle.std.proofs.Math.ListN.{length-set}
@@ -21,7 +21,7 @@ pub none_laid : (rows : SpriteRows) → IsRowsOf 0 rows (replicate 8 None) → I
 none_laid rows is = record {
   still = none_quiet;
   within = omega arith;
-  begun = record {
+  begun = λ few. record {
     eight = length-replicate {A = Option Start} 8 None;
     started = λ sprite start some. none_starts_by 0 _ start (none_at sprite) some;
   };
@@ -69,8 +69,9 @@ pub laid_more : (quiet_from from column : ℕ) (rows next : SpriteRows) (runs : 
 laid_more quiet_from from column rows next runs sprite start is within at room le lay = record {
   still = begun_quiet quiet_from column runs sprite start is.still within at;
   within = omega (arith, room);
-  begun = starts_more column runs sprite start (later_starts from column runs le is.begun) within (omega (arith, at));
-  laid = lay runs (later_starts from column runs le is.begun) (later_rows from column rows runs le is.laid);
+  begun =
+      λ few. starts_more column runs sprite start (later_starts from column runs le (is.begun (omega (arith, le, room)))) within (omega (arith, at));
+  laid = lay runs (later_starts from column runs le (is.begun (omega (arith, le, room)))) (later_rows from column rows runs le is.laid);
 }
 
 pub laid_less : (quiet_from from column : ℕ) (rows : SpriteRows) (runs : List (Option Start)) (sprite : ℕ) (start : Start) →
@@ -79,7 +80,16 @@ pub laid_less : (quiet_from from column : ℕ) (rows : SpriteRows) (runs : List 
 laid_less quiet_from from column rows runs sprite start is within at room = record {
   still = begun_quiet quiet_from column runs sprite start is.still within at;
   within = omega arith;
-  begun = starts_more 512 runs sprite start (later_starts from 512 runs is.within is.begun) within (omega (arith, at, room));
+  begun = λ few. absurd (omega (arith, few));
+  laid = record { bytes = λ p k few after less. absurd (omega (arith, after, less)) };
+}
+
+-- words of which nothing is known
+pub unknown_laid : (rows : SpriteRows) (runs : List (Option Start)) → length runs ≡ 8 → IsLaidOut 512 512 rows runs
+unknown_laid rows runs eight = record {
+  still = record { eight = eight; quiet = λ few. absurd (omega (arith, few)) };
+  within = omega arith;
+  begun = λ few. absurd (omega (arith, few));
   laid = record { bytes = λ p k few after less. absurd (omega (arith, after, less)) };
 }
 

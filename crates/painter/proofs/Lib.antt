@@ -8,3 +8,4 @@ pub mod Ors
 pub mod Showing
 pub mod Overlays
 pub mod Registers
+pub mod KeptLoads

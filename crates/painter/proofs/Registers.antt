@@ -14,6 +14,10 @@ pub none_set : (h offset word : ℕ) (p : Denise) → 282 < offset → offset < 
 unfolding set_picture
 none_set h offset word p least most = grind (arith, nat_tests)
 
+pub none_between : (h offset word : ℕ) (p : Denise) → 382 < offset → offset < 384 → set_picture h offset word p ≡ p
+unfolding set_picture
+none_between h offset word p least most = grind (arith, nat_tests)
+
 pub none_after : (h offset word : ℕ) (p : Denise) → 446 < offset → set_picture h offset word p ≡ p
 unfolding set_picture
 none_after h offset word p least = grind (arith, nat_tests)

@@ -1,5 +1,5 @@
 -- The sprites' registers and the words that run, as a working state.
-use Rattle.std.specs.Prelude.{◌≡◌, ◌≤◌, ℕ, zero, suc, ◌+◌, ◌*◌, ◌/◌, ◌%◌, ◌^◌, ◌==◌, ◌&&◌, ◌||◌, not, Bool, nat_le, max, List, length, replicate, map, slice_index, slice_index_or, slice_set, Option, Some, None, if◌then◌else◌}
+use Rattle.std.specs.Prelude.{◌≡◌, ◌≤◌, ◌<◌, ℕ, zero, suc, ◌+◌, ◌*◌, ◌/◌, ◌%◌, ◌^◌, ◌==◌, ◌&&◌, ◌||◌, not, Bool, nat_le, max, List, length, replicate, map, slice_index, slice_index_or, slice_set, Option, Some, None, if◌then◌else◌}
 use Rattle.std.specs.List.{list_any}
 use Rattle.sprites.specs.declared.runs.Start.{Start}
 use Rattle.sprites.specs.SpriteValue.{sprite_value, kept_start}
@@ -28,16 +28,16 @@ no_sprites = record {
   quiet_from = 0;
 }
 
--- eight sprites, of whose words none shows a bit from a position on
+-- eight sprites, of whose words none shows a bit from a position on, which says nothing if it is past all columns
 pub record IsQuiet (from : ℕ) (runs : List (Option Start)) : Type 0 where
   pub eight : length runs ≡ 8
-  pub quiet : (x sprite : ℕ) → from ≤ x → sprite_value x (kept_start runs sprite) ≡ 0
+  pub quiet : from < 512 → (x sprite : ℕ) → from ≤ x → sprite_value x (kept_start runs sprite) ≡ 0
 
--- their pixels laid over rows, which are exact from a position on
+-- their pixels laid over rows, which are exact from a position on, and nothing known if it is 512
 pub record IsLaidOut (quiet_from exact_from : ℕ) (rows : SpriteRows) (runs : List (Option Start)) : Type 0 where
   pub still : IsQuiet quiet_from runs
   pub within : exact_from ≤ 512
-  pub begun : StartsBy exact_from runs
+  pub begun : exact_from < 512 → StartsBy exact_from runs
   pub laid : IsRowsOf exact_from rows runs
 
 -- whether a sprite's words begin at low-resolution position x: it is armed, and the position is its HSTART

@@ -1,6 +1,6 @@
 //! Inks: the colours that the bits of the planes name, as bytes.
 
-ghost use Rattle.std.specs.Prelude.{◌≡◌, ◌<◌, ◌%◌, ◌/◌, slice_set};
+ghost use Rattle.std.specs.Prelude.{◌≡◌, ◌≤◌, ◌<◌, ◌%◌, ◌/◌, ℕ, slice_set};
 ghost use Rattle.serial_model.specs.Picture.{colour_bytes};
 ghost use Rattle.painter.specs.Inks.{ink, ink_number, halved, is_held, backdrop};
 
@@ -48,6 +48,19 @@ impl Inks {
         }
     }
 
+    /// The registers with these values.
+    pub fn of_registers(palette: &[u16; 32], con0: u16, con2: u16) -> Inks
+        ensures { result ≡ record { palette = palette.now; con0 = con0; con2 = con2 } }
+    {
+        let mut inks = Inks::reset();
+        inks.set_con0(con0);
+        inks.set_con2(con2);
+        for number in 0..32 {
+            inks.put_colour(number, palette[number]);
+        }
+        inks
+    }
+
     /// A write to one of COLOR00 to COLOR31, which keeps bits 11 to 0.
     pub fn set_colour(&mut self, number: usize, word: u16)
         requires { number < 32 }
@@ -55,7 +68,16 @@ impl Inks {
           palette = slice_set self.old.palette number (word % 4096);
         } }
     {
-        let colour = word % 0x1000;
+        self.put_colour(number, word % 0x1000);
+    }
+
+    /// One of COLOR00 to COLOR31 becomes a colour.
+    fn put_colour(&mut self, number: usize, colour: u16)
+        requires { number < 32 }
+        ensures { self.new ≡ record self.old {
+          palette = slice_set self.old.palette number colour;
+        } }
+    {
         self.palette[number] = colour;
         self.rgb[number] = bytes_of(colour);
         self.rgb[number + 32] = bytes_of(half_of(colour));
@@ -76,6 +98,13 @@ impl Inks {
     {
         self.con2 = word;
         self.names = names_by(self.con0, word);
+    }
+
+    /// COLOR00 to COLOR31.
+    pub fn palette(&self) -> &[u16; 32]
+        ensures { result.now ≡ self.now.palette }
+    {
+        &self.palette
     }
 
     /// BPLCON0.
@@ -127,7 +156,7 @@ impl Inks {
 }
 
 /// The bytes of a colour: red, green and blue, a component c being the byte 17c.
-fn bytes_of(colour: u16) -> [u8; 3]
+pub fn bytes_of(colour: u16) -> [u8; 3]
     ensures { result ≡ colour_bytes colour }
 {
     [
@@ -135,6 +164,14 @@ fn bytes_of(colour: u16) -> [u8; 3]
         (colour / 16 % 16) as u8 * 17,
         (colour % 16) as u8 * 17,
     ]
+}
+
+/// The colour that has these bytes.
+pub fn colour_of(bytes: &[u8; 3]) -> u16
+    ensures { (colour : ℕ) → colour ≤ 4095 → bytes.now ≡ colour_bytes colour → result ≡ colour }
+{
+    let [red, green, blue] = *bytes;
+    (red / 17) as u16 * 256 + (green / 17) as u16 * 16 + (blue / 17) as u16
 }
 
 /// A colour with each component halved.

@@ -5,6 +5,7 @@
 mod ham;
 pub mod held;
 pub mod inks;
+mod kept_loads;
 pub mod line;
 mod names;
 mod overlay;

@@ -1,6 +1,8 @@
 //! What paints: Denise as a working state, and the pixels of a clock.
 
-ghost use Rattle.std.specs.Prelude.{ℕ, bit_or, ◌≡◌, ◌≤◌, ◌<◌, ◌+◌, ◌*◌, ◌/◌, ◌%◌, ◌∷◌, [], slice_index, slice_set, true, false, flat_map};
+ghost use Rattle.std.specs.Prelude.{ℕ, bit_or, ◌≡◌, ◌≤◌, ◌<◌, ◌+◌, ◌*◌, ◌/◌, ◌%◌, ◌∷◌, ◌++◌, [], length, replicate, slice_index, slice_set, None, true, false, flat_map};
+ghost use Rattle.planes.specs.PlaneBit.{ShowsSame, load_of};
+ghost use Rattle.priority_ham.specs.PlaneCount.{is_hires};
 ghost use Rattle.serial_model.specs.Picture.{pixels, colour_bytes, held_after, runs_after, runs_at, sprite_values, clock_collisions};
 ghost use Rattle.collisions.specs.Collision.{collision_bits};
 ghost use Rattle.serial_model.specs.Window.{is_inside};
@@ -11,7 +13,8 @@ ghost use Rattle.painter.specs.Line.{row_bits};
 ghost use Rattle.serial_model.specs.Beam.{is_visible as visible};
 
 use crate::ham::hold;
-use crate::inks::Inks;
+use crate::inks::{Inks, bytes_of, colour_of};
+use crate::kept_loads::line_of;
 use crate::line::Line;
 use crate::names::counted_planes;
 use crate::overlay::cover;
@@ -19,7 +22,9 @@ use crate::pixels::{show_border, show_inks, show_modified};
 use crate::sprite_state::SpriteState;
 use crate::window::{Window, is_visible};
 use collisions::do_playfields_meet;
-use ocs_base::{Beam, Reg, System};
+use ocs_base::{Beam, Colour, Reg, System};
+use planes::Loads;
+use serial_model::Denise;
 
 /// What paints: Denise's registers as a working state, the line's bitplanes and sprites as rows,
 /// and the held colour as bytes.
@@ -44,7 +49,7 @@ pub struct Painter {
 }
 
 impl Painter {
-    ghost use Rattle.serial_model.specs.declared.picture.Denise.{Denise};
+    ghost use Rattle.serial_model.specs.declared.picture.Denise.{Denise as DeniseValue};
     ghost use Rattle.serial_model.specs.Picture.{reset_picture, set_picture, set_sprite as set_sprite_of, add_load, clear_line as cleared, step_of, after_step};
     ghost use Rattle.painter.specs.Painter.{IsPainterOf, first_colour, second_colour, with_held, clock_bytes, is_known_gathered, is_known_blank, is_known_backdrop};
 
@@ -65,15 +70,92 @@ impl Painter {
         }
     }
 
+    /// A picture state's painter: it goes on from there. Loads that are kept and words that run
+    /// make the rest of the line slower.
+    pub fn open(d: &Denise) -> Painter
+        requires { length d.now.runs ≡ 8 }
+        ensures { IsPainterOf result d.now }
+    {
+        let mut painter = Painter::open_line(d);
+        painter.sprites.set_runs(d.runs);
+        painter.line = line_of(&d.loads);
+        painter
+    }
+
+    /// The same of a picture state at a line's start, whose loads and words that run are left out.
+    pub fn open_line(d: &Denise) -> Painter
+        ensures { IsPainterOf result (record d.now { loads = []; runs = replicate 8 None }) }
+    {
+        let mut window = Window::reset();
+        window.set_start(d.diwstrt);
+        window.set_stop(d.diwstop);
+        Painter {
+            inks: Inks::of_registers(&d.palette, d.con0, d.con2),
+            con1: d.con1,
+            window,
+            clxcon: d.clxcon,
+            latches: d.latches,
+            sprites: SpriteState::of_registers(d),
+            line: Line::new(),
+            held: bytes_of(d.held.0),
+        }
+    }
+
+    /// The picture state, with these loads in place of its own. A held colour is one of twelve
+    /// bits.
+    pub fn close(&self, loads: Loads) -> Denise
+        ensures { (p : DeniseValue) → IsPainterOf self.now p → p.held.0 ≤ 4095
+            → result ≡ record p { loads = loads } }
+    {
+        Denise {
+            palette: *self.inks.palette(),
+            con0: self.inks.con0(),
+            con1: self.con1,
+            con2: self.inks.con2(),
+            diwstrt: self.window.start(),
+            diwstop: self.window.stop(),
+            clxcon: self.clxcon,
+            latches: self.latches,
+            loads,
+            runs: self.sprites.runs(),
+            pos: *self.sprites.pos(),
+            ctl: *self.sprites.ctl(),
+            words_a: *self.sprites.words_a(),
+            words_b: *self.sprites.words_b(),
+            armed: self.sprites.armed(),
+            held: Colour(colour_of(&self.held)),
+        }
+    }
+
+    /// Keeps the load of a write to BPL1DAT at clock `h` of the line that has just been made, behind
+    /// the loads that are kept.
+    #[inline(never)]
+    pub fn keep_load(&self, h: u16, loads: &mut Loads)
+        ensures { (p : DeniseValue) → IsPainterOf self.now p → ShowsSame (4 * h) loads.new
+            (loads.old ++ load_of h p.latches p.con1 (is_hires p.con0) ∷ []) }
+    {
+        let hires = self.inks.con0() >= 0x8000;
+        loads.load(h, &self.latches, self.con1, hires);
+    }
+
     /// A write to one of Denise's registers at clock `h` of the line. A word that is fetched for a
     /// bitplane comes as a write to the latch of its plane.
-    #[tactic(auto, unfolding(serial_model::specs::Picture::set_picture))]
     pub fn set(&mut self, h: u16, reg: Reg, word: u16)
         requires { h ≤ 226 }
-        ensures { (p : Denise) → IsPainterOf self.old p
+        ensures { (p : DeniseValue) → IsPainterOf self.old p
             → IsPainterOf self.new (set_picture h reg.offset word p) }
     {
-        match reg.offset {
+        self.set_at(h, reg.offset, word);
+    }
+
+    /// The same to the register at an offset, where it is one of Denise's.
+    #[tactic(auto, unfolding(serial_model::specs::Picture::set_picture))]
+    pub fn set_at(&mut self, h: u16, offset: u16, word: u16)
+        requires { h ≤ 226 }
+        ensures { (p : DeniseValue) → IsPainterOf self.old p
+            → IsPainterOf self.new (set_picture h offset word p) }
+    {
+        match offset {
             0x08e => self.window.set_start(word),
             0x090 => self.window.set_stop(word),
             0x098 => self.clxcon = word,
@@ -81,20 +163,18 @@ impl Painter {
             0x102 => self.con1 = word,
             0x104 => self.inks.set_con2(word),
             0x110 => self.load(h, word),
-            0x112..=0x11a => self.latches[(reg.offset - 0x110) as usize / 2] = word,
-            0x140..=0x17e => self.set_sprite(reg.offset - 0x140, word),
-            0x180..=0x1be => {
-                self.inks
-                    .set_colour((reg.offset - 0x180) as usize / 2, word)
-            }
+            0x112..=0x11a => self.latches[(offset - 0x110) as usize / 2] = word,
+            0x140..=0x17e => self.set_sprite(offset - 0x140, word),
+            0x180..=0x1be => self.inks.set_colour((offset - 0x180) as usize / 2, word),
             _ => {}
         }
     }
 
     /// A write to BPL1DAT at clock `h`: the six latches are loaded.
+    #[inline(never)]
     fn load(&mut self, h: u16, word: u16)
         requires { h ≤ 226 }
-        ensures { (p : Denise) → IsPainterOf self.old p → IsPainterOf self.new
+        ensures { (p : DeniseValue) → IsPainterOf self.old p → IsPainterOf self.new
             (add_load h (record p { latches = slice_set p.latches 0 word })) }
     {
         self.latches[0] = word;
@@ -105,7 +185,7 @@ impl Painter {
     /// A write to a sprite's register, which lies so far behind SPR0POS.
     fn set_sprite(&mut self, from: u16, word: u16)
         requires { from < 64 }
-        ensures { (p : Denise) → IsPainterOf self.old p
+        ensures { (p : DeniseValue) → IsPainterOf self.old p
             → IsPainterOf self.new (set_sprite_of (from / 8) (from % 8) word p) }
     {
         let sprite = from as usize / 8;
@@ -121,7 +201,7 @@ impl Painter {
     /// becomes COLOR00.
     #[tactic(auto, unfolding(serial_model::specs::Picture::clear_line))]
     pub fn clear_line(&mut self, beam: &Beam)
-        ensures { (p : Denise) → IsPainterOf self.old p
+        ensures { (p : DeniseValue) → IsPainterOf self.old p
             → IsPainterOf self.new (cleared beam.now p) }
     {
         if beam.h == 0 {
@@ -140,11 +220,11 @@ impl Painter {
     pub fn show(&mut self, beam: &Beam, into: &mut [[u8; 3]; 4], clx: &mut u16) -> bool
         requires { beam.now.h ≤ 226 }
         ensures visible { result ≡ visible System.Pal beam.now.v beam.now.h }
-        ensures pixels { (p : Denise) → IsPainterOf self.old p → result ≡ true
+        ensures pixels { (p : DeniseValue) → IsPainterOf self.old p → result ≡ true
             → flat_map (λ x. x) into.new ≡ pixels System.Pal beam.now.v beam.now.h p }
-        ensures held { (p : Denise) → IsPainterOf self.old p → IsPainterOf self.new
+        ensures held { (p : DeniseValue) → IsPainterOf self.old p → IsPainterOf self.new
             (after_step (step_of System.Pal beam.now.v beam.now.h p) p) }
-        ensures clx { (p : Denise) → IsPainterOf self.old p
+        ensures clx { (p : DeniseValue) → IsPainterOf self.old p
             → clx.new ≡ bit_or clx.old (step_of System.Pal beam.now.v beam.now.h p).clx }
     {
         if self.is_backdrop(beam.v, beam.h, *clx) {
@@ -161,9 +241,9 @@ impl Painter {
         requires { h ≤ 226 }
         ensures known { result ≡ is_known_backdrop v h clx self.now }
         ensures idle { result ≡ true → IsIdle h self.now.sprites }
-        ensures pixels { result ≡ true → (p : Denise) → IsPainterOf self.now p
+        ensures pixels { result ≡ true → (p : DeniseValue) → IsPainterOf self.now p
             → backdrop self.now.inks.palette ≡ clock_bytes v h p }
-        ensures clx { result ≡ true → (p : Denise) → IsPainterOf self.now p
+        ensures clx { result ≡ true → (p : DeniseValue) → IsPainterOf self.now p
             → clx ≡ bit_or clx (quiet_collisions v h p) }
     {
         self.is_blank(v, h, clx) && self.sprites.is_idle(h)
@@ -174,9 +254,9 @@ impl Painter {
     fn is_blank(&self, v: u16, h: u16, clx: u16) -> bool
         requires { h ≤ 226 }
         ensures known { result ≡ is_known_blank v h clx self.now }
-        ensures pixels { result ≡ true → (p : Denise) → IsPainterOf self.now p
+        ensures pixels { result ≡ true → (p : DeniseValue) → IsPainterOf self.now p
             → backdrop self.now.inks.palette ≡ clock_bytes v h p }
-        ensures clx { result ≡ true → (p : Denise) → IsPainterOf self.now p
+        ensures clx { result ≡ true → (p : DeniseValue) → IsPainterOf self.now p
             → clx ≡ bit_or clx (quiet_collisions v h p) }
     {
         self.line.is_blank_from(4 * h as usize) && self.is_gathered(v, h, clx)
@@ -188,7 +268,7 @@ impl Painter {
     fn is_gathered(&self, v: u16, h: u16, clx: u16) -> bool
         requires { h ≤ 226 }
         ensures known { result ≡ is_known_gathered v h clx self.now }
-        ensures clx { result ≡ true → (p : Denise) → IsPainterOf self.now p
+        ensures clx { result ≡ true → (p : DeniseValue) → IsPainterOf self.now p
             → ((x : ℕ) → 4 * h ≤ x → row_bits self.now.line x ≡ 0)
             → clx ≡ bit_or clx (quiet_collisions v h p) }
     {
@@ -206,11 +286,11 @@ impl Painter {
     fn show_any(&mut self, beam: &Beam, into: &mut [[u8; 3]; 4], clx: &mut u16) -> bool
         requires { beam.now.h ≤ 226 }
         ensures visible { result ≡ visible System.Pal beam.now.v beam.now.h }
-        ensures pixels { (p : Denise) → IsPainterOf self.old p → result ≡ true
+        ensures pixels { (p : DeniseValue) → IsPainterOf self.old p → result ≡ true
             → flat_map (λ x. x) into.new ≡ pixels System.Pal beam.now.v beam.now.h p }
-        ensures held { (p : Denise) → IsPainterOf self.old p → IsPainterOf self.new
+        ensures held { (p : DeniseValue) → IsPainterOf self.old p → IsPainterOf self.new
             (after_step (step_of System.Pal beam.now.v beam.now.h p) p) }
-        ensures clx { (p : Denise) → IsPainterOf self.old p
+        ensures clx { (p : DeniseValue) → IsPainterOf self.old p
             → clx.new ≡ bit_or clx.old (step_of System.Pal beam.now.v beam.now.h p).clx }
     {
         self.show_playfields(beam.v, beam.h, into);
@@ -222,8 +302,8 @@ impl Painter {
     #[inline(always)]
     fn show_playfields(&mut self, v: u16, h: u16, into: &mut [[u8; 3]; 4])
         requires { h ≤ 226 }
-        ensures pixels { (p : Denise) → IsPainterOf self.old p → into.new ≡ clock_bytes v h p }
-        ensures held { (p : Denise) → IsPainterOf self.old p
+        ensures pixels { (p : DeniseValue) → IsPainterOf self.old p → into.new ≡ clock_bytes v h p }
+        ensures held { (p : DeniseValue) → IsPainterOf self.old p
             → IsPainterOf self.new (with_held (held_after v h 4 p) p) }
     {
         if self.window.contains_clock(v, h) {
@@ -243,8 +323,8 @@ impl Painter {
             self.old.window.diwstop ≡ true }
         requires second { is_inside v (2 * h + 1) self.old.window.diwstrt
             self.old.window.diwstop ≡ true }
-        ensures pixels { (p : Denise) → IsPainterOf self.old p → into.new ≡ clock_bytes v h p }
-        ensures held { (p : Denise) → IsPainterOf self.old p
+        ensures pixels { (p : DeniseValue) → IsPainterOf self.old p → into.new ≡ clock_bytes v h p }
+        ensures held { (p : DeniseValue) → IsPainterOf self.old p
             → IsPainterOf self.new (with_held (held_after v h 4 p) p) }
     {
         if self.inks.holds_colour() {
@@ -266,8 +346,8 @@ impl Painter {
             self.old.window.diwstop ≡ false }
         requires second { is_inside v (2 * h + 1) self.old.window.diwstrt
             self.old.window.diwstop ≡ false }
-        ensures pixels { (p : Denise) → IsPainterOf self.old p → into.new ≡ clock_bytes v h p }
-        ensures held { (p : Denise) → IsPainterOf self.old p
+        ensures pixels { (p : DeniseValue) → IsPainterOf self.old p → into.new ≡ clock_bytes v h p }
+        ensures held { (p : DeniseValue) → IsPainterOf self.old p
             → IsPainterOf self.new (with_held (held_after v h 4 p) p) }
     {
         self.show_backdrop(into);
@@ -294,8 +374,8 @@ impl Painter {
         requires second { is_inside v (2 * h + 1) self.old.window.diwstrt
             self.old.window.diwstop ≡ true }
         requires held { is_held self.old.inks.con0 ≡ true }
-        ensures pixels { (p : Denise) → IsPainterOf self.old p → into.new ≡ clock_bytes v h p }
-        ensures held { (p : Denise) → IsPainterOf self.old p
+        ensures pixels { (p : DeniseValue) → IsPainterOf self.old p → into.new ≡ clock_bytes v h p }
+        ensures held { (p : DeniseValue) → IsPainterOf self.old p
             → IsPainterOf self.new (with_held (held_after v h 4 p) p) }
     {
         let x = 2 * (2 * h) as usize;
@@ -310,8 +390,8 @@ impl Painter {
     #[inline(never)]
     fn show_columns(&mut self, v: u16, h: u16, into: &mut [[u8; 3]; 4])
         requires { h ≤ 226 }
-        ensures pixels { (p : Denise) → IsPainterOf self.old p → into.new ≡ clock_bytes v h p }
-        ensures held { (p : Denise) → IsPainterOf self.old p
+        ensures pixels { (p : DeniseValue) → IsPainterOf self.old p → into.new ≡ clock_bytes v h p }
+        ensures held { (p : DeniseValue) → IsPainterOf self.old p
             → IsPainterOf self.new (with_held (held_after v h 4 p) p) }
     {
         self.show_column(v, 2 * h, 0, into);
@@ -322,10 +402,10 @@ impl Painter {
     fn show_column(&mut self, v: u16, column: u16, at: usize, into: &mut [[u8; 3]; 4])
         requires place { at ≤ 2 }
         requires room { column ≤ 453 }
-        ensures pixels { (p : Denise) → IsPainterOf self.old p → into.new ≡ slice_set
+        ensures pixels { (p : DeniseValue) → IsPainterOf self.old p → into.new ≡ slice_set
             (slice_set into.old at (colour_bytes (first_colour v column p)))
             (at + 1) (colour_bytes (second_colour v column p)) }
-        ensures held { (p : Denise) → IsPainterOf self.old p
+        ensures held { (p : DeniseValue) → IsPainterOf self.old p
             → IsPainterOf self.new (with_held (second_colour v column p) p) }
     {
         let x = 2 * column as usize;
@@ -343,11 +423,11 @@ impl Painter {
     #[inline(always)]
     fn show_sprites(&mut self, v: u16, h: u16, into: &mut [[u8; 3]; 4], clx: &mut u16)
         requires { h ≤ 226 }
-        ensures pixels { (p : Denise) → IsPainterOf self.old p
+        ensures pixels { (p : DeniseValue) → IsPainterOf self.old p
             → into.new ≡ clock_over v h into.old p }
-        ensures runs { (p : Denise) → IsPainterOf self.old p
+        ensures runs { (p : DeniseValue) → IsPainterOf self.old p
             → IsPainterOf self.new (with_runs (runs_after h 2 p) p) }
-        ensures clx { (p : Denise) → IsPainterOf self.old p
+        ensures clx { (p : DeniseValue) → IsPainterOf self.old p
             → clx.new ≡ bit_or clx.old (clock_collisions v h p) }
     {
         if !self.sprites.is_idle(h) {
@@ -361,11 +441,11 @@ impl Painter {
     #[inline(never)]
     fn show_sprite_columns(&mut self, v: u16, h: u16, into: &mut [[u8; 3]; 4], clx: &mut u16)
         requires { h ≤ 226 }
-        ensures pixels { (p : Denise) → IsPainterOf self.old p
+        ensures pixels { (p : DeniseValue) → IsPainterOf self.old p
             → into.new ≡ clock_over v h into.old p }
-        ensures runs { (p : Denise) → IsPainterOf self.old p
+        ensures runs { (p : DeniseValue) → IsPainterOf self.old p
             → IsPainterOf self.new (with_runs (runs_after h 2 p) p) }
-        ensures clx { (p : Denise) → IsPainterOf self.old p
+        ensures clx { (p : DeniseValue) → IsPainterOf self.old p
             → clx.new ≡ bit_or clx.old (clock_collisions v h p) }
     {
         self.show_sprite_column(v, 2 * h, 0, into, clx);
@@ -383,11 +463,11 @@ impl Painter {
     )
         requires place { at ≤ 2 }
         requires room { column ≤ 453 }
-        ensures pixels { (p : Denise) → IsPainterOf self.old p
+        ensures pixels { (p : DeniseValue) → IsPainterOf self.old p
             → into.new ≡ column_over v column at into.old (with_runs (runs_at column p p.runs) p) }
-        ensures runs { (p : Denise) → IsPainterOf self.old p
+        ensures runs { (p : DeniseValue) → IsPainterOf self.old p
             → IsPainterOf self.new (with_runs (runs_at column p p.runs) p) }
-        ensures clx { (p : Denise) → IsPainterOf self.old p → clx.new ≡ bit_or clx.old
+        ensures clx { (p : DeniseValue) → IsPainterOf self.old p → clx.new ≡ bit_or clx.old
             (column_collisions v column (with_runs (runs_at column p p.runs) p)) }
     {
         self.sprites.begin_words(column);
@@ -401,9 +481,9 @@ impl Painter {
     fn cover_column(&self, column: u16, at: usize, into: &mut [[u8; 3]; 4], clx: &mut u16)
         requires place { at ≤ 2 }
         requires room { column ≤ 453 }
-        ensures pixels { (p : Denise) → IsPainterOf self.now p
+        ensures pixels { (p : DeniseValue) → IsPainterOf self.now p
             → into.new ≡ covered_column column at into.old p }
-        ensures clx { (p : Denise) → IsPainterOf self.now p
+        ensures clx { (p : DeniseValue) → IsPainterOf self.now p
             → clx.new ≡ bit_or clx.old (covered_collisions column p) }
     {
         let first = self.planes_at(2 * column as usize);
@@ -433,7 +513,7 @@ impl Painter {
     /// The bits that the planes show at a high-resolution position, of as many as BPLCON0 says.
     fn planes_at(&self, x: usize) -> u8
         requires { x ≤ 1023 }
-        ensures { (p : Denise) → IsPainterOf self.now p → result ≡ shown_bits x p }
+        ensures { (p : DeniseValue) → IsPainterOf self.now p → result ≡ shown_bits x p }
     {
         counted_planes(self.inks.con0(), self.line.bits(x) as u8)
     }
@@ -442,7 +522,7 @@ impl Painter {
     #[inline(never)]
     fn meet_playfields(&self, v: u16, h: u16, clx: &mut u16)
         requires { h ≤ 226 }
-        ensures { (p : Denise) → IsPainterOf self.now p
+        ensures { (p : DeniseValue) → IsPainterOf self.now p
             → clx.new ≡ bit_or clx.old (quiet_collisions v h p) }
     {
         self.meet_in_column(v, 2 * h, clx);
@@ -452,7 +532,7 @@ impl Painter {
     /// The collision of the playfields with one another in a column.
     fn meet_in_column(&self, v: u16, column: u16, clx: &mut u16)
         requires { column ≤ 453 }
-        ensures { (p : Denise) → IsPainterOf self.now p
+        ensures { (p : DeniseValue) → IsPainterOf self.now p
             → clx.new ≡ bit_or clx.old (quiet_in_column v column p) }
     {
         if !self.window.has(v, column) {

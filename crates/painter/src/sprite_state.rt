@@ -1,6 +1,6 @@
 //! The sprites' registers, and the words that run on a line.
 
-ghost use Rattle.std.specs.Prelude.{◌≡◌, ◌≤◌, ◌<◌, ◌-◌, ◌*◌, ◌%◌, ◌^◌, ℕ, None, true, false, bit_and, bit_or, replicate, slice_index, slice_set, IfSome};
+ghost use Rattle.std.specs.Prelude.{◌≡◌, ◌≤◌, ◌<◌, ◌-◌, ◌*◌, ◌%◌, ◌^◌, ℕ, None, true, false, bit_and, bit_or, length, replicate, slice_index, slice_set, IfSome};
 ghost use Rattle.std.specs.List.{All};
 ghost use Rattle.serial_model.specs.Picture.{sprite_values};
 ghost use Rattle.sprites.specs.SpriteFront.{front_pixel as pixel_of_front};
@@ -16,6 +16,7 @@ ghost use Rattle.painter.specs.SpriteState.{
 };
 
 use collisions::{clx, playfields};
+use serial_model::Denise;
 use sprite_rows::{SpriteRows, collisions};
 use sprites::{Runs, SpritePixel, front};
 use std::marker::Model;
@@ -34,9 +35,9 @@ pub struct SpriteState {
     armed: u8,
     /// The words that run.
     runs: Runs,
-    /// From this column on none of them shows a bit.
+    /// From this column on none of them shows a bit, if it is below 512.
     quiet_from: u16,
-    /// Their pixels by position, from one column on.
+    /// Their pixels by position, from one column on. At 512 nothing is known of the words.
     rows: SpriteRows,
     exact_from: u16,
 }
@@ -77,6 +78,84 @@ impl SpriteState {
             rows: SpriteRows::new(),
             exact_from: 0,
         }
+    }
+
+    /// The registers of a picture state, on a line where no words run yet.
+    pub fn of_registers(d: &Denise) -> SpriteState
+        ensures { result ≡ record {
+          pos = d.now.pos;
+          ctl = d.now.ctl;
+          words_a = d.now.words_a;
+          words_b = d.now.words_b;
+          armed = d.now.armed;
+          runs = replicate 8 None;
+          quiet_from = 0;
+        } }
+    {
+        SpriteState {
+            pos: d.pos,
+            ctl: d.ctl,
+            words_a: d.words_a,
+            words_b: d.words_b,
+            armed: d.armed,
+            runs: Runs::new(),
+            quiet_from: 0,
+            rows: SpriteRows::new(),
+            exact_from: 0,
+        }
+    }
+
+    /// The words that run become these, of which nothing is known: up to the line's end each pixel
+    /// is looked up in them.
+    pub fn set_runs(&mut self, runs: Runs)
+        requires { length runs ≡ 8 }
+        ensures { self.new ≡ record self.old { runs = runs; quiet_from = 512 } }
+    {
+        self.runs = runs;
+        self.quiet_from = 512;
+        self.exact_from = 512;
+    }
+
+    /// SPR0POS to SPR7POS.
+    pub fn pos(&self) -> &[u16; 8]
+        ensures { result.now ≡ self.now.pos }
+    {
+        &self.pos
+    }
+
+    /// SPR0CTL to SPR7CTL.
+    pub fn ctl(&self) -> &[u16; 8]
+        ensures { result.now ≡ self.now.ctl }
+    {
+        &self.ctl
+    }
+
+    /// SPR0DATA to SPR7DATA.
+    pub fn words_a(&self) -> &[u16; 8]
+        ensures { result.now ≡ self.now.words_a }
+    {
+        &self.words_a
+    }
+
+    /// SPR0DATB to SPR7DATB.
+    pub fn words_b(&self) -> &[u16; 8]
+        ensures { result.now ≡ self.now.words_b }
+    {
+        &self.words_b
+    }
+
+    /// Which sprites are armed: bit n is set for sprite n.
+    pub fn armed(&self) -> u8
+        ensures { result ≡ self.now.armed }
+    {
+        self.armed
+    }
+
+    /// The words that run.
+    pub fn runs(&self) -> Runs
+        ensures { result ≡ self.now.runs }
+    {
+        self.runs
     }
 
     /// A write to SPRxPOS.

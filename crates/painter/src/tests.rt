@@ -1,9 +1,12 @@
 //! Pixels of single clocks; the values are worked by hand.
 
-ghost use Rattle.std.specs.Prelude.{◌≤◌, ◌<◌};
+ghost use Rattle.std.specs.Prelude.{◌≡◌, ◌≤◌, ◌<◌, length};
 
 use crate::Painter;
-use ocs_base::{Beam, Reg};
+use ocs_base::{Beam, Colour, Reg};
+use planes::Loads;
+use serial_model::Denise;
+use sprites::Runs;
 
 const BLACK: [u8; 3] = [0; 3];
 
@@ -55,6 +58,46 @@ fn a_load_is_shown_on_its_line_alone(rt: HostRuntime) {
     assert_eq!(rt; pixels_of(&mut painter, 72), [BLACK, BLACK, RED, RED]);
     painter.clear_line(&beam_at(0));
     assert_eq!(rt; pixels_of(&mut painter, 72), [BLACK; 4]);
+}
+
+/// A picture state of one plane whose COLOR01 is red, as `painter_with` has it.
+fn picture_with(loads: Loads) -> Denise
+    ensures { length result.runs ≡ 8 }
+{
+    let mut palette = [0; 32];
+    palette[1] = 0x0f00;
+    Denise {
+        palette,
+        con0: 0x1000,
+        con1: 0,
+        con2: 0,
+        diwstrt: 0x2c81,
+        diwstop: 0xf4c1,
+        clxcon: 0,
+        latches: [0; 6],
+        loads,
+        runs: Runs::new(),
+        pos: [0; 8],
+        ctl: [0; 8],
+        words_a: [0; 8],
+        words_b: [0; 8],
+        armed: 0,
+        held: Colour(0x0f00),
+    }
+}
+
+#[test]
+fn a_picture_state_is_opened_and_closed(rt: HostRuntime) {
+    let mut loads = Loads::new();
+    loads.load(71, &[0x8000, 0, 0, 0, 0, 0], 0, false);
+    let picture = picture_with(loads);
+    let mut painter = Painter::open(&picture);
+    assert_eq!(rt; pixels_of(&mut painter, 72), [BLACK, BLACK, RED, RED]);
+    let mut line = Painter::open_line(&picture);
+    assert_eq!(rt; pixels_of(&mut line, 72), [BLACK; 4]);
+    let closing = painter.close(Loads::new());
+    assert_eq!(rt; closing.held, Colour(0x0f00));
+    assert_eq!(rt; closing.diwstop, 0xf4c1);
 }
 
 #[test]

@@ -69,6 +69,20 @@ impl Window {
         self.right = word % 256 + 256;
     }
 
+    /// DIWSTRT.
+    pub fn start(&self) -> u16
+        ensures { result ≡ self.now.diwstrt }
+    {
+        self.diwstrt
+    }
+
+    /// DIWSTOP.
+    pub fn stop(&self) -> u16
+        ensures { result ≡ self.now.diwstop }
+    {
+        self.diwstop
+    }
+
     /// Whether a column of a line is in the window.
     #[inline(always)]
     pub fn has(&self, v: u16, column: u16) -> bool

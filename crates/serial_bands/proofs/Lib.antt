@@ -11,3 +11,7 @@ pub mod Storing
 pub mod Opening
 pub mod Drawing
 pub mod Shading
+pub mod Gathering
+pub mod BandRanges
+pub mod Fetches
+pub mod FetchRanges

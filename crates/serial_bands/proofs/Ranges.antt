@@ -56,7 +56,7 @@ clx_of_two run c n (suc m) =
     ∙ or_assoc (clx_from run c n) (clx_from run (c + n) m) (clx_at run (c + n + m))
 
 -- the touch of an access as events: its fetch and then its write
-parted : (c : ℕ) (touch : Option Touch) → bus_events c touch ≡ bus_events c (fetch_alone touch) ++ bus_events c (write_alone touch)
+pub parted : (c : ℕ) (touch : Option Touch) → bus_events c touch ≡ bus_events c (fetch_alone touch) ++ bus_events c (write_alone touch)
 parted c None = refl
 parted c (Some (Set reg word)) = refl
 parted c (Some (Plane plane at)) = refl

@@ -18,6 +18,7 @@ use Rattle.serial_bands.specs.Clock.{opening_at, closing_at, displayed_at, pictu
 use Rattle.serial_bands.specs.ClockLaws.{step_at}
 use Rattle.serial_bands.specs.RightJob.{clock_of, HasMemory}
 use Rattle.serial_bands.specs.Shadows.{filling_word, controls_of, shadow_controls, IsShadowOf, set_shadow_sprite, set_shadow, fetch_shadow_sprite, touch_shadow_if_any, touch_shadow_in_order, ShadowTouched, ShadowShown, ShadowCleared, NextShadow, found_filling, IsOfRange, AreOfRange, ShadowFound, line_opening, LineOpens, shadow_of, ShadowOfPicture, ShadowOfKept, FirstShadow}
+use Rattle.serial_bands.specs.Fetches.{ShadowSets, ShadowAccess}
 use Rattle.serial_bands.proofs.NextClock.{next_opening, displayed_is_step, closing_has_fetch, touched_twice}
 use Rattle.serial_bands.proofs.Reading.{AreSets, are_sets}
 
@@ -212,22 +213,26 @@ pub shadow_cleared : ShadowCleared
 unfolding clear_line
 shadow_cleared run b s p is = cleared run (is_line_start b) s p is
 
-pub next_shadow : NextShadow
-next_shadow run c s range is =
+-- a clock in two steps
+pub shadow_sets : ShadowSets
+shadow_sets run c s is = in_order run c (beam_at run c).h (sets_at run c) s (opening_at run c) (are_sets (due_at run c)) is
+
+pub shadow_access : ShadowAccess
+shadow_access run c s range pictured =
     let h : ℕ = (beam_at run c).h in
     let words : ℕ → ℕ = word_of (run_memory run c) in
     let touch : Option Touch = bus_touch_at run c in
-    let t : Shadow = touch_shadow_in_order c (sets_at run c) s in
-    let pictured : IsShadowOf run t (picture_at run c) =
-    in_order run c h (sets_at run c) s (opening_at run c) (are_sets (due_at run c)) is in
-    let displayed : IsShadowOf run t (displayed_at run c) =
-    subst (λ p. IsShadowOf run t p) (sym (displayed_is_step run c)) (shadow_shown run (step_at run c) t (picture_at run c) pictured) in
+    let displayed : IsShadowOf run s (displayed_at run c) =
+    subst (λ p. IsShadowOf run s p) (sym (displayed_is_step run c)) (shadow_shown run (step_at run c) s (picture_at run c) pictured) in
     let closed : touch_if_any h words (write_alone touch) (closing_at run c) ≡ touch_if_any h words touch (displayed_at run c) =
     ap (λ p. touch_if_any h words (write_alone touch) p) (closing_has_fetch run c) ∙ sym (touched_twice h words touch (displayed_at run c)) in
-    let left : IsShadowOf run (touch_shadow_if_any c touch t) (touch_if_any h words (write_alone touch) (closing_at run c)) =
-    subst (λ p. IsShadowOf run (touch_shadow_if_any c touch t) p) (sym closed) (shadow_touched run c h touch t (displayed_at run c) range displayed) in
-    subst (λ p. IsShadowOf run (touch_shadow_if_any c touch t) p) (sym (next_opening run c))
-    (shadow_cleared run (beam_at run (suc c)) (touch_shadow_if_any c touch t) (touch_if_any h words (write_alone touch) (closing_at run c)) left)
+    let left : IsShadowOf run (touch_shadow_if_any c touch s) (touch_if_any h words (write_alone touch) (closing_at run c)) =
+    subst (λ p. IsShadowOf run (touch_shadow_if_any c touch s) p) (sym closed) (shadow_touched run c h touch s (displayed_at run c) range displayed) in
+    subst (λ p. IsShadowOf run (touch_shadow_if_any c touch s) p) (sym (next_opening run c))
+    (shadow_cleared run (beam_at run (suc c)) (touch_shadow_if_any c touch s) (touch_if_any h words (write_alone touch) (closing_at run c)) left)
+
+pub next_shadow : NextShadow
+next_shadow run c s range is = shadow_access run c (touch_shadow_in_order c (sets_at run c) s) range (shadow_sets run c s is)
 
 -- what is found
 one_found : (run : RunValue) (from to : ℕ) (word_found : ℕ → Addr → ℕ) (filling : Filling) → HasMemory run from to word_found

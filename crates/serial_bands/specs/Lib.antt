@@ -15,3 +15,6 @@ pub mod Stores
 pub mod OpenBand
 pub mod DrawnTo
 pub mod Shadows
+pub mod Gathering
+pub mod BandRanges
+pub mod Fetches

@@ -10,6 +10,9 @@ ghost use Rattle.serial_bands.specs.Stores.{StoresMakeMemory, MemoryByStores, Vi
 ghost use Rattle.serial_bands.specs.OpenBand.{BandOpens, BandGoesOn, BandCloses};
 ghost use Rattle.serial_bands.specs.DrawnTo.{WordsAreFound, DrawingBegins, TouchIsNext, DrawingGoesOn, LastFetchIsNext, DrawingEnds};
 ghost use Rattle.serial_bands.specs.Shadows.{ShadowOfPicture, ShadowOfKept, FirstShadow, ShadowTouched, ShadowShown, ShadowCleared, NextShadow, ShadowFound, LineOpens};
+ghost use Rattle.serial_bands.specs.Fetches.{LeftOfPicture, LeftOfFound, LeftBySets, LeftByTouch, TouchInTwo, FewerWithWrite, FetchesAreLatched, RangeOfPicture, RangeOfFound, RangeOfSets, RangeOfTouch, ShadowFoundIn, ShadowSets, ShadowAccess};
+ghost use Rattle.serial_bands.specs.Gathering.{GatheredFirst, GatheredMore, GatheredMoreIn, GatheredWhole, GatheredStart, GatheredCleared, GatheredAtAccess, GatheredNext, GatheredRead, ClxOfRange};
+ghost use Rattle.serial_bands.specs.BandRanges.{TintOfTwo, LengthOfTint, BandsRise, BandsBegin, BandsAreAlone, BandsOfTwo, BytesOfBandsTinted, OpenIsBand, BytesRise};
 
 /// What one colour clock makes of any state: the picture with the access's write of a register apart,
 /// the collision bits before and after the picture step, and the place of the beam where no field
@@ -168,4 +171,53 @@ pub fn shadow_of_picture()
     ensures next { NextShadow }
     ensures found { ShadowFound }
     ensures opening { LineOpens }
+{}
+
+/// The collision bits of a state, from clock to clock, where those of the bands before a clock were
+/// gathered: a band that is gathered later adds its own, and a read clears all.
+pub fn collisions_gathered()
+    ensures first { GatheredFirst }
+    ensures more { GatheredMore }
+    ensures more_in { GatheredMoreIn }
+    ensures whole { GatheredWhole }
+    ensures start { GatheredStart }
+    ensures cleared { GatheredCleared }
+    ensures access { GatheredAtAccess }
+    ensures next { GatheredNext }
+    ensures read { GatheredRead }
+    ensures range { ClxOfRange }
+{}
+
+/// Bands one after another fill one range, whose bytes are theirs one after another, under a tint too;
+/// an open band becomes one of them, and no clock shows more than 12 bytes.
+pub fn bands_joined()
+    ensures tint { TintOfTwo }
+    ensures length { LengthOfTint }
+    ensures rise { BandsRise }
+    ensures begin { BandsBegin }
+    ensures alone { BandsAreAlone }
+    ensures two { BandsOfTwo }
+    ensures bytes { BytesOfBandsTinted }
+    ensures opened { OpenIsBand }
+    ensures room { BytesRise }
+{}
+
+/// The fetches of a shadow that were not looked up: they are those that the events since it had words
+/// alone left, no more than the registers that a fetch filled last, and of the clocks since then. A
+/// clock's touches of a shadow come in two steps, the script's and the access's.
+pub fn fetches_left()
+    ensures picture { LeftOfPicture }
+    ensures found { LeftOfFound }
+    ensures sets { LeftBySets }
+    ensures touch { LeftByTouch }
+    ensures in_two { TouchInTwo }
+    ensures fewer { FewerWithWrite }
+    ensures latched { FetchesAreLatched }
+    ensures range_of_picture { RangeOfPicture }
+    ensures range_of_found { RangeOfFound }
+    ensures range_of_sets { RangeOfSets }
+    ensures range_of_touch { RangeOfTouch }
+    ensures shadow_found { ShadowFoundIn }
+    ensures shadow_sets { ShadowSets }
+    ensures shadow_access { ShadowAccess }
 {}

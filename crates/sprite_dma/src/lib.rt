@@ -5,7 +5,7 @@
 //! of the slots and the first line are this project's profile.
 #![tactic(auto)]
 
-ghost use Rattle.std.specs.Prelude.{◌≡◌, ◌<◌};
+ghost use Rattle.std.specs.Prelude.{◌≡◌, ◌<◌, true};
 ghost use Rattle.serial_model.specs.SpriteFetch.{no_kinds, kinds_at, sprite_ask, move_sprites, kind_of, kind_by};
 ghost use Rattle.serial_model.specs.SpriteFetch.{sprite_dma as dma_of, ask_by_kind, move_if_asked, is_sprite_slot};
 
@@ -52,13 +52,20 @@ impl SpriteDma {
     /// it, and its pointer stays (profile). The answer is Some exactly where a sprite's word is read. The
     /// sprite's pointer has then moved on by that word.
     #[inline(always)]
+    #[tactic(auto, unfolding(serial_model::specs::SpriteFetch::kinds_at))]
     pub fn step(&mut self, beam: &Beam, regs: &mut Regs, taken: bool) -> Option<SpriteAsk>
         ensures kinds { self.new ≡ kinds_at beam.now regs.old self.old }
         ensures ask { result ≡ sprite_ask beam.now.h regs.old self.new taken }
         ensures moved { regs.new ≡ move_sprites beam.now.h self.new taken regs.old }
     {
+        if !is_slot(beam.h) {
+            if beam.h == 0 {
+                self.kinds = [SpriteKind::Nothing; 8];
+            }
+            return None;
+        }
         self.decide(beam, regs);
-        if !is_slot(beam.h) || taken || !has_dma(regs) {
+        if taken || !has_dma(regs) {
             return None;
         }
         let sprite = (beam.h - 0x15) / 4;
@@ -66,15 +73,13 @@ impl SpriteDma {
         fetch(kind, sprite as u8, beam.h % 4 == 3, regs)
     }
 
-    /// Forgets the line before at a line's first clock, and decides at a sprite's first slot what it reads.
-    #[inline(always)]
+    /// Decides at a sprite's first slot what it reads on this line.
     #[tactic(auto, unfolding(serial_model::specs::SpriteFetch::kinds_at))]
     fn decide(&mut self, beam: &Beam, regs: &Regs)
+        requires { is_sprite_slot beam.now.h ≡ true }
         ensures { self.new ≡ kinds_at beam.now regs.now self.old }
     {
-        if beam.h == 0 {
-            self.kinds = [SpriteKind::Nothing; 8];
-        } else if is_slot(beam.h) && beam.h % 4 == 1 {
+        if beam.h % 4 == 1 {
             let sprite = (beam.h - 0x15) / 4;
             self.kinds[sprite as usize] = kind(beam.v, sprite as u8, regs);
         }

@@ -1,6 +1,6 @@
 //! Blits: while a picture is shown, over frames, filled, and lines; and the words of the interrupts.
 
-use super::cases::{CYAN, Case, Stretch, WHITE, first_fault};
+use super::cases::{CYAN, Case, Stretch, WHITE, first_fault, first_fault_in_bands};
 use super::{BLACK, RED};
 use ocs_base::OutOfMemory;
 
@@ -298,42 +298,45 @@ static INTERRUPTS: [Case; 1] = [
 
 #[test]
 fn blits_in_a_picture(rt: HostRuntime) -> Result<(), OutOfMemory> {
-    assert_eq!(rt; first_fault(rt.alloc(), &IN_A_PICTURE)?, None);
+    for band in ["1", "20", "100", "313"] {
+        let fault = first_fault_in_bands(&rt, rt.alloc(), &IN_A_PICTURE, band)?;
+        assert_eq!(rt; fault, None, "bands of {band} lines");
+    }
     Ok(())
 }
 
 #[test]
 fn a_blit_over_frames(rt: HostRuntime) -> Result<(), OutOfMemory> {
-    assert_eq!(rt; first_fault(rt.alloc(), &OVER_FRAMES)?, None);
+    assert_eq!(rt; first_fault(&rt, rt.alloc(), &OVER_FRAMES)?, None);
     Ok(())
 }
 
 #[test]
 fn fills(rt: HostRuntime) -> Result<(), OutOfMemory> {
-    assert_eq!(rt; first_fault(rt.alloc(), &FILLS)?, None);
+    assert_eq!(rt; first_fault(&rt, rt.alloc(), &FILLS)?, None);
     Ok(())
 }
 
 #[test]
 fn lines(rt: HostRuntime) -> Result<(), OutOfMemory> {
-    assert_eq!(rt; first_fault(rt.alloc(), &LINES)?, None);
+    assert_eq!(rt; first_fault(&rt, rt.alloc(), &LINES)?, None);
     Ok(())
 }
 
 #[test]
 fn writes_while_busy(rt: HostRuntime) -> Result<(), OutOfMemory> {
-    assert_eq!(rt; first_fault(rt.alloc(), &BUSY)?, None);
+    assert_eq!(rt; first_fault(&rt, rt.alloc(), &BUSY)?, None);
     Ok(())
 }
 
 #[test]
 fn waits_for_the_blitter(rt: HostRuntime) -> Result<(), OutOfMemory> {
-    assert_eq!(rt; first_fault(rt.alloc(), &COPPER_WAITS)?, None);
+    assert_eq!(rt; first_fault(&rt, rt.alloc(), &COPPER_WAITS)?, None);
     Ok(())
 }
 
 #[test]
 fn interrupt_words(rt: HostRuntime) -> Result<(), OutOfMemory> {
-    assert_eq!(rt; first_fault(rt.alloc(), &INTERRUPTS)?, None);
+    assert_eq!(rt; first_fault(&rt, rt.alloc(), &INTERRUPTS)?, None);
     Ok(())
 }

@@ -4,6 +4,8 @@
 use super::{HEADING, WORDS, holds, run, shelf};
 use ocs_base::OutOfMemory;
 use std::alloc::Global;
+use std::sync::Wait;
+use std::thread::Threads;
 
 /// An event: its frame, line and clock, the register, and the word that is written or read.
 type Event = (&'static str, &'static str, &'static str);
@@ -111,15 +113,20 @@ fn trace_of(alloc: Global, case: &Case) -> Result<String, OutOfMemory> {
     Ok(text)
 }
 
-/// What of a case's run is not as it should be.
-fn fault_of(alloc: Global, case: &Case) -> Result<Option<&'static str>, OutOfMemory> {
+/// What of a case's run in bands of this height is not as it should be.
+fn fault_of<R: Threads + Wait + Clone + Drop + Send + Sync + 'static>(
+    rt: &R,
+    alloc: Global,
+    case: &Case,
+    band: &str,
+) -> Result<Option<&'static str>, OutOfMemory> {
     let image = bytes_of(alloc, case.image)?;
     let mut shelf = shelf(alloc, &image, script_of(alloc, case)?.as_bytes())?;
     let mut memory = bytes_of(alloc, case.memory)?;
     memory.resize(524_288, 0)?;
     let mut words = WORDS;
-    words[6] = case.band;
-    Ok(if run(alloc, &words, &mut shelf)? != 0 {
+    words[6] = band;
+    Ok(if run(rt, alloc, &words, &mut shelf)? != 0 {
         Some("status")
     } else if !shelf.said().is_empty() {
         Some("said")
@@ -135,12 +142,28 @@ fn fault_of(alloc: Global, case: &Case) -> Result<Option<&'static str>, OutOfMem
 }
 
 /// The first case that is not as it should be, and what of it.
-pub fn first_fault(
+pub fn first_fault<R: Threads + Wait + Clone + Drop + Send + Sync + 'static>(
+    rt: &R,
     alloc: Global,
     cases: &[Case],
 ) -> Result<Option<(usize, &'static str)>, OutOfMemory> {
     for (n, case) in cases.iter().enumerate() {
-        if let Some(fault) = fault_of(alloc, case)? {
+        if let Some(fault) = fault_of(rt, alloc, case, case.band)? {
+            return Ok(Some((n, fault)));
+        }
+    }
+    Ok(None)
+}
+
+/// The same in bands of another height than the case's own.
+pub fn first_fault_in_bands<R: Threads + Wait + Clone + Drop + Send + Sync + 'static>(
+    rt: &R,
+    alloc: Global,
+    cases: &[Case],
+    band: &str,
+) -> Result<Option<(usize, &'static str)>, OutOfMemory> {
+    for (n, case) in cases.iter().enumerate() {
+        if let Some(fault) = fault_of(rt, alloc, case, band)? {
             return Ok(Some((n, fault)));
         }
     }

@@ -196,12 +196,12 @@ static COLOUR_MODES: [Case; 4] = [
 
 #[test]
 fn fetched_planes(rt: HostRuntime) -> Result<(), OutOfMemory> {
-    assert_eq!(rt; first_fault(rt.alloc(), &FETCHED)?, None);
+    assert_eq!(rt; first_fault(&rt, rt.alloc(), &FETCHED)?, None);
     Ok(())
 }
 
 #[test]
 fn colour_modes(rt: HostRuntime) -> Result<(), OutOfMemory> {
-    assert_eq!(rt; first_fault(rt.alloc(), &COLOUR_MODES)?, None);
+    assert_eq!(rt; first_fault(&rt, rt.alloc(), &COLOUR_MODES)?, None);
     Ok(())
 }

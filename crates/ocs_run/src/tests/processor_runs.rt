@@ -4,6 +4,8 @@ use super::{BLACK, RED, WORDS, holds, picture, run, shelf};
 use ocs_base::OutOfMemory;
 use ocs_io::Shelf;
 use std::alloc::Global;
+use std::sync::Wait;
+use std::thread::Threads;
 
 /// One run of one frame: the words of the image, the events, the trace, the colour of the frame, and words that stand in
 /// memory at an address at the end.
@@ -46,11 +48,15 @@ fn has_bytes(shelf: &Shelf, at: usize, wanted: &[u8]) -> bool {
 }
 
 /// What of a program's run is not as it should be.
-fn fault_of(alloc: Global, program: &Program) -> Result<Option<&'static str>, OutOfMemory> {
+fn fault_of<R: Threads + Wait + Clone + Drop + Send + Sync + 'static>(
+    rt: &R,
+    alloc: Global,
+    program: &Program,
+) -> Result<Option<&'static str>, OutOfMemory> {
     let image = bytes(alloc, program.image)?;
     let script = script(alloc, "1", program.events)?;
     let mut shelf = shelf(alloc, &image, script.as_bytes())?;
-    Ok(if run(alloc, &WORDS, &mut shelf)? != 0 {
+    Ok(if run(rt, alloc, &WORDS, &mut shelf)? != 0 {
         Some("status")
     } else if !holds(&shelf, "trace", program.trace.as_bytes()) {
         Some("trace")
@@ -143,7 +149,7 @@ at 0 0 0 poke 100 6000\nat 0 0 0 poke 096 8300\n",
 #[test]
 fn programs_of_the_processor(rt: HostRuntime) -> Result<(), OutOfMemory> {
     for (n, program) in PROGRAMS.iter().enumerate() {
-        assert_eq!(rt; fault_of(rt.alloc(), program)?, None, "{n}");
+        assert_eq!(rt; fault_of(&rt, rt.alloc(), program)?, None, "{n}");
     }
     Ok(())
 }
@@ -156,7 +162,7 @@ fn exceptions_end_no_run(rt: HostRuntime) -> Result<(), OutOfMemory> {
     for opcode in [0xe348, 0x4afc] {
         let image = bytes(alloc, &[0, 0x1000, 0, 8, opcode, 0x60fe])?;
         let mut shelf = shelf(alloc, &image, script(alloc, "1", "")?.as_bytes())?;
-        assert_eq!(rt; run(alloc, &WORDS, &mut shelf)?, 0, "{opcode}");
+        assert_eq!(rt; run(&rt, rt.alloc(), &WORDS, &mut shelf)?, 0, "{opcode}");
         assert!(rt; shelf.said().is_empty());
     }
     Ok(())
@@ -187,7 +193,7 @@ fn fifty_interrupts(rt: HostRuntime) -> Result<(), OutOfMemory> {
     let alloc = rt.alloc();
     let image = bytes(alloc, &COUNTER)?;
     let mut shelf = shelf(alloc, &image, script(alloc, "50", "")?.as_bytes())?;
-    assert_eq!(rt; run(alloc, &WORDS, &mut shelf)?, 0);
+    assert_eq!(rt; run(&rt, rt.alloc(), &WORDS, &mut shelf)?, 0);
     assert!(rt; has_bytes(&shelf, 0x200, &[0x00, 0x32]));
     let head = "0 0 30 W 09a c020 M\n0 0 38 I 3\n0 0 68 R 00e 0001 M\n0 0 78 W 09c 0020 M\n\
 0 0 102 W 180 0001 M\n1 0 0 I 3\n";

@@ -158,18 +158,18 @@ static COLLISIONS: [Case; 1] = [
 
 #[test]
 fn sprites_shown(rt: HostRuntime) -> Result<(), OutOfMemory> {
-    assert_eq!(rt; first_fault(rt.alloc(), &SPRITES)?, None);
+    assert_eq!(rt; first_fault(&rt, rt.alloc(), &SPRITES)?, None);
     Ok(())
 }
 
 #[test]
 fn priorities(rt: HostRuntime) -> Result<(), OutOfMemory> {
-    assert_eq!(rt; first_fault(rt.alloc(), &PRIORITIES)?, None);
+    assert_eq!(rt; first_fault(&rt, rt.alloc(), &PRIORITIES)?, None);
     Ok(())
 }
 
 #[test]
 fn collisions(rt: HostRuntime) -> Result<(), OutOfMemory> {
-    assert_eq!(rt; first_fault(rt.alloc(), &COLLISIONS)?, None);
+    assert_eq!(rt; first_fault(&rt, rt.alloc(), &COLLISIONS)?, None);
     Ok(())
 }

@@ -4,13 +4,18 @@ use Rattle.mem_versions.specs.MemView.{word_then}
 use Rattle.serial_bands.specs.RightJob.{IsRightJob}
 use Rattle.band_log.specs.declared.job.Job.{Job}
 use Rattle.band_draw.specs.Progress.{IsSource, IsAt, IsEnded}
-use Rattle.band_draw.proofs.Beginning.{job_screen, job_source}
+use Rattle.band_draw.proofs.Beginning.{job_screen, job_eight, job_source}
 use Rattle.band_draw.proofs.band.draw.Goals as goal
 
-pub begin-start-requires : goal.begin-start-requires
-begin-start-requires c =
+pub begin-start-requires-clause-screen : goal.begin-start-requires-clause-screen
+begin-start-requires-clause-screen c =
     let job : Job = c.args.job in
     job_screen (arc_value job.run) job.number job.from.0 job.to.0 job.beam job.opening job.events (word_then job.view) (length job.room) c.requires.parts
+
+pub begin-start-requires-clause-eight : goal.begin-start-requires-clause-eight
+begin-start-requires-clause-eight c =
+    let job : Job = c.args.job in
+    job_eight (arc_value job.run) job.number job.from.0 job.to.0 job.beam job.opening job.events (word_then job.view) (length job.room) c.requires.parts
 
 pub draw_into-end-requires-clause-source : goal.draw_into-end-requires-clause-source
 draw_into-end-requires-clause-source c =
@@ -40,8 +45,8 @@ returns-clause-right c =
       owner = refl;
       numbered = refl;
       shown =
-          subst (λ r. IsEnded r job.from.0 job.to.0 end.new.room end.result.denise end.result.clx) c.deref-2.ensures
-          (subst (λ k. IsEnded c.deref-2.result.now k job.to.0 end.new.room end.result.denise end.result.clx) start.ensures.from
-          (subst (λ k. IsEnded c.deref-2.result.now start.result.from k end.new.room end.result.denise end.result.clx) start.ensures.to end.ensures))
+          subst (λ r. IsEnded r job.from.0 job.to.0 end.new.room end.result.closing end.result.clx) c.deref-2.ensures
+          (subst (λ k. IsEnded c.deref-2.result.now k job.to.0 end.new.room end.result.closing end.result.clx) start.ensures.from
+          (subst (λ k. IsEnded c.deref-2.result.now start.result.from k end.new.room end.result.closing end.result.clx) start.ensures.to end.ensures))
           job.number c.requires.parts.band;
     }

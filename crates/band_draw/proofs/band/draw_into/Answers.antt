@@ -5,6 +5,6 @@ use Rattle.band_draw.proofs.band.draw_into.Goals as goal
 
 pub returns : goal.returns
 returns c n band =
-    subst (λ l. IsRightDrawn c.args.run.now n c.args.start.from c.args.start.to l c.draw_all.new.p.clx c.draw_all.new.p.denise)
-    (sym (given_back c.args.room.now c.draw_all.new.room
-    (c.draw_all.ensures.size ∙ ap (λ (l : List ℕ). length l) c.pixels_mut.ensures.bytes))) (c.draw_all.ensures.ended n band)
+    subst (λ l. IsRightDrawn c.args.run.now n c.args.start.from c.args.start.to l c.draw_all-closing.new.p.clx c.draw_all-closing.result)
+    (sym (given_back c.args.room.now c.draw_all-closing.new.room
+    (c.draw_all-closing.ensures.size ∙ ap (λ (l : List ℕ). length l) c.pixels_mut.ensures.bytes))) (c.draw_all-closing.ensures.ended n band)

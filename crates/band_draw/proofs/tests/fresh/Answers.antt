@@ -1,7 +1,7 @@
-use Rattle.std.proofs.Common.{sym, subst}
-use Rattle.band_draw.specs.Sound.{IsSound}
+use Rattle.std.proofs.Common.{length, ap, ◌∙◌}
+use Rattle.serial_model.specs.declared.picture.Denise.{Denise}
 use Rattle.band_draw.proofs.Sounding.{sound_reset}
 use Rattle.band_draw.proofs.tests.fresh.Goals as goal
 
-pub returns : goal.returns
-returns c = subst IsSound (sym c.reset.ensures) sound_reset
+pub open-requires : goal.open-requires
+open-requires c = ap (λ (d : Denise). length d.runs) c.reset.ensures ∙ sound_reset.eight

@@ -1,7 +1,11 @@
 -- The events before this one have touched the picture state.
+use Rattle.std.proofs.Common.{◌≡◌}
 use Rattle.mem_versions.specs.MemView.{word_then}
 use Rattle.band_draw.specs.Touched.{HaveTouched}
 use Rattle.band_draw.proofs.touch.touch_all.Given as goal
 
 abbrev pub invariant-loop-event : goal.invariant-loop-event
-invariant-loop-event l = HaveTouched l.h (word_then l.view l.clock.0) l.events l.event-index l.initial.d l.d
+invariant-loop-event l = record {
+  touched : HaveTouched l.h (word_then l.view l.clock.0) l.events l.event-index l.initial.painter l.painter;
+  keeps : l.painter.keeps ≡ l.initial.painter.keeps;
+}

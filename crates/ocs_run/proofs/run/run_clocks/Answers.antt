@@ -1,36 +1,51 @@
-use Rattle.std.proofs.Common.{◌<◌, subst, ◌∙◌}
+use Rattle.std.proofs.Common.{◌≡◌, ◌∙◌}
+use Rattle.out_files.specs.OutFiles.{OutNames}
 use Rattle.ocs_run.proofs.KeptLaws.{OnlyWrites-more, KeepsNames-more, AreGrowable-kept}
-use Rattle.ocs_run.proofs.RunLaws.{on_err, stop-tick, stop-flush, IsUnderway-tick, IsInStep-tick, IsUnderway-flush, IsInStep-flush}
+use Rattle.ocs_run.proofs.RunLaws.{on_err, cause_err, fewer_clocks, stop-advance, stop-flush, IsUnderway-advanced, IsUnderway-flushed, CanRun-advanced, mark_advanced, names_advanced}
 use Rattle.ocs_run.proofs.run.run_clocks.Goals as goal
 
-pub returns-in_err-left-clause-stopped : goal.returns-in_err-left-clause-stopped
-returns-in_err-left-clause-stopped g c =
-    on_err _ _ (stop-tick c.args.script.now _ _ _ _ c.loop-fore.invariant.out c.loop-fore.invariant.runs)
+pub returns-in_err-advance-clause-stopped : goal.returns-in_err-advance-clause-stopped
+returns-in_err-advance-clause-stopped g c =
+    on_err _ _ (stop-advance _ _ c.args.fore.now c.loop-fore.fore _ _ _ c.loop-fore.out c.loop-fore.invariant.run c.loop-fore.invariant.out
+    c.loop-fore.invariant.runs)
 
-pub returns-in_err-flush_lines-clause-stopped : goal.returns-in_err-flush_lines-clause-stopped
-returns-in_err-flush_lines-clause-stopped g c =
-    let going : c.loop-fore.fore.beam.frame < c.args.script.now.frames =
-    subst (λ n. c.loop-fore.fore.beam.frame < n) c.frames.ensures c.loop-fore-test.true in
-    on_err _ _ (stop-flush c.args.script.now _ _ _ _ c.tick.new.self
-    (c.in_ok-left.ensures.next.names ∙ c.loop-fore.invariant.out)
-    (λ image base so. IsUnderway-tick image c.args.script.now base _ c.loop-fore.left.now c.in_ok-left.left.now _ _ c.loop-fore.invariant.step going
-    c.in_ok-left.ensures.step c.in_ok-left.ensures.next (c.loop-fore.invariant.runs image base so))
-    c.in_err-flush_lines.ensures.parts)
+pub loop-fore-smaller : goal.loop-fore-smaller
+loop-fore-smaller g c =
+    fewer_clocks c.loop-fore.fore c.advance.new.self _ _ c.loop-fore.invariant.able c.done.ensures c.loop-fore-test.true c.advance.ensures.run
+    c.in_ok-advance.ensures.count
 
 pub loop-fore-preserved : goal.loop-fore-preserved
 loop-fore-preserved g c =
-    let going : c.loop-fore.fore.beam.frame < c.args.script.now.frames =
-    subst (λ n. c.loop-fore.fore.beam.frame < n) c.frames.ensures c.loop-fore-test.true in
-    let flushes = c.in_ok-flush_lines.ensures.flushed in
+    let names : c.advance.new.out.names ≡ c.loop-fore.out.names =
+    names_advanced _ _ _ _ _ _ c.in_ok-advance.ensures.clock c.loop-fore.invariant.able in
     record {
       growable = AreGrowable-kept _ _ _ _ c.loop-fore.invariant.growable c.in_ok-flush_lines.ensures.names.grow
-          (flushes.names ∙ c.in_ok-left.ensures.next.names);
-      step = IsInStep-flush c.args.script.now c.in_ok-left.left.now _ _ _ _ flushes
-          (IsInStep-tick c.args.script.now c.loop-fore.left.now c.in_ok-left.left.now _ _ c.loop-fore.invariant.step going c.in_ok-left.ensures.next);
-      runs = λ image base so. IsUnderway-flush image c.args.script.now base _ _ _ _ flushes
-          (IsUnderway-tick image c.args.script.now base _ c.loop-fore.left.now c.in_ok-left.left.now _ _ c.loop-fore.invariant.step going
-          c.in_ok-left.ensures.step c.in_ok-left.ensures.next (c.loop-fore.invariant.runs image base so));
-      out = flushes.names ∙ c.in_ok-left.ensures.next.names ∙ c.loop-fore.invariant.out;
-      kept = OnlyWrites-more _ _ _ c.loop-fore.invariant.kept c.in_ok-flush_lines.ensures.kept;
-      names = KeepsNames-more _ _ _ _ _ _ c.loop-fore.invariant.names c.in_ok-flush_lines.ensures.names;
+          (c.in_ok-flush_lines.ensures.out ∙ names);
+      able = CanRun-advanced _ _ _ _ _ _ c.in_ok-advance.ensures.clock c.in_ok-advance.ensures.fresh c.loop-fore.invariant.able;
+      runs = λ base is. IsUnderway-flushed base _ _ _ _ _ _ c.in_ok-flush_lines.ensures.together
+          (IsUnderway-advanced base _ _ _ _ _ _ _ c.in_ok-advance.ensures.clock c.advance.ensures.run c.in_ok-advance.ensures.count
+          c.in_ok-advance.ensures.fresh (c.loop-fore.invariant.runs base is));
+      run = c.advance.ensures.run ∙ c.loop-fore.invariant.run;
+      out = c.in_ok-flush_lines.ensures.out ∙ (names ∙ c.loop-fore.invariant.out);
+      mark = mark_advanced _ _ _ _ _ _ c.in_ok-advance.ensures.clock c.loop-fore.invariant.able ∙ c.loop-fore.invariant.mark;
+      kept = OnlyWrites-more _ _ _ c.loop-fore.invariant.kept c.flush_lines.ensures.kept;
+      names = KeepsNames-more _ _ _ _ _ _ c.loop-fore.invariant.names c.flush_lines.ensures.names;
     }
+
+pub returns-in_err-flush_lines-clause-stopped : goal.returns-in_err-flush_lines-clause-stopped
+returns-in_err-flush_lines-clause-stopped g c =
+    let names : c.advance.new.out.names ≡ c.loop-fore.out.names =
+    names_advanced _ _ _ _ _ _ c.in_ok-advance.ensures.clock c.loop-fore.invariant.able in
+    on_err _ _ (stop-flush _ _ _ c.args.fore.now c.advance.new.self _ _ _ c.advance.new.out (c.advance.ensures.run ∙ c.loop-fore.invariant.run)
+    (names ∙ c.loop-fore.invariant.out)
+    (λ base is. IsUnderway-advanced base _ _ _ _ _ _ _ c.in_ok-advance.ensures.clock c.advance.ensures.run c.in_ok-advance.ensures.count
+    c.in_ok-advance.ensures.fresh (c.loop-fore.invariant.runs base is))
+    c.in_err-flush_lines.ensures.parts)
+
+pub returns-in_err-flush_lines-clause-cause : goal.returns-in_err-flush_lines-clause-cause
+returns-in_err-flush_lines-clause-cause g c =
+    cause_err _ _ _ _ c.in_err-flush_lines.field-0.0 c.from_residual-in_err-flush_lines.ensures.1 c.loop-fore.invariant.kept
+    c.flush_lines.ensures.kept c.in_err-flush_lines.ensures.cause
+
+pub returns-in_err-flush_lines-clause-names : goal.returns-in_err-flush_lines-clause-names
+returns-in_err-flush_lines-clause-names g c = KeepsNames-more _ _ _ _ _ _ c.loop-fore.invariant.names c.flush_lines.ensures.names

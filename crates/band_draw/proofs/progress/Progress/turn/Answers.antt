@@ -1,4 +1,4 @@
-use Rattle.std.proofs.Common.{◌≡◌, ◌≤◌, ℕ, ◌+◌, ◌*◌, List, length, drop, arith, subst, sym, ap, ◌∙◌}
+use Rattle.std.proofs.Common.{refl, ◌≡◌, ◌≤◌, ℕ, ◌+◌, ◌*◌, List, length, drop, arith, subst, sym, ap, ◌∙◌}
 use Rattle.ocs_base.specs.Script.{ScriptValue}
 use Rattle.ocs_base.specs.declared.addr.Addr.{Addr}
 use Rattle.ocs_base.specs.declared.script.At.{At}
@@ -10,23 +10,21 @@ use Rattle.band_draw.specs.Due.{IsLeft}
 use Rattle.mem_versions.specs.MemView.{word_then}
 use Rattle.serial_bands.specs.DrawnTo.{touch_by_address}
 use Rattle.serial_bands.specs.EventReading.{bus_touch_of}
-use Rattle.band_draw.specs.Keeps.{Keeps}
+use Rattle.band_draw.specs.BandPainter.{Paints}
 use Rattle.band_draw.specs.declared.progress.Progress.{Progress}
-use Rattle.band_draw.proofs.Turning.{part_there, sound_there, screen_there, room_there, screen_next, left_there, next_within, given_part, turned}
+use Rattle.band_draw.proofs.Turning.{part_there, screen_there, room_there, screen_next, left_there, next_within, given_part, turned}
+use Rattle.band_draw.proofs.Painting.{keeps_next}
 use Rattle.band_draw.proofs.progress.Progress.turn.Goals as goal
 
 pub part-due-requires : goal.part-due-requires
 part-due-requires c = part_there c.args.run.now c.args.events.now c.args.room.now c.args.self.now c.requires.at
 
-pub show_clock-given-requires-clause-sound : goal.show_clock-given-requires-clause-sound
-show_clock-given-requires-clause-sound c = sound_there c.args.run.now c.args.events.now c.args.room.now c.args.self.now c.requires.at
-
-pub show_clock-given-requires-clause-place : goal.show_clock-given-requires-clause-place
-show_clock-given-requires-clause-place c =
+pub show_clock-filled-requires-clause-place : goal.show_clock-filled-requires-clause-place
+show_clock-filled-requires-clause-place c =
     omega (arith, (screen_there c.args.run.now c.args.events.now c.args.room.now c.args.self.now c.requires.at).clock)
 
-pub show_clock-given-requires-clause-room : goal.show_clock-given-requires-clause-room
-show_clock-given-requires-clause-room c = room_there c.args.run.now c.args.events.now c.args.room.now c.args.self.now c.requires.at
+pub show_clock-filled-requires-clause-room : goal.show_clock-filled-requires-clause-room
+show_clock-filled-requires-clause-room c = room_there c.args.run.now c.args.events.now c.args.room.now c.args.self.now c.requires.at
 
 pub overflow_add-self : goal.overflow_add-self
 overflow_add-self c =
@@ -35,20 +33,20 @@ overflow_add-self c =
 pub behind-rest-requires : goal.behind-rest-requires
 behind-rest-requires c = part_there c.args.run.now c.args.events.now c.args.room.now c.args.self.now c.requires.at
 
-pub next_place-beam-requires : goal.next_place-beam-requires
-next_place-beam-requires c = (screen_there c.args.run.now c.args.events.now c.args.room.now c.args.self.now c.requires.at).line
+pub next_place-requires : goal.next_place-requires
+next_place-requires c = (screen_there c.args.run.now c.args.events.now c.args.room.now c.args.self.now c.requires.at).line
 
 pub due_from-coming-requires-clause-screen : goal.due_from-coming-requires-clause-screen
 due_from-coming-requires-clause-screen c =
-    screen_next c.args.run.now c.args.events.now c.args.view.now c.args.room.now c.args.self.now c.next_place-beam.result c.requires.source
-    c.requires.at c.requires.more c.next_place-beam.ensures
+    screen_next c.args.run.now c.args.events.now c.args.view.now c.args.room.now c.args.self.now c.next_place.new.beam c.requires.source
+    c.requires.at c.requires.more c.next_place.ensures
 
 pub due_from-coming-requires-clause-left : goal.due_from-coming-requires-clause-left
 due_from-coming-requires-clause-left c =
     let script : c.events.result.now ≡ c.args.run.now.script.events =
     c.events.ensures ∙ ap (λ (s : ScriptValue). s.events) c.script.ensures.value in
-    subst (λ l. IsLeft (place_of c.next_place-beam.result) l (drop c.args.self.now.due l)) (sym script)
-    (left_there c.args.run.now c.args.events.now c.args.room.now c.args.self.now c.next_place-beam.result c.requires.at c.next_place-beam.ensures)
+    subst (λ l. IsLeft (place_of c.next_place.new.beam) l (drop c.args.self.now.due l)) (sym script)
+    (left_there c.args.run.now c.args.events.now c.args.room.now c.args.self.now c.next_place.new.beam c.requires.at c.next_place.ensures)
 
 pub overflow_add-self-4 : goal.overflow_add-self-4
 overflow_add-self-4 c =
@@ -60,10 +58,14 @@ overflow_add-self-4 c =
       c.behind-rest.ensures.few,
     )
 
+pub touch_access-count-requires-clause-place : goal.touch_access-count-requires-clause-place
+touch_access-count-requires-clause-place c =
+    omega (arith, (screen_there c.args.run.now c.args.events.now c.args.room.now c.args.self.now c.requires.at).clock)
+
 pub returns-clause-at : goal.returns-clause-at
 returns-clause-at c =
     let p : Progress = c.args.self.now in
-    let given = c.show_clock-given in
+    let given = c.show_clock-filled in
     let access = c.touch_access-count in
     let due = c.due_from-coming in
     let rest = c.behind-rest.ensures.part in
@@ -71,21 +73,24 @@ returns-clause-at c =
     c.events.ensures ∙ ap (λ (s : ScriptValue). s.events) c.script.ensures.value in
     let h : ℕ = p.beam.h in
     let words : Addr → ℕ = word_then c.args.view.now p.clock in
-    turned c.args.run.now c.args.events.now c.args.view.now c.args.room.now given.new.room p given.new.d access.new.d c.clear.new.d
-    given.result.filled given.result.clx c.next_place-beam.result due.result.sets due.result.next access.result c.requires.source c.requires.at
+    turned c.args.run.now c.args.events.now c.args.view.now c.args.room.now given.new.room p given.new.painter access.new.painter c.clear_line.new.self
+    given.result given.new.clx c.next_place.new.beam due.result.sets due.result.next access.result c.requires.source c.requires.at
     c.requires.more
     (record {
-      given = given_part p c.args.events.now c.args.view.now c.part-due.result.now _ _ given.new.d given.result.clx c.part-due.ensures.part given.ensures.given;
+      given = given_part p c.args.events.now c.args.view.now c.part-due.result.now _ _ given.new.painter given.new.clx c.part-due.ensures.part given.ensures.given;
       bytes = given.ensures.filled;
       size = given.ensures.size;
-      place = c.next_place-beam.ensures;
-      coming = due.ensures.sets ∙ ap (λ l. length (touches_of (due_events c.next_place-beam.result l))) script;
-      left = subst (λ l. IsLeft (place_of c.next_place-beam.result + 1) l (drop due.result.next l)) script due.ensures.left;
+      place = c.next_place.ensures;
+      coming = due.ensures.sets ∙ ap (λ l. length (touches_of (due_events c.next_place.new.beam l))) script;
+      left = subst (λ l. IsLeft (place_of c.next_place.new.beam + 1) l (drop due.result.next l)) script due.ensures.left;
       bound = subst (λ (l : List At). due.result.next ≤ length l) script due.ensures.within;
       access =
-          subst (λ l. Keeps (4 * h) (touch_by_address h words (bus_touch_of p.clock due.result.sets l)) given.new.d access.new.d) rest
+          subst (λ l. Paints (4 * h) (touch_by_address h words (bus_touch_of p.clock due.result.sets l)) given.new.painter access.new.painter) rest
           access.ensures.touched;
       counted = access.ensures.count ∙ ap (λ l. length (bus_events p.clock (bus_touch_of p.clock due.result.sets l))) rest;
       within = subst (λ (l : List Event). access.result ≤ length l) rest access.ensures.within;
-      clean = c.clear.ensures;
+      clean = c.clear_line.ensures.cleared;
+      kept =
+          keeps_next c.next_place.new.beam _ p.painter.keeps c.clear_line.new.self.keeps p.to p.clock p.beam.h c.clear_line.ensures.start
+          (λ on. c.clear_line.ensures.on on ∙ access.ensures.keeps ∙ given.ensures.keeps) refl c.next_place.ensures.clock c.requires.at.kept;
     })

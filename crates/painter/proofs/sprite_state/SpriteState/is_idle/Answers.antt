@@ -25,7 +25,7 @@ returns-then-self-eq0-clause-idle c none =
     let quiet : IsQuiet c.self.inside.quiet_from c.args.self.now.runs =
     subst (λ (s : SpriteRegisters). IsQuiet q s.runs) c.self.view_is c.self.invariant.still in
     let unarmed : c.args.self.now.armed ≡ 0 = ap (λ (s : SpriteRegisters). s.armed) (sym c.self.view_is) ∙ (grind (arith, nat_tests)) in
-    idle c.args.h q c.args.self.now quiet (omega arith) (none_armed (2 * c.args.h) c.args.self.now unarmed)
+    idle c.args.h q c.args.self.now quiet (omega (arith, c.requires)) (omega arith) (none_armed (2 * c.args.h) c.args.self.now unarmed)
     (none_armed (2 * c.args.h + 1) c.args.self.now unarmed)
 
 pub returns-else-self-eq0-clause-idle : goal.returns-else-self-eq0-clause-idle
@@ -34,6 +34,6 @@ returns-else-self-eq0-clause-idle c none =
     let quiet : IsQuiet c.self.inside.quiet_from c.args.self.now.runs =
     subst (λ (s : SpriteRegisters). IsQuiet q s.runs) c.self.view_is c.self.invariant.still in
     let elsewhere = none_there c.args.h c.args.self.now (sym c.may_begin.ensures ∙ not_true c.may_begin.result none) in
-    idle c.args.h q c.args.self.now quiet (omega arith)
+    idle c.args.h q c.args.self.now quiet (omega (arith, c.requires)) (omega arith)
     (none_starts (2 * c.args.h) c.args.h c.args.self.now (omega arith) elsewhere)
     (none_starts (2 * c.args.h + 1) c.args.h c.args.self.now (omega arith) elsewhere)

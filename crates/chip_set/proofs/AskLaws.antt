@@ -1,0 +1,772 @@
+-- The access of a clock: the code's way to the ask, to its answer and to what it makes is the definition's.
+use Rattle.std.proofs.Common.{◌≡◌, ℕ, ◌+◌, ◌%◌, ◌≤◌, bit_and, Bool, true, false, ◌==◌, ◌&&◌, if◌then◌else◌, List, [], ◌∷◌, ◌++◌, Option, Some, None, is_some, IfSome, arith, refl, ap, subst, inl, ◌∙◌, sym}
+use Rattle.std.proofs.lemmas.Bool.{false≢true}
+use Rattle.std.proofs.lemmas.Bool.Decides.{nat_tests}
+use Rattle.std.specs.Option.{option_map}
+use Rattle.blit_words.specs.Blitter.{is_done}
+use Rattle.blit_words.specs.declared.blit.SlotAsk.{SlotAsk}
+use Rattle.blit_words.specs.declared.blit.SlotAsk.TheVariants.{Read, Write, Rest, Done}
+use Rattle.blitter.proofs.Showing.{slot_shown-is}
+use Rattle.blitter.specs.StandsFor.{slot_shown}
+use Rattle.blitter.specs.declared.Blit.{Blit}
+use Rattle.ocs_base.specs.declared.addr.Addr.{Addr}
+use Rattle.ocs_base.specs.declared.beam.Beam.{Beam}
+use Rattle.ocs_base.specs.declared.reg.Reg.{Reg}
+use Rattle.serial_model.specs.declared.bus.Ask.{Ask}
+use Rattle.serial_model.specs.declared.bus.Ask.TheVariants as A
+use Rattle.serial_model.specs.declared.bus.Made.{Made}
+use Rattle.serial_model.specs.declared.bus.Made.TheVariants as M
+use Rattle.serial_model.specs.declared.bus.ProcessorAsk.{ProcessorAsk}
+use Rattle.serial_model.specs.declared.bus.ProcessorAsk.TheVariants as P
+use Rattle.serial_model.specs.declared.bus.SideAsk.TheVariants as S
+use Rattle.serial_model.specs.declared.copper.CopperAct.{CopperAct}
+use Rattle.serial_model.specs.declared.copper.CopperAct.TheVariants.{None as NoAct, Move}
+use Rattle.serial_model.specs.declared.copper.CopperState.{CopperState}
+use Rattle.serial_model.specs.declared.copper.CopperPhase.{CopperPhase}
+use Rattle.serial_model.specs.declared.copper.CopperPhase.TheVariants.{First, Second, Waiting, Stopped}
+use Rattle.serial_model.specs.declared.fetch.PlaneAsk.{PlaneAsk}
+use Rattle.serial_model.specs.declared.fetch.SpriteAsk.{SpriteAsk}
+use Rattle.serial_model.specs.declared.fetch.SpriteAsk.TheVariants.{Control, Words}
+use Rattle.serial_model.specs.declared.fetch.SpriteKind.{SpriteKind}
+use Rattle.serial_model.specs.declared.registers.Live.{Live}
+use Rattle.serial_model.specs.declared.registers.Reading.{Reading}
+use Rattle.serial_model.specs.declared.registers.Reading.TheVariants.{Zero, DmaAndBlitter, FieldAndLine, LineAndClock, Joystick, Elsewhere}
+use Rattle.serial_model.specs.declared.slots.Owner.{Owner}
+use Rattle.serial_model.specs.declared.slots.Owner.TheVariants.{Refresh, Disk, Audio, Plane, Sprite, Copper, Blitter, Processor, Free}
+use Rattle.serial_model.specs.declared.slots.SlotState.{SlotState}
+use Rattle.serial_model.specs.declared.trace.Source.TheVariants.{Processor as ByProcessor}
+use Rattle.cpu_bus.specs.Bus.{IsProcessorOf, wish_shown}
+use Rattle.cpu_bus.proofs.BusLaws.{wish_shown-is}
+use Rattle.serial_model.specs.Bus.{Wishes, copper_runs, copper_after, units_now, plane_wish, kinds_now, sprite_wish, sprite_owner_ask, ask_of_blit, blit_wish, wishes_of, slot_state, owner_ask, ask_at, answer_to, answer_owner, answer_chips, end_blit, give_blit, give_chips, missed_after, copper_word, answer_processor, made_by_copper, made_by_processor, made_by_ask}
+use Rattle.serial_model.specs.Copper.{wish_of, copper_act, act_in, step_copper}
+use Rattle.serial_model.specs.Owner.{owner_of}
+use Rattle.serial_model.specs.PlaneFetch.{units_at, last_unit, IsLastUnit, plane_ask, fetched_plane, ask_for_plane, move_planes, move_plane_pointer, move_if_fetched}
+use Rattle.irq_cia.specs.Bits.{has_bits}
+use Rattle.serial_model.specs.Processor.{processor_wish}
+use Rattle.serial_model.specs.RegisterTable.{reading_at}
+use Rattle.serial_model.specs.Registers.{kept_word, blitter_dma, is_danger, bit_worth, word_in, word_at}
+use Rattle.serial_model.specs.SpriteFetch.{kinds_at, is_sprite_slot, sprite_ask, asking_sprite, move_sprites, move_sprite_pointer, move_if_asked}
+use Rattle.serial_model.specs.State.{BlitUnderWay, Chips, is_busy, live_words, read_word}
+use Rattle.serial_model.proofs.FetchLaws.{IsFetch, fetched_plane-is, kept_word-move_planes}
+use Rattle.serial_model.proofs.SlotLaws.{SameForSprites, move_planes-same, kinds_at-same, sprite_ask-same, sprite_ask-slot, sprite_ask-taken, sprite_ask-few, kept_word-move_sprites, AsksBefore, plane_wins, sprite_wins}
+use Rattle.chip_set.specs.Chips.{WorkingChips, IsBlitOf, IsChipsOf, some_blit, plain_chips, kept_wish, wishes_with, ask_with, IsBlitAsk, AnswersOwner, answering, act_at, made_with, IsAnswer, fetched_registers, fetched_chips, HasAsked, HasAccessed, CanAsk, CanDo}
+
+-- without a word the Copper makes nothing
+no_word : (danger : Bool) (phase : CopperPhase) (first : ℕ) → act_in danger None phase first ≡ NoAct
+no_word danger First first = refl
+no_word danger Second first = refl
+no_word danger Waiting first = refl
+no_word danger Stopped first = refl
+
+no_made : (danger : Bool) (c : CopperState) → M.Nothing ≡ made_by_copper (copper_act danger None c)
+unfolding copper_act
+no_made danger c = ap (λ act. made_by_copper act) (sym (no_word danger c.phase c.first))
+
+-- what is made, where the Copper runs, and where it does not
+abbrev Agrees : Bool → Owner → Wishes → Option Addr → ℕ → Chips → Type 0
+Agrees runs owner w wish word c =
+    (let ask = owner_ask owner (record w { copper = if runs then wish else None }) in
+    made_by_ask ask word c
+    ≡ made_with ask word (if runs then copper_act (is_danger c.registers) (copper_word ask word) c.copper else NoAct))
+
+abbrev Wishing : Option PlaneAsk → Option SpriteAsk → Option SlotAsk → Option ProcessorAsk → Wishes
+Wishing plane sprite blit processor =
+    record { side = S.Nothing; plane = plane; sprite = sprite; copper = None; blit = blit; processor = processor }
+
+while_running : (owner : Owner) (plane : Option PlaneAsk) (sprite : Option SpriteAsk) (blit : Option SlotAsk) (processor : Option ProcessorAsk)
+    (wish : Option Addr) (word : ℕ) (c : Chips) → Agrees true owner (Wishing plane sprite blit processor) wish word c
+unfolding made_by_ask
+while_running Refresh plane sprite blit processor wish word c = no_made (is_danger c.registers) c.copper
+while_running Disk plane sprite blit processor wish word c = no_made (is_danger c.registers) c.copper
+while_running (Audio channel) plane sprite blit processor wish word c = no_made (is_danger c.registers) c.copper
+while_running (Plane number) None sprite blit processor wish word c = no_made (is_danger c.registers) c.copper
+while_running (Plane number) (Some ask) sprite blit processor wish word c = refl
+while_running (Sprite number) plane None blit processor wish word c = no_made (is_danger c.registers) c.copper
+while_running (Sprite number) plane (Some (Control sprite second at)) blit processor wish word c = refl
+while_running (Sprite number) plane (Some (Words sprite second at)) blit processor wish word c = refl
+while_running Copper plane sprite blit processor None word c = no_made (is_danger c.registers) c.copper
+while_running Copper plane sprite blit processor (Some at) word c = refl
+while_running Blitter plane sprite None processor wish word c = no_made (is_danger c.registers) c.copper
+while_running Blitter plane sprite (Some (Read at)) processor wish word c = no_made (is_danger c.registers) c.copper
+while_running Blitter plane sprite (Some (Write at stored)) processor wish word c = refl
+while_running Blitter plane sprite (Some Rest) processor wish word c = no_made (is_danger c.registers) c.copper
+while_running Blitter plane sprite (Some Done) processor wish word c = no_made (is_danger c.registers) c.copper
+while_running Processor plane sprite blit None wish word c = no_made (is_danger c.registers) c.copper
+while_running Processor plane sprite blit (Some ask) wish word c = refl
+while_running Free plane sprite blit processor wish word c = no_made (is_danger c.registers) c.copper
+
+at_rest : (owner : Owner) (plane : Option PlaneAsk) (sprite : Option SpriteAsk) (blit : Option SlotAsk) (processor : Option ProcessorAsk)
+    (wish : Option Addr) (word : ℕ) (c : Chips) → Agrees false owner (Wishing plane sprite blit processor) wish word c
+unfolding made_by_ask
+at_rest Refresh plane sprite blit processor wish word c = refl
+at_rest Disk plane sprite blit processor wish word c = refl
+at_rest (Audio channel) plane sprite blit processor wish word c = refl
+at_rest (Plane number) None sprite blit processor wish word c = refl
+at_rest (Plane number) (Some ask) sprite blit processor wish word c = refl
+at_rest (Sprite number) plane None blit processor wish word c = refl
+at_rest (Sprite number) plane (Some (Control sprite second at)) blit processor wish word c = refl
+at_rest (Sprite number) plane (Some (Words sprite second at)) blit processor wish word c = refl
+at_rest Copper plane sprite blit processor wish word c = refl
+at_rest Blitter plane sprite None processor wish word c = refl
+at_rest Blitter plane sprite (Some (Read at)) processor wish word c = refl
+at_rest Blitter plane sprite (Some (Write at stored)) processor wish word c = refl
+at_rest Blitter plane sprite (Some Rest) processor wish word c = refl
+at_rest Blitter plane sprite (Some Done) processor wish word c = refl
+at_rest Processor plane sprite blit None wish word c = refl
+at_rest Processor plane sprite blit (Some ask) wish word c = refl
+at_rest Free plane sprite blit processor wish word c = refl
+
+either : (runs : Bool) (owner : Owner) (plane : Option PlaneAsk) (sprite : Option SpriteAsk) (blit : Option SlotAsk)
+    (processor : Option ProcessorAsk) (wish : Option Addr) (word : ℕ) (c : Chips) → Agrees runs owner (Wishing plane sprite blit processor) wish word c
+either true owner plane sprite blit processor wish word c = while_running owner plane sprite blit processor wish word c
+either false owner plane sprite blit processor wish word c = at_rest owner plane sprite blit processor wish word c
+
+made-act : (b : Beam) (word : ℕ) (c : Chips)
+    → made_by_ask (ask_at S.Nothing b c) word c ≡ made_with (ask_at S.Nothing b c) word (act_at b (ask_at S.Nothing b c) word c)
+unfolding ask_at
+made-act b word c =
+    either (copper_runs b c) (owner_of (slot_state b c (wishes_of S.Nothing b c))) (plane_wish b c) (sprite_wish b c) (blit_wish c)
+    (processor_wish c.processor) (wish_of c.copper) word c
+
+-- the word of the code serves as the machine's
+abbrev Serves : Ask → Beam → ℕ → Chips → List ℕ → ℕ → Type 0
+Serves A.Free b clx c memory word = word ≡ answer_to A.Free b clx c memory
+Serves (A.Disk at stored) b clx c memory word = word ≡ answer_to (A.Disk at stored) b clx c memory
+Serves (A.Audio channel at) b clx c memory word = Unit {0}
+Serves (A.Plane plane at) b clx c memory word = Unit {0}
+Serves (A.SpriteControl sprite second at) b clx c memory word = word ≡ answer_to (A.SpriteControl sprite second at) b clx c memory
+Serves (A.SpriteWords sprite second at) b clx c memory word = Unit {0}
+Serves (A.Copper at) b clx c memory word = word ≡ answer_to (A.Copper at) b clx c memory
+Serves (A.BlitRead at) b clx c memory word = word ≡ answer_to (A.BlitRead at) b clx c memory
+Serves (A.BlitWrite at stored) b clx c memory word = word ≡ answer_to (A.BlitWrite at stored) b clx c memory
+Serves A.BlitRest b clx c memory word = word ≡ answer_to A.BlitRest b clx c memory
+Serves (A.Processor ask) b clx c memory word = word ≡ answer_to (A.Processor ask) b clx c memory
+
+made_by_answer : (ask : Ask) (b : Beam) (clx : ℕ) (c : Chips) (memory : List ℕ) (word : ℕ) → Serves ask b clx c memory word
+    → made_by_ask ask word c ≡ made_by_ask ask (answer_to ask b clx c memory) c
+unfolding made_by_ask
+made_by_answer A.Free b clx c memory word is = refl
+made_by_answer (A.Disk at stored) b clx c memory word is = refl
+made_by_answer (A.Audio channel at) b clx c memory word is = refl
+made_by_answer (A.Plane plane at) b clx c memory word is = refl
+made_by_answer (A.SpriteControl sprite second at) b clx c memory word is = ap (λ w. made_by_ask (A.SpriteControl sprite second at) w c) is
+made_by_answer (A.SpriteWords sprite second at) b clx c memory word is = refl
+made_by_answer (A.Copper at) b clx c memory word is = ap (λ w. made_by_ask (A.Copper at) w c) is
+made_by_answer (A.BlitRead at) b clx c memory word is = refl
+made_by_answer (A.BlitWrite at stored) b clx c memory word is = refl
+made_by_answer A.BlitRest b clx c memory word is = refl
+made_by_answer (A.Processor ask) b clx c memory word is = refl
+
+copper_by_answer : (ask : Ask) (b : Beam) (clx : ℕ) (c : Chips) (memory : List ℕ) (word : ℕ) → Serves ask b clx c memory word
+    → copper_word ask word ≡ copper_word ask (answer_to ask b clx c memory)
+copper_by_answer A.Free b clx c memory word is = refl
+copper_by_answer (A.Disk at stored) b clx c memory word is = refl
+copper_by_answer (A.Audio channel at) b clx c memory word is = refl
+copper_by_answer (A.Plane plane at) b clx c memory word is = refl
+copper_by_answer (A.SpriteControl sprite second at) b clx c memory word is = refl
+copper_by_answer (A.SpriteWords sprite second at) b clx c memory word is = refl
+copper_by_answer (A.Copper at) b clx c memory word is = ap (λ w. Some w) is
+copper_by_answer (A.BlitRead at) b clx c memory word is = refl
+copper_by_answer (A.BlitWrite at stored) b clx c memory word is = refl
+copper_by_answer A.BlitRest b clx c memory word is = refl
+copper_by_answer (A.Processor ask) b clx c memory word is = refl
+
+-- registers that the fetches left alone but for pointers: the words of DMACON and COPCON are the same
+record SameWords (moved registers : List ℕ) : Type 0 where
+  dmacon : kept_word moved 0x96 ≡ kept_word registers 0x96
+  copcon : kept_word moved 0x2e ≡ kept_word registers 0x2e
+
+words_same : (h : ℕ) (last : Option ℕ) (kinds : List SpriteKind) (taken : Bool) (registers : List ℕ) → IsLastUnit last
+    → SameWords (move_sprites h kinds taken (move_planes h last registers)) registers
+words_same h last kinds taken registers at = record {
+  dmacon = kept_word-move_sprites h kinds taken (move_planes h last registers) 0x96 (omega arith)
+      ∙ kept_word-move_planes h last registers 0x96 at (inl (omega arith));
+  copcon = kept_word-move_sprites h kinds taken (move_planes h last registers) 0x2e (omega arith)
+      ∙ kept_word-move_planes h last registers 0x2e at (inl (omega arith));
+}
+
+-- then the ask, the Copper's step and what it makes are the same
+abbrev wish_by : Beam → CopperState → ℕ → Option Addr
+wish_by b copper dmacon = if (b.h % 2 == 0) && has_bits dmacon 640 then wish_of copper else None
+
+abbrev state_by : Beam → Option PlaneAsk → Option SpriteAsk → Option SlotAsk → Option ProcessorAsk → ℕ → CopperState → ℕ → SlotState
+state_by b plane sprite blit processor missed copper dmacon = record {
+  h = b.h;
+  disk = false;
+  audio = None;
+  plane = option_map (λ (ask : PlaneAsk). ask.plane) plane;
+  sprite = option_map asking_sprite sprite;
+  copper = is_some (wish_by b copper dmacon);
+  blitter = is_some blit;
+  processor = is_some processor;
+  missed = missed;
+  nasty = has_bits dmacon 1024;
+}
+
+abbrev ask_by : Beam → Option PlaneAsk → Option SpriteAsk → Option SlotAsk → Option ProcessorAsk → ℕ → CopperState → ℕ → Ask
+ask_by b plane sprite blit processor missed copper dmacon =
+    owner_ask (owner_of (state_by b plane sprite blit processor missed copper dmacon))
+    (record { side = S.Nothing; plane = plane; sprite = sprite; copper = wish_by b copper dmacon; blit = blit; processor = processor })
+
+ask_same : (b : Beam) (plane : Option PlaneAsk) (sprite : Option SpriteAsk) (blit : Option SlotAsk) (processor : Option ProcessorAsk)
+    (moved c : Chips) → SameWords moved.registers c.registers → moved.copper ≡ c.copper → moved.missed ≡ c.missed
+    → ask_with b plane sprite blit processor moved ≡ ask_with b plane sprite blit processor c
+unfolding ask_with
+ask_same b plane sprite blit processor moved c same copper missed =
+    ap (λ dmacon. ask_by b plane sprite blit processor moved.missed moved.copper dmacon) same.dmacon
+    ∙ ap (λ n. ask_by b plane sprite blit processor n moved.copper (kept_word c.registers 0x96)) missed
+    ∙ ap (λ x. ask_by b plane sprite blit processor c.missed x (kept_word c.registers 0x96)) copper
+
+-- the Copper's step and what it makes, by the words that it looks at
+abbrev step_by : Beam → Bool → Option ℕ → CopperState → ℕ → ℕ → CopperState
+step_by b busy fetched copper dmacon copcon =
+    if (b.h % 2 == 0) && has_bits dmacon 640 then step_copper b busy (has_bits copcon 2) fetched copper else copper
+
+copper_same : (b : Beam) (fetched : Option ℕ) (moved c : Chips) → SameWords moved.registers c.registers → moved.copper ≡ c.copper
+    → is_busy moved ≡ is_busy c → copper_after b fetched moved ≡ copper_after b fetched c
+copper_same b fetched moved c same copper busy =
+    ap (λ dmacon. step_by b (is_busy moved) fetched moved.copper dmacon (kept_word moved.registers 0x2e)) same.dmacon
+    ∙ ap (λ copcon. step_by b (is_busy moved) fetched moved.copper (kept_word c.registers 0x96) copcon) same.copcon
+    ∙ ap (λ is. step_by b is fetched moved.copper (kept_word c.registers 0x96) (kept_word c.registers 0x2e)) busy
+    ∙ ap (λ x. step_by b (is_busy c) fetched x (kept_word c.registers 0x96) (kept_word c.registers 0x2e)) copper
+
+abbrev act_by : Beam → Ask → ℕ → CopperState → ℕ → ℕ → CopperAct
+act_by b ask word copper dmacon copcon =
+    if (b.h % 2 == 0) && has_bits dmacon 640 then copper_act (has_bits copcon 2) (copper_word ask word) copper else NoAct
+
+act_same : (b : Beam) (ask : Ask) (word : ℕ) (moved c : Chips) → SameWords moved.registers c.registers → moved.copper ≡ c.copper
+    → act_at b ask word moved ≡ act_at b ask word c
+act_same b ask word moved c same copper =
+    ap (λ dmacon. act_by b ask word moved.copper dmacon (kept_word moved.registers 0x2e)) same.dmacon
+    ∙ ap (λ copcon. act_by b ask word moved.copper (kept_word c.registers 0x96) copcon) same.copcon
+    ∙ ap (λ x. act_by b ask word x (kept_word c.registers 0x96) (kept_word c.registers 0x2e)) copper
+
+-- the ask of the machine is the one with its wishes
+ask_is : (b : Beam) (c : Chips)
+    → ask_at S.Nothing b c ≡ ask_with b (plane_wish b c) (sprite_wish b c) (blit_wish c) (processor_wish c.processor) c
+unfolding ask_at ask_with
+ask_is b c = refl
+
+-- a blit's ask is what the blit asks for
+abbrev All : Option PlaneAsk → Option SpriteAsk → Option Addr → Option SlotAsk → Option ProcessorAsk → Wishes
+All plane sprite copper blit processor =
+    record { side = S.Nothing; plane = plane; sprite = sprite; copper = copper; blit = blit; processor = processor }
+
+asks_of_owner : (owner : Owner) (plane : Option PlaneAsk) (sprite : Option SpriteAsk) (copper : Option Addr) (blit : Option SlotAsk)
+    (processor : Option ProcessorAsk) → IsBlitAsk (owner_ask owner (All plane sprite copper blit processor)) blit
+asks_of_owner Refresh plane sprite copper blit processor = tt
+asks_of_owner Disk plane sprite copper blit processor = tt
+asks_of_owner (Audio channel) plane sprite copper blit processor = tt
+asks_of_owner (Plane number) None sprite copper blit processor = tt
+asks_of_owner (Plane number) (Some ask) sprite copper blit processor = tt
+asks_of_owner (Sprite number) plane None copper blit processor = tt
+asks_of_owner (Sprite number) plane (Some (Control sprite second at)) copper blit processor = tt
+asks_of_owner (Sprite number) plane (Some (Words sprite second at)) copper blit processor = tt
+asks_of_owner Copper plane sprite None blit processor = tt
+asks_of_owner Copper plane sprite (Some at) blit processor = tt
+asks_of_owner Blitter plane sprite copper None processor = tt
+asks_of_owner Blitter plane sprite copper (Some (Read at)) processor = refl
+asks_of_owner Blitter plane sprite copper (Some (Write at word)) processor = refl
+asks_of_owner Blitter plane sprite copper (Some Rest) processor = refl
+asks_of_owner Blitter plane sprite copper (Some Done) processor = tt
+asks_of_owner Processor plane sprite copper blit None = tt
+asks_of_owner Processor plane sprite copper blit (Some ask) = tt
+asks_of_owner Free plane sprite copper blit processor = tt
+
+pub ask_is_of_blit : (b : Beam) (plane : Option PlaneAsk) (sprite : Option SpriteAsk) (blit : Option SlotAsk)
+    (processor : Option ProcessorAsk) (c : Chips) → IsBlitAsk (ask_with b plane sprite blit processor c) blit
+unfolding ask_with
+ask_is_of_blit b plane sprite blit processor c =
+    asks_of_owner (owner_of (slot_state b c (wishes_with b plane sprite blit processor c))) plane sprite
+    (wishes_with b plane sprite blit processor c).copper blit processor
+
+-- the registers once the owner of the slot has its answer, as far as the fetches go
+abbrev registers_after : Beam → Ask → Chips → List ℕ
+registers_after b A.Free c = c.registers
+registers_after b (A.Disk at stored) c = c.registers
+registers_after b (A.Audio channel at) c = c.registers
+registers_after b (A.Plane plane at) c = move_plane_pointer b.h (last_unit (units_now b c)) plane c.registers
+registers_after b (A.SpriteControl sprite second at) c = move_sprite_pointer sprite c.registers
+registers_after b (A.SpriteWords sprite second at) c = move_sprite_pointer sprite c.registers
+registers_after b (A.Copper at) c = c.registers
+registers_after b (A.BlitRead at) c = c.registers
+registers_after b (A.BlitWrite at stored) c = c.registers
+registers_after b A.BlitRest c = c.registers
+registers_after b (A.Processor ask) c = c.registers
+
+-- where neither a plane nor a sprite asks, the access leaves them
+no_fetch : (b : Beam) (owner : Owner) (wish : Option Addr) (blit : Option SlotAsk) (processor : Option ProcessorAsk) (c : Chips)
+    → registers_after b (owner_ask owner (All None None wish blit processor)) c ≡ c.registers
+no_fetch b Refresh wish blit processor c = refl
+no_fetch b Disk wish blit processor c = refl
+no_fetch b (Audio channel) wish blit processor c = refl
+no_fetch b (Plane plane) wish blit processor c = refl
+no_fetch b (Sprite sprite) wish blit processor c = refl
+no_fetch b Copper None blit processor c = refl
+no_fetch b Copper (Some at) blit processor c = refl
+no_fetch b Blitter wish None processor c = refl
+no_fetch b Blitter wish (Some (Read at)) processor c = refl
+no_fetch b Blitter wish (Some (Write at word)) processor c = refl
+no_fetch b Blitter wish (Some Rest) processor c = refl
+no_fetch b Blitter wish (Some Done) processor c = refl
+no_fetch b Processor wish blit None c = refl
+no_fetch b Processor wish blit (Some ask) c = refl
+no_fetch b Free wish blit processor c = refl
+
+-- where one does it has the slot, and the access moves its pointer
+before_all : (b : Beam) (plane : Option PlaneAsk) (sprite : Option SpriteAsk) (blit : Option SlotAsk) (processor : Option ProcessorAsk)
+    (missed : ℕ) (copper : CopperState) (dmacon : ℕ) → AsksBefore (state_by b plane sprite blit processor missed copper dmacon)
+before_all b plane sprite blit processor missed copper dmacon = record { disk = λ asks. absurd (false≢true asks); audio = tt }
+
+sprite_moves : (b : Beam) (ask : SpriteAsk) (c : Chips)
+    → registers_after b (sprite_owner_ask (Some ask)) c ≡ move_sprite_pointer (asking_sprite ask) c.registers
+sprite_moves b (Control sprite second at) c = refl
+sprite_moves b (Words sprite second at) c = refl
+
+by_sprite : (b : Beam) (asked : Option SpriteAsk) (blit : Option SlotAsk) (processor : Option ProcessorAsk) (c : Chips)
+    → sprite_ask b.h c.registers (kinds_now b c) false ≡ asked
+    → registers_after b (ask_with b None asked blit processor c) c ≡ move_if_asked asked c.registers
+unfolding ask_with
+by_sprite b None blit processor c is =
+    no_fetch b (owner_of (slot_state b c (wishes_with b None None blit processor c))) (wishes_with b None None blit processor c).copper blit
+    processor c
+by_sprite b (Some ask) blit processor c is =
+    let slot : is_sprite_slot b.h ≡ true = sprite_ask-slot b.h c.registers (kinds_now b c) false ask is in
+    let low : 21 ≤ b.h = grind (arith, nat_tests, slot) in
+    let high : b.h ≤ 223 = grind (arith, nat_tests, slot) in
+    ap (λ owner. registers_after b (owner_ask owner (wishes_with b None (Some ask) blit processor c)) c)
+    (sprite_wins (state_by b None (Some ask) blit processor c.missed c.copper (kept_word c.registers 0x96)) (asking_sprite ask)
+    (before_all b None (Some ask) blit processor c.missed c.copper (kept_word c.registers 0x96)) low high refl refl)
+    ∙ sprite_moves b ask c
+
+plane_moves : (b : Beam) (plane : ℕ) (sprite : Option SpriteAsk) (blit : Option SlotAsk) (processor : Option ProcessorAsk) (c : Chips)
+    → 21 ≤ b.h → b.h ≤ 223 → registers_after b (ask_with b (Some (ask_for_plane c.registers plane)) sprite blit processor c) c
+    ≡ move_if_fetched b.h (last_unit (units_now b c)) (Some plane) c.registers
+unfolding ask_with
+plane_moves b plane sprite blit processor c low high =
+    let asked : Option PlaneAsk = Some (ask_for_plane c.registers plane) in
+    ap (λ owner. registers_after b (owner_ask owner (wishes_with b asked sprite blit processor c)) c)
+    (plane_wins (state_by b asked sprite blit processor c.missed c.copper (kept_word c.registers 0x96)) plane
+    (before_all b asked sprite blit processor c.missed c.copper (kept_word c.registers 0x96)) low high refl)
+
+by_found : (b : Beam) (found : Option ℕ) (blit : Option SlotAsk) (processor : Option ProcessorAsk) (c : Chips) → IfSome found (IsFetch b.h)
+    → registers_after b (ask_with b (option_map (λ plane. ask_for_plane c.registers plane) found)
+    (sprite_ask b.h c.registers (kinds_now b c) (is_some (option_map (λ plane. ask_for_plane c.registers plane) found))) blit processor c) c
+    ≡ move_sprites b.h (kinds_now b c) (is_some (option_map (λ plane. ask_for_plane c.registers plane) found))
+    (move_if_fetched b.h (last_unit (units_now b c)) found c.registers)
+by_found b None blit processor c within = by_sprite b (sprite_ask b.h c.registers (kinds_now b c) false) blit processor c refl
+by_found b (Some plane) blit processor c within =
+    let last : Option ℕ = last_unit (units_now b c) in
+    let low : 21 ≤ b.h = omega (arith, within.low) in
+    plane_moves b plane (sprite_ask b.h c.registers (kinds_now b c) true) blit processor c low within.high
+    ∙ sym (ap (λ ask. move_if_asked ask (move_if_fetched b.h last (Some plane) c.registers))
+    (sprite_ask-taken b.h (move_if_fetched b.h last (Some plane) c.registers) (kinds_now b c)))
+
+-- with the ask of the machine, its registers are those after the fetches
+registers_is : (b : Beam) (c : Chips) → IsLastUnit (last_unit (units_now b c))
+    → registers_after b (ask_at S.Nothing b c) c ≡ fetched_registers b c
+registers_is b c at =
+    ap (λ ask. registers_after b ask c) (ask_is b c)
+    ∙ by_found b (fetched_plane b.h c.registers (last_unit (units_now b c))) (blit_wish c) (processor_wish c.processor) c
+    (fetched_plane-is b.h c.registers (last_unit (units_now b c)) at)
+
+-- what the owner's answer does beside the fetches: a blit goes on, and the processor has its word
+abbrev after_owner : Ask → ℕ → Chips → Chips
+after_owner A.Free word c = c
+after_owner (A.Disk at stored) word c = c
+after_owner (A.Audio channel at) word c = c
+after_owner (A.Plane plane at) word c = c
+after_owner (A.SpriteControl sprite second at) word c = c
+after_owner (A.SpriteWords sprite second at) word c = c
+after_owner (A.Copper at) word c = c
+after_owner (A.BlitRead at) word c = give_blit word c.blit c
+after_owner (A.BlitWrite at stored) word c = give_blit word c.blit c
+after_owner A.BlitRest word c = give_blit word c.blit c
+after_owner (A.Processor ask) word c = give_chips word c
+
+abbrev with_others : List ℕ → List SpriteKind → CopperState → ℕ → Chips → Chips
+with_others units kinds copper missed c = record c { units = units; kinds = kinds; copper = copper; missed = missed }
+
+abbrev with_fetch : List ℕ → List ℕ → List SpriteKind → CopperState → ℕ → Chips → Chips
+with_fetch registers units kinds copper missed c =
+    record c { registers = registers; units = units; kinds = kinds; copper = copper; missed = missed }
+
+-- a blit that goes on leaves the units and kinds of the line, the Copper and the count of the processor
+go_on_if : (done : Bool) (run : BlitUnderWay) (units : List ℕ) (kinds : List SpriteKind) (copper : CopperState) (missed : ℕ) (c : Chips)
+    → with_others units kinds copper missed (if done then end_blit run c else record c { blit = Some run })
+    ≡ (let d = with_others units kinds copper missed c in if done then end_blit run d else record d { blit = Some run })
+go_on_if true run units kinds copper missed c = refl
+go_on_if false run units kinds copper missed c = refl
+
+gives : (word : ℕ) (blit : Option BlitUnderWay) (units : List ℕ) (kinds : List SpriteKind) (copper : CopperState) (missed : ℕ) (c : Chips)
+    → with_others units kinds copper missed (give_blit word blit c) ≡ give_blit word blit (with_others units kinds copper missed c)
+gives word None units kinds copper missed c = refl
+gives word (Some run) units kinds copper missed c =
+    go_on_if (is_done (ask_of_blit (record run { answers = run.answers ++ word ∷ [] }))) (record run { answers = run.answers ++ word ∷ [] })
+    units kinds copper missed c
+
+owner_is : (b : Beam) (ask : Ask) (word : ℕ) (c : Chips) (registers units : List ℕ) (kinds : List SpriteKind) (copper : CopperState) (missed : ℕ)
+    → registers_after b ask c ≡ registers
+    → with_others units kinds copper missed (answer_owner b ask word c) ≡ after_owner ask word (with_fetch registers units kinds copper missed c)
+owner_is b A.Free word c registers units kinds copper missed is = ap (λ r. with_fetch r units kinds copper missed c) is
+owner_is b (A.Disk at stored) word c registers units kinds copper missed is = ap (λ r. with_fetch r units kinds copper missed c) is
+owner_is b (A.Audio channel at) word c registers units kinds copper missed is = ap (λ r. with_fetch r units kinds copper missed c) is
+owner_is b (A.Plane plane at) word c registers units kinds copper missed is = ap (λ r. with_fetch r units kinds copper missed c) is
+owner_is b (A.SpriteControl sprite second at) word c registers units kinds copper missed is = ap (λ r. with_fetch r units kinds copper missed c) is
+owner_is b (A.SpriteWords sprite second at) word c registers units kinds copper missed is = ap (λ r. with_fetch r units kinds copper missed c) is
+owner_is b (A.Copper at) word c registers units kinds copper missed is = ap (λ r. with_fetch r units kinds copper missed c) is
+owner_is b (A.BlitRead at) word c registers units kinds copper missed is =
+    gives word c.blit units kinds copper missed c ∙ ap (λ r. give_blit word c.blit (with_fetch r units kinds copper missed c)) is
+owner_is b (A.BlitWrite at stored) word c registers units kinds copper missed is =
+    gives word c.blit units kinds copper missed c ∙ ap (λ r. give_blit word c.blit (with_fetch r units kinds copper missed c)) is
+owner_is b A.BlitRest word c registers units kinds copper missed is =
+    gives word c.blit units kinds copper missed c ∙ ap (λ r. give_blit word c.blit (with_fetch r units kinds copper missed c)) is
+owner_is b (A.Processor ask) word c registers units kinds copper missed is =
+    ap (λ r. give_chips word (with_fetch r units kinds copper missed c)) is
+
+-- the word that the owner is given is the machine's too
+after_by_answer : (ask : Ask) (b : Beam) (clx : ℕ) (c : Chips) (memory : List ℕ) (word : ℕ) (after : Chips) → Serves ask b clx c memory word
+    → after_owner ask word after ≡ after_owner ask (answer_to ask b clx c memory) after
+after_by_answer A.Free b clx c memory word after is = refl
+after_by_answer (A.Disk at stored) b clx c memory word after is = refl
+after_by_answer (A.Audio channel at) b clx c memory word after is = refl
+after_by_answer (A.Plane plane at) b clx c memory word after is = refl
+after_by_answer (A.SpriteControl sprite second at) b clx c memory word after is = refl
+after_by_answer (A.SpriteWords sprite second at) b clx c memory word after is = refl
+after_by_answer (A.Copper at) b clx c memory word after is = refl
+after_by_answer (A.BlitRead at) b clx c memory word after is = ap (λ w. give_blit w after.blit after) is
+after_by_answer (A.BlitWrite at stored) b clx c memory word after is = ap (λ w. give_blit w after.blit after) is
+after_by_answer A.BlitRest b clx c memory word after is = ap (λ w. give_blit w after.blit after) is
+after_by_answer (A.Processor ask) b clx c memory word after is = ap (λ w. give_chips w after) is
+
+-- the code's blitter and processor do the same
+owner_answered : (ask : Ask) (word : ℕ) (mid new : WorkingChips) (c : Chips) → AnswersOwner ask word mid new → IsChipsOf mid c
+    → IsChipsOf new (after_owner ask word c)
+owner_answered A.Free word mid new c answers is = subst (λ n. IsChipsOf n c) (sym answers) is
+owner_answered (A.Disk at stored) word mid new c answers is = subst (λ n. IsChipsOf n c) (sym answers) is
+owner_answered (A.Audio channel at) word mid new c answers is = subst (λ n. IsChipsOf n c) (sym answers) is
+owner_answered (A.Plane plane at) word mid new c answers is = subst (λ n. IsChipsOf n c) (sym answers) is
+owner_answered (A.SpriteControl sprite second at) word mid new c answers is = subst (λ n. IsChipsOf n c) (sym answers) is
+owner_answered (A.SpriteWords sprite second at) word mid new c answers is = subst (λ n. IsChipsOf n c) (sym answers) is
+owner_answered (A.Copper at) word mid new c answers is = subst (λ n. IsChipsOf n c) (sym answers) is
+owner_answered (A.BlitRead at) word mid new c answers is = answers c is
+owner_answered (A.BlitWrite at stored) word mid new c answers is = answers c is
+owner_answered A.BlitRest word mid new c answers is = answers c is
+owner_answered (A.Processor ask) word mid new c answers is = answers c is
+
+-- a plane that is fetched is one of six, and a sprite one of eight; a MOVE is always done
+act_can : (act : CopperAct) → CanDo (made_by_copper act)
+act_can NoAct = tt
+act_can (Move reg word) = tt
+
+read_can : (clxdat : Bool) (reg : Reg) → CanDo (if clxdat then M.Read reg ByProcessor else M.Nothing)
+read_can true reg = tt
+read_can false reg = tt
+
+processor_can : (ask : ProcessorAsk) → CanDo (made_by_processor ask)
+processor_can (P.Read at) = tt
+processor_can (P.Write at half word) = tt
+processor_can (P.ReadRegister reg) = read_can (reg.offset == 0x0e) reg
+processor_can (P.WriteRegister reg word) = tt
+
+-- planes and sprites had their steps: the fetch of the clock moved its pointer, and asks for its word
+pub record HasFetched (b : Beam) (old mid : WorkingChips) (plane : Option PlaneAsk) (sprite : Option SpriteAsk) : Type 0 where
+  pub begun : IsLastUnit mid.last
+  pub units : (units : List ℕ) → old.last ≡ last_unit units → mid.last ≡ last_unit (units_at b old.registers units)
+  pub plane_ask : plane ≡ plane_ask b.h old.registers mid.last
+  pub kinds : mid.kinds ≡ kinds_at b (move_planes b.h mid.last old.registers) old.kinds
+  pub sprite_ask : sprite ≡ sprite_ask b.h (move_planes b.h mid.last old.registers) mid.kinds (is_some plane)
+  pub moved : mid.registers ≡ move_sprites b.h mid.kinds (is_some plane) (move_planes b.h mid.last old.registers)
+  pub rest : mid ≡ record old { registers = mid.registers; last = mid.last; kinds = mid.kinds }
+
+-- and the clock's ask was answered
+pub record HasAnswered (b : Beam) (clx : ℕ) (memory : List ℕ) (ask : Ask) (mid new : WorkingChips) (made : Made) : Type 0 where
+  pub word : ℕ
+  pub answer : IsAnswer ask b clx mid memory word
+  pub owner : AnswersOwner ask word (answering b ask word mid) new
+  pub makes : made ≡ made_with ask word (act_at b ask word (plain_chips mid))
+
+-- the kept blit asks for what the blit under way asks for, and there is one where there is one
+wish_of_blit : (kept : Option Blit) (run : Option BlitUnderWay) → IsBlitOf kept run → option_map slot_shown kept ≡ option_map ask_of_blit run
+wish_of_blit None None is = refl
+wish_of_blit None (Some run) is = absurd is
+wish_of_blit (Some blit) None is = absurd is
+wish_of_blit (Some blit) (Some run) is = ap (λ ask. Some ask) (slot_shown-is blit run.start run.answers is)
+
+some_with_blit : (kept : Option Blit) (run : Option BlitUnderWay) → IsBlitOf kept run → is_some (option_map some_blit kept) ≡ is_some run
+some_with_blit None None is = refl
+some_with_blit None (Some run) is = absurd is
+some_with_blit (Some blit) None is = absurd is
+some_with_blit (Some blit) (Some run) is = refl
+
+-- what the steps found, for chips that these stand for and that have their registers, kinds and Copper
+record Found (b : Beam) (mid : WorkingChips) (plane : Option PlaneAsk) (sprite : Option SpriteAsk) (c : Chips) : Type 0 where
+  last : mid.last ≡ last_unit (units_now b c)
+  plane_is : plane ≡ plane_wish b c
+  kinds : mid.kinds ≡ kinds_now b c
+  sprite_is : sprite ≡ sprite_wish b c
+  same : SameWords mid.registers c.registers
+  moved : mid.registers ≡ fetched_registers b c
+  copper : mid.copper ≡ c.copper
+  blit : IsBlitOf mid.blit c.blit
+  zero : c.zero ≡ mid.zero
+  irq : c.irq ≡ mid.irq
+  processor : IsProcessorOf mid.processor c.processor
+  missed : mid.missed ≡ c.missed
+  cia_a : c.cia_a ≡ mid.cia_a
+  cia_b : c.cia_b ≡ mid.cia_b
+  inputs : c.inputs ≡ mid.inputs
+
+abbrev chips_like : WorkingChips → Chips → Chips
+chips_like old c = record c { registers = old.registers; kinds = old.kinds; copper = old.copper }
+
+found_by : (b : Beam) (old mid : WorkingChips) (plane : Option PlaneAsk) (sprite : Option SpriteAsk) (c : Chips)
+    → HasFetched b old mid plane sprite → IsChipsOf old c → Found b mid plane sprite (chips_like old c)
+found_by b old mid plane sprite like fetched is =
+    let c : Chips = chips_like old like in
+    let last : mid.last ≡ last_unit (units_now b c) = fetched.units like.units (sym is.last) in
+    let plane_is : plane ≡ plane_wish b c = fetched.plane_ask ∙ ap (λ l. plane_ask b.h old.registers l) last in
+    let at : SameForSprites (move_planes b.h mid.last old.registers) old.registers = move_planes-same b.h mid.last old.registers fetched.begun in
+    let kinds : mid.kinds ≡ kinds_now b c =
+    fetched.kinds ∙ kinds_at-same b (move_planes b.h mid.last old.registers) old.registers old.kinds at in
+    record {
+      last = last;
+      plane_is = plane_is;
+      kinds = kinds;
+      sprite_is = fetched.sprite_ask
+          ∙ sprite_ask-same b.h (move_planes b.h mid.last old.registers) old.registers mid.kinds (is_some plane) at
+          ∙ ap (λ ks. sprite_ask b.h old.registers ks (is_some plane)) kinds
+          ∙ ap (λ p. sprite_ask b.h old.registers (kinds_now b c) (is_some p)) plane_is;
+      same = subst (λ r. SameWords r old.registers) (sym fetched.moved)
+          (words_same b.h mid.last mid.kinds (is_some plane) old.registers fetched.begun);
+      moved = fetched.moved
+          ∙ ap (λ ks. move_sprites b.h ks (is_some plane) (move_planes b.h mid.last old.registers)) kinds
+          ∙ ap (λ p. move_sprites b.h (kinds_now b c) (is_some p) (move_planes b.h mid.last old.registers)) plane_is
+          ∙ ap (λ l. move_sprites b.h (kinds_now b c) (is_some (plane_wish b c)) (move_planes b.h l old.registers)) last;
+      copper = ap (λ (m : WorkingChips). m.copper) fetched.rest;
+      blit = subst (λ x. IsBlitOf x like.blit) (sym (ap (λ (m : WorkingChips). m.blit) fetched.rest)) is.blit;
+      zero = is.zero ∙ sym (ap (λ (m : WorkingChips). m.zero) fetched.rest);
+      irq = is.irq ∙ sym (ap (λ (m : WorkingChips). m.irq) fetched.rest);
+      processor = subst (λ x. IsProcessorOf x like.processor) (sym (ap (λ (m : WorkingChips). m.processor) fetched.rest)) is.processor;
+      missed = ap (λ (m : WorkingChips). m.missed) fetched.rest ∙ sym is.missed;
+      cia_a = is.cia_a ∙ sym (ap (λ (m : WorkingChips). m.cia_a) fetched.rest);
+      cia_b = is.cia_b ∙ sym (ap (λ (m : WorkingChips). m.cia_b) fetched.rest);
+      inputs = is.inputs ∙ sym (ap (λ (m : WorkingChips). m.inputs) fetched.rest);
+    }
+
+-- the wish of the blitter is the machine's
+wish_found : (b : Beam) (mid : WorkingChips) (plane : Option PlaneAsk) (sprite : Option SpriteAsk) (c : Chips) → Found b mid plane sprite c
+    → kept_wish mid ≡ blit_wish c
+wish_found b mid plane sprite c found =
+    ap (λ dmacon. if has_bits dmacon 576 then option_map slot_shown mid.blit else None) found.same.dmacon
+    ∙ ap (λ asks. if blitter_dma c.registers then asks else None) (wish_of_blit mid.blit c.blit found.blit)
+
+-- what the processor waits for is shown as the machine has it
+processor_found : (b : Beam) (mid : WorkingChips) (plane : Option PlaneAsk) (sprite : Option SpriteAsk) (c : Chips)
+    → Found b mid plane sprite c → wish_shown mid.processor ≡ processor_wish c.processor
+processor_found b mid plane sprite c found = wish_shown-is mid.processor c.processor found.processor
+
+ask_found : (b : Beam) (ask : Ask) (mid : WorkingChips) (plane : Option PlaneAsk) (sprite : Option SpriteAsk) (c : Chips)
+    → ask ≡ ask_with b plane sprite (kept_wish mid) (wish_shown mid.processor) (plain_chips mid) → Found b mid plane sprite c
+    → ask ≡ ask_at S.Nothing b c
+ask_found b ask mid plane sprite c is found =
+    let processor : Option ProcessorAsk = wish_shown mid.processor in
+    is
+    ∙ ap (λ p. ask_with b p sprite (kept_wish mid) processor (plain_chips mid)) found.plane_is
+    ∙ ap (λ s. ask_with b (plane_wish b c) s (kept_wish mid) processor (plain_chips mid)) found.sprite_is
+    ∙ ap (λ w. ask_with b (plane_wish b c) (sprite_wish b c) w processor (plain_chips mid)) (wish_found b mid plane sprite c found)
+    ∙ ap (λ w. ask_with b (plane_wish b c) (sprite_wish b c) (blit_wish c) w (plain_chips mid)) (processor_found b mid plane sprite c found)
+    ∙ ask_same b (plane_wish b c) (sprite_wish b c) (blit_wish c) (processor_wish c.processor) (plain_chips mid) c found.same found.copper
+    found.missed
+    ∙ sym (ask_is b c)
+
+-- and the chips stand for those whose fetches moved their pointers
+asked_found : (b : Beam) (mid : WorkingChips) (plane : Option PlaneAsk) (sprite : Option SpriteAsk) (c : Chips) → IsLastUnit mid.last
+    → Found b mid plane sprite c → HasAsked b c mid
+asked_found b mid plane sprite c begun found = record {
+  begun = subst IsLastUnit found.last begun;
+  chips = record {
+    registers = sym found.moved;
+    last = sym found.last;
+    kinds = sym found.kinds;
+    copper = sym found.copper;
+    blit = found.blit;
+    zero = found.zero;
+    irq = found.irq;
+    processor = found.processor;
+    missed = sym found.missed;
+    cia_a = found.cia_a;
+    cia_b = found.cia_b;
+    inputs = found.inputs;
+  };
+}
+
+-- chips that these stand for have their registers, kinds and Copper
+same_chips : (old : WorkingChips) (c : Chips) → IsChipsOf old c → c ≡ chips_like old c
+same_chips old c is =
+    ap (λ r. record c { registers = r }) is.registers
+    ∙ ap (λ ks. record c { registers = old.registers; kinds = ks }) is.kinds
+    ∙ ap (λ x. record c { registers = old.registers; kinds = old.kinds; copper = x }) is.copper
+
+pub ask_is_at : (b : Beam) (ask : Ask) (old mid : WorkingChips) (plane : Option PlaneAsk) (sprite : Option SpriteAsk)
+    → HasFetched b old mid plane sprite → ask ≡ ask_with b plane sprite (kept_wish mid) (wish_shown mid.processor) (plain_chips mid)
+    → (c : Chips) → IsChipsOf old c → ask ≡ ask_at S.Nothing b c
+ask_is_at b ask old mid plane sprite fetched asks c is =
+    subst (λ x. ask ≡ ask_at S.Nothing b x) (sym (same_chips old c is))
+    (ask_found b ask mid plane sprite (chips_like old c) asks (found_by b old mid plane sprite c fetched is))
+
+pub has_asked : (b : Beam) (old mid : WorkingChips) (plane : Option PlaneAsk) (sprite : Option SpriteAsk)
+    → HasFetched b old mid plane sprite → (c : Chips) → IsChipsOf old c → HasAsked b c mid
+has_asked b old mid plane sprite fetched c is =
+    subst (λ x. HasAsked b x mid) (sym (same_chips old c is))
+    (asked_found b mid plane sprite (chips_like old c) fetched.begun (found_by b old mid plane sprite c fetched is))
+
+-- the words that the Copper looks at are the same in the chips that were asked
+same_words : (b : Beam) (c : Chips) (mid : WorkingChips) → HasAsked b c mid → SameWords (fetched_registers b c) c.registers
+same_words b c mid asked =
+    words_same b.h (last_unit (units_now b c)) (kinds_now b c) (is_some (plane_wish b c)) c.registers asked.begun
+
+-- no register that is read is a pointer of a plane or a sprite
+word_by : (reading : Reading) (live : Live) (moved registers : List ℕ) → SameWords moved registers
+    → word_in reading live moved ≡ word_in reading live registers
+word_by Zero live moved registers same = refl
+word_by DmaAndBlitter live moved registers same =
+    ap (λ w. bit_and w 0x7ff + bit_worth live.zero 8192 + bit_worth live.busy 16384) same.dmacon
+word_by FieldAndLine live moved registers same = refl
+word_by LineAndClock live moved registers same = refl
+word_by (Joystick port) live moved registers same = refl
+word_by Elsewhere live moved registers same = refl
+
+processor_serves : (ask : ProcessorAsk) (b : Beam) (clx : ℕ) (c : Chips) (memory : List ℕ) → SameWords (fetched_registers b c) c.registers
+    → answer_processor ask b clx (fetched_chips b c) memory ≡ answer_processor ask b clx c memory
+unfolding read_word word_at
+processor_serves (P.Read at) b clx c memory same = refl
+processor_serves (P.Write at half word) b clx c memory same = refl
+processor_serves (P.ReadRegister reg) b clx c memory same =
+    ap (λ w. if reg.offset == 0x0e then clx else if reg.offset == 0x1c then c.irq.ena else if reg.offset == 0x1e then c.irq.req else w)
+    (word_by (reading_at reg.offset) (live_words b c) (fetched_registers b c) c.registers same)
+processor_serves (P.WriteRegister reg word) b clx c memory same = refl
+
+serves : (ask : Ask) (b : Beam) (clx : ℕ) (mid : WorkingChips) (c : Chips) (memory : List ℕ) (word : ℕ) → IsAnswer ask b clx mid memory word
+    → SameWords (fetched_registers b c) c.registers → IsChipsOf mid (fetched_chips b c) → Serves ask b clx c memory word
+serves A.Free b clx mid c memory word is same stands = is
+serves (A.Disk at stored) b clx mid c memory word is same stands = is
+serves (A.Audio channel at) b clx mid c memory word is same stands = is
+serves (A.Plane plane at) b clx mid c memory word is same stands = is
+serves (A.SpriteControl sprite second at) b clx mid c memory word is same stands = is
+serves (A.SpriteWords sprite second at) b clx mid c memory word is same stands = is
+serves (A.Copper at) b clx mid c memory word is same stands = is
+serves (A.BlitRead at) b clx mid c memory word is same stands = is
+serves (A.BlitWrite at stored) b clx mid c memory word is same stands = is
+serves A.BlitRest b clx mid c memory word is same stands = is
+serves (A.Processor ask) b clx mid c memory word is same stands = is (fetched_chips b c) stands ∙ processor_serves ask b clx c memory same
+
+-- an answer to the clock's ask is the access
+answer_found : (b : Beam) (clx : ℕ) (memory : List ℕ) (mid new : WorkingChips) (made : Made) (c : Chips)
+    → HasAnswered b clx memory (ask_at S.Nothing b c) mid new made → HasAsked b c mid → HasAccessed b clx c memory made new
+unfolding answer_chips
+answer_found b clx memory mid new made c answered asked =
+    let ask : Ask = ask_at S.Nothing b c in
+    let is : IsChipsOf mid (fetched_chips b c) = asked.chips in
+    let found : SameWords (fetched_registers b c) c.registers = same_words b c mid asked in
+    let same : SameWords mid.registers c.registers = subst (λ r. SameWords r c.registers) is.registers found in
+    let answer : Serves ask b clx c memory answered.word = serves ask b clx mid c memory answered.word answered.answer found is in
+    let word : ℕ = answer_to ask b clx c memory in
+    let copper : CopperState = copper_after b (copper_word ask word) c in
+    let missed : ℕ = missed_after (processor_wish c.processor) ask c.missed in
+    let stepped : copper_after b (copper_word ask answered.word) (plain_chips mid) ≡ copper =
+    copper_same b (copper_word ask answered.word) (plain_chips mid) c same (sym is.copper) (some_with_blit mid.blit c.blit is.blit)
+    ∙ ap (λ w. copper_after b w c) (copper_by_answer ask b clx c memory answered.word answer) in
+    let counted : missed_after (wish_shown mid.processor) ask mid.missed ≡ missed =
+    ap (λ w. missed_after w ask mid.missed) (wish_shown-is mid.processor c.processor is.processor)
+    ∙ ap (λ n. missed_after (processor_wish c.processor) ask n) (sym is.missed) in
+    let after : Chips = with_fetch (fetched_registers b c) (units_now b c) (kinds_now b c) copper missed c in
+    let stands : IsChipsOf (answering b ask answered.word mid) after = record {
+      registers = is.registers;
+      last = is.last;
+      kinds = is.kinds;
+      copper = sym stepped;
+      blit = is.blit;
+      zero = is.zero;
+      irq = is.irq;
+      processor = is.processor;
+      missed = sym counted;
+      cia_a = is.cia_a;
+      cia_b = is.cia_b;
+      inputs = is.inputs;
+    } in
+    let owner : with_others (units_now b c) (kinds_now b c) copper missed (answer_owner b ask word c) ≡ after_owner ask word after =
+    owner_is b ask word c (fetched_registers b c) (units_now b c) (kinds_now b c) copper missed (registers_is b c asked.begun) in
+    record {
+      makes = answered.makes
+          ∙ ap (λ act. made_with ask answered.word act) (act_same b ask answered.word (plain_chips mid) c same (sym is.copper))
+          ∙ sym (made-act b answered.word c)
+          ∙ made_by_answer ask b clx c memory answered.word answer;
+      chips = subst (λ x. IsChipsOf new x) (after_by_answer ask b clx c memory answered.word after answer ∙ sym owner)
+          (owner_answered ask answered.word (answering b ask answered.word mid) new after answered.owner stands);
+    }
+
+pub answer_is : (b : Beam) (clx : ℕ) (memory : List ℕ) (ask : Ask) (mid new : WorkingChips) (made : Made)
+    → HasAnswered b clx memory ask mid new made → (c : Chips) → HasAsked b c mid → ask ≡ ask_at S.Nothing b c
+    → HasAccessed b clx c memory made new
+answer_is b clx memory ask mid new made answered c asked same =
+    answer_found b clx memory mid new made c (subst (λ a. HasAnswered b clx memory a mid new made) same answered) asked
+
+-- the loop can do what an ask makes
+pub can_make : (ask : Ask) (word : ℕ) (act : CopperAct) → CanAsk ask → CanDo (made_with ask word act)
+can_make A.Free word act can = act_can act
+can_make (A.Disk at stored) word act can = act_can act
+can_make (A.Audio channel at) word act can = act_can act
+can_make (A.Plane plane at) word act can = can
+can_make (A.SpriteControl sprite second at) word act can = tt
+can_make (A.SpriteWords sprite second at) word act can = can
+can_make (A.Copper at) word act can = act_can act
+can_make (A.BlitRead at) word act can = act_can act
+can_make (A.BlitWrite at stored) word act can = tt
+can_make A.BlitRest word act can = act_can act
+can_make (A.Processor ask) word act can = processor_can ask
+
+-- and a plane that is fetched is one of six, a sprite one of eight
+with_can : (owner : Owner) (found : Option ℕ) (asked : Option SpriteAsk) (wish : Option Addr) (blit : Option SlotAsk)
+    (processor : Option ProcessorAsk) (registers : List ℕ) (h : ℕ) → IfSome found (IsFetch h) → IfSome asked (λ ask. asking_sprite ask ≤ 7)
+    → CanAsk (owner_ask owner (record {
+      side = S.Nothing;
+      plane = option_map (λ plane. ask_for_plane registers plane) found;
+      sprite = asked;
+      copper = wish;
+      blit = blit;
+      processor = processor;
+    }))
+with_can Refresh found asked wish blit processor registers h within few = tt
+with_can Disk found asked wish blit processor registers h within few = tt
+with_can (Audio channel) found asked wish blit processor registers h within few = tt
+with_can (Plane plane) None asked wish blit processor registers h within few = tt
+with_can (Plane plane) (Some number) asked wish blit processor registers h within few = record { first = within.first; last = within.most }
+with_can (Sprite sprite) found None wish blit processor registers h within few = tt
+with_can (Sprite sprite) found (Some (Control number second at)) wish blit processor registers h within few = few
+with_can (Sprite sprite) found (Some (Words number second at)) wish blit processor registers h within few = few
+with_can Copper found asked None blit processor registers h within few = tt
+with_can Copper found asked (Some at) blit processor registers h within few = tt
+with_can Blitter found asked wish None processor registers h within few = tt
+with_can Blitter found asked wish (Some (Read at)) processor registers h within few = tt
+with_can Blitter found asked wish (Some (Write at stored)) processor registers h within few = tt
+with_can Blitter found asked wish (Some Rest) processor registers h within few = tt
+with_can Blitter found asked wish (Some Done) processor registers h within few = tt
+with_can Processor found asked wish blit None registers h within few = tt
+with_can Processor found asked wish blit (Some ask) registers h within few = tt
+with_can Free found asked wish blit processor registers h within few = tt
+
+pub ask_can : (b : Beam) (ask : Ask) (old mid : WorkingChips) (plane : Option PlaneAsk) (sprite : Option SpriteAsk)
+    → HasFetched b old mid plane sprite → ask ≡ ask_with b plane sprite (kept_wish mid) (wish_shown mid.processor) (plain_chips mid)
+    → CanAsk ask
+unfolding ask_with
+ask_can b ask old mid plane sprite fetched asks =
+    let found : Option ℕ = fetched_plane b.h old.registers mid.last in
+    let within : IfSome found (IsFetch b.h) = fetched_plane-is b.h old.registers mid.last fetched.begun in
+    let few : IfSome sprite (λ ask. asking_sprite ask ≤ 7) =
+    subst (λ a. IfSome a (λ ask. asking_sprite ask ≤ 7)) (sym fetched.sprite_ask)
+    (sprite_ask-few b.h (move_planes b.h mid.last old.registers) mid.kinds (is_some plane)) in
+    let w : Wishes = wishes_with b plane sprite (kept_wish mid) (wish_shown mid.processor) (plain_chips mid) in
+    subst CanAsk
+    (sym (asks ∙ ap (λ p. owner_ask (owner_of (slot_state b (plain_chips mid) w)) (record w { plane = p })) fetched.plane_ask))
+    (with_can (owner_of (slot_state b (plain_chips mid) w)) found sprite w.copper (kept_wish mid) w.processor old.registers b.h within few)

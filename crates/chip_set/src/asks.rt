@@ -1,0 +1,178 @@
+//! The ask of a clock's slot, and what its access makes.
+
+ghost use Rattle.std.specs.Prelude.{◌≡◌, Some};
+ghost use Rattle.serial_model.specs.Bus.{copper_word as word_to_copper, plane_owner_ask, sprite_owner_ask, blit_owner_ask};
+ghost use Rattle.serial_model.specs.Bus.{processor_ask as processor_ask_of};
+ghost use Rattle.serial_model.specs.Bus.{made_by_copper as made_by_copper_of, control_register as control_register_of};
+ghost use Rattle.serial_model.specs.Bus.{made_by_processor as made_by_processor_of};
+ghost use Rattle.chip_set.specs.AskLaws.{is_clx_ask as clx_asked};
+ghost use Rattle.chip_set.specs.Chips.{made_with};
+
+use bitplane_dma::PlaneAsk;
+use blitter::SlotAsk;
+use ocs_base::{Addr, Reg};
+use serial_model::{Ask, CopperAct, Half, Made, ProcessorAsk, Source, SpriteAsk};
+
+/// The collision bits.
+const CLXDAT: u16 = 0xe;
+
+/// SPRxPOS of sprite 0; each sprite has eight bytes of registers.
+const SPR0POS: u16 = 0x140;
+
+/// Whether the owner of the slot, the processor then, asks to read CLXDAT.
+pub fn is_clx_ask(ask: &Ask) -> bool
+    ensures { result ≡ clx_asked ask.now }
+{
+    match ask {
+        Ask::Processor {
+            ask: ProcessorAsk::ReadRegister { reg },
+        } => reg.offset == CLXDAT,
+        _ => false,
+    }
+}
+
+/// The ask of a plane, of a sprite, and of a blit.
+pub fn plane_ask(wish: Option<PlaneAsk>) -> Ask
+    ensures { result ≡ plane_owner_ask wish }
+{
+    match wish {
+        Some(ask) => Ask::Plane {
+            plane: ask.plane,
+            at: ask.at,
+        },
+        None => Ask::Free,
+    }
+}
+
+pub fn sprite_ask(wish: Option<SpriteAsk>) -> Ask
+    ensures { result ≡ sprite_owner_ask wish }
+{
+    match wish {
+        Some(SpriteAsk::Control { sprite, second, at }) => Ask::SpriteControl {
+            sprite,
+            second,
+            at,
+        },
+        Some(SpriteAsk::Words { sprite, second, at }) => Ask::SpriteWords { sprite, second, at },
+        None => Ask::Free,
+    }
+}
+
+pub fn slot_ask(slot: SlotAsk) -> Ask
+    ensures { result ≡ blit_owner_ask (Some slot) }
+{
+    match slot {
+        SlotAsk::Read { at } => Ask::BlitRead { at },
+        SlotAsk::Write { at, word } => Ask::BlitWrite { at, word },
+        SlotAsk::Rest => Ask::BlitRest,
+        SlotAsk::Done => Ask::Free,
+    }
+}
+
+/// What the access makes, with the word that answers it, where the Copper's step makes this.
+pub fn made_by(ask: &Ask, word: u16, act: &CopperAct) -> Made
+    ensures { result ≡ made_with ask.now word act.now }
+{
+    match ask {
+        Ask::Plane { plane, at } => Made::Plane {
+            plane: *plane,
+            at: *at,
+        },
+        Ask::SpriteControl { sprite, second, .. } => Made::Wrote {
+            reg: control_register(*sprite, *second),
+            word,
+            by: None,
+        },
+        Ask::SpriteWords { sprite, second, at } => Made::Sprite {
+            sprite: *sprite,
+            second: *second,
+            at: *at,
+        },
+        Ask::BlitWrite { at, word } => Made::Stored {
+            at: *at,
+            half: Half::Both,
+            word: *word,
+        },
+        Ask::Processor { ask } => made_by_processor(ask),
+        Ask::Free
+        | Ask::Disk { .. }
+        | Ask::Audio { .. }
+        | Ask::Copper { .. }
+        | Ask::BlitRead { .. }
+        | Ask::BlitRest => made_by_copper(act),
+    }
+}
+
+/// What the processor's access makes: of its reads the trace tells that of CLXDAT, which clears the collision bits.
+fn made_by_processor(ask: &ProcessorAsk) -> Made
+    ensures { result ≡ made_by_processor_of ask.now }
+{
+    match ask {
+        ProcessorAsk::Read { .. } => Made::Nothing,
+        ProcessorAsk::Write { at, half, word } => Made::Stored {
+            at: *at,
+            half: *half,
+            word: *word,
+        },
+        ProcessorAsk::ReadRegister { reg } if reg.offset == CLXDAT => Made::Read {
+            reg: *reg,
+            by: Source::Processor,
+        },
+        ProcessorAsk::ReadRegister { .. } => Made::Nothing,
+        ProcessorAsk::WriteRegister { reg, word } => Made::Wrote {
+            reg: *reg,
+            word: *word,
+            by: Some(Source::Processor),
+        },
+    }
+}
+
+/// What a step of the Copper makes: a MOVE is a write.
+fn made_by_copper(act: &CopperAct) -> Made
+    ensures { result ≡ made_by_copper_of act.now }
+{
+    match act {
+        CopperAct::Move { reg, word } => Made::Wrote {
+            reg: *reg,
+            word: *word,
+            by: Some(Source::Copper),
+        },
+        CopperAct::None => Made::Nothing,
+    }
+}
+
+/// SPRxPOS or, `second`, SPRxCTL of a sprite.
+fn control_register(sprite: u8, second: bool) -> Reg
+    ensures { result ≡ control_register_of sprite second }
+{
+    Reg::masked(SPR0POS + 8 * sprite as u16 + if second { 2 } else { 0 })
+}
+
+/// The word that the Copper gets: that of its own ask alone.
+pub fn copper_word(ask: &Ask, word: u16) -> Option<u16>
+    ensures { result ≡ word_to_copper ask.now word }
+{
+    match ask {
+        Ask::Copper { .. } => Some(word),
+        Ask::Free
+        | Ask::Disk { .. }
+        | Ask::Audio { .. }
+        | Ask::Plane { .. }
+        | Ask::SpriteControl { .. }
+        | Ask::SpriteWords { .. }
+        | Ask::BlitRead { .. }
+        | Ask::BlitWrite { .. }
+        | Ask::BlitRest
+        | Ask::Processor { .. } => None,
+    }
+}
+
+/// The ask of the processor.
+pub fn processor_ask(wish: Option<ProcessorAsk>) -> Ask
+    ensures { result ≡ processor_ask_of wish }
+{
+    match wish {
+        Some(ask) => Ask::Processor { ask },
+        None => Ask::Free,
+    }
+}

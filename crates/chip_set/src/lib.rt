@@ -1,0 +1,11 @@
+//! The chips on the chip bus: what they do at each clock, and the access of the slot's owner.
+#![tactic(auto)]
+
+mod asks;
+mod blit_registers;
+mod chips;
+pub mod laws;
+mod turn;
+
+pub use asks::is_clx_ask;
+pub use chips::Chips;

@@ -1,0 +1,5 @@
+mod Turns
+mod Gathering
+mod Counting
+mod Marks
+mod Ending

@@ -1,0 +1,12 @@
+use Rattle.std.proofs.Common.{◌≡◌, ℕ, ◌-◌, sym, ◌∙◌, arith}
+use Rattle.band_board.specs.Answers.{front_view}
+use Rattle.crew.proofs.Gathering.{length-bands_of}
+use Rattle.crew.proofs.crew.CrewRaster.outstanding.Goals as goal
+
+pub returns : goal.returns
+returns g c =
+    let v = front_view c.args.self.now.front in
+    let is = c.args.self.now.is_crew in
+    let behind = is.behind in
+    let count : ◌≡◌ {A = ℕ} c.args.self.now.waiting (v.published - v.collected) = omega arith in
+    count ∙ sym (length-bands_of v.run v.collected (v.published - v.collected) is.run_is)

@@ -1,0 +1,18 @@
+use Rattle.std.proofs.Common.{sym, subst}
+use Rattle.foreground.specs.Fore.{ForeValue}
+use Rattle.foreground.specs.Script.{IsMachine}
+use Rattle.foreground.proofs.ReachLaws.{reaches_fore, machine_started, room_kept}
+use Rattle.foreground.proofs.fore.Fore.run_to_access.Goals as goal
+
+pub run_events-requires-clause-some : goal.run_events-requires-clause-some
+run_events-requires-clause-some c =
+    machine_started _ _ c.args.out.now (subst (λ (f : ForeValue). IsMachine f.machine) (sym c.self.view_is) c.requires.some) c.start.ensures.step
+
+pub show-requires : goal.show-requires
+show-requires c = room_kept _ _ _ _ _ _ c.self.view_is c.self-2.view_is c.in_ok-run_events.ensures.noted c.requires.room
+
+pub returns-clause-reaches : goal.returns-clause-reaches
+returns-clause-reaches c =
+    reaches_fore _ _ _ _ _ _ _ _ _ _ c.self.view_is c.self-2.view_is c.start.ensures.step c.start.ensures.same
+    c.in_ok-run_events.ensures.step c.in_ok-run_events.ensures.place c.in_ok-run_events.ensures.noted
+    c.in_ok-run_events.ensures.script c.in_ok-run_events.ensures.same c.count_timers.ensures.step c.count_timers.ensures.same c.show.ensures

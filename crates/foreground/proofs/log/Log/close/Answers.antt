@@ -1,0 +1,28 @@
+use Rattle.std.proofs.Common.{◌≡◌, ◌+◌, ◌≤◌, rules, length, refl, ap, ◌∙◌, sym, subst, arith}
+use Rattle.std.proofs.lemmas.List.{length-replicate}
+use Rattle.std.specs.Arc.{arc_value}
+use Rattle.foreground.specs.Log.{IsCut, blank_after}
+use Rattle.foreground.proofs.Beginning.{ended_job}
+use Rattle.foreground.proofs.Cutting.{log_cuts, number_fits}
+use Rattle.foreground.proofs.log.Log.close.Goals as goal
+
+pub overflow_add-next : goal.overflow_add-next
+overflow_add-next c =
+    let most : c.args.self.now.band.number + 1 ≤ c.args.to =
+    number_fits (arc_value c.args.run.now) c.args.to c.args.self.now c.args.chip.now c.requires.ending in
+    omega (arith, most, c.ranges.to.fits)
+
+pub returns-clause-job : goal.returns-clause-job
+returns-clause-job c =
+    ended_job (arc_value c.args.run.now) c.args.to c.args.self.now c.args.chip.now _ c.replace-band.result c.requires.ending
+    c.replace-band.ensures.value c.in_ok-run.ensures refl refl refl refl refl refl c.in_ok-view.ensures.view
+    (ap length c.in_ok-room.ensures ∙ length-replicate c.args.self.now.band.bytes 0)
+
+pub returns-clause-cut : goal.returns-clause-cut
+returns-clause-cut c =
+    let run = arc_value c.args.run.now in
+    let log = c.args.self.now in
+    let next : c.replace-band.new.dest ≡ blank_after c.args.to log.band = search rules in
+    subst (λ band. IsCut run c.args.to (record log { band = band }) c.cut.new.self) (sym next)
+    (subst (λ chip. IsCut run c.args.to (record log { band = blank_after c.args.to log.band }) chip) (sym c.in_ok-view.ensures.cut)
+    (log_cuts run c.args.to log c.args.chip.now c.requires.ending))

@@ -1,0 +1,7 @@
+use Rattle.foreground.proofs.StepLaws.{read_done}
+use Rattle.foreground.proofs.machine.Machine.read.Goals as goal
+
+pub returns-clause-does : goal.returns-clause-does
+returns-clause-does c =
+    read_done c.args.reg c.args.by c.args.clx c.peek-word.result c.args.self.now c.args.out.now _ c.line.result c.peek-word.ensures
+    c.line.ensures.ok c.line.ensures.together

@@ -1,0 +1,25 @@
+-- What is right without a tint, its bytes turned over, is right under the tint 255.
+use Rattle.std.proofs.Common.{◌≡◌, ℕ, List, [], ◌∷◌, ap, ◌∙◌}
+use Rattle.serial_bands.specs.BandShown.{tinted_bytes}
+use Rattle.serial_bands.proofs.Counts.{no_tint}
+use Rattle.band_log.specs.declared.job.Drawn.{Drawn}
+use Rattle.band_log.specs.Raster.{Outstanding, IsRightForFirst}
+use Rattle.foreground.proofs.tests.InvertedRaster.collect.Goals as goal
+
+turned_over : (bands : List Outstanding) (drawn : Drawn) (room : List ℕ) → room ≡ tinted_bytes 255 drawn.job.room
+    → IsRightForFirst 0 bands drawn → IsRightForFirst 255 bands (record drawn { job = record drawn.job { room = room } })
+turned_over [] drawn room same right = right
+turned_over (band ∷ bands) drawn room same right = record {
+  owner = right.owner;
+  numbered = right.numbered;
+  shown = record {
+    band = right.shown.band;
+    bytes = same ∙ ap (λ bytes. tinted_bytes 255 bytes) (right.shown.bytes ∙ no_tint _);
+    bits = right.shown.bits;
+    stands = right.shown.stands;
+  };
+}
+
+pub returns-clause-right : goal.returns-clause-right
+returns-clause-right c =
+    turned_over c.args.self.now.direct.bands c.collect-drawn.result c.invert.new.room c.invert.ensures c.collect-drawn.ensures.right

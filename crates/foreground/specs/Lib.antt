@@ -1,0 +1,11 @@
+pub mod Out
+pub mod Machine
+pub mod MachineSteps
+pub mod Log
+pub mod LogLaws
+pub mod Script
+pub mod Gathered
+pub mod Clock
+pub mod Fore
+pub mod Cuts
+pub mod Steps

@@ -1,0 +1,114 @@
+//! What precedes the first step of a clock: where a band begins, the one before it ends.
+
+ghost use Rattle.std.specs.Prelude.{◌≡◌, ◌<◌, ℕ, true, false, IfOk, OnErr};
+ghost use Rattle.serial_bands.specs.Bands.{is_band_place as place_of_band, has_clx_read};
+ghost use Rattle.serial_bands.specs.BusReads.{latched_words};
+ghost use Rattle.serial_bands.specs.Clock.{due_at};
+ghost use Rattle.foreground.specs.Clock.{Rises};
+ghost use Rattle.foreground.specs.Fore.{IsUnderway, is_done, looked_up};
+ghost use Rattle.foreground.specs.Log.{with_begin};
+ghost use Rattle.foreground.specs.Steps.{StandsBeforeRead, BeginsClock, BeginsPart, KeepsClock};
+
+use crate::fore::Fore;
+use band_log::Raster;
+use ocs_base::OutOfMemory;
+use out_files::OutFiles;
+
+impl Fore {
+    /// What precedes the first step of a clock: where a band begins, the one before it ends. The
+    /// answer is what the script's first read of CLXDAT in this clock sees, if it has one.
+    #[inline(always)]
+    pub(crate) fn begin_clock<Q: Raster>(
+        &mut self,
+        raster: &mut Q,
+        out: &mut OutFiles,
+    ) -> Result<u16, OutOfMemory>
+        requires underway { (first : ℕ) × IsUnderway self.old first (Q.seen raster.old) }
+        requires running { is_done self.old ≡ false }
+        ensures begins { IfOk result (λ clx. BeginsClock self.old self.new clx
+            (Q.seen raster.old) (Q.seen raster.new) out.old out.new) }
+        ensures part { OnErr result (BeginsPart self.old
+            (Q.seen raster.old) (Q.seen raster.new) out.old out.new) }
+        ensures kept { KeepsClock self.old self.new }
+        ensures reads { Rises 0 (looked_up self.old)
+            self.old.machine.chip.reads self.new.machine.chip.reads }
+    {
+        if self.script_reads() {
+            return self.begin_at_read(raster, out);
+        }
+        if self.log.band.from < self.machine.t {
+            if self.is_band_place() {
+                return self.begin_at_line(raster, out);
+            }
+            self.log.take_waiting()?;
+            return Ok(0);
+        }
+        self.begin_log();
+        Ok(0)
+    }
+
+    /// The script reads CLXDAT in this clock, with which a band begins therefore.
+    #[inline(never)]
+    fn begin_at_read<Q: Raster>(
+        &mut self,
+        raster: &mut Q,
+        out: &mut OutFiles,
+    ) -> Result<u16, OutOfMemory>
+        requires { StandsBeforeRead false self.old (Q.seen raster.old) }
+        ensures begins { IfOk result (λ clx. BeginsClock self.old self.new clx
+            (Q.seen raster.old) (Q.seen raster.new) out.old out.new) }
+        ensures part { OnErr result (BeginsPart self.old
+            (Q.seen raster.old) (Q.seen raster.new) out.old out.new) }
+        ensures kept { KeepsClock self.old self.new }
+        ensures reads { self.new.machine.chip.reads ≡ self.old.machine.chip.reads }
+    {
+        let clx = self.read_clxdat(raster, false, out)?;
+        self.begin_log();
+        Ok(clx)
+    }
+
+    /// A band begins with this clock by its place alone.
+    #[inline(never)]
+    fn begin_at_line<Q: Raster>(
+        &mut self,
+        raster: &mut Q,
+        out: &mut OutFiles,
+    ) -> Result<u16, OutOfMemory>
+        requires underway { (first : ℕ) × IsUnderway self.old first (Q.seen raster.old) }
+        requires running { is_done self.old ≡ false }
+        requires before { self.old.log.band.from < self.old.machine.t }
+        requires place { place_of_band self.old.run.height self.old.machine.beam ≡ true }
+        requires unread { has_clx_read (due_at self.old.run self.old.machine.t) ≡ false }
+        ensures begins { IfOk result (λ clx. BeginsClock self.old self.new clx
+            (Q.seen raster.old) (Q.seen raster.new) out.old out.new) }
+        ensures part { OnErr result (BeginsPart self.old
+            (Q.seen raster.old) (Q.seen raster.new) out.old out.new) }
+        ensures kept { KeepsClock self.old self.new }
+        ensures reads { Rises 0
+            (latched_words self.old.run self.old.log.band.from self.old.machine.t)
+            self.old.machine.chip.reads self.new.machine.chip.reads }
+    {
+        self.end_at_line(raster, out)?;
+        self.begin_log();
+        Ok(0)
+    }
+
+    /// The band begins with the present place of the beam.
+    #[inline(always)]
+    fn begin_log(&mut self)
+        ensures { self.new
+            ≡ record self.old { log = with_begin self.old.machine.beam self.old.log } }
+    {
+        let beam = self.machine.beam;
+        self.log.begin(&beam);
+    }
+
+    /// Whether a band begins with this clock by its place: at a field's start, and at that of each line
+    /// whose number is a multiple of the height.
+    #[inline(always)]
+    fn is_band_place(&self) -> bool
+        ensures { result ≡ place_of_band self.now.run.height self.now.machine.beam }
+    {
+        self.machine.beam.h == 0 && self.machine.beam.v % self.run.height() == 0
+    }
+}

@@ -1,0 +1,191 @@
+//! One colour clock.
+
+ghost use Rattle.std.specs.Prelude.{◌≡◌, ◌+◌, ◌<◌, ◌^◌, ℕ, Bool, true, false, OnOk, OnErr};
+ghost use Rattle.serial_model.specs.Beam.{IsOnScreen, next_place};
+ghost use Rattle.serial_model.specs.Events.{due_events, touches_of};
+ghost use Rattle.serial_bands.specs.Bands.{has_clx_read};
+ghost use Rattle.serial_bands.specs.BusReads.{bus_reads, reads_of_ask};
+ghost use Rattle.chip_set.specs.AskLaws.{is_clx_ask as is_clx_asked};
+ghost use Rattle.chip_set.specs.Chips.{CanAsk, IsBlitAsk, kept_wish};
+ghost use Rattle.foreground.specs.Out.{GivesLines};
+ghost use Rattle.foreground.specs.Machine.{KeepsPlace};
+ghost use Rattle.foreground.specs.Log.{with_script_touches};
+ghost use Rattle.foreground.specs.Script.{IsMachine, MakesEvents};
+ghost use Rattle.foreground.specs.Clock.{Rises};
+ghost use Rattle.foreground.specs.Fore.{HasScript, IsUnderway, Advances, GivesPart, is_done, looked_up};
+ghost use Rattle.foreground.specs.Steps.{IsBefore, IsLoggedBefore, HasScriptBehind, ReachesAccess, KeepsClock};
+ghost use Rattle.foreground.specs.Steps.{HasAskedNow, MakesItsAccess, MakesReadingAccess, AccessesPart, EndsClock, reads_more};
+
+use crate::fore::Fore;
+use crate::script::{reads_clxdat, run_script};
+use crate::touches::touch_of;
+use band_log::Raster;
+use chip_set::is_clx_ask;
+use ocs_base::OutOfMemory;
+use out_files::OutFiles;
+use serial_model::Ask;
+
+impl Fore {
+    /// One colour clock. Memory may be wanted, and then a part of what the clock gives was given.
+    pub(crate) fn advance_clock<Q: Raster>(
+        &mut self,
+        raster: &mut Q,
+        out: &mut OutFiles,
+    ) -> Result<(), OutOfMemory>
+        requires underway { (first : ℕ) × IsUnderway self.old first (Q.seen raster.old) }
+        requires running { is_done self.old ≡ false }
+        ensures clock { OnOk result (Advances self.old self.new
+            (Q.seen raster.old) (Q.seen raster.new) out.old out.new) }
+        ensures part { OnErr result (GivesPart self.old
+            (Q.seen raster.old) (Q.seen raster.new) out.old out.new) }
+        ensures count { OnOk result (self.new.machine.t ≡ self.old.machine.t + 1) }
+        ensures run { self.new.run ≡ self.old.run }
+        ensures spent { OnOk result (self.new.spent ≡ self.old.spent) }
+        ensures reads { OnOk result (Rises (bus_reads self.old.run self.old.machine.t)
+            (bus_reads self.old.run self.old.machine.t + looked_up self.old)
+            self.old.machine.chip.reads self.new.machine.chip.reads) }
+        ensures few { OnErr result (Rises 0
+            (bus_reads self.old.run self.old.machine.t + looked_up self.old)
+            self.old.machine.chip.reads self.new.machine.chip.reads) }
+    {
+        let clx = self.begin_clock(raster, out)?;
+        self.run_to_access(clx, out)?;
+        self.access(raster, out)?;
+        self.end_clock(out)
+    }
+
+    /// Whether the script reads CLXDAT in this clock.
+    #[inline(always)]
+    pub(crate) fn script_reads(&self) -> bool
+        requires script { HasScript self.now.run self.now.machine.beam self.now.next }
+        requires screen { IsOnScreen self.now.machine.beam }
+        ensures { result ≡ has_clx_read
+            (due_events self.now.machine.beam self.now.run.script.events) }
+    {
+        let events = self.run.script().events();
+        reads_clxdat(&events[self.next..], &self.machine.beam)
+    }
+
+    /// The first four steps, up to the access. `clx` is what the script's first read of CLXDAT sees.
+    #[inline(always)]
+    fn run_to_access(&mut self, clx: u16, out: &mut OutFiles) -> Result<(), OutOfMemory>
+        requires script { HasScript self.old.run self.old.machine.beam self.old.next }
+        requires screen { IsOnScreen self.old.machine.beam }
+        requires some { IsMachine self.old.machine }
+        requires room { self.old.log.band.bytes < 2 ^ 32 }
+        ensures reaches { OnOk result (ReachesAccess clx self.old self.new out.old out.new) }
+        ensures run { self.new.run ≡ self.old.run }
+        ensures chip { self.new.machine.chip ≡ self.old.machine.chip }
+        ensures told { OnErr result (GivesLines out.old out.new) }
+    {
+        self.machine.start();
+        self.run_events(clx, out)?;
+        self.machine.count_timers();
+        let beam = self.machine.beam;
+        self.log.show(&beam);
+        Ok(())
+    }
+
+    /// Second step: the script's events of the clock.
+    #[inline(always)]
+    fn run_events(&mut self, clx: u16, out: &mut OutFiles) -> Result<(), OutOfMemory>
+        requires script { HasScript self.old.run self.old.machine.beam self.old.next }
+        requires screen { IsOnScreen self.old.machine.beam }
+        requires some { IsMachine self.old.machine }
+        ensures step { OnOk result (MakesEvents clx
+            (due_events self.old.machine.beam self.old.run.script.events)
+            self.old.machine out.old self.new.machine out.new) }
+        ensures place { OnOk result (KeepsPlace self.old.machine self.new.machine) }
+        ensures noted { OnOk result (self.new.log ≡ with_script_touches self.old.machine.t
+            (touches_of (due_events self.old.machine.beam self.old.run.script.events))
+            self.old.log) }
+        ensures script { OnOk result (HasScriptBehind self.old.run self.old.machine.beam
+            self.old.next self.new.next) }
+        ensures same { self.new ≡ record self.old {
+          machine = self.new.machine;
+          log = self.new.log;
+          next = self.new.next;
+        } }
+        ensures chip { self.new.machine.chip ≡ self.old.machine.chip }
+        ensures told { OnErr result (GivesLines out.old out.new) }
+    {
+        let mut clx = clx;
+        let events = self.run.script().events();
+        let left = run_script(
+            &events[self.next..],
+            &mut self.machine,
+            &mut self.log,
+            &mut clx,
+            out,
+        )?;
+        let next = events.len() - left.len();
+        self.next = next;
+        Ok(())
+    }
+
+    /// Fifth step: the access.
+    #[inline(always)]
+    fn access<Q: Raster>(&mut self, raster: &mut Q, out: &mut OutFiles) -> Result<(), OutOfMemory>
+        requires before { (first : ℕ) × IsBefore self.old first (Q.seen raster.old) }
+        requires room { self.old.machine.t + 1 < 2 ^ 64 }
+        ensures makes { OnOk result (MakesItsAccess self.old self.new
+            (Q.seen raster.old) (Q.seen raster.new) out.old out.new) }
+        ensures part { OnErr result (AccessesPart self.old
+            (Q.seen raster.old) (Q.seen raster.new) out.old out.new) }
+        ensures kept { KeepsClock self.old self.new }
+        ensures reads { self.new.machine.chip.reads ≡ reads_more
+            (bus_reads self.old.run self.old.machine.t) self.old.machine.chip.reads }
+    {
+        let ask = self.machine.ask();
+        if is_clx_ask(&ask) {
+            return self.access_clxdat(&ask, raster, out);
+        }
+        let made = self.machine.answer(&ask, 0, out)?;
+        let t = self.machine.t;
+        self.log.note_access(t, &touch_of(&made))
+    }
+
+    /// The access reads CLXDAT: it sees the pixels of this clock too.
+    #[inline(never)]
+    fn access_clxdat<Q: Raster>(
+        &mut self,
+        ask: &Ask,
+        raster: &mut Q,
+        out: &mut OutFiles,
+    ) -> Result<(), OutOfMemory>
+        requires logged { (first : ℕ) × IsLoggedBefore self.old first (Q.seen raster.old) }
+        requires asked { HasAskedNow ask.now self.old }
+        requires read { is_clx_asked ask.now ≡ true }
+        requires able { CanAsk ask.now }
+        requires wish { IsBlitAsk ask.now (kept_wish self.old.machine.chips) }
+        ensures makes { OnOk result (MakesReadingAccess self.old self.new
+            (Q.seen raster.old) (Q.seen raster.new) out.old out.new) }
+        ensures part { OnErr result (AccessesPart self.old
+            (Q.seen raster.old) (Q.seen raster.new) out.old out.new) }
+        ensures kept { KeepsClock self.old self.new }
+        ensures reads { self.new.machine.chip.reads ≡ reads_more
+            (reads_of_ask ask.now) self.old.machine.chip.reads }
+    {
+        let clx = self.read_clxdat(raster, true, out)?;
+        self.machine.answer(ask, clx, out)?;
+        Ok(())
+    }
+
+    /// The last two steps.
+    #[inline(always)]
+    fn end_clock(&mut self, out: &mut OutFiles) -> Result<(), OutOfMemory>
+        requires screen { IsOnScreen self.old.machine.beam }
+        requires frame { self.old.machine.beam.frame + 1 < 2 ^ 32 }
+        requires count { self.old.machine.t + 1 < 2 ^ 64 }
+        ensures ends { OnOk result (EndsClock self.old self.new out.old out.new) }
+        ensures place { OnOk result ((lace : Bool)
+            × (self.new.machine.beam ≡ next_place lace self.old.machine.beam)) }
+        ensures run { self.new.run ≡ self.old.run }
+        ensures chip { self.new.machine.chip ≡ self.old.machine.chip }
+        ensures refused { OnErr result (out.new ≡ out.old) }
+    {
+        self.machine.process(out)?;
+        self.machine.advance();
+        Ok(())
+    }
+}

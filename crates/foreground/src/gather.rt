@@ -1,0 +1,99 @@
+//! Gathering: drawn bands are collected from a raster, and their pixels go to the output files.
+
+ghost use Rattle.std.specs.Prelude.{◌≡◌, ◌<◌, ◌≤◌, ℕ, [], length, OnOk, OnErr, IfOk};
+ghost use Rattle.std.specs.Arc.{arc_value};
+ghost use Rattle.band_log.specs.Raster.{without_first};
+ghost use Rattle.band_log.specs.Right.{IsRightJob};
+ghost use Rattle.foreground.specs.Gathered.{Fits, GathersOne, GathersSome, GathersAll, GathersPart, Submits};
+
+use band_log::{Denise, Drawn, Job, Raster};
+use ocs_base::OutOfMemory;
+use out_files::OutFiles;
+
+/// How many bands may be outstanding.
+const PLACES: usize = 16;
+
+/// Gathers the first outstanding band: its pixels go to the output files, and its collision bits
+/// are added. The answer is its closing picture state. It may wait for the band.
+pub fn gather_one<Q: Raster>(
+    raster: &mut Q,
+    out: &mut OutFiles,
+    clx: &mut u16,
+) -> Result<Denise, OutOfMemory>
+    requires { 0 < length (Q.seen raster.old).outstanding }
+    ensures taken { Q.seen raster.new ≡ without_first (Q.seen raster.old) }
+    ensures gathered { IfOk result (λ closing. GathersOne (Q.seen raster.old) (Q.seen raster.new)
+        out.old out.new clx.old clx.new closing) }
+    ensures part { OnErr result (GathersPart (Q.seen raster.old) (Q.seen raster.new)
+        out.old out.new) }
+{
+    let Drawn {
+        job,
+        closing,
+        clx: bits,
+    } = raster.collect();
+    out.pixels(job.room.pixels())?;
+    *clx |= bits;
+    Ok(closing)
+}
+
+/// Gathers all outstanding bands. The answer is the closing picture state of the last, if there was
+/// one. It may wait for each band.
+pub fn gather_all<Q: Raster>(
+    raster: &mut Q,
+    out: &mut OutFiles,
+    clx: &mut u16,
+) -> Result<Option<Denise>, OutOfMemory>
+    ensures gathered { IfOk result (λ closing. GathersAll (Q.seen raster.old) (Q.seen raster.new)
+        out.old out.new clx.old clx.new closing) }
+    ensures none { OnOk result ((Q.seen raster.new).outstanding ≡ []) }
+    ensures part { OnErr result (GathersPart (Q.seen raster.old) (Q.seen raster.new)
+        out.old out.new) }
+{
+    let mut last = None;
+    while raster.outstanding() > 0 {
+        last = Some(gather_one(raster, out, clx)?);
+    }
+    Ok(last)
+}
+
+/// Makes a place for one more band: where 16 are outstanding, the first is gathered.
+fn make_place<Q: Raster>(
+    raster: &mut Q,
+    out: &mut OutFiles,
+    clx: &mut u16,
+) -> Result<(), OutOfMemory>
+    ensures few { OnOk result (length (Q.seen raster.old).outstanding ≤ 16
+        → length (Q.seen raster.new).outstanding < 16) }
+    ensures gathered { OnOk result (GathersSome (Q.seen raster.old) (Q.seen raster.new)
+        out.old out.new clx.old clx.new) }
+    ensures part { OnErr result (GathersPart (Q.seen raster.old) (Q.seen raster.new)
+        out.old out.new) }
+{
+    if raster.outstanding() < PLACES {
+        return Ok(());
+    }
+    gather_one(raster, out, clx)?;
+    Ok(())
+}
+
+/// Submits the job of the next band; where 16 are outstanding, the first is gathered before, which
+/// may wait. After a refusal, for want of memory alone, the job is lost.
+pub fn submit<Q: Raster>(
+    job: Job,
+    raster: &mut Q,
+    out: &mut OutFiles,
+    clx: &mut u16,
+) -> Result<(), OutOfMemory>
+    requires right { IsRightJob (arc_value job.run) job.number job }
+    requires fits { (first : ℕ) × Fits (arc_value job.run) job.number job.from.0 first
+        (Q.seen raster.old) }
+    ensures submitted { OnOk result (Submits (arc_value job.run) job.number job.from.0 job.to.0
+        (Q.seen raster.old) (Q.seen raster.new) out.old out.new clx.old clx.new) }
+    ensures part { OnErr result (GathersPart (Q.seen raster.old) (Q.seen raster.new)
+        out.old out.new) }
+{
+    make_place(raster, out, clx)?;
+    raster.submit(job);
+    Ok(())
+}

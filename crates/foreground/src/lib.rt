@@ -1,0 +1,24 @@
+//! The clock loop: it advances the machine one colour clock at a time, reads no word of a plane or a sprite and keeps no
+//! pixel. What the picture needs it logs; at each band's end it cuts the memory and submits a job, from which the band is drawn.
+#![tactic(auto)]
+
+mod advance;
+pub mod band;
+mod begin;
+mod clock;
+mod cuts;
+pub mod fore;
+pub mod gather;
+pub mod laws;
+pub mod log;
+pub mod machine;
+mod reading;
+pub mod script;
+mod settle;
+pub mod shadow;
+pub mod touches;
+
+pub use fore::Fore;
+
+#[cfg(test)]
+mod tests;

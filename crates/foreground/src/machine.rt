@@ -1,0 +1,268 @@
+//! The machine without its picture: what each step of a colour clock but the picture's does.
+
+ghost use Rattle.std.specs.Prelude.{◌≡◌, ◌+◌, ◌<◌, ◌^◌, ◌≤◌, ℕ, true, false, Some, OnOk, OnErr, IfOk};
+ghost use Rattle.ocs_base.specs.Image.{is_image};
+ghost use Rattle.out_files.specs.OutFiles.{OutFilesValue};
+ghost use Rattle.serial_model.specs.declared.bus.Made.TheVariants as M;
+ghost use Rattle.serial_model.specs.declared.bus.SideAsk.{SideAsk};
+ghost use Rattle.serial_model.specs.Beam.{IsOnScreen, next_place};
+ghost use Rattle.serial_model.specs.Made.{is_clx_read};
+ghost use Rattle.serial_model.specs.Registers.{is_interlaced};
+ghost use Rattle.serial_model.specs.Tick.{start_clock, count_timers as count_timers_of};
+ghost use Rattle.serial_model.specs.State.{State};
+ghost use Rattle.serial_model.specs.Tick.{ask_of, run_processor, advance_beam};
+ghost use Rattle.chip_set.specs.AskLaws.{is_clx_ask};
+ghost use Rattle.chip_set.specs.Chips.{CanAsk, CanDo, IsBlitAsk, kept_wish};
+ghost use Rattle.foreground.specs.Machine.{IsMachineOf, IsReset, Makes, MakesQuietly, MakesEvent, MakesAccess};
+ghost use Rattle.foreground.specs.Machine.{HasAskedOf, StoresMade, StaysInPlace, KeepsPlace, reads_after};
+ghost use Rattle.foreground.specs.MachineSteps.{WritesRegister, Does};
+
+use chip_set::Chips;
+use mem_versions::Chip;
+use ocs_base::{Act, Addr, Beam, Clock, OutOfMemory, Reg};
+use out_files::OutFiles;
+use reg_file::Effect;
+use serial_model::{Ask, Half, Made, Source, TraceLine};
+use std::alloc::Global;
+
+/// The machine without its picture: how many clocks are done since reset, the beam, the chip memory and the
+/// chips. Collision bits and output files are the caller's.
+#[derive(Drop)]
+pub struct Machine {
+    pub t: u64,
+    pub beam: Beam,
+    pub chip: Chip,
+    pub chips: Chips,
+}
+
+impl Machine {
+    /// The machine at reset, with its memory made from the bytes of an image; `cpu` says whether the processor is
+    /// started.
+    pub fn new(alloc: Global, image: &[u8], cpu: bool) -> Result<Machine, OutOfMemory>
+        requires { is_image image.now ≡ true }
+        ensures { IfOk result (IsReset image.now cpu) }
+    {
+        Ok(Machine {
+            t: 0,
+            beam: beam::start(),
+            chip: Chip::new(alloc, image)?,
+            chips: Chips::reset(cpu),
+        })
+    }
+
+    /// First step: at a field's first clock the Copper starts, and at first clocks of fields and lines the CIAs'
+    /// times of day count.
+    #[inline(always)]
+    pub fn start(&mut self)
+        ensures step { MakesQuietly start_clock self.old self.new }
+        ensures same { self.new ≡ record self.old { chips = self.new.chips } }
+    {
+        self.chips.start(&self.beam);
+    }
+
+    /// An event of the second step: a poke is a write to a register, a peek a read of one, and the trace tells both;
+    /// the others tell the chips. `clx` has the collision bits that a peek of CLXDAT reads; to clear them is the
+    /// caller's, and so is what a poke does to the picture. After a refusal the event has not happened, but for what
+    /// it tells the chips.
+    pub fn act(&mut self, act: &Act, clx: u16, out: &mut OutFiles) -> Result<(), OutOfMemory>
+        ensures step { OnOk result
+            (MakesEvent clx act.now self.old out.old self.new out.new) }
+        ensures place { KeepsPlace self.old self.new }
+        ensures refused { OnErr result (out.new ≡ out.old) }
+    {
+        self.chips.tell(act);
+        match act {
+            Act::Poke { reg, word } => self.write_with_line(*reg, *word, Source::Script, out)?,
+            Act::Peek { reg } => self.read(*reg, Source::Script, clx, out)?,
+            Act::Joy { .. } | Act::Fire { .. } | Act::Key { .. } => {}
+        }
+        Ok(())
+    }
+
+    /// Third step: the timers of the CIAs tick at each fifth clock, and the CIAs request their interrupts.
+    #[inline(always)]
+    pub fn count_timers(&mut self)
+        ensures step { MakesQuietly (count_timers_of 0) self.old self.new }
+        ensures same { self.new ≡ record self.old { chips = self.new.chips } }
+    {
+        self.chips.count_timers(self.t);
+    }
+
+    /// Fifth step, its beginning: what the owner of the slot asks for. The fetches of bitplanes and sprites are done
+    /// with it. `answer` is to be called next.
+    #[inline(always)]
+    pub fn ask(&mut self) -> Ask
+        ensures ask { (s : State) → IsMachineOf self.old s → result ≡ ask_of SideAsk.Nothing s }
+        ensures chips { (s : State) → IsMachineOf self.old s → HasAskedOf self.new s }
+        ensures able { CanAsk result }
+        ensures wish { IsBlitAsk result (kept_wish self.new.chips) }
+        ensures same { self.new ≡ record self.old { chips = self.new.chips } }
+    {
+        self.chips.ask(&self.beam)
+    }
+
+    /// Fifth step, its end: the owner of the slot has its word and makes its access. The answer is what that makes. It
+    /// is done, but for the picture's part of it (`touch_of`). `clx` has the collision bits that a read of CLXDAT
+    /// gives; to clear them is the caller's.
+    #[inline(always)]
+    pub fn answer(&mut self, ask: &Ask, clx: u16, out: &mut OutFiles) -> Result<Made, OutOfMemory>
+        requires able { CanAsk ask.now }
+        requires wish { IsBlitAsk ask.now (kept_wish self.old.chips) }
+        requires time { is_clx_ask ask.now ≡ false → self.old.chip.newest ≤ self.old.t }
+        requires asked { (s : State) × (ask.now ≡ ask_of SideAsk.Nothing s) × HasAskedOf self.old s }
+        ensures access { IfOk result (λ made.
+            MakesAccess ask.now clx made self.old out.old self.new out.new) }
+        ensures able { IfOk result CanDo }
+        ensures memory { IfOk result (λ made.
+            StoresMade self.old.t ask.now made self.old.chip self.new.chip) }
+        ensures reads { self.new.chip.reads ≡ reads_after ask.now self.old.chip.reads }
+        ensures place { StaysInPlace self.old self.new }
+        ensures refused { OnErr result (out.new ≡ out.old) }
+    {
+        let made = self.chips.answer(ask, &self.beam, clx, &mut self.chip);
+        self.carry_out(&made, clx, out)?;
+        Ok(made)
+    }
+
+    /// What an access makes is done, but for the picture's part of it.
+    #[inline(always)]
+    fn carry_out(&mut self, made: &Made, clx: u16, out: &mut OutFiles) -> Result<(), OutOfMemory>
+        requires { is_clx_read made.now ≡ false → self.old.chip.newest ≤ self.old.t }
+        ensures does { OnOk result (Does made.now clx self.old out.old self.new out.new) }
+        ensures refused { OnErr result (out.new ≡ out.old) }
+        ensures kept { OnErr result (self.new ≡ self.old) }
+    {
+        match made {
+            Made::Wrote { reg, word, by } => self.write(*reg, *word, *by, out)?,
+            Made::Read { reg, by } => self.read(*reg, *by, clx, out)?,
+            Made::Stored { at, half, word } => self.store(*at, *half, *word)?,
+            Made::Nothing | Made::Plane { .. } | Made::Sprite { .. } => {}
+        }
+        Ok(())
+    }
+
+    /// A write to a register, which the trace tells where there is someone to name.
+    fn write(
+        &mut self,
+        reg: Reg,
+        word: u16,
+        by: Option<Source>,
+        out: &mut OutFiles,
+    ) -> Result<(), OutOfMemory>
+        ensures does { (clx : ℕ) → OnOk result
+            (Does (M.Wrote reg word by) clx self.old out.old self.new out.new) }
+        ensures refused { OnErr result (out.new ≡ out.old) }
+        ensures kept { OnErr result (self.new ≡ self.old) }
+    {
+        match by {
+            Some(source) => self.write_with_line(reg, word, source, out),
+            None => {
+                self.write_register(reg, word);
+                Ok(())
+            }
+        }
+    }
+
+    /// A write to a register with its line of the trace.
+    fn write_with_line(
+        &mut self,
+        reg: Reg,
+        word: u16,
+        by: Source,
+        out: &mut OutFiles,
+    ) -> Result<(), OutOfMemory>
+        ensures does { (clx : ℕ) → OnOk result
+            (Does (M.Wrote reg word (Some by)) clx self.old out.old self.new out.new) }
+        ensures refused { OnErr result (out.new ≡ out.old) }
+        ensures kept { OnErr result (self.new ≡ self.old) }
+    {
+        out.line(TraceLine::Wrote {
+            beam: self.beam,
+            reg,
+            word,
+            by,
+        })?;
+        self.write_register(reg, word);
+        Ok(())
+    }
+
+    /// A write to a register, without its line of the trace: it reaches the chips, and LOF where the register is
+    /// VPOSW.
+    fn write_register(&mut self, reg: Reg, word: u16)
+        ensures { WritesRegister reg word self.old self.new }
+    {
+        if let Effect::Lof { long } = self.chips.poke(reg, word) {
+            self.beam.lof = long;
+        }
+    }
+
+    /// A read of a register, which the trace tells.
+    fn read(
+        &mut self,
+        reg: Reg,
+        by: Source,
+        clx: u16,
+        out: &mut OutFiles,
+    ) -> Result<(), OutOfMemory>
+        ensures does { OnOk result
+            (Does (M.Read reg by) clx self.old out.old self.new out.new) }
+        ensures refused { OnErr result (out.new ≡ out.old) }
+        ensures kept { OnErr result (self.new ≡ self.old) }
+    {
+        let word = self.chips.peek(reg, &self.beam, clx);
+        out.line(TraceLine::Peeked {
+            beam: self.beam,
+            reg,
+            word,
+            by,
+        })
+    }
+
+    /// A word, or its low byte as one half of a word, is stored in memory.
+    fn store(&mut self, at: Addr, half: Half, word: u16) -> Result<(), OutOfMemory>
+        requires { self.old.chip.newest ≤ self.old.t }
+        ensures does { (clx : ℕ) (out : OutFilesValue) → OnOk result
+            (Does (M.Stored at half word) clx self.old out self.new out) }
+        ensures kept { OnErr result (self.new ≡ self.old) }
+    {
+        let now = Clock(self.t);
+        let byte = (word % 256) as u8;
+        match half {
+            Half::Both => self.chip.write(now, at, word),
+            Half::High => self.chip.write_half(now, at, true, byte),
+            Half::Low => self.chip.write_half(now, at, false, byte),
+        }
+    }
+
+    /// Sixth step: the processor's part that needs no slot. An interrupt that begins with it is traced.
+    #[inline(always)]
+    pub fn process(&mut self, out: &mut OutFiles) -> Result<(), OutOfMemory>
+        ensures step { OnOk result (Makes run_processor self.old out.old self.new out.new) }
+        ensures same { self.new ≡ record self.old { chips = self.new.chips } }
+        ensures refused { OnErr result (out.new ≡ out.old) }
+    {
+        if let Some(level) = self.chips.process() {
+            out.line(TraceLine::Taken {
+                beam: self.beam,
+                level,
+            })?;
+        }
+        Ok(())
+    }
+
+    /// Seventh step: the beam advances.
+    #[inline(always)]
+    pub fn advance(&mut self)
+        requires screen { IsOnScreen self.old.beam }
+        requires frame { self.old.beam.frame + 1 < 2 ^ 32 }
+        requires count { self.old.t + 1 < 2 ^ 64 }
+        ensures step { MakesQuietly advance_beam self.old self.new }
+        ensures beam { self.new.beam
+            ≡ next_place (is_interlaced self.old.chips.registers) self.old.beam }
+        ensures count { self.new.t ≡ self.old.t + 1 }
+        ensures chip { self.new.chip ≡ self.old.chip }
+    {
+        beam::advance(&mut self.beam, self.chips.is_interlaced());
+        self.t += 1;
+    }
+}

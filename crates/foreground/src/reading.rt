@@ -1,0 +1,103 @@
+//! Reads of CLXDAT: the collision bits of all bands up to the read are gathered.
+
+ghost use Rattle.std.specs.Prelude.{◌≡◌, true, false, IfOk, OnErr};
+ghost use Rattle.foreground.specs.Cuts.{clock_before as clock_before_of};
+ghost use Rattle.foreground.specs.Steps.{StandsBeforeRead, ReadsBits, ReadsPart, KeepsClock};
+
+use crate::fore::Fore;
+use crate::gather::gather_all;
+use band_log::Raster;
+use ocs_base::{Beam, OutOfMemory};
+use out_files::OutFiles;
+
+/// The last clock of a line.
+const LAST_CLOCK: u16 = 226;
+
+impl Fore {
+    /// The collision bits that a read of CLXDAT sees, which clears them. Where not `shown`, the script
+    /// reads them before the picture step of the present clock; where `shown`, the access of the clock
+    /// does, and sees the pixels of this clock too.
+    #[inline(never)]
+    pub(crate) fn read_clxdat<Q: Raster>(
+        &mut self,
+        raster: &mut Q,
+        shown: bool,
+        out: &mut OutFiles,
+    ) -> Result<u16, OutOfMemory>
+        requires { StandsBeforeRead shown self.old (Q.seen raster.old) }
+        ensures bits { IfOk result (λ clx. ReadsBits shown self.old self.new clx
+            (Q.seen raster.old) (Q.seen raster.new) out.old out.new) }
+        ensures part { OnErr result (ReadsPart shown self.old
+            (Q.seen raster.old) (Q.seen raster.new) out.old out.new) }
+        ensures kept { KeepsClock self.old self.new }
+        ensures reads { self.new.machine.chip.reads ≡ self.old.machine.chip.reads }
+    {
+        if shown {
+            self.read_by_access(raster, out)
+        } else {
+            self.read_by_script(raster, out)
+        }
+    }
+
+    /// The read by the access of the present clock, behind its picture step.
+    fn read_by_access<Q: Raster>(
+        &mut self,
+        raster: &mut Q,
+        out: &mut OutFiles,
+    ) -> Result<u16, OutOfMemory>
+        requires { StandsBeforeRead true self.old (Q.seen raster.old) }
+        ensures bits { IfOk result (λ clx. ReadsBits true self.old self.new clx
+            (Q.seen raster.old) (Q.seen raster.new) out.old out.new) }
+        ensures part { OnErr result (ReadsPart true self.old
+            (Q.seen raster.old) (Q.seen raster.new) out.old out.new) }
+        ensures kept { KeepsClock self.old self.new }
+        ensures reads { self.new.machine.chip.reads ≡ self.old.machine.chip.reads }
+    {
+        let _height = self.run.height();
+        let to = self.machine.t + 1;
+        let h = self.machine.beam.h;
+        self.end_at_read(to, h, raster, out)?;
+        Ok(self.take_bits())
+    }
+
+    /// The first read by the script in the present clock, before its picture step.
+    fn read_by_script<Q: Raster>(
+        &mut self,
+        raster: &mut Q,
+        out: &mut OutFiles,
+    ) -> Result<u16, OutOfMemory>
+        requires { StandsBeforeRead false self.old (Q.seen raster.old) }
+        ensures bits { IfOk result (λ clx. ReadsBits false self.old self.new clx
+            (Q.seen raster.old) (Q.seen raster.new) out.old out.new) }
+        ensures part { OnErr result (ReadsPart false self.old
+            (Q.seen raster.old) (Q.seen raster.new) out.old out.new) }
+        ensures kept { KeepsClock self.old self.new }
+        ensures reads { self.new.machine.chip.reads ≡ self.old.machine.chip.reads }
+    {
+        let to = self.machine.t;
+        if self.log.band.from < to {
+            let h = clock_before(self.machine.beam.h);
+            self.end_at_read(to, h, raster, out)?;
+            return Ok(self.take_bits());
+        }
+        gather_all(raster, out, &mut self.clx)?;
+        Ok(self.take_bits())
+    }
+
+    /// The collision bits that were gathered, which are cleared.
+    fn take_bits(&mut self) -> u16
+        ensures bits { result ≡ self.old.clx }
+        ensures same { self.new ≡ record self.old { clx = 0 } }
+    {
+        let clx = self.clx;
+        self.clx = 0;
+        clx
+    }
+}
+
+/// The clock of a line before this one, which is the last of another line where this is a first.
+fn clock_before(h: u16) -> u16
+    ensures { result ≡ clock_before_of h }
+{
+    if h == 0 { LAST_CLOCK } else { h - 1 }
+}

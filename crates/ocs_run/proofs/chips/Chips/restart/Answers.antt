@@ -1,8 +1,0 @@
-use Rattle.ocs_run.proofs.ChipsLaws.{first_list, second_list}
-use Rattle.ocs_run.proofs.chips.Chips.restart.Goals as goal
-
-pub pointer-at-requires : goal.pointer-at-requires
-pointer-at-requires c = first_list c.masked.result.offset c.masked.ensures.offset
-
-pub pointer-at-requires-else-list-eq1 : goal.pointer-at-requires-else-list-eq1
-pointer-at-requires-else-list-eq1 c = second_list c.masked-else-list-eq1.result.offset c.masked-else-list-eq1.ensures.offset

@@ -1,0 +1,15 @@
+use Rattle.std.proofs.Common.{arith}
+use Rattle.painter.specs.Line.{Shows}
+use Rattle.painter.proofs.KeptLoads.{row_few, row_ends}
+use Rattle.painter.proofs.kept_loads.row_of.Goals as goal
+
+pub invariant_of-result : goal.invariant_of-result
+invariant_of-result c = record {
+  few = row_few c.args.first c.bytes_of.result c.args.loads.now c.bytes_of.ensures.long c.bytes_of.ensures.bytes;
+  within = omega arith;
+  blank = row_ends c.bytes_of.result c.bytes_of.ensures.long;
+}
+
+pub returns : goal.returns
+unfolding Shows
+returns c = c.bytes_of.ensures.bytes
