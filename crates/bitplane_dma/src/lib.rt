@@ -118,7 +118,7 @@ fn begins(beam: &Beam, last: Option<u16>, regs: &Regs) -> bool
 fn begins_first(beam: &Beam, regs: &Regs) -> bool
     ensures { result ≡ first_begins beam.now regs.now }
 {
-    beam.h <= 0xd8 && beam.h == fetch_start(regs) && has_dma(regs) && is_window_line(beam.v, regs)
+    has_dma(regs) && beam.h <= 0xd8 && beam.h == fetch_start(regs) && is_window_line(beam.v, regs)
 }
 
 /// Whether a further unit follows the one that began at `start`.

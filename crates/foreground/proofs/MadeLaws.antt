@@ -134,8 +134,8 @@ made_from run c clx ask made old new out given is asked bits makes =
     makes (record { out = out; trace = (access_state run c).trace }) (access_state run c) is bits asked (told_none out (access_state run c))
 
 -- an access that does not read CLXDAT: `m1` has asked, `m2` has the answer
-pub accessed_quietly : (run : RunValue) (c first clx : ℕ) (ask : Ask) (made : Made) (touch : Option Touch) (m0 m1 m2 : Machine) (log noted : Log) (seen : RasterValue)
-    (out given : OutFilesValue) → IsBeforeAccess run c first m0 log clx seen → ask ≡ ask_of S.Nothing (access_state run c)
+pub accessed_quietly : (run : RunValue) (c first clx : ℕ) (ask : Ask) (made : Made) (touch : Option Touch) (m0 m1 m2 : Machine) (log noted : Log)
+    (seen : RasterValue) (out given : OutFilesValue) → IsBeforeAccess run c first m0 log clx seen → ask ≡ ask_of S.Nothing (access_state run c)
     → HasAskedOf m1 (access_state run c) → m1.t ≡ c → m1.chip ≡ m0.chip → is_clx_ask ask ≡ false → MakesAccess ask 0 made m1 out m2 given → CanDo made
     → StoresMade m1.t ask made m1.chip m2.chip → touch ≡ touch_of made → (CanDo made → IsInRange touch) → noted ≡ with_access_touch c touch log
     → IsBehindAccess run c first m2 noted clx seen × HasMade (record { out = out; trace = (access_state run c).trace }) made m2 given (access_state run c)
@@ -189,7 +189,8 @@ accessed_clxdat run c bits ask made m1 m2 log after out given logged fits begin 
     )
 
 -- the foreground's access, where it does not read CLXDAT; `g` is the view of the foreground once its chips have asked
-pub makes_quietly : (f : ForeValue) (ask : Ask) (made : Made) (touch : Option Touch) (m1 m2 : Machine) (noted : Log) (seen : RasterValue) (out given : OutFilesValue)
+pub makes_quietly : (f : ForeValue) (ask : Ask) (made : Made) (touch : Option Touch) (m1 m2 : Machine) (noted : Log) (seen : RasterValue)
+    (out given : OutFilesValue)
     → ((s : State) → IsMachineOf f.machine s → ask ≡ ask_of S.Nothing s) → ((s : State) → IsMachineOf f.machine s → HasAskedOf m1 s)
     → m1 ≡ record f.machine { chips = m1.chips } → is_clx_ask ask ≡ false → MakesAccess ask 0 made m1 out m2 given → CanDo made
     → StaysInPlace m1 m2 → StoresMade m1.t ask made m1.chip m2.chip → touch ≡ touch_of made → (CanDo made → IsInRange touch)
@@ -259,7 +260,8 @@ asked_after_read f g first bits ask seen after out between read now =
     })
 
 -- a part of the pixels: none where only lines were given, or all that were
-pub part_of_lines : (run : RunValue) (first : ℕ) (seen : RasterValue) (out given : OutFilesValue) → GivesLines out given → HasGivenPart run first seen seen out given
+pub part_of_lines : (run : RunValue) (first : ℕ) (seen : RasterValue) (out given : OutFilesValue) → GivesLines out given
+    → HasGivenPart run first seen seen out given
 part_of_lines run first seen out given told = record {
   until = first;
   least = omega arith;

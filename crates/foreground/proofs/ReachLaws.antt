@@ -107,7 +107,8 @@ reaches run c bits first clx m0 m1 m2 m3 log noted shown seen out given is reads
       record {
         machine = stands.machine;
         logged = record {
-          shown = subst (λ l. IsShown run c l m3.chip) (sym same) (subst (λ x. IsShown run c (with_bytes (length (bytes_at run c)) (with_script_touches c (sets_at run c) log)) x) (sym chip)
+          shown = subst (λ l. IsShown run c l m3.chip) (sym same)
+              (subst (λ x. IsShown run c (with_bytes (length (bytes_at run c)) (with_script_touches c (sets_at run c) log)) x) (sym chip)
               (log_shown run c log m0.chip is.logged));
           fits = fits_logged run c (length (bytes_at run c)) first (sets_at run c) log shown seen same is.fits;
           gathered = is.gathered;

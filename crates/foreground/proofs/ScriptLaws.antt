@@ -113,7 +113,8 @@ turn events left others e old now new was out given log after noted clx cleared 
     let here : HasDone events (e ∷ others) old now was out log after clx cleared =
     subst (λ es. HasDone events es old now was out log after clx cleared) is so.0 in
     let queue : IsLeft (place_of old.beam) (e ∷ others) = subst (λ es. IsLeft (place_of old.beam) es) is so.1 in (
-      HasDone-more queue.frames events others e old now new was out given log after noted clx cleared bits on queue.queue due_now here reads keeps makes kept notes,
+      HasDone-more queue.frames events others e old now new was out given log after noted clx cleared bits on queue.queue due_now here reads keeps
+          makes kept notes,
       record { frames = queue.frames; queue = IsQueue-more queue.frames (place_of old.beam) e others queue.queue },
     )
 

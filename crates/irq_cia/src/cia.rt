@@ -101,6 +101,16 @@ impl Cia {
     pub fn tick(&mut self)
         ensures { self.new ≡ after_tick self.old }
     {
+        if self.state.timer_a.is_started() || self.state.timer_b.is_started() {
+            self.count_timers();
+        }
+    }
+
+    /// The tick of a CIA in which a timer is started.
+    #[tactic(auto, unfolding(crate::specs::Cia::after_tick))]
+    fn count_timers(&mut self)
+        ensures { self.new ≡ after_tick self.old }
+    {
         let counts_a = self.state.timer_a.counts_ticks();
         let underflow_a = self.state.timer_a.count(counts_a);
         let counts_b = self.state.timer_b.counts_cascade(underflow_a);

@@ -50,6 +50,13 @@ impl Timer {
         self.control & bits == bits
     }
 
+    /// Whether START is set.
+    pub fn is_started(&self) -> bool
+        ensures { result ≡ has_start self.now }
+    {
+        self.has(START)
+    }
+
     /// Whether it counts this tick as timer A: CRA bit 5 set would count CNT, which never comes.
     pub fn counts_ticks(&self) -> bool
         ensures { result ≡ counts_as_a self.now }

@@ -57,7 +57,8 @@ joined run tint first until le plain =
 -- the bands that were gathered are of clocks that are done
 gathered_before : (fore : ForeValue) (first : ℕ) (seen : RasterValue) → IsForeUnderway fore first seen → first ≤ fore.machine.t
 gathered_before fore first seen is =
-    let rise : first + is.at.fits.count ≤ fore.log.band.from = bands_rise fore.run is.at.fits.least is.at.fits.count first fore.log.band.from is.at.fits.bands in
+    let rise : first + is.at.fits.count ≤ fore.log.band.from = bands_rise fore.run is.at.fits.least is.at.fits.count first fore.log.band.from
+    is.at.fits.bands in
     omega (arith, rise, is.at.logged.least)
 
 -- one clock more
@@ -302,7 +303,8 @@ IsSettling-settled old fore new seen last after out given settled before mid fir
 pub IsCut-flush : (old new : ForeValue) (seen last : RasterValue) (out settled : OutFilesValue) (before mid after : Option Files)
     → IsSettling old new seen last out settled before mid → LeavesParts settled mid after [] → IsCut old seen out before after
 IsCut-flush old new seen last out settled before mid after so leaves base is =
-    let parts : HasParts new.run.image new.run.script settled.names base after new.machine.t = HasParts-flush base mid after new settled leaves (so.settled base is) in
+    let parts : HasParts new.run.image new.run.script settled.names base after new.machine.t =
+    HasParts-flush base mid after new settled leaves (so.settled base is) in
     let cut : CutParts new.run settled.names base after =
     LeavesPrefixes-parts new.run.image new.run.script settled.names base after new.machine.t parts in
     subst (λ ns. CutParts old.run ns base after) so.names (subst (λ r. CutParts r settled.names base after) so.run cut)
@@ -407,7 +409,8 @@ pub LeavesPrefixes-memory : (base mid now after : Option Files) (run : RunValue)
     → LeavesParts given now after (memory_text last.machine.chip.words) → LeavesPrefixes run.image run.script out.names base after
 LeavesPrefixes-memory base mid now after run fore last out created given fresh same begins new ends kept names leaves =
     let written : IsWritten base now last given = ends base (begins_created base mid run fore out created fresh same begins new) in
-    let parts : HasEndParts last.run.image last.run.script given.names base after last.machine.t = HasEndParts-written base now after last given leaves written in
+    let parts : HasEndParts last.run.image last.run.script given.names base after last.machine.t =
+    HasEndParts-written base now after last given leaves written in
     let cut : CutParts last.run given.names base after =
     LeavesPrefixes-end last.run.image last.run.script given.names base after last.machine.t parts in
     subst (λ ns. CutParts run ns base after) (names ∙ ap (λ o. o.names) same)

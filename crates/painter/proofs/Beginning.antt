@@ -48,7 +48,8 @@ passed_by x start h =
     rw come (rw past refl)
 
 set_by : (q column : ℕ) (runs : List (Option Start)) (sprite : ℕ) (start : Start) → IsQuiet q runs → sprite < 8 → start.x ≡ column →
-    (x n : ℕ) → max q (column + 16) < 512 → max q (column + 16) ≤ x → (b : Bool) → nat_eq n sprite ≡ b → sprite_value x (kept_start (slice_set runs sprite (Some start)) n) ≡ 0
+    (x n : ℕ) → max q (column + 16) < 512 → max q (column + 16) ≤ x → (b : Bool) → nat_eq n sprite ≡ b
+    → sprite_value x (kept_start (slice_set runs sprite (Some start)) n) ≡ 0
 set_by q column runs sprite start quiet within at x n few h true is =
     let here : n ≡ sprite = grind (arith, nat_tests) in
     ap (λ (m : ℕ). sprite_value x (kept_start (slice_set runs sprite (Some start)) m)) here

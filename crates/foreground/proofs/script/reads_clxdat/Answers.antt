@@ -12,7 +12,8 @@ loop-event-preserved c =
 
 pub returns-then-not-is_due : goal.returns-then-not-is_due
 returns-then-not-is_due c =
-    search_over c.args.beam.now _ _ c.loop-event.invariant (IsOver-later c.loop-event.left.now _ c.in-Some.event.now c.args.beam.now c.args.beam.now c.requires.screen c.loop-event.invariant.rest
+    search_over c.args.beam.now _ _ c.loop-event.invariant
+    (IsOver-later c.loop-event.left.now _ c.in-Some.event.now c.args.beam.now c.args.beam.now c.requires.screen c.loop-event.invariant.rest
     c.in-Some.ensures.cases.0 refl (sym c.is_due.ensures ∙ c.if-not-is_due.true))
 
 pub returns-then-is_clx_peek : goal.returns-then-is_clx_peek

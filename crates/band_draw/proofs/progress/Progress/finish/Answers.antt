@@ -46,6 +46,7 @@ returns-clause-ended c =
     (given_part p c.args.events.now c.args.view.now c.part-due.result.now _ _ given.new.painter given.new.clx c.part-due.ensures.part
     given.ensures.given)
     given.ensures.filled given.ensures.size
-    (subst (λ l. Paints (4 * p.beam.h) (touch_by_address p.beam.h (word_then c.args.view.now p.clock) (bus_touch_of p.clock 0 l)) given.new.painter access.new.painter)
+    (subst (λ l. Paints (4 * p.beam.h) (touch_by_address p.beam.h (word_then c.args.view.now p.clock) (bus_touch_of p.clock 0 l))
+    given.new.painter access.new.painter)
     c.behind-rest.ensures.part access.ensures.touched)
     c.close.ensures

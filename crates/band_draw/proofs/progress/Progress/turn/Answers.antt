@@ -77,7 +77,8 @@ returns-clause-at c =
     given.result given.new.clx c.next_place.new.beam due.result.sets due.result.next access.result c.requires.source c.requires.at
     c.requires.more
     (record {
-      given = given_part p c.args.events.now c.args.view.now c.part-due.result.now _ _ given.new.painter given.new.clx c.part-due.ensures.part given.ensures.given;
+      given = given_part p c.args.events.now c.args.view.now c.part-due.result.now _ _ given.new.painter given.new.clx c.part-due.ensures.part
+          given.ensures.given;
       bytes = given.ensures.filled;
       size = given.ensures.size;
       place = c.next_place.ensures;
