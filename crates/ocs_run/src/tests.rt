@@ -1,6 +1,6 @@
 //! Worked runs on a shelf. The expected files and texts are worked by hand.
 
-use crate::{NoGate, ocs_main};
+use crate::{Gate, NoGate, ocs_main};
 use ocs_base::OutOfMemory;
 use ocs_io::Shelf;
 use std::alloc::Global;
@@ -9,6 +9,7 @@ use std::thread::Threads;
 
 mod blit_runs;
 mod cases;
+mod crew_runs;
 mod instruction_runs;
 mod pictures;
 mod processor_runs;
@@ -55,11 +56,19 @@ fn run<R: Threads + Wait + Clone + Drop + Send + Sync + 'static>(
     texts: &[&str],
     shelf: &mut Shelf,
 ) -> Result<u8, OutOfMemory> {
+    run_with_gate(rt, alloc, texts, shelf, NoGate)
+}
+
+/// The status of the command with these words, whose bands pass a gate before they are drawn.
+fn run_with_gate<
+    R: Threads + Wait + Clone + Drop + Send + Sync + 'static,
+    G: Gate + Drop + Send + Sync + 'static,
+>(rt: &R, alloc: Global, texts: &[&str], shelf: &mut Shelf, gate: G) -> Result<u8, OutOfMemory> {
     let mut words = Vec::new(alloc);
     for text in texts {
         words.push(String::from_str(alloc, text)?)?;
     }
-    Ok(ocs_main(rt, alloc, &words, shelf, NoGate))
+    Ok(ocs_main(rt, alloc, &words, shelf, gate))
 }
 
 /// A frame file image of runs of pixels of one colour.
@@ -132,12 +141,9 @@ fn bars(alloc: Global) -> Result<Vec<u8>, OutOfMemory> {
     Ok(image)
 }
 
-#[test]
-fn bars_for_every_band_and_worker(rt: HostRuntime) -> Result<(), OutOfMemory> {
-    let alloc = rt.alloc();
-    let image = bars(alloc)?;
-    let text = script(alloc, START)?;
-    let frames = picture(
+/// The frame of those writes.
+fn picture_of_bars(alloc: Global) -> Result<Vec<u8>, OutOfMemory> {
+    picture(
         alloc,
         &[
             (24_480, BLACK),
@@ -150,7 +156,15 @@ fn bars_for_every_band_and_worker(rt: HostRuntime) -> Result<(), OutOfMemory> {
             (720, [0, 0, 119]),
             (176_400, [0, 0, 136]),
         ],
-    )?;
+    )
+}
+
+#[test]
+fn bars_for_every_band_and_worker(rt: HostRuntime) -> Result<(), OutOfMemory> {
+    let alloc = rt.alloc();
+    let image = bars(alloc)?;
+    let text = script(alloc, START)?;
+    let frames = picture_of_bars(alloc)?;
     let mut memory = Vec::from_slice(alloc, &image)?;
     memory.resize(524_288, 0)?;
     for (band, workers) in [("1", "0"), ("3", "4"), ("20", "1"), ("313", "4")] {
