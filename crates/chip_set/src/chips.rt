@@ -322,8 +322,23 @@ impl Chips {
         if let Ask::Free = ask {
             return self.answer_with(&Ask::Free, beam, 0);
         }
-        let word = self.fetch(ask, beam, clx, chip);
-        self.answer_with(ask, beam, word)
+        self.answer_owner_of(*ask, beam, clx, chip)
+    }
+
+    /// The same, whoever owns the slot. It has a copy of the ask, so that a clock without an access need not put its
+    /// own in memory.
+    #[inline(never)]
+    fn answer_owner_of(&mut self, ask: Ask, beam: &Beam, clx: u16, chip: &mut Chip) -> Made
+        requires able { CanAsk ask }
+        requires wish { IsBlitAsk ask (kept_wish self.old) }
+        ensures access { (c : ChipsOf) → HasAsked beam.now c self.old
+            → ask ≡ ask_at SideAsk.Nothing beam.now c
+            → HasAccessed beam.now clx c chip.old.words result self.new }
+        ensures able { CanDo result }
+        ensures reads { chip.new ≡ read_by (reads_of_ask ask) chip.old }
+    {
+        let word = self.fetch(&ask, beam, clx, chip);
+        self.answer_with(&ask, beam, word)
     }
 
     /// The owner of the slot has this word, and each chip its answer. The answer is what the access makes.
@@ -502,6 +517,7 @@ impl Chips {
     }
 
     /// The Copper's step of this clock.
+    #[inline(always)]
     fn step_copper(&mut self, beam: &Beam, ask: &Ask, word: u16) -> CopperAct
         ensures chips { self.new ≡ record self.old {
           copper

@@ -15,6 +15,7 @@ impl Fore {
     /// of bands that were gathered, from the first of those outstanding on. After a refusal, for want
     /// of memory alone, a part of these was given, and each later call refuses and gives nothing. It
     /// may wait for a band.
+    #[inline(always)]
     pub fn advance<Q: Raster>(
         &mut self,
         raster: &mut Q,

@@ -27,6 +27,7 @@ use serial_model::Ask;
 
 impl Fore {
     /// One colour clock. Memory may be wanted, and then a part of what the clock gives was given.
+    #[inline(always)]
     pub(crate) fn advance_clock<Q: Raster>(
         &mut self,
         raster: &mut Q,
@@ -138,7 +139,8 @@ impl Fore {
     {
         let ask = self.machine.ask();
         if is_clx_ask(&ask) {
-            return self.access_clxdat(&ask, raster, out);
+            let reading = ask;
+            return self.access_clxdat(&reading, raster, out);
         }
         let made = self.machine.answer(&ask, 0, out)?;
         let t = self.machine.t;

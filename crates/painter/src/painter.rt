@@ -217,6 +217,7 @@ impl Painter {
     ///
     /// Sprites are in front of the playfields by BPLCON2, and collide by CLXCON (Hardware Reference
     /// Manual, sprite hardware, priorities and collisions).
+    #[inline(always)]
     pub fn show(&mut self, beam: &Beam, into: &mut [[u8; 3]; 4], clx: &mut u16) -> bool
         requires { beam.now.h ≤ 226 }
         ensures visible { result ≡ visible System.Pal beam.now.v beam.now.h }
