@@ -9,6 +9,7 @@ ghost use Rattle.ocs_run.specs.Underway.{CanRun};
 
 use super::{BAR_TRACE, START, bars, holds, picture_of_bars, run_with_gate, script, shelf};
 use crate::Gate;
+use crate::inputs::is_image;
 use band_log::{Raster, Run};
 use crew::{Crew, Totals, with_crew};
 use foreground::Fore;
@@ -178,7 +179,11 @@ fn run_over_crew<R: Threads + Wait + Clone + Drop + Send + Sync + 'static>(
     requires { workers ≤ 32 }
 {
     let script = read_script(alloc, script(alloc, START)?.as_bytes())?;
-    let run = Arc::new(alloc, Run::new(bars(alloc)?, script, 20))?;
+    let image = bars(alloc)?;
+    if !is_image(&image) {
+        return Err(Fail::from("image"));
+    }
+    let run = Arc::new(alloc, Run::new(image, script, 20))?;
     let mut fore = Fore::new(alloc, Arc::try_clone(&run)?)?;
     let mut out = out_files(alloc)?;
     let totals = draw_over_crew(rt, alloc, workers, told, waits, run, &mut fore, &mut out)?;
