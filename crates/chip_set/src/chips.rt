@@ -327,7 +327,7 @@ impl Chips {
 
     /// The same, whoever owns the slot. It has a copy of the ask, so that a clock without an access need not put its
     /// own in memory.
-    #[inline(never)]
+    #[inline(always)]
     fn answer_owner_of(&mut self, ask: Ask, beam: &Beam, clx: u16, chip: &mut Chip) -> Made
         requires able { CanAsk ask }
         requires wish { IsBlitAsk ask (kept_wish self.old) }
@@ -398,6 +398,7 @@ impl Chips {
 
     /// What the owner of a slot asks for which none of those before the blitter asks for, where the processor asks for
     /// this.
+    #[inline(always)]
     #[tactic(auto, unfolding(crate::specs::Chips::ask_with))]
     fn last_ask(&self, beam: &Beam, processor: Option<ProcessorAsk>) -> Ask
         requires { wish_of beam.now (plain_chips self.now) ≡ None }

@@ -24,6 +24,7 @@ const FIRE1: u8 = 0x80;
 impl Chips {
     /// At each fifth clock since reset the timers of both CIAs tick; and at every clock a CIA whose line is active
     /// requests its interrupt. `t` is the number of the clock.
+    #[inline(always)]
     #[tactic(auto, unfolding(serial_model::specs::Cias::time_chips))]
     pub fn count_timers(&mut self, t: u64)
         ensures { (c : ChipsOf) → IsChipsOf self.old c → IsChipsOf self.new (time_chips 0 t c) }
@@ -61,6 +62,7 @@ impl Chips {
 
     /// The processor takes its turn: a clock passes of what it waits for, or it goes on. The answer is the level of
     /// an interrupt that begins with it.
+    #[inline(always)]
     #[tactic(auto, unfolding(serial_model::specs::Turns::run_chips, serial_model::specs::Turns::interrupt_of))]
     pub fn process(&mut self) -> Option<u8>
         ensures chips { (c : ChipsOf) → IsChipsOf self.old c → IsChipsOf self.new (run_chips c) }
