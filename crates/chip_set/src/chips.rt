@@ -322,6 +322,9 @@ impl Chips {
         if let Ask::Free = ask {
             return self.answer_with(&Ask::Free, beam, 0);
         }
+        if let Ask::Plane { plane, at } = *ask {
+            return self.answer_with(&Ask::Plane { plane, at }, beam, 0);
+        }
         self.answer_owner_of(*ask, beam, clx, chip)
     }
 

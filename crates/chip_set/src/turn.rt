@@ -37,6 +37,7 @@ impl Chips {
     }
 
     /// The timers tick at each fifth clock.
+    #[inline(always)]
     fn tick_timers(&mut self, t: u64)
         ensures { (c : ChipsOf) → IsChipsOf self.old c → IsChipsOf self.new (ticked t c) }
     {
