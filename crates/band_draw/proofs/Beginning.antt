@@ -133,7 +133,7 @@ begun_at run n from to beam opening painter events words room sets due parts pai
 
 pub job_screen : (run : RunValue) (n from to : ℕ) (beam : Beam) (opening : Denise) (events : List Event) (words : ℕ → Addr → ℕ) (room : ℕ)
     → IsRightJob run n from to beam opening events words room → IsOnScreen beam
-job_screen run n from to beam opening events words room parts = subst IsOnScreen (sym parts.place) (on_screen run.image run.script from)
+job_screen run n from to beam opening events words room parts = subst IsOnScreen (sym parts.place) (on_screen run.side run.image run.script from)
 
 pub job_source : (run : RunValue) (n from to : ℕ) (beam : Beam) (opening : Denise) (events : List Event) (view : ViewValue) (room : ℕ)
     → IsRightJob run n from to beam opening events (word_then view) room → ((c : ℕ) → from ≤ c → c ≤ to → Covers view c)

@@ -14,7 +14,7 @@ use Rattle.serial_model.specs.declared.picture.Touch.{Touch}
 use Rattle.serial_model.specs.declared.picture.Touch.TheVariants.{Set, Plane, Sprite}
 use Rattle.serial_model.specs.Made.{word_of}
 use Rattle.serial_model.specs.Picture.{reset_picture, set_picture, set_sprite, is_latch, is_sprite, is_colour, plane_latch, sprite_data, touch_if_any, touch_in_order, clear_line, pixel_colour, held_after, runs_after, step_of, after_step}
-use Rattle.serial_model.specs.Serial.{state_at}
+use Rattle.serial_model.specs.Serial.{state_over}
 use Rattle.serial_model.specs.State.{reset}
 use Rattle.serial_bands.specs.Run.{RunValue, beam_at, run_memory}
 use Rattle.serial_bands.specs.Clock.{opening_at, displayed_at, closing_at, picture_at, sets_at, bus_touch_at, write_alone, fetch_alone}
@@ -130,7 +130,7 @@ sound_reset = record { palette = none_large; held = omega arith; eight = refl }
 
 -- the openings of a run
 pub sound_opening : (run : RunValue) (c : ℕ) → IsSound (opening_at run c)
-unfolding opening_at state_at reset
+unfolding opening_at state_over reset
 sound_opening run zero = sound_cleared (beam_at run zero) reset_picture sound_reset
 sound_opening run (suc c) =
     let h : ℕ = (beam_at run c).h in

@@ -119,7 +119,7 @@ same_screen b other same on = record {
 }
 
 pub screen_there : (run : RunValue) (events : List Event) (room : List ℕ) (p : Progress) → IsAt run events room p → IsOnScreen p.beam
-screen_there run events room p at = same_screen p.beam (beam_at run p.clock) at.place (on_screen run.image run.script p.clock)
+screen_there run events room p at = same_screen p.beam (beam_at run p.clock) at.place (on_screen run.side run.image run.script p.clock)
 
 -- the script's events of the clock
 script_part : (run : RunValue) (events : List Event) (c n next sets : ℕ) → drop next events ≡ events_from run c n
@@ -234,7 +234,7 @@ pub screen_next : (run : RunValue) (events : List Event) (view : ViewValue) (roo
     → IsSource run p.from p.to view → IsAt run events room p → p.clock + 1 < p.to → IsNextInField p.beam beam → IsOnScreen beam
 screen_next run events view room p beam source at more next =
     same_screen beam (beam_at run (p.clock + 1)) (place_next run events view room p beam source at more next)
-    (on_screen run.image run.script (p.clock + 1))
+    (on_screen run.side run.image run.script (p.clock + 1))
 
 one_place_on : (frame v h line clock : ℕ) → h < 227 → line ≡ (if nat_le 226 h then v + 1 else v) → clock ≡ (if nat_le 226 h then 0 else h + 1)
     → (frame * 313 + v) * 227 + h + 1 ≡ (frame * 313 + line) * 227 + clock

@@ -6,6 +6,7 @@ ghost use Rattle.ocs_base.specs.declared.addr.Addr.{Addr as AddrValue};
 ghost use Rattle.serial_model.specs.Beam.{IsOnScreen};
 ghost use Rattle.serial_bands.specs.declared.event.Event.{Event as EventValue};
 ghost use Rattle.serial_bands.specs.RightJob.{IsRightJob as AreRightParts};
+ghost use Rattle.serial_bands.specs.Run.{run_over};
 ghost use Rattle.band_log.specs.Right.{IsRightJob, IsRightDrawn};
 ghost use Rattle.band_draw.specs.Progress.{IsSource, IsAt, IsEnded};
 
@@ -15,13 +16,13 @@ use crate::progress::Progress;
 use band_log::{Drawn, Event, Job, Room, Run};
 use mem_versions::MemView;
 use ocs_base::{Beam, Clock};
-use serial_model::Denise;
+use serial_model::{Denise, Side};
 
 /// Draws the band of a job that is right for its own run and number. It takes no memory: the pixels
 /// go into the room of the job, which is handed back with all else as it was.
-pub fn draw(job: Job) -> Drawn
-    requires { IsRightJob (arc_value job.run) job.number job }
-    ensures right { IsRightDrawn (arc_value job.run) job.number result }
+pub fn draw<S: Side>(job: Job<S>) -> Drawn<S>
+    requires { IsRightJob S.seen (run_over S.seen (arc_value job.run)) job.number job }
+    ensures right { IsRightDrawn S.seen (run_over S.seen (arc_value job.run)) job.number result }
     ensures job { result.job ≡ record job { room = result.job.room } }
 {
     let Job {
@@ -55,12 +56,13 @@ pub fn draw(job: Job) -> Drawn
 }
 
 /// A band of which no clock is drawn.
-fn begin(run: &Run, from: Clock, to: Clock, beam: Beam, opening: &Denise) -> Progress
+fn begin<S: Side>(run: &Run<S>, from: Clock, to: Clock, beam: Beam, opening: &Denise) -> Progress
     requires screen { IsOnScreen beam }
     requires eight { length opening.now.runs ≡ 8 }
     ensures at { (n : ℕ) (events : List EventValue) (words : ℕ → AddrValue → ℕ) (room : List ℕ)
-        → AreRightParts run.now n from.0 to.0 beam opening.now events words (length room)
-        → IsAt run.now events room result }
+        → AreRightParts (run_over S.seen run.now)
+            n from.0 to.0 beam opening.now events words (length room)
+        → IsAt (run_over S.seen run.now) events room result }
     ensures from { result.from ≡ from.0 }
     ensures to { result.to ≡ to.0 }
 {
@@ -91,10 +93,17 @@ struct End {
 }
 
 /// Draws all clocks that are left, into a room.
-fn draw_into(start: Progress, run: &Run, events: &[Event], view: &MemView, room: &mut Room) -> End
-    requires source { IsSource run.now start.from start.to view.now }
-    requires at { IsAt run.now events.now room.old start }
-    ensures { IsEnded run.now start.from start.to room.new result.closing result.clx }
+fn draw_into<S: Side>(
+    start: Progress,
+    run: &Run<S>,
+    events: &[Event],
+    view: &MemView,
+    room: &mut Room,
+) -> End
+    requires source { IsSource (run_over S.seen run.now) start.from start.to view.now }
+    requires at { IsAt (run_over S.seen run.now) events.now room.old start }
+    ensures { IsEnded (run_over S.seen run.now)
+        start.from start.to room.new result.closing result.clx }
 {
     let mut progress = start;
     let closing = draw_all(&mut progress, run, events, view, room.pixels_mut());
@@ -105,16 +114,17 @@ fn draw_into(start: Progress, run: &Run, events: &[Event], view: &MemView, room:
 }
 
 /// Draws all clocks that are left, and closes with the picture state after the last.
-fn draw_all(
+fn draw_all<S: Side>(
     p: &mut Progress,
-    run: &Run,
+    run: &Run<S>,
     events: &[Event],
     view: &MemView,
     room: &mut [u8],
 ) -> Denise
-    requires source { IsSource run.now p.old.from p.old.to view.now }
-    requires at { IsAt run.now events.now room.old p.old }
-    ensures ended { IsEnded run.now p.old.from p.old.to room.new result p.new.clx }
+    requires source { IsSource (run_over S.seen run.now) p.old.from p.old.to view.now }
+    requires at { IsAt (run_over S.seen run.now) events.now room.old p.old }
+    ensures ended { IsEnded (run_over S.seen run.now)
+        p.old.from p.old.to room.new result p.new.clx }
     ensures size { length room.new ≡ length room.old }
 {
     while p.clock < p.to - 1 {

@@ -2,6 +2,7 @@
 
 ghost use Rattle.std.specs.Prelude.{◌≡◌, ◌≤◌, ◌<◌, ◌+◌, ◌*◌, ◌^◌, ℕ, length, take, drop};
 ghost use Rattle.serial_bands.specs.DrawnTo.{IsDrawnTo};
+ghost use Rattle.serial_bands.specs.Run.{run_over};
 ghost use Rattle.band_draw.specs.Progress.{IsSource, IsAt, IsEnded};
 
 use crate::band_painter::BandPainter;
@@ -10,7 +11,7 @@ use crate::due::due_from;
 use band_log::{Event, Run};
 use mem_versions::MemView;
 use ocs_base::{Beam, Clock};
-use serial_model::Denise;
+use serial_model::{Denise, Side};
 
 /// A band of a run that is drawn up to, not including, a clock.
 #[derive(Drop)]
@@ -37,11 +38,11 @@ pub struct Progress {
 
 impl Progress {
     /// Draws a clock before the last, and comes to the next one.
-    pub fn turn(&mut self, run: &Run, events: &[Event], view: &MemView, room: &mut [u8])
-        requires source { IsSource run.now self.old.from self.old.to view.now }
-        requires at { IsAt run.now events.now room.old self.old }
+    pub fn turn<S: Side>(&mut self, run: &Run<S>, events: &[Event], view: &MemView, room: &mut [u8])
+        requires source { IsSource (run_over S.seen run.now) self.old.from self.old.to view.now }
+        requires at { IsAt (run_over S.seen run.now) events.now room.old self.old }
         requires more { self.old.clock + 1 < self.old.to }
-        ensures at { IsAt run.now events.now room.new self.new }
+        ensures at { IsAt (run_over S.seen run.now) events.now room.new self.new }
         ensures from { self.new.from ≡ self.old.from }
         ensures to { self.new.to ≡ self.old.to }
         ensures clock { self.new.clock ≡ self.old.clock + 1 }
@@ -75,11 +76,17 @@ impl Progress {
 
     /// Draws the last clock, and closes with the picture state after it. The write of a register by
     /// its access is left out.
-    pub fn finish(&mut self, run: &Run, events: &[Event], view: &MemView, room: &mut [u8]) -> Denise
-        requires source { IsSource run.now self.old.from self.old.to view.now }
-        requires at { IsAt run.now events.now room.old self.old }
+    pub fn finish<S: Side>(
+        &mut self,
+        run: &Run<S>,
+        events: &[Event],
+        view: &MemView,
+        room: &mut [u8],
+    ) -> Denise
+        requires source { IsSource (run_over S.seen run.now) self.old.from self.old.to view.now }
+        requires at { IsAt (run_over S.seen run.now) events.now room.old self.old }
         requires last { self.old.clock + 1 ≡ self.old.to }
-        ensures ended { IsEnded run.now self.old.from self.old.to
+        ensures ended { IsEnded (run_over S.seen run.now) self.old.from self.old.to
             room.new result self.new.clx }
         ensures size { length room.new ≡ length room.old }
     {

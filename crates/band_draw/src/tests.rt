@@ -1,4 +1,4 @@
-//! Single clocks worked by hand, and a raster without bands.
+//! Single clocks worked by hand, and rasters without bands.
 
 ghost use Rattle.std.specs.Prelude.{◌≡◌, true, IfOk};
 
@@ -9,6 +9,7 @@ use crate::touch::bus_count;
 use band_log::{Denise, Event, Raster, Reset};
 use mem_versions::{Chip, MemView};
 use ocs_base::{Beam, Clock, OutOfMemory, Reg};
+use serial_model::{NoSide, Side, SideAsk};
 use std::alloc::Global;
 
 /// The script writes f00 to COLOR00 at clock 100 of line 100: the clock before is black, and from
@@ -75,9 +76,43 @@ fn the_event_of_an_access(rt: HostRuntime) {
 
 #[test]
 fn a_raster_without_bands(rt: HostRuntime) -> Result<(), OutOfMemory> {
-    let raster = Direct::new(rt.alloc())?;
+    let raster = Direct::<NoSide>::new(rt.alloc())?;
     assert_eq!(rt; raster.outstanding(), 0);
     Ok(())
+}
+
+#[test]
+fn a_raster_over_a_side_without_bands(rt: HostRuntime) -> Result<(), OutOfMemory> {
+    let raster = Direct::<Steady>::new(rt.alloc())?;
+    assert_eq!(rt; raster.outstanding(), 0);
+    Ok(())
+}
+
+/// A side that requests the same bits of INTREQ at each clock and asks for nothing.
+#[derive(Drop)]
+struct Steady {
+    bits: u16,
+}
+
+impl Side for Steady {
+    ghost use Rattle.serial_model.specs.declared.bus.SideAsk.TheVariants.{Nothing};
+
+    ghost seen = { λ side. record {
+      bits = λ later b dmacon. side.bits;
+      ask = λ later b dmacon. Nothing;
+    } };
+
+    fn poke(&mut self, _reg: Reg, _word: u16) {}
+
+    fn tick(&mut self, _beam: &Beam, _dmacon: u16) -> u16 {
+        self.bits
+    }
+
+    fn ask(&self, _beam: &Beam, _dmacon: u16) -> SideAsk {
+        SideAsk::Nothing
+    }
+
+    fn give(&mut self, _word: u16) {}
 }
 
 fn fresh(beam: &Beam) -> BandPainter

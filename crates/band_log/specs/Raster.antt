@@ -1,5 +1,6 @@
 -- A raster as contracts see it, and what its calls make of it.
 use Rattle.std.specs.Prelude.{◌≡◌, ℕ, ◌+◌, List, [], ◌∷◌, ◌++◌, drop, Option, Some, None}
+use Rattle.serial_model.specs.Side.{SideValue}
 use Rattle.serial_bands.specs.Run.{RunValue}
 use Rattle.band_log.specs.declared.job.Drawn.{Drawn}
 use Rattle.band_log.specs.Right.{IsRightFor}
@@ -37,6 +38,6 @@ abbrev pub without_first : RasterValue → RasterValue
 without_first raster = record raster { outstanding = drop 1 raster.outstanding }
 
 -- what was drawn is right under a tint for the first of outstanding bands; there is one
-abbrev pub IsRightForFirst : ℕ → List Outstanding → Drawn → Type 0
-IsRightForFirst tint [] drawn = ⊥
-IsRightForFirst tint (band ∷ bands) drawn = IsRightFor tint band.run band.number drawn
+abbrev pub IsRightForFirst : {S : Type 0} → (S → SideValue) → ℕ → List Outstanding → Drawn S → Type 0
+IsRightForFirst seen tint [] drawn = ⊥
+IsRightForFirst seen tint (band ∷ bands) drawn = IsRightFor seen tint band.run band.number drawn

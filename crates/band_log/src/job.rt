@@ -10,9 +10,9 @@ use std::sync::Arc;
 
 /// All that a band of a run is drawn from. `IsRightJob` says of which run and number it is right.
 #[derive(Drop)]
-pub struct Job {
+pub struct Job<S> {
     /// The run that the band is of.
-    pub run: Arc<Run>,
+    pub run: Arc<Run<S>>,
     /// The band's number in the run, from 0.
     pub number: u64,
     /// The band's first picture step.
@@ -34,9 +34,9 @@ pub struct Job {
 /// A band that was drawn: its pixels are in the room of its job. `IsRightFor` says of which run and
 /// number it is right, and under which tint.
 #[derive(Drop)]
-pub struct Drawn {
+pub struct Drawn<S> {
     /// The job that it was drawn from.
-    pub job: Job,
+    pub job: Job<S>,
     /// A picture state that stands for that at the end of the band's last clock, without the write
     /// of a register by that clock's access.
     pub closing: Denise,

@@ -3,45 +3,84 @@
 ghost use Rattle.std.specs.Prelude.{◌≡◌, ◌≤◌, true};
 ghost use Rattle.ocs_base.specs.Image.{is_image};
 ghost use Rattle.ocs_base.specs.Limits.{IsRunnable};
-ghost use Rattle.serial_bands.specs.Run.{IsGoodRun};
+ghost use Rattle.serial_model.specs.Side.{no_side};
+ghost use Rattle.serial_bands.specs.Run.{IsGoodRun, run_over};
 
 use ocs_base::Script;
+use serial_model::{NoSide, Side};
 use std::marker::Model;
 
 /// A run of the machine, which all of its jobs share by an `Arc`: the bytes from which chip memory is
-/// made, the script, and the height of a band in lines. Every one is good, as `IsGoodRun` says.
+/// made, the script, the height of a band in lines, and the side as it is at reset. Every one is
+/// good, as `IsGoodRun` says.
 #[derive(Drop)]
-pub struct Run {
+pub struct Run<S> {
     image: Vec<u8>,
     script: Script,
     height: u16,
+    side: S,
 }
 
-impl Model for Run {
-    ghost use Rattle.serial_bands.specs.Run.{RunValue, IsGoodRun};
+impl<S> Model for Run<S> {
+    ghost use Rattle.serial_bands.specs.Run.{RunOf, IsGoodRun};
 
-    ghost Value = { RunValue };
+    ghost Value = { RunOf S };
 
-    ghost view = { λ r. record { image = r.image.items; script = r.script; height = r.height } };
+    ghost view = { λ r. record {
+      image = r.image.items;
+      script = r.script;
+      height = r.height;
+      side = r.side;
+    } };
 
-    ghost invariant = { λ r. IsGoodRun
-        (record { image = r.image.items; script = r.script; height = r.height }) };
+    ghost invariant = { λ r. IsGoodRun (record {
+      image = r.image.items;
+      script = r.script;
+      height = r.height;
+      side = r.side;
+    }) };
 }
 
-impl Run {
-    /// A run of an image of an even number of 8 to 524,288 bytes, a script of 1 to 1000 frames whose
-    /// events are in its limits and in order of time, and bands of 1 to 313 lines.
-    pub fn new(image: Vec<u8>, script: Script, height: u16) -> Run
+impl Run<NoSide> {
+    /// A run without a side, of an image of an even number of 8 to 524,288 bytes, a script of 1 to
+    /// 1000 frames whose events are in its limits and in order of time, and bands of 1 to 313 lines.
+    pub fn new(image: Vec<u8>, script: Script, height: u16) -> Run<NoSide>
         requires image { is_image image.items ≡ true }
         requires script { IsRunnable script }
         requires least { 1 ≤ height }
         requires most { height ≤ 313 }
-        ensures { result ≡ record { image = image.items; script = script; height = height } }
+        ensures { run_over ⟦<NoSide as Side>⟧.seen result ≡ record {
+          image = image.items;
+          script = script;
+          height = height;
+          side = no_side;
+        } }
+    {
+        Run::over(image, script, height, NoSide)
+    }
+}
+
+impl<S> Run<S> {
+    /// A run over a side as it is at reset, of an image, a script and bands as `new` takes them. A
+    /// caller makes the side twice: one is kept here as what the run is over, the other goes to the
+    /// foreground.
+    pub fn over(image: Vec<u8>, script: Script, height: u16, side: S) -> Run<S>
+        requires image { is_image image.items ≡ true }
+        requires script { IsRunnable script }
+        requires least { 1 ≤ height }
+        requires most { height ≤ 313 }
+        ensures { result ≡ record {
+          image = image.items;
+          script = script;
+          height = height;
+          side = side;
+        } }
     {
         Run {
             image,
             script,
             height,
+            side,
         }
     }
 

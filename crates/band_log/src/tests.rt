@@ -6,6 +6,7 @@ use crate::{Denise, Drawn, Event, Events, Job, Reset, Room, Run};
 use mem_versions::{Chip, MemView};
 use ocs_base::{Addr, Beam, Clock, OutOfMemory, Reg, Script};
 use planes::plane_bits;
+use serial_model::{NoSide, Side, SideAsk};
 use std::alloc::Global;
 use std::sync::Arc;
 
@@ -16,6 +17,20 @@ fn a_run_has_what_it_is_made_of(rt: HostRuntime) -> Result<(), OutOfMemory> {
     assert_eq!(rt; run.script().frames(), 2);
     assert!(rt; run.script().cpu());
     assert_eq!(rt; run.height(), 20);
+    is_shared(&run);
+    Ok(())
+}
+
+#[test]
+fn a_run_over_a_side_has_what_it_is_made_of(rt: HostRuntime) -> Result<(), OutOfMemory> {
+    let alloc = rt.alloc();
+    let mut image = Vec::new(alloc);
+    image.resize(8, 7)?;
+    let run = Run::over(image, Script::new(alloc, false, 3), 313, Steady { bits: 0x0080 });
+    assert_eq!(rt; run.image(), [7; 8].as_slice());
+    assert_eq!(rt; run.script().frames(), 3);
+    assert!(rt; !run.script().cpu());
+    assert_eq!(rt; run.height(), 313);
     is_shared(&run);
     Ok(())
 }
@@ -85,14 +100,14 @@ fn a_job_and_what_is_drawn_of_it(rt: HostRuntime) -> Result<(), OutOfMemory> {
 }
 
 /// A run of two frames with the processor, in bands of 20 lines.
-fn small_run(alloc: Global) -> Result<Run, OutOfMemory> {
+fn small_run(alloc: Global) -> Result<Run<NoSide>, OutOfMemory> {
     let mut image = Vec::new(alloc);
     image.resize(8, 7)?;
     Ok(Run::new(image, Script::new(alloc, true, 2), 20))
 }
 
 /// The job of a band of one picture step.
-fn small_job(alloc: Global) -> Result<Job, OutOfMemory> {
+fn small_job(alloc: Global) -> Result<Job<NoSide>, OutOfMemory> {
     let run = Arc::new(alloc, small_run(alloc)?)?;
     let mut events = Events::new(alloc);
     events.push(fetch(0))?;
@@ -137,3 +152,30 @@ fn fill(room: &mut Room, bytes: &[u8])
 }
 
 fn is_shared<T: Send + Sync>(_value: &T) {}
+
+/// A side that requests the same bits of INTREQ at each clock and asks for nothing.
+#[derive(Drop)]
+struct Steady {
+    bits: u16,
+}
+
+impl Side for Steady {
+    ghost use Rattle.serial_model.specs.declared.bus.SideAsk.TheVariants.{Nothing};
+
+    ghost seen = { λ side. record {
+      bits = λ later b dmacon. side.bits;
+      ask = λ later b dmacon. Nothing;
+    } };
+
+    fn poke(&mut self, _reg: Reg, _word: u16) {}
+
+    fn tick(&mut self, _beam: &Beam, _dmacon: u16) -> u16 {
+        self.bits
+    }
+
+    fn ask(&self, _beam: &Beam, _dmacon: u16) -> SideAsk {
+        SideAsk::Nothing
+    }
+
+    fn give(&mut self, _word: u16) {}
+}

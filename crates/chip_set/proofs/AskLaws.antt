@@ -1,5 +1,5 @@
 -- The access of a clock: the code's way to the ask, to its answer and to what it makes is the definition's.
-use Rattle.std.proofs.Common.{◌≡◌, ℕ, ◌+◌, ◌%◌, ◌≤◌, bit_and, Bool, true, false, ◌==◌, ◌&&◌, if◌then◌else◌, List, [], ◌∷◌, ◌++◌, Option, Some, None, is_some, IfSome, arith, refl, ap, subst, inl, ◌∙◌, sym}
+use Rattle.std.proofs.Common.{◌≡◌, ℕ, ◌+◌, ◌*◌, ◌%◌, ◌<◌, ◌≤◌, bit_and, Bool, true, false, ◌==◌, ◌&&◌, ◌||◌, if◌then◌else◌, List, [], ◌∷◌, ◌++◌, Option, Some, None, is_some, IfSome, arith, refl, ap, subst, inl, ◌∙◌, sym}
 use Rattle.std.proofs.lemmas.Bool.{false≢true}
 use Rattle.std.proofs.lemmas.Bool.Decides.{nat_tests}
 use Rattle.std.specs.Option.{option_map}
@@ -18,6 +18,7 @@ use Rattle.serial_model.specs.declared.bus.Made.{Made}
 use Rattle.serial_model.specs.declared.bus.Made.TheVariants as M
 use Rattle.serial_model.specs.declared.bus.ProcessorAsk.{ProcessorAsk}
 use Rattle.serial_model.specs.declared.bus.ProcessorAsk.TheVariants as P
+use Rattle.serial_model.specs.declared.bus.SideAsk.{SideAsk}
 use Rattle.serial_model.specs.declared.bus.SideAsk.TheVariants as S
 use Rattle.serial_model.specs.declared.copper.CopperAct.{CopperAct}
 use Rattle.serial_model.specs.declared.copper.CopperAct.TheVariants.{None as NoAct, Move}
@@ -37,18 +38,19 @@ use Rattle.serial_model.specs.declared.slots.SlotState.{SlotState}
 use Rattle.serial_model.specs.declared.trace.Source.TheVariants.{Processor as ByProcessor}
 use Rattle.cpu_bus.specs.Bus.{IsProcessorOf, wish_shown}
 use Rattle.cpu_bus.proofs.BusLaws.{wish_shown-is}
-use Rattle.serial_model.specs.Bus.{Wishes, copper_runs, copper_after, units_now, plane_wish, kinds_now, sprite_wish, sprite_owner_ask, ask_of_blit, blit_wish, wishes_of, slot_state, owner_ask, ask_at, answer_to, answer_owner, answer_chips, end_blit, give_blit, give_chips, missed_after, copper_word, answer_processor, made_by_copper, made_by_processor, made_by_ask}
+use Rattle.serial_model.specs.Bus.{Wishes, copper_runs, copper_after, units_now, plane_wish, kinds_now, sprite_wish, is_disk, channel_of, side_ask, sprite_owner_ask, ask_of_blit, blit_wish, wishes_of, slot_state, owner_ask, ask_at, answer_to, answer_owner, answer_chips, end_blit, give_blit, give_chips, missed_after, copper_word, answer_processor, made_by_copper, made_by_processor, made_by_ask}
 use Rattle.serial_model.specs.Copper.{wish_of, copper_act, act_in, step_copper}
-use Rattle.serial_model.specs.Owner.{owner_of}
+use Rattle.serial_model.specs.Owner.{owner_of, is_refresh}
 use Rattle.serial_model.specs.PlaneFetch.{units_at, last_unit, IsLastUnit, plane_ask, fetched_plane, ask_for_plane, move_planes, move_plane_pointer, move_if_fetched}
 use Rattle.irq_cia.specs.Bits.{has_bits}
 use Rattle.serial_model.specs.Processor.{processor_wish}
 use Rattle.serial_model.specs.RegisterTable.{reading_at}
 use Rattle.serial_model.specs.Registers.{kept_word, blitter_dma, is_danger, bit_worth, word_in, word_at}
+use Rattle.serial_model.specs.Side.{IsInTime}
 use Rattle.serial_model.specs.SpriteFetch.{kinds_at, is_sprite_slot, sprite_ask, asking_sprite, move_sprites, move_sprite_pointer, move_if_asked}
 use Rattle.serial_model.specs.State.{BlitUnderWay, Chips, is_busy, live_words, read_word}
 use Rattle.serial_model.proofs.FetchLaws.{IsFetch, fetched_plane-is, kept_word-move_planes}
-use Rattle.serial_model.proofs.SlotLaws.{SameForSprites, move_planes-same, kinds_at-same, sprite_ask-same, sprite_ask-slot, sprite_ask-taken, sprite_ask-few, kept_word-move_sprites, AsksBefore, plane_wins, sprite_wins}
+use Rattle.serial_model.proofs.SlotLaws.{SameForSprites, move_planes-same, kinds_at-same, sprite_ask-same, sprite_ask-slot, sprite_ask-taken, sprite_ask-few, kept_word-move_sprites, AsksBefore, owner_by, plane_wins, sprite_wins}
 use Rattle.chip_set.specs.Chips.{WorkingChips, IsBlitOf, IsChipsOf, some_blit, plain_chips, kept_wish, wishes_with, ask_with, IsBlitAsk, AnswersOwner, answering, act_at, made_with, IsAnswer, fetched_registers, fetched_chips, HasAsked, HasAccessed, CanAsk, CanDo}
 
 -- without a word the Copper makes nothing
@@ -69,63 +71,79 @@ Agrees runs owner w wish word c =
     made_by_ask ask word c
     ≡ made_with ask word (if runs then copper_act (is_danger c.registers) (copper_word ask word) c.copper else NoAct))
 
-abbrev Wishing : Option PlaneAsk → Option SpriteAsk → Option SlotAsk → Option ProcessorAsk → Wishes
-Wishing plane sprite blit processor =
-    record { side = S.Nothing; plane = plane; sprite = sprite; copper = None; blit = blit; processor = processor }
+abbrev Wishing : SideAsk → Option PlaneAsk → Option SpriteAsk → Option SlotAsk → Option ProcessorAsk → Wishes
+Wishing side plane sprite blit processor =
+    record { side = side; plane = plane; sprite = sprite; copper = None; blit = blit; processor = processor }
 
-while_running : (owner : Owner) (plane : Option PlaneAsk) (sprite : Option SpriteAsk) (blit : Option SlotAsk) (processor : Option ProcessorAsk)
-    (wish : Option Addr) (word : ℕ) (c : Chips) → Agrees true owner (Wishing plane sprite blit processor) wish word c
+side_running : (side : SideAsk) (word : ℕ) (c : Chips) → made_by_ask (side_ask side) word c
+    ≡ made_with (side_ask side) word (copper_act (is_danger c.registers) (copper_word (side_ask side) word) c.copper)
 unfolding made_by_ask
-while_running Refresh plane sprite blit processor wish word c = no_made (is_danger c.registers) c.copper
-while_running Disk plane sprite blit processor wish word c = no_made (is_danger c.registers) c.copper
-while_running (Audio channel) plane sprite blit processor wish word c = no_made (is_danger c.registers) c.copper
-while_running (Plane number) None sprite blit processor wish word c = no_made (is_danger c.registers) c.copper
-while_running (Plane number) (Some ask) sprite blit processor wish word c = refl
-while_running (Sprite number) plane None blit processor wish word c = no_made (is_danger c.registers) c.copper
-while_running (Sprite number) plane (Some (Control sprite second at)) blit processor wish word c = refl
-while_running (Sprite number) plane (Some (Words sprite second at)) blit processor wish word c = refl
-while_running Copper plane sprite blit processor None word c = no_made (is_danger c.registers) c.copper
-while_running Copper plane sprite blit processor (Some at) word c = refl
-while_running Blitter plane sprite None processor wish word c = no_made (is_danger c.registers) c.copper
-while_running Blitter plane sprite (Some (Read at)) processor wish word c = no_made (is_danger c.registers) c.copper
-while_running Blitter plane sprite (Some (Write at stored)) processor wish word c = refl
-while_running Blitter plane sprite (Some Rest) processor wish word c = no_made (is_danger c.registers) c.copper
-while_running Blitter plane sprite (Some Done) processor wish word c = no_made (is_danger c.registers) c.copper
-while_running Processor plane sprite blit None wish word c = no_made (is_danger c.registers) c.copper
-while_running Processor plane sprite blit (Some ask) wish word c = refl
-while_running Free plane sprite blit processor wish word c = no_made (is_danger c.registers) c.copper
+side_running S.Nothing word c = no_made (is_danger c.registers) c.copper
+side_running (S.Disk at stored) word c = refl
+side_running (S.Audio channel at) word c = no_made (is_danger c.registers) c.copper
 
-at_rest : (owner : Owner) (plane : Option PlaneAsk) (sprite : Option SpriteAsk) (blit : Option SlotAsk) (processor : Option ProcessorAsk)
-    (wish : Option Addr) (word : ℕ) (c : Chips) → Agrees false owner (Wishing plane sprite blit processor) wish word c
+side_at_rest : (side : SideAsk) (word : ℕ) (c : Chips) → made_by_ask (side_ask side) word c ≡ made_with (side_ask side) word NoAct
 unfolding made_by_ask
-at_rest Refresh plane sprite blit processor wish word c = refl
-at_rest Disk plane sprite blit processor wish word c = refl
-at_rest (Audio channel) plane sprite blit processor wish word c = refl
-at_rest (Plane number) None sprite blit processor wish word c = refl
-at_rest (Plane number) (Some ask) sprite blit processor wish word c = refl
-at_rest (Sprite number) plane None blit processor wish word c = refl
-at_rest (Sprite number) plane (Some (Control sprite second at)) blit processor wish word c = refl
-at_rest (Sprite number) plane (Some (Words sprite second at)) blit processor wish word c = refl
-at_rest Copper plane sprite blit processor wish word c = refl
-at_rest Blitter plane sprite None processor wish word c = refl
-at_rest Blitter plane sprite (Some (Read at)) processor wish word c = refl
-at_rest Blitter plane sprite (Some (Write at stored)) processor wish word c = refl
-at_rest Blitter plane sprite (Some Rest) processor wish word c = refl
-at_rest Blitter plane sprite (Some Done) processor wish word c = refl
-at_rest Processor plane sprite blit None wish word c = refl
-at_rest Processor plane sprite blit (Some ask) wish word c = refl
-at_rest Free plane sprite blit processor wish word c = refl
+side_at_rest S.Nothing word c = refl
+side_at_rest (S.Disk at stored) word c = refl
+side_at_rest (S.Audio channel at) word c = refl
 
-either : (runs : Bool) (owner : Owner) (plane : Option PlaneAsk) (sprite : Option SpriteAsk) (blit : Option SlotAsk)
-    (processor : Option ProcessorAsk) (wish : Option Addr) (word : ℕ) (c : Chips) → Agrees runs owner (Wishing plane sprite blit processor) wish word c
-either true owner plane sprite blit processor wish word c = while_running owner plane sprite blit processor wish word c
-either false owner plane sprite blit processor wish word c = at_rest owner plane sprite blit processor wish word c
+while_running : (owner : Owner) (side : SideAsk) (plane : Option PlaneAsk) (sprite : Option SpriteAsk) (blit : Option SlotAsk)
+    (processor : Option ProcessorAsk) (wish : Option Addr) (word : ℕ) (c : Chips)
+    → Agrees true owner (Wishing side plane sprite blit processor) wish word c
+unfolding made_by_ask
+while_running Refresh side plane sprite blit processor wish word c = no_made (is_danger c.registers) c.copper
+while_running Disk side plane sprite blit processor wish word c = side_running side word c
+while_running (Audio channel) side plane sprite blit processor wish word c = side_running side word c
+while_running (Plane number) side None sprite blit processor wish word c = no_made (is_danger c.registers) c.copper
+while_running (Plane number) side (Some ask) sprite blit processor wish word c = refl
+while_running (Sprite number) side plane None blit processor wish word c = no_made (is_danger c.registers) c.copper
+while_running (Sprite number) side plane (Some (Control sprite second at)) blit processor wish word c = refl
+while_running (Sprite number) side plane (Some (Words sprite second at)) blit processor wish word c = refl
+while_running Copper side plane sprite blit processor None word c = no_made (is_danger c.registers) c.copper
+while_running Copper side plane sprite blit processor (Some at) word c = refl
+while_running Blitter side plane sprite None processor wish word c = no_made (is_danger c.registers) c.copper
+while_running Blitter side plane sprite (Some (Read at)) processor wish word c = no_made (is_danger c.registers) c.copper
+while_running Blitter side plane sprite (Some (Write at stored)) processor wish word c = refl
+while_running Blitter side plane sprite (Some Rest) processor wish word c = no_made (is_danger c.registers) c.copper
+while_running Blitter side plane sprite (Some Done) processor wish word c = no_made (is_danger c.registers) c.copper
+while_running Processor side plane sprite blit None wish word c = no_made (is_danger c.registers) c.copper
+while_running Processor side plane sprite blit (Some ask) wish word c = refl
+while_running Free side plane sprite blit processor wish word c = no_made (is_danger c.registers) c.copper
 
-made-act : (b : Beam) (word : ℕ) (c : Chips)
-    → made_by_ask (ask_at S.Nothing b c) word c ≡ made_with (ask_at S.Nothing b c) word (act_at b (ask_at S.Nothing b c) word c)
+at_rest : (owner : Owner) (side : SideAsk) (plane : Option PlaneAsk) (sprite : Option SpriteAsk) (blit : Option SlotAsk)
+    (processor : Option ProcessorAsk) (wish : Option Addr) (word : ℕ) (c : Chips)
+    → Agrees false owner (Wishing side plane sprite blit processor) wish word c
+unfolding made_by_ask
+at_rest Refresh side plane sprite blit processor wish word c = refl
+at_rest Disk side plane sprite blit processor wish word c = side_at_rest side word c
+at_rest (Audio channel) side plane sprite blit processor wish word c = side_at_rest side word c
+at_rest (Plane number) side None sprite blit processor wish word c = refl
+at_rest (Plane number) side (Some ask) sprite blit processor wish word c = refl
+at_rest (Sprite number) side plane None blit processor wish word c = refl
+at_rest (Sprite number) side plane (Some (Control sprite second at)) blit processor wish word c = refl
+at_rest (Sprite number) side plane (Some (Words sprite second at)) blit processor wish word c = refl
+at_rest Copper side plane sprite blit processor wish word c = refl
+at_rest Blitter side plane sprite None processor wish word c = refl
+at_rest Blitter side plane sprite (Some (Read at)) processor wish word c = refl
+at_rest Blitter side plane sprite (Some (Write at stored)) processor wish word c = refl
+at_rest Blitter side plane sprite (Some Rest) processor wish word c = refl
+at_rest Blitter side plane sprite (Some Done) processor wish word c = refl
+at_rest Processor side plane sprite blit None wish word c = refl
+at_rest Processor side plane sprite blit (Some ask) wish word c = refl
+at_rest Free side plane sprite blit processor wish word c = refl
+
+either : (runs : Bool) (owner : Owner) (side : SideAsk) (plane : Option PlaneAsk) (sprite : Option SpriteAsk) (blit : Option SlotAsk)
+    (processor : Option ProcessorAsk) (wish : Option Addr) (word : ℕ) (c : Chips)
+    → Agrees runs owner (Wishing side plane sprite blit processor) wish word c
+either true owner side plane sprite blit processor wish word c = while_running owner side plane sprite blit processor wish word c
+either false owner side plane sprite blit processor wish word c = at_rest owner side plane sprite blit processor wish word c
+
+made-act : (side : SideAsk) (b : Beam) (word : ℕ) (c : Chips)
+    → made_by_ask (ask_at side b c) word c ≡ made_with (ask_at side b c) word (act_at b (ask_at side b c) word c)
 unfolding ask_at
-made-act b word c =
-    either (copper_runs b c) (owner_of (slot_state b c (wishes_of S.Nothing b c))) (plane_wish b c) (sprite_wish b c) (blit_wish c)
+made-act side b word c =
+    either (copper_runs b c) (owner_of (slot_state b c (wishes_of side b c))) side (plane_wish b c) (sprite_wish b c) (blit_wish c)
     (processor_wish c.processor) (wish_of c.copper) word c
 
 -- the word of the code serves as the machine's
@@ -189,11 +207,12 @@ words_same h last kinds taken registers at = record {
 abbrev wish_by : Beam → CopperState → ℕ → Option Addr
 wish_by b copper dmacon = if (b.h % 2 == 0) && has_bits dmacon 640 then wish_of copper else None
 
-abbrev state_by : Beam → Option PlaneAsk → Option SpriteAsk → Option SlotAsk → Option ProcessorAsk → ℕ → CopperState → ℕ → SlotState
-state_by b plane sprite blit processor missed copper dmacon = record {
+abbrev state_by : SideAsk → Beam → Option PlaneAsk → Option SpriteAsk → Option SlotAsk → Option ProcessorAsk → ℕ → CopperState → ℕ
+    → SlotState
+state_by side b plane sprite blit processor missed copper dmacon = record {
   h = b.h;
-  disk = false;
-  audio = None;
+  disk = is_disk side;
+  audio = channel_of side;
   plane = option_map (λ (ask : PlaneAsk). ask.plane) plane;
   sprite = option_map asking_sprite sprite;
   copper = is_some (wish_by b copper dmacon);
@@ -203,19 +222,19 @@ state_by b plane sprite blit processor missed copper dmacon = record {
   nasty = has_bits dmacon 1024;
 }
 
-abbrev ask_by : Beam → Option PlaneAsk → Option SpriteAsk → Option SlotAsk → Option ProcessorAsk → ℕ → CopperState → ℕ → Ask
-ask_by b plane sprite blit processor missed copper dmacon =
-    owner_ask (owner_of (state_by b plane sprite blit processor missed copper dmacon))
-    (record { side = S.Nothing; plane = plane; sprite = sprite; copper = wish_by b copper dmacon; blit = blit; processor = processor })
+abbrev ask_by : SideAsk → Beam → Option PlaneAsk → Option SpriteAsk → Option SlotAsk → Option ProcessorAsk → ℕ → CopperState → ℕ → Ask
+ask_by side b plane sprite blit processor missed copper dmacon =
+    owner_ask (owner_of (state_by side b plane sprite blit processor missed copper dmacon))
+    (record { side = side; plane = plane; sprite = sprite; copper = wish_by b copper dmacon; blit = blit; processor = processor })
 
-ask_same : (b : Beam) (plane : Option PlaneAsk) (sprite : Option SpriteAsk) (blit : Option SlotAsk) (processor : Option ProcessorAsk)
+ask_same : (side : SideAsk) (b : Beam) (plane : Option PlaneAsk) (sprite : Option SpriteAsk) (blit : Option SlotAsk) (processor : Option ProcessorAsk)
     (moved c : Chips) → SameWords moved.registers c.registers → moved.copper ≡ c.copper → moved.missed ≡ c.missed
-    → ask_with b plane sprite blit processor moved ≡ ask_with b plane sprite blit processor c
+    → ask_with side b plane sprite blit processor moved ≡ ask_with side b plane sprite blit processor c
 unfolding ask_with
-ask_same b plane sprite blit processor moved c same copper missed =
-    ap (λ dmacon. ask_by b plane sprite blit processor moved.missed moved.copper dmacon) same.dmacon
-    ∙ ap (λ n. ask_by b plane sprite blit processor n moved.copper (kept_word c.registers 0x96)) missed
-    ∙ ap (λ x. ask_by b plane sprite blit processor c.missed x (kept_word c.registers 0x96)) copper
+ask_same side b plane sprite blit processor moved c same copper missed =
+    ap (λ dmacon. ask_by side b plane sprite blit processor moved.missed moved.copper dmacon) same.dmacon
+    ∙ ap (λ n. ask_by side b plane sprite blit processor n moved.copper (kept_word c.registers 0x96)) missed
+    ∙ ap (λ x. ask_by side b plane sprite blit processor c.missed x (kept_word c.registers 0x96)) copper
 
 -- the Copper's step and what it makes, by the words that it looks at
 abbrev step_by : Beam → Bool → Option ℕ → CopperState → ℕ → ℕ → CopperState
@@ -242,43 +261,73 @@ act_same b ask word moved c same copper =
     ∙ ap (λ x. act_by b ask word x (kept_word c.registers 0x96) (kept_word c.registers 0x2e)) copper
 
 -- the ask of the machine is the one with its wishes
-ask_is : (b : Beam) (c : Chips)
-    → ask_at S.Nothing b c ≡ ask_with b (plane_wish b c) (sprite_wish b c) (blit_wish c) (processor_wish c.processor) c
+ask_is : (side : SideAsk) (b : Beam) (c : Chips)
+    → ask_at side b c ≡ ask_with side b (plane_wish b c) (sprite_wish b c) (blit_wish c) (processor_wish c.processor) c
 unfolding ask_at ask_with
-ask_is b c = refl
+ask_is side b c = refl
+
+-- in its time a side has the slot for which it asks
+disk_clock : (h : ℕ) → ((h == 7) || (h == 9) || (h == 11)) ≡ true → is_refresh h ≡ false
+disk_clock h time = grind (arith, nat_tests)
+
+audio_clock : (h channel : ℕ) → channel < 4 → h ≡ 13 + 2 * channel → is_refresh h ≡ false
+audio_clock h channel few at = grind (arith, nat_tests)
+
+pub disk_has : (b : Beam) (at : Addr) (word : ℕ) (plane : Option PlaneAsk) (sprite : Option SpriteAsk) (blit : Option SlotAsk)
+    (processor : Option ProcessorAsk) (c : Chips) → IsInTime b (S.Disk at word)
+    → A.Disk at word ≡ ask_with (S.Disk at word) b plane sprite blit processor c
+unfolding ask_with owner_of
+disk_has b at word plane sprite blit processor c time =
+    let w : Wishes = wishes_with (S.Disk at word) b plane sprite blit processor c in
+    sym (ap (λ refresh. owner_ask (owner_by refresh true None (slot_state b c w).plane (slot_state b c w).sprite (slot_state b c w)) w)
+    (disk_clock b.h time))
+
+pub audio_has : (b : Beam) (channel : ℕ) (at : Addr) (plane : Option PlaneAsk) (sprite : Option SpriteAsk) (blit : Option SlotAsk)
+    (processor : Option ProcessorAsk) (c : Chips) → IsInTime b (S.Audio channel at)
+    → A.Audio channel at ≡ ask_with (S.Audio channel at) b plane sprite blit processor c
+unfolding ask_with owner_of
+audio_has b channel at plane sprite blit processor c time =
+    let w : Wishes = wishes_with (S.Audio channel at) b plane sprite blit processor c in
+    sym (ap (λ refresh. owner_ask (owner_by refresh false (Some channel) (slot_state b c w).plane (slot_state b c w).sprite (slot_state b c w)) w)
+    (audio_clock b.h channel time.0 time.1))
 
 -- a blit's ask is what the blit asks for
-abbrev All : Option PlaneAsk → Option SpriteAsk → Option Addr → Option SlotAsk → Option ProcessorAsk → Wishes
-All plane sprite copper blit processor =
-    record { side = S.Nothing; plane = plane; sprite = sprite; copper = copper; blit = blit; processor = processor }
+abbrev All : SideAsk → Option PlaneAsk → Option SpriteAsk → Option Addr → Option SlotAsk → Option ProcessorAsk → Wishes
+All side plane sprite copper blit processor =
+    record { side = side; plane = plane; sprite = sprite; copper = copper; blit = blit; processor = processor }
 
-asks_of_owner : (owner : Owner) (plane : Option PlaneAsk) (sprite : Option SpriteAsk) (copper : Option Addr) (blit : Option SlotAsk)
-    (processor : Option ProcessorAsk) → IsBlitAsk (owner_ask owner (All plane sprite copper blit processor)) blit
-asks_of_owner Refresh plane sprite copper blit processor = tt
-asks_of_owner Disk plane sprite copper blit processor = tt
-asks_of_owner (Audio channel) plane sprite copper blit processor = tt
-asks_of_owner (Plane number) None sprite copper blit processor = tt
-asks_of_owner (Plane number) (Some ask) sprite copper blit processor = tt
-asks_of_owner (Sprite number) plane None copper blit processor = tt
-asks_of_owner (Sprite number) plane (Some (Control sprite second at)) copper blit processor = tt
-asks_of_owner (Sprite number) plane (Some (Words sprite second at)) copper blit processor = tt
-asks_of_owner Copper plane sprite None blit processor = tt
-asks_of_owner Copper plane sprite (Some at) blit processor = tt
-asks_of_owner Blitter plane sprite copper None processor = tt
-asks_of_owner Blitter plane sprite copper (Some (Read at)) processor = refl
-asks_of_owner Blitter plane sprite copper (Some (Write at word)) processor = refl
-asks_of_owner Blitter plane sprite copper (Some Rest) processor = refl
-asks_of_owner Blitter plane sprite copper (Some Done) processor = tt
-asks_of_owner Processor plane sprite copper blit None = tt
-asks_of_owner Processor plane sprite copper blit (Some ask) = tt
-asks_of_owner Free plane sprite copper blit processor = tt
+side_blits : (side : SideAsk) (blit : Option SlotAsk) → IsBlitAsk (side_ask side) blit
+side_blits S.Nothing blit = tt
+side_blits (S.Disk at word) blit = tt
+side_blits (S.Audio channel at) blit = tt
 
-pub ask_is_of_blit : (b : Beam) (plane : Option PlaneAsk) (sprite : Option SpriteAsk) (blit : Option SlotAsk)
-    (processor : Option ProcessorAsk) (c : Chips) → IsBlitAsk (ask_with b plane sprite blit processor c) blit
+asks_of_owner : (owner : Owner) (side : SideAsk) (plane : Option PlaneAsk) (sprite : Option SpriteAsk) (copper : Option Addr)
+    (blit : Option SlotAsk) (processor : Option ProcessorAsk) → IsBlitAsk (owner_ask owner (All side plane sprite copper blit processor)) blit
+asks_of_owner Refresh side plane sprite copper blit processor = tt
+asks_of_owner Disk side plane sprite copper blit processor = side_blits side blit
+asks_of_owner (Audio channel) side plane sprite copper blit processor = side_blits side blit
+asks_of_owner (Plane number) side None sprite copper blit processor = tt
+asks_of_owner (Plane number) side (Some ask) sprite copper blit processor = tt
+asks_of_owner (Sprite number) side plane None copper blit processor = tt
+asks_of_owner (Sprite number) side plane (Some (Control sprite second at)) copper blit processor = tt
+asks_of_owner (Sprite number) side plane (Some (Words sprite second at)) copper blit processor = tt
+asks_of_owner Copper side plane sprite None blit processor = tt
+asks_of_owner Copper side plane sprite (Some at) blit processor = tt
+asks_of_owner Blitter side plane sprite copper None processor = tt
+asks_of_owner Blitter side plane sprite copper (Some (Read at)) processor = refl
+asks_of_owner Blitter side plane sprite copper (Some (Write at word)) processor = refl
+asks_of_owner Blitter side plane sprite copper (Some Rest) processor = refl
+asks_of_owner Blitter side plane sprite copper (Some Done) processor = tt
+asks_of_owner Processor side plane sprite copper blit None = tt
+asks_of_owner Processor side plane sprite copper blit (Some ask) = tt
+asks_of_owner Free side plane sprite copper blit processor = tt
+
+pub ask_is_of_blit : (side : SideAsk) (b : Beam) (plane : Option PlaneAsk) (sprite : Option SpriteAsk) (blit : Option SlotAsk)
+    (processor : Option ProcessorAsk) (c : Chips) → IsBlitAsk (ask_with side b plane sprite blit processor c) blit
 unfolding ask_with
-ask_is_of_blit b plane sprite blit processor c =
-    asks_of_owner (owner_of (slot_state b c (wishes_with b plane sprite blit processor c))) plane sprite
-    (wishes_with b plane sprite blit processor c).copper blit processor
+ask_is_of_blit side b plane sprite blit processor c =
+    asks_of_owner (owner_of (slot_state b c (wishes_with side b plane sprite blit processor c))) side plane sprite
+    (wishes_with side b plane sprite blit processor c).copper blit processor
 
 -- the registers once the owner of the slot has its answer, as far as the fetches go
 abbrev registers_after : Beam → Ask → Chips → List ℕ
@@ -295,79 +344,98 @@ registers_after b A.BlitRest c = c.registers
 registers_after b (A.Processor ask) c = c.registers
 
 -- where neither a plane nor a sprite asks, the access leaves them
-no_fetch : (b : Beam) (owner : Owner) (wish : Option Addr) (blit : Option SlotAsk) (processor : Option ProcessorAsk) (c : Chips)
-    → registers_after b (owner_ask owner (All None None wish blit processor)) c ≡ c.registers
-no_fetch b Refresh wish blit processor c = refl
-no_fetch b Disk wish blit processor c = refl
-no_fetch b (Audio channel) wish blit processor c = refl
-no_fetch b (Plane plane) wish blit processor c = refl
-no_fetch b (Sprite sprite) wish blit processor c = refl
-no_fetch b Copper None blit processor c = refl
-no_fetch b Copper (Some at) blit processor c = refl
-no_fetch b Blitter wish None processor c = refl
-no_fetch b Blitter wish (Some (Read at)) processor c = refl
-no_fetch b Blitter wish (Some (Write at word)) processor c = refl
-no_fetch b Blitter wish (Some Rest) processor c = refl
-no_fetch b Blitter wish (Some Done) processor c = refl
-no_fetch b Processor wish blit None c = refl
-no_fetch b Processor wish blit (Some ask) c = refl
-no_fetch b Free wish blit processor c = refl
+side_moves : (b : Beam) (side : SideAsk) (c : Chips) → registers_after b (side_ask side) c ≡ c.registers
+side_moves b S.Nothing c = refl
+side_moves b (S.Disk at word) c = refl
+side_moves b (S.Audio channel at) c = refl
+
+no_fetch : (b : Beam) (owner : Owner) (side : SideAsk) (wish : Option Addr) (blit : Option SlotAsk) (processor : Option ProcessorAsk)
+    (c : Chips) → registers_after b (owner_ask owner (All side None None wish blit processor)) c ≡ c.registers
+no_fetch b Refresh side wish blit processor c = refl
+no_fetch b Disk side wish blit processor c = side_moves b side c
+no_fetch b (Audio channel) side wish blit processor c = side_moves b side c
+no_fetch b (Plane plane) side wish blit processor c = refl
+no_fetch b (Sprite sprite) side wish blit processor c = refl
+no_fetch b Copper side None blit processor c = refl
+no_fetch b Copper side (Some at) blit processor c = refl
+no_fetch b Blitter side wish None processor c = refl
+no_fetch b Blitter side wish (Some (Read at)) processor c = refl
+no_fetch b Blitter side wish (Some (Write at word)) processor c = refl
+no_fetch b Blitter side wish (Some Rest) processor c = refl
+no_fetch b Blitter side wish (Some Done) processor c = refl
+no_fetch b Processor side wish blit None c = refl
+no_fetch b Processor side wish blit (Some ask) c = refl
+no_fetch b Free side wish blit processor c = refl
 
 -- where one does it has the slot, and the access moves its pointer
-before_all : (b : Beam) (plane : Option PlaneAsk) (sprite : Option SpriteAsk) (blit : Option SlotAsk) (processor : Option ProcessorAsk)
-    (missed : ℕ) (copper : CopperState) (dmacon : ℕ) → AsksBefore (state_by b plane sprite blit processor missed copper dmacon)
-before_all b plane sprite blit processor missed copper dmacon = record { disk = λ asks. absurd (false≢true asks); audio = tt }
+disk_early : (h : ℕ) → ((h == 7) || (h == 9) || (h == 11)) ≡ true → h < 21
+disk_early h time = grind (arith, nat_tests)
+
+audio_early : (h channel : ℕ) → channel < 4 → h ≡ 13 + 2 * channel → h < 21
+audio_early h channel few at = omega (arith, few, at)
+
+before_all : (side : SideAsk) (b : Beam) (plane : Option PlaneAsk) (sprite : Option SpriteAsk) (blit : Option SlotAsk)
+    (processor : Option ProcessorAsk) (missed : ℕ) (copper : CopperState) (dmacon : ℕ) → IsInTime b side
+    → AsksBefore (state_by side b plane sprite blit processor missed copper dmacon)
+before_all S.Nothing b plane sprite blit processor missed copper dmacon time = record { disk = λ asks. absurd (false≢true asks); audio = tt }
+before_all (S.Disk at word) b plane sprite blit processor missed copper dmacon time =
+    record { disk = λ asks. disk_early b.h time; audio = tt }
+before_all (S.Audio channel at) b plane sprite blit processor missed copper dmacon time =
+    record { disk = λ asks. absurd (false≢true asks); audio = audio_early b.h channel time.0 time.1 }
 
 sprite_moves : (b : Beam) (ask : SpriteAsk) (c : Chips)
     → registers_after b (sprite_owner_ask (Some ask)) c ≡ move_sprite_pointer (asking_sprite ask) c.registers
 sprite_moves b (Control sprite second at) c = refl
 sprite_moves b (Words sprite second at) c = refl
 
-by_sprite : (b : Beam) (asked : Option SpriteAsk) (blit : Option SlotAsk) (processor : Option ProcessorAsk) (c : Chips)
-    → sprite_ask b.h c.registers (kinds_now b c) false ≡ asked
-    → registers_after b (ask_with b None asked blit processor c) c ≡ move_if_asked asked c.registers
+by_sprite : (side : SideAsk) (b : Beam) (asked : Option SpriteAsk) (blit : Option SlotAsk) (processor : Option ProcessorAsk) (c : Chips)
+    → IsInTime b side → sprite_ask b.h c.registers (kinds_now b c) false ≡ asked
+    → registers_after b (ask_with side b None asked blit processor c) c ≡ move_if_asked asked c.registers
 unfolding ask_with
-by_sprite b None blit processor c is =
-    no_fetch b (owner_of (slot_state b c (wishes_with b None None blit processor c))) (wishes_with b None None blit processor c).copper blit
-    processor c
-by_sprite b (Some ask) blit processor c is =
+by_sprite side b None blit processor c time is =
+    no_fetch b (owner_of (slot_state b c (wishes_with side b None None blit processor c))) side
+    (wishes_with side b None None blit processor c).copper blit processor c
+by_sprite side b (Some ask) blit processor c time is =
     let slot : is_sprite_slot b.h ≡ true = sprite_ask-slot b.h c.registers (kinds_now b c) false ask is in
     let low : 21 ≤ b.h = grind (arith, nat_tests, slot) in
     let high : b.h ≤ 223 = grind (arith, nat_tests, slot) in
-    ap (λ owner. registers_after b (owner_ask owner (wishes_with b None (Some ask) blit processor c)) c)
-    (sprite_wins (state_by b None (Some ask) blit processor c.missed c.copper (kept_word c.registers 0x96)) (asking_sprite ask)
-    (before_all b None (Some ask) blit processor c.missed c.copper (kept_word c.registers 0x96)) low high refl refl)
+    ap (λ owner. registers_after b (owner_ask owner (wishes_with side b None (Some ask) blit processor c)) c)
+    (sprite_wins (state_by side b None (Some ask) blit processor c.missed c.copper (kept_word c.registers 0x96)) (asking_sprite ask)
+    (before_all side b None (Some ask) blit processor c.missed c.copper (kept_word c.registers 0x96) time) low high refl refl)
     ∙ sprite_moves b ask c
 
-plane_moves : (b : Beam) (plane : ℕ) (sprite : Option SpriteAsk) (blit : Option SlotAsk) (processor : Option ProcessorAsk) (c : Chips)
-    → 21 ≤ b.h → b.h ≤ 223 → registers_after b (ask_with b (Some (ask_for_plane c.registers plane)) sprite blit processor c) c
+plane_moves : (side : SideAsk) (b : Beam) (plane : ℕ) (sprite : Option SpriteAsk) (blit : Option SlotAsk) (processor : Option ProcessorAsk)
+    (c : Chips) → IsInTime b side → 21 ≤ b.h → b.h ≤ 223
+    → registers_after b (ask_with side b (Some (ask_for_plane c.registers plane)) sprite blit processor c) c
     ≡ move_if_fetched b.h (last_unit (units_now b c)) (Some plane) c.registers
 unfolding ask_with
-plane_moves b plane sprite blit processor c low high =
+plane_moves side b plane sprite blit processor c time low high =
     let asked : Option PlaneAsk = Some (ask_for_plane c.registers plane) in
-    ap (λ owner. registers_after b (owner_ask owner (wishes_with b asked sprite blit processor c)) c)
-    (plane_wins (state_by b asked sprite blit processor c.missed c.copper (kept_word c.registers 0x96)) plane
-    (before_all b asked sprite blit processor c.missed c.copper (kept_word c.registers 0x96)) low high refl)
+    ap (λ owner. registers_after b (owner_ask owner (wishes_with side b asked sprite blit processor c)) c)
+    (plane_wins (state_by side b asked sprite blit processor c.missed c.copper (kept_word c.registers 0x96)) plane
+    (before_all side b asked sprite blit processor c.missed c.copper (kept_word c.registers 0x96) time) low high refl)
 
-by_found : (b : Beam) (found : Option ℕ) (blit : Option SlotAsk) (processor : Option ProcessorAsk) (c : Chips) → IfSome found (IsFetch b.h)
-    → registers_after b (ask_with b (option_map (λ plane. ask_for_plane c.registers plane) found)
+by_found : (side : SideAsk) (b : Beam) (found : Option ℕ) (blit : Option SlotAsk) (processor : Option ProcessorAsk) (c : Chips)
+    → IsInTime b side → IfSome found (IsFetch b.h)
+    → registers_after b (ask_with side b (option_map (λ plane. ask_for_plane c.registers plane) found)
     (sprite_ask b.h c.registers (kinds_now b c) (is_some (option_map (λ plane. ask_for_plane c.registers plane) found))) blit processor c) c
     ≡ move_sprites b.h (kinds_now b c) (is_some (option_map (λ plane. ask_for_plane c.registers plane) found))
     (move_if_fetched b.h (last_unit (units_now b c)) found c.registers)
-by_found b None blit processor c within = by_sprite b (sprite_ask b.h c.registers (kinds_now b c) false) blit processor c refl
-by_found b (Some plane) blit processor c within =
+by_found side b None blit processor c time within =
+    by_sprite side b (sprite_ask b.h c.registers (kinds_now b c) false) blit processor c time refl
+by_found side b (Some plane) blit processor c time within =
     let last : Option ℕ = last_unit (units_now b c) in
     let low : 21 ≤ b.h = omega (arith, within.low) in
-    plane_moves b plane (sprite_ask b.h c.registers (kinds_now b c) true) blit processor c low within.high
+    plane_moves side b plane (sprite_ask b.h c.registers (kinds_now b c) true) blit processor c time low within.high
     ∙ sym (ap (λ ask. move_if_asked ask (move_if_fetched b.h last (Some plane) c.registers))
     (sprite_ask-taken b.h (move_if_fetched b.h last (Some plane) c.registers) (kinds_now b c)))
 
 -- with the ask of the machine, its registers are those after the fetches
-registers_is : (b : Beam) (c : Chips) → IsLastUnit (last_unit (units_now b c))
-    → registers_after b (ask_at S.Nothing b c) c ≡ fetched_registers b c
-registers_is b c at =
-    ap (λ ask. registers_after b ask c) (ask_is b c)
-    ∙ by_found b (fetched_plane b.h c.registers (last_unit (units_now b c))) (blit_wish c) (processor_wish c.processor) c
+registers_is : (side : SideAsk) (b : Beam) (c : Chips) → IsInTime b side → IsLastUnit (last_unit (units_now b c))
+    → registers_after b (ask_at side b c) c ≡ fetched_registers b c
+registers_is side b c time at =
+    ap (λ ask. registers_after b ask c) (ask_is side b c)
+    ∙ by_found side b (fetched_plane b.h c.registers (last_unit (units_now b c))) (blit_wish c) (processor_wish c.processor) c time
     (fetched_plane-is b.h c.registers (last_unit (units_now b c)) at)
 
 -- what the owner's answer does beside the fetches: a blit goes on, and the processor has its word
@@ -566,19 +634,19 @@ processor_found : (b : Beam) (mid : WorkingChips) (plane : Option PlaneAsk) (spr
     → Found b mid plane sprite c → wish_shown mid.processor ≡ processor_wish c.processor
 processor_found b mid plane sprite c found = wish_shown-is mid.processor c.processor found.processor
 
-ask_found : (b : Beam) (ask : Ask) (mid : WorkingChips) (plane : Option PlaneAsk) (sprite : Option SpriteAsk) (c : Chips)
-    → ask ≡ ask_with b plane sprite (kept_wish mid) (wish_shown mid.processor) (plain_chips mid) → Found b mid plane sprite c
-    → ask ≡ ask_at S.Nothing b c
-ask_found b ask mid plane sprite c is found =
+ask_found : (side : SideAsk) (b : Beam) (ask : Ask) (mid : WorkingChips) (plane : Option PlaneAsk) (sprite : Option SpriteAsk) (c : Chips)
+    → ask ≡ ask_with side b plane sprite (kept_wish mid) (wish_shown mid.processor) (plain_chips mid) → Found b mid plane sprite c
+    → ask ≡ ask_at side b c
+ask_found side b ask mid plane sprite c is found =
     let processor : Option ProcessorAsk = wish_shown mid.processor in
     is
-    ∙ ap (λ p. ask_with b p sprite (kept_wish mid) processor (plain_chips mid)) found.plane_is
-    ∙ ap (λ s. ask_with b (plane_wish b c) s (kept_wish mid) processor (plain_chips mid)) found.sprite_is
-    ∙ ap (λ w. ask_with b (plane_wish b c) (sprite_wish b c) w processor (plain_chips mid)) (wish_found b mid plane sprite c found)
-    ∙ ap (λ w. ask_with b (plane_wish b c) (sprite_wish b c) (blit_wish c) w (plain_chips mid)) (processor_found b mid plane sprite c found)
-    ∙ ask_same b (plane_wish b c) (sprite_wish b c) (blit_wish c) (processor_wish c.processor) (plain_chips mid) c found.same found.copper
+    ∙ ap (λ p. ask_with side b p sprite (kept_wish mid) processor (plain_chips mid)) found.plane_is
+    ∙ ap (λ s. ask_with side b (plane_wish b c) s (kept_wish mid) processor (plain_chips mid)) found.sprite_is
+    ∙ ap (λ w. ask_with side b (plane_wish b c) (sprite_wish b c) w processor (plain_chips mid)) (wish_found b mid plane sprite c found)
+    ∙ ap (λ w. ask_with side b (plane_wish b c) (sprite_wish b c) (blit_wish c) w (plain_chips mid)) (processor_found b mid plane sprite c found)
+    ∙ ask_same side b (plane_wish b c) (sprite_wish b c) (blit_wish c) (processor_wish c.processor) (plain_chips mid) c found.same found.copper
     found.missed
-    ∙ sym (ask_is b c)
+    ∙ sym (ask_is side b c)
 
 -- and the chips stand for those whose fetches moved their pointers
 asked_found : (b : Beam) (mid : WorkingChips) (plane : Option PlaneAsk) (sprite : Option SpriteAsk) (c : Chips) → IsLastUnit mid.last
@@ -608,12 +676,12 @@ same_chips old c is =
     ∙ ap (λ ks. record c { registers = old.registers; kinds = ks }) is.kinds
     ∙ ap (λ x. record c { registers = old.registers; kinds = old.kinds; copper = x }) is.copper
 
-pub ask_is_at : (b : Beam) (ask : Ask) (old mid : WorkingChips) (plane : Option PlaneAsk) (sprite : Option SpriteAsk)
-    → HasFetched b old mid plane sprite → ask ≡ ask_with b plane sprite (kept_wish mid) (wish_shown mid.processor) (plain_chips mid)
-    → (c : Chips) → IsChipsOf old c → ask ≡ ask_at S.Nothing b c
-ask_is_at b ask old mid plane sprite fetched asks c is =
-    subst (λ x. ask ≡ ask_at S.Nothing b x) (sym (same_chips old c is))
-    (ask_found b ask mid plane sprite (chips_like old c) asks (found_by b old mid plane sprite c fetched is))
+pub ask_is_at : (side : SideAsk) (b : Beam) (ask : Ask) (old mid : WorkingChips) (plane : Option PlaneAsk) (sprite : Option SpriteAsk)
+    → HasFetched b old mid plane sprite → ask ≡ ask_with side b plane sprite (kept_wish mid) (wish_shown mid.processor) (plain_chips mid)
+    → (c : Chips) → IsChipsOf old c → ask ≡ ask_at side b c
+ask_is_at side b ask old mid plane sprite fetched asks c is =
+    subst (λ x. ask ≡ ask_at side b x) (sym (same_chips old c is))
+    (ask_found side b ask mid plane sprite (chips_like old c) asks (found_by b old mid plane sprite c fetched is))
 
 pub has_asked : (b : Beam) (old mid : WorkingChips) (plane : Option PlaneAsk) (sprite : Option SpriteAsk)
     → HasFetched b old mid plane sprite → (c : Chips) → IsChipsOf old c → HasAsked b c mid
@@ -662,11 +730,11 @@ serves A.BlitRest b clx mid c memory word is same stands = is
 serves (A.Processor ask) b clx mid c memory word is same stands = is (fetched_chips b c) stands ∙ processor_serves ask b clx c memory same
 
 -- an answer to the clock's ask is the access
-answer_found : (b : Beam) (clx : ℕ) (memory : List ℕ) (mid new : WorkingChips) (made : Made) (c : Chips)
-    → HasAnswered b clx memory (ask_at S.Nothing b c) mid new made → HasAsked b c mid → HasAccessed b clx c memory made new
+answer_found : (side : SideAsk) (b : Beam) (clx : ℕ) (memory : List ℕ) (mid new : WorkingChips) (made : Made) (c : Chips) → IsInTime b side
+    → HasAnswered b clx memory (ask_at side b c) mid new made → HasAsked b c mid → HasAccessed side b clx c memory made new
 unfolding answer_chips
-answer_found b clx memory mid new made c answered asked =
-    let ask : Ask = ask_at S.Nothing b c in
+answer_found side b clx memory mid new made c time answered asked =
+    let ask : Ask = ask_at side b c in
     let is : IsChipsOf mid (fetched_chips b c) = asked.chips in
     let found : SameWords (fetched_registers b c) c.registers = same_words b c mid asked in
     let same : SameWords mid.registers c.registers = subst (λ r. SameWords r c.registers) is.registers found in
@@ -696,26 +764,26 @@ answer_found b clx memory mid new made c answered asked =
       inputs = is.inputs;
     } in
     let owner : with_others (units_now b c) (kinds_now b c) copper missed (answer_owner b ask word c) ≡ after_owner ask word after =
-    owner_is b ask word c (fetched_registers b c) (units_now b c) (kinds_now b c) copper missed (registers_is b c asked.begun) in
+    owner_is b ask word c (fetched_registers b c) (units_now b c) (kinds_now b c) copper missed (registers_is side b c time asked.begun) in
     record {
       makes = answered.makes
           ∙ ap (λ act. made_with ask answered.word act) (act_same b ask answered.word (plain_chips mid) c same (sym is.copper))
-          ∙ sym (made-act b answered.word c)
+          ∙ sym (made-act side b answered.word c)
           ∙ made_by_answer ask b clx c memory answered.word answer;
       chips = subst (λ x. IsChipsOf new x) (after_by_answer ask b clx c memory answered.word after answer ∙ sym owner)
           (owner_answered ask answered.word (answering b ask answered.word mid) new after answered.owner stands);
     }
 
 pub answer_is : (b : Beam) (clx : ℕ) (memory : List ℕ) (ask : Ask) (mid new : WorkingChips) (made : Made)
-    → HasAnswered b clx memory ask mid new made → (c : Chips) → HasAsked b c mid → ask ≡ ask_at S.Nothing b c
-    → HasAccessed b clx c memory made new
-answer_is b clx memory ask mid new made answered c asked same =
-    answer_found b clx memory mid new made c (subst (λ a. HasAnswered b clx memory a mid new made) same answered) asked
+    → HasAnswered b clx memory ask mid new made → (side : SideAsk) (c : Chips) → IsInTime b side → HasAsked b c mid
+    → ask ≡ ask_at side b c → HasAccessed side b clx c memory made new
+answer_is b clx memory ask mid new made answered side c time asked same =
+    answer_found side b clx memory mid new made c time (subst (λ a. HasAnswered b clx memory a mid new made) same answered) asked
 
 -- the loop can do what an ask makes
 pub can_make : (ask : Ask) (word : ℕ) (act : CopperAct) → CanAsk ask → CanDo (made_with ask word act)
 can_make A.Free word act can = act_can act
-can_make (A.Disk at stored) word act can = act_can act
+can_make (A.Disk at stored) word act can = tt
 can_make (A.Audio channel at) word act can = act_can act
 can_make (A.Plane plane at) word act can = can
 can_make (A.SpriteControl sprite second at) word act can = tt
@@ -726,47 +794,52 @@ can_make (A.BlitWrite at stored) word act can = tt
 can_make A.BlitRest word act can = act_can act
 can_make (A.Processor ask) word act can = processor_can ask
 
+side_can : (side : SideAsk) → CanAsk (side_ask side)
+side_can S.Nothing = tt
+side_can (S.Disk at stored) = tt
+side_can (S.Audio channel at) = tt
+
 -- and a plane that is fetched is one of six, a sprite one of eight
-with_can : (owner : Owner) (found : Option ℕ) (asked : Option SpriteAsk) (wish : Option Addr) (blit : Option SlotAsk)
+with_can : (owner : Owner) (side : SideAsk) (found : Option ℕ) (asked : Option SpriteAsk) (wish : Option Addr) (blit : Option SlotAsk)
     (processor : Option ProcessorAsk) (registers : List ℕ) (h : ℕ) → IfSome found (IsFetch h) → IfSome asked (λ ask. asking_sprite ask ≤ 7)
     → CanAsk (owner_ask owner (record {
-      side = S.Nothing;
+      side = side;
       plane = option_map (λ plane. ask_for_plane registers plane) found;
       sprite = asked;
       copper = wish;
       blit = blit;
       processor = processor;
     }))
-with_can Refresh found asked wish blit processor registers h within few = tt
-with_can Disk found asked wish blit processor registers h within few = tt
-with_can (Audio channel) found asked wish blit processor registers h within few = tt
-with_can (Plane plane) None asked wish blit processor registers h within few = tt
-with_can (Plane plane) (Some number) asked wish blit processor registers h within few = record { first = within.first; last = within.most }
-with_can (Sprite sprite) found None wish blit processor registers h within few = tt
-with_can (Sprite sprite) found (Some (Control number second at)) wish blit processor registers h within few = few
-with_can (Sprite sprite) found (Some (Words number second at)) wish blit processor registers h within few = few
-with_can Copper found asked None blit processor registers h within few = tt
-with_can Copper found asked (Some at) blit processor registers h within few = tt
-with_can Blitter found asked wish None processor registers h within few = tt
-with_can Blitter found asked wish (Some (Read at)) processor registers h within few = tt
-with_can Blitter found asked wish (Some (Write at stored)) processor registers h within few = tt
-with_can Blitter found asked wish (Some Rest) processor registers h within few = tt
-with_can Blitter found asked wish (Some Done) processor registers h within few = tt
-with_can Processor found asked wish blit None registers h within few = tt
-with_can Processor found asked wish blit (Some ask) registers h within few = tt
-with_can Free found asked wish blit processor registers h within few = tt
+with_can Refresh side found asked wish blit processor registers h within few = tt
+with_can Disk side found asked wish blit processor registers h within few = side_can side
+with_can (Audio channel) side found asked wish blit processor registers h within few = side_can side
+with_can (Plane plane) side None asked wish blit processor registers h within few = tt
+with_can (Plane plane) side (Some number) asked wish blit processor registers h within few = record { first = within.first; last = within.most }
+with_can (Sprite sprite) side found None wish blit processor registers h within few = tt
+with_can (Sprite sprite) side found (Some (Control number second at)) wish blit processor registers h within few = few
+with_can (Sprite sprite) side found (Some (Words number second at)) wish blit processor registers h within few = few
+with_can Copper side found asked None blit processor registers h within few = tt
+with_can Copper side found asked (Some at) blit processor registers h within few = tt
+with_can Blitter side found asked wish None processor registers h within few = tt
+with_can Blitter side found asked wish (Some (Read at)) processor registers h within few = tt
+with_can Blitter side found asked wish (Some (Write at stored)) processor registers h within few = tt
+with_can Blitter side found asked wish (Some Rest) processor registers h within few = tt
+with_can Blitter side found asked wish (Some Done) processor registers h within few = tt
+with_can Processor side found asked wish blit None registers h within few = tt
+with_can Processor side found asked wish blit (Some ask) registers h within few = tt
+with_can Free side found asked wish blit processor registers h within few = tt
 
-pub ask_can : (b : Beam) (ask : Ask) (old mid : WorkingChips) (plane : Option PlaneAsk) (sprite : Option SpriteAsk)
-    → HasFetched b old mid plane sprite → ask ≡ ask_with b plane sprite (kept_wish mid) (wish_shown mid.processor) (plain_chips mid)
+pub ask_can : (side : SideAsk) (b : Beam) (ask : Ask) (old mid : WorkingChips) (plane : Option PlaneAsk) (sprite : Option SpriteAsk)
+    → HasFetched b old mid plane sprite → ask ≡ ask_with side b plane sprite (kept_wish mid) (wish_shown mid.processor) (plain_chips mid)
     → CanAsk ask
 unfolding ask_with
-ask_can b ask old mid plane sprite fetched asks =
+ask_can side b ask old mid plane sprite fetched asks =
     let found : Option ℕ = fetched_plane b.h old.registers mid.last in
     let within : IfSome found (IsFetch b.h) = fetched_plane-is b.h old.registers mid.last fetched.begun in
     let few : IfSome sprite (λ ask. asking_sprite ask ≤ 7) =
     subst (λ a. IfSome a (λ ask. asking_sprite ask ≤ 7)) (sym fetched.sprite_ask)
     (sprite_ask-few b.h (move_planes b.h mid.last old.registers) mid.kinds (is_some plane)) in
-    let w : Wishes = wishes_with b plane sprite (kept_wish mid) (wish_shown mid.processor) (plain_chips mid) in
+    let w : Wishes = wishes_with side b plane sprite (kept_wish mid) (wish_shown mid.processor) (plain_chips mid) in
     subst CanAsk
     (sym (asks ∙ ap (λ p. owner_ask (owner_of (slot_state b (plain_chips mid) w)) (record w { plane = p })) fetched.plane_ask))
-    (with_can (owner_of (slot_state b (plain_chips mid) w)) found sprite w.copper (kept_wish mid) w.processor old.registers b.h within few)
+    (with_can (owner_of (slot_state b (plain_chips mid) w)) side found sprite w.copper (kept_wish mid) w.processor old.registers b.h within few)

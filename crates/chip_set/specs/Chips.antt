@@ -15,7 +15,7 @@ use Rattle.serial_model.specs.declared.bus.Half.TheVariants.{Both}
 use Rattle.serial_model.specs.declared.bus.Made.{Made}
 use Rattle.serial_model.specs.declared.bus.Made.TheVariants as M
 use Rattle.serial_model.specs.declared.bus.ProcessorAsk.{ProcessorAsk}
-use Rattle.serial_model.specs.declared.bus.SideAsk.TheVariants as S
+use Rattle.serial_model.specs.declared.bus.SideAsk.{SideAsk}
 use Rattle.serial_model.specs.declared.copper.CopperAct.{CopperAct}
 use Rattle.serial_model.specs.declared.copper.CopperAct.TheVariants.{None as NoAct}
 use Rattle.serial_model.specs.declared.copper.CopperState.{CopperState}
@@ -24,6 +24,7 @@ use Rattle.serial_model.specs.declared.fetch.SpriteAsk.{SpriteAsk}
 use Rattle.serial_model.specs.declared.fetch.SpriteKind.{SpriteKind}
 use Rattle.serial_model.specs.declared.registers.Inputs.{Inputs}
 use Rattle.mem_versions.specs.Chip.{ChipValue, after_reads}
+use Rattle.serial_bands.specs.BusReads.{reads_of_processor}
 use Rattle.serial_model.specs.Bus.{Wishes, copper_wish, plane_wish, units_now, kinds_now, slot_state, owner_ask, copper_runs, copper_word, copper_after, missed_after, ask_at, answer_processor, answer_to, answer_chips, give_blit, give_chips, end_blit, made_by_copper, made_by_processor, made_by_ask, control_register}
 use Rattle.serial_model.specs.BlitRegisters.{blit_start}
 use Rattle.irq_cia.specs.Interrupts.{Interrupts}
@@ -98,14 +99,14 @@ plain_chips now = record {
 abbrev pub kept_wish : WorkingChips → Option SlotAsk
 kept_wish now = if blitter_dma now.registers then option_map slot_shown now.blit else None
 
--- the ask of a clock at which planes, sprites, the blitter and the processor ask for this
-abbrev pub wishes_with : Beam → Option PlaneAsk → Option SpriteAsk → Option SlotAsk → Option ProcessorAsk → Chips → Wishes
-wishes_with b plane sprite blit processor c =
-    record { side = S.Nothing; plane = plane; sprite = sprite; copper = copper_wish b c; blit = blit; processor = processor }
+-- the ask of a clock at which the side, planes, sprites, the blitter and the processor ask for this
+abbrev pub wishes_with : SideAsk → Beam → Option PlaneAsk → Option SpriteAsk → Option SlotAsk → Option ProcessorAsk → Chips → Wishes
+wishes_with side b plane sprite blit processor c =
+    record { side = side; plane = plane; sprite = sprite; copper = copper_wish b c; blit = blit; processor = processor }
 
-unfoldable pub ask_with : Beam → Option PlaneAsk → Option SpriteAsk → Option SlotAsk → Option ProcessorAsk → Chips → Ask
-ask_with b plane sprite blit processor c =
-    owner_ask (owner_of (slot_state b c (wishes_with b plane sprite blit processor c))) (wishes_with b plane sprite blit processor c)
+unfoldable pub ask_with : SideAsk → Beam → Option PlaneAsk → Option SpriteAsk → Option SlotAsk → Option ProcessorAsk → Chips → Ask
+ask_with side b plane sprite blit processor c =
+    owner_ask (owner_of (slot_state b c (wishes_with side b plane sprite blit processor c))) (wishes_with side b plane sprite blit processor c)
 
 -- an ask of the blitter is what the blit asks for
 abbrev pub IsBlitAsk : Ask → Option SlotAsk → Type 0
@@ -166,13 +167,13 @@ act_at b ask word c =
     if copper_runs b c then copper_act (is_danger c.registers) (copper_word ask word) c.copper else NoAct
 
 -- what the access makes, with the word that answers it: a fetch fills a latch or a sprite's data, or writes a sprite's
--- control word, a blit stores its word, and else it is what the Copper's step makes
+-- control word, the disk or a blit stores its word, and else it is what the Copper's step makes
 abbrev pub made_with : Ask → ℕ → CopperAct → Made
 made_with (A.Plane plane at) word act = M.Plane plane at
 made_with (A.SpriteControl sprite second at) word act = M.Wrote (control_register sprite second) word None
 made_with (A.SpriteWords sprite second at) word act = M.Sprite sprite second at
 made_with A.Free word act = made_by_copper act
-made_with (A.Disk at stored) word act = made_by_copper act
+made_with (A.Disk at stored) word act = M.Stored at Both stored
 made_with (A.Audio channel at) word act = made_by_copper act
 made_with (A.Copper at) word act = made_by_copper act
 made_with (A.BlitRead at) word act = made_by_copper act
@@ -198,6 +199,20 @@ IsAnswer (A.BlitWrite at stored) b clx now memory word = word ≡ 0
 IsAnswer A.BlitRest b clx now memory word = word ≡ 0
 IsAnswer (A.Processor ask) b clx now memory word = IsRead ask b clx now memory word
 
+-- how many words of chip memory the chips read with an ask: the word of a sample is read by whoever gives it to the side
+abbrev pub reads_by_chips : Ask → ℕ
+reads_by_chips A.Free = 0
+reads_by_chips (A.Disk at stored) = 0
+reads_by_chips (A.Audio channel at) = 0
+reads_by_chips (A.Plane plane at) = 0
+reads_by_chips (A.SpriteControl sprite second at) = 1
+reads_by_chips (A.SpriteWords sprite second at) = 0
+reads_by_chips (A.Copper at) = 1
+reads_by_chips (A.BlitRead at) = 1
+reads_by_chips (A.BlitWrite at stored) = 0
+reads_by_chips A.BlitRest = 0
+reads_by_chips (A.Processor ask) = reads_of_processor ask
+
 -- the memory once so many words were read, which counts
 abbrev pub read_by : ℕ → ChipValue → ChipValue
 read_by count chip = if count == 0 then chip else after_reads chip count
@@ -216,10 +231,10 @@ pub record HasAsked (b : Beam) (c : Chips) (now : WorkingChips) : Type 0 where
   pub begun : IsLastUnit (last_unit (units_now b c))
   pub chips : IsChipsOf now (fetched_chips b c)
 
--- the access of a clock was made: this is what it makes, and the chips have their answers
-pub record HasAccessed (b : Beam) (clx : ℕ) (c : Chips) (memory : List ℕ) (made : Made) (new : WorkingChips) : Type 0 where
-  pub makes : made ≡ made_by_ask (ask_at S.Nothing b c) (answer_to (ask_at S.Nothing b c) b clx c memory) c
-  pub chips : IsChipsOf new (answer_chips b (ask_at S.Nothing b c) (answer_to (ask_at S.Nothing b c) b clx c memory) c)
+-- the access of a clock at which the side asks for this was made: this is what it makes, and the chips have their answers
+pub record HasAccessed (side : SideAsk) (b : Beam) (clx : ℕ) (c : Chips) (memory : List ℕ) (made : Made) (new : WorkingChips) : Type 0 where
+  pub makes : made ≡ made_by_ask (ask_at side b c) (answer_to (ask_at side b c) b clx c memory) c
+  pub chips : IsChipsOf new (answer_chips b (ask_at side b c) (answer_to (ask_at side b c) b clx c memory) c)
 
 -- there are six planes, 1 to 6, and eight sprites, 0 to 7
 pub record IsPlane (plane : ℕ) : Type 0 where

@@ -88,14 +88,13 @@ pub fn made_by(ask: &Ask, word: u16, act: &CopperAct) -> Made
             second: *second,
             at: *at,
         },
-        Ask::BlitWrite { at, word } => Made::Stored {
+        Ask::Disk { at, word } | Ask::BlitWrite { at, word } => Made::Stored {
             at: *at,
             half: Half::Both,
             word: *word,
         },
         Ask::Processor { ask } => made_by_processor(ask),
         Ask::Free
-        | Ask::Disk { .. }
         | Ask::Audio { .. }
         | Ask::Copper { .. }
         | Ask::BlitRead { .. }

@@ -3,17 +3,18 @@
 
 ghost use Rattle.std.specs.Prelude.{◌≡◌, Some, is_some};
 ghost use Rattle.serial_model.specs.State.{Chips as ChipsOf};
-ghost use Rattle.serial_model.specs.Registers.{is_interlaced as interlaced, is_danger as danger, blitter_first, blitter_dma, effect_of, word_at};
+ghost use Rattle.serial_model.specs.Registers.{is_interlaced as interlaced, is_danger as danger, blitter_first, blitter_dma, dmacon_of, effect_of, word_at};
 ghost use Rattle.serial_model.specs.Bus.{copper_runs as runs, copper_wish as wish_of, copper_word as word_to_copper};
 ghost use Rattle.serial_model.specs.Bus.{copper_after, blit_owner_ask, missed_after, ask_at};
+ghost use Rattle.serial_model.specs.Side.{IsInTime};
 ghost use Rattle.serial_model.specs.declared.bus.SideAsk.{SideAsk};
-ghost use Rattle.serial_bands.specs.BusReads.{reads_of_ask, reads_of_processor};
+ghost use Rattle.serial_bands.specs.BusReads.{reads_of_processor};
 ghost use Rattle.serial_model.specs.State.{read_word, live_words, zero_of};
 ghost use Rattle.serial_model.specs.Write.{write_chips, carry_effect, restart_copper, start_blit as start_blit_of, write_interrupts as write_interrupts_of};
 ghost use Rattle.serial_model.specs.Tick.{start_chips};
 ghost use Rattle.serial_model.specs.Events.{tell_chips, with_joy, with_fire};
 ghost use Rattle.cpu_bus.specs.Bus.{wish_shown};
-ghost use Rattle.chip_set.specs.Chips.{IsChipsOf, HasAsked, HasAccessed, CanAsk, CanDo, plain_chips, kept_wish, ask_with, act_at, IsAnswer, IsRead, read_by};
+ghost use Rattle.chip_set.specs.Chips.{IsChipsOf, HasAsked, HasAccessed, CanAsk, CanDo, plain_chips, kept_wish, ask_with, act_at, IsAnswer, IsRead, reads_by_chips, read_by};
 ghost use Rattle.chip_set.specs.Chips.{IsBlitAsk, AnswersOwner, answering, made_with, GivesBlit, GivesProcessor, IsGoing, end_if_blit};
 
 use crate::asks::{copper_word, made_by, plane_ask, processor_ask, slot_ask, sprite_ask};
@@ -28,7 +29,7 @@ use irq_cia::{Cia, Irq};
 use mem_versions::Chip;
 use ocs_base::{Act, Addr, Beam, Reg};
 use reg_file::{Effect, Live, Regs};
-use serial_model::{Ask, CopperAct, Inputs, Made, ProcessorAsk, SpriteAsk};
+use serial_model::{Ask, CopperAct, Inputs, Made, ProcessorAsk, SideAsk, SpriteAsk};
 use sprite_dma::SpriteDma;
 use std::marker::Model;
 
@@ -144,6 +145,14 @@ impl Chips {
         ensures { result.now ≡ self.now.registers }
     {
         &self.registers
+    }
+
+    /// The kept word of DMACON.
+    #[inline(always)]
+    pub fn dmacon(&self) -> u16
+        ensures { result ≡ dmacon_of self.now.registers }
+    {
+        self.registers.word(Reg::masked(DMACON))
     }
 
     /// Whether LACE is set.
@@ -289,11 +298,14 @@ impl Chips {
         }
     }
 
-    /// What the owner of this clock's slot asks for. The fetches of bitplanes and sprites are done with it: where one has
-    /// the slot, its pointer has moved. `answer` is to be called next, with nothing changed here in between.
+    /// What the owner of this clock's slot asks for. `side` is what the side asks for: a disk asks at clocks 7, 9 and
+    /// 11 of a line alone, and audio's channel c, 0 to 3, at clock 13 + 2c alone; the slot is its own where it asks.
+    /// The fetches of bitplanes and sprites are done with it: where one has the slot, its pointer has moved. `answer`
+    /// is to be called next, with nothing changed here in between.
     #[inline(always)]
-    pub fn ask(&mut self, beam: &Beam) -> Ask
-        ensures ask { (c : ChipsOf) → IsChipsOf self.old c → result ≡ ask_at SideAsk.Nothing beam.now c }
+    pub fn ask(&mut self, beam: &Beam, side: SideAsk) -> Ask
+        requires time { IsInTime beam.now side }
+        ensures ask { (c : ChipsOf) → IsChipsOf self.old c → result ≡ ask_at side beam.now c }
         ensures chips { (c : ChipsOf) → IsChipsOf self.old c → HasAsked beam.now c self.new }
         ensures able { CanAsk result }
         ensures wish { IsBlitAsk result (kept_wish self.new) }
@@ -302,22 +314,23 @@ impl Chips {
         let sprite = self
             .sprites
             .step(beam, &mut self.registers, plane.is_some());
-        self.owner_ask(beam, plane, sprite)
+        self.owner_ask(beam, side, plane, sprite)
     }
 
     /// The access of this clock, by what `ask` said of it: the owner of the slot has its word, and each chip its answer.
     /// The answer is what the access makes: a write by Copper or processor, or of a sprite's control word, a word that is
     /// stored, a word for a plane's latch or a sprite's image, a read of CLXDAT, or nothing. The words for planes and
-    /// images are not read here. `clx` has the collision bits gathered up to now; only a read of CLXDAT looks at them.
+    /// images and those of samples are not read here. `clx` has the collision bits gathered up to now; only a read of
+    /// CLXDAT looks at them.
     #[inline(always)]
     pub fn answer(&mut self, ask: &Ask, beam: &Beam, clx: u16, chip: &mut Chip) -> Made
         requires able { CanAsk ask.now }
         requires wish { IsBlitAsk ask.now (kept_wish self.old) }
-        ensures access { (c : ChipsOf) → HasAsked beam.now c self.old
-            → ask.now ≡ ask_at SideAsk.Nothing beam.now c
-            → HasAccessed beam.now clx c chip.old.words result self.new }
+        ensures access { (side : SideAsk) (c : ChipsOf) → IsInTime beam.now side
+            → HasAsked beam.now c self.old → ask.now ≡ ask_at side beam.now c
+            → HasAccessed side beam.now clx c chip.old.words result self.new }
         ensures able { CanDo result }
-        ensures reads { chip.new ≡ read_by (reads_of_ask ask.now) chip.old }
+        ensures reads { chip.new ≡ read_by (reads_by_chips ask.now) chip.old }
     {
         if let Ask::Free = ask {
             return self.answer_with(&Ask::Free, beam, 0);
@@ -334,11 +347,11 @@ impl Chips {
     fn answer_owner_of(&mut self, ask: Ask, beam: &Beam, clx: u16, chip: &mut Chip) -> Made
         requires able { CanAsk ask }
         requires wish { IsBlitAsk ask (kept_wish self.old) }
-        ensures access { (c : ChipsOf) → HasAsked beam.now c self.old
-            → ask ≡ ask_at SideAsk.Nothing beam.now c
-            → HasAccessed beam.now clx c chip.old.words result self.new }
+        ensures access { (side : SideAsk) (c : ChipsOf) → IsInTime beam.now side
+            → HasAsked beam.now c self.old → ask ≡ ask_at side beam.now c
+            → HasAccessed side beam.now clx c chip.old.words result self.new }
         ensures able { CanDo result }
-        ensures reads { chip.new ≡ read_by (reads_of_ask ask) chip.old }
+        ensures reads { chip.new ≡ read_by (reads_by_chips ask) chip.old }
     {
         let word = self.fetch(&ask, beam, clx, chip);
         self.answer_with(&ask, beam, word)
@@ -358,12 +371,33 @@ impl Chips {
         made_by(ask, word, &act)
     }
 
-    /// What the owner of the slot asks for, where planes and sprites ask for this. The word that a blit writes is
-    /// worked out only where it has the slot.
+    /// What the owner of the slot asks for, where the side, planes and sprites ask for this: in its time a side has the
+    /// slot for which it asks.
+    #[inline(always)]
+    fn owner_ask(
+        &self,
+        beam: &Beam,
+        side: SideAsk,
+        plane: Option<PlaneAsk>,
+        sprite: Option<SpriteAsk>,
+    ) -> Ask
+        requires { IsInTime beam.now side }
+        ensures { result ≡ ask_with side beam.now plane sprite (kept_wish self.now)
+            (wish_shown self.now.processor) (plain_chips self.now) }
+    {
+        match side {
+            SideAsk::Nothing => self.chips_ask(beam, plane, sprite),
+            SideAsk::Disk { at, word } => Ask::Disk { at, word },
+            SideAsk::Audio { channel, at } => Ask::Audio { channel, at },
+        }
+    }
+
+    /// What the owner of a slot asks for, for which the side does not ask, where planes and sprites ask for this. The
+    /// word that a blit writes is worked out only where it has the slot.
     #[inline(always)]
     #[tactic(auto, unfolding(crate::specs::Chips::ask_with, serial_model::specs::Owner::owner_of))]
-    fn owner_ask(&self, beam: &Beam, plane: Option<PlaneAsk>, sprite: Option<SpriteAsk>) -> Ask
-        ensures { result ≡ ask_with beam.now plane sprite (kept_wish self.now)
+    fn chips_ask(&self, beam: &Beam, plane: Option<PlaneAsk>, sprite: Option<SpriteAsk>) -> Ask
+        ensures { result ≡ ask_with SideAsk.Nothing beam.now plane sprite (kept_wish self.now)
             (wish_shown self.now.processor) (plain_chips self.now) }
     {
         if plane.is_none() && sprite.is_none() {
@@ -378,11 +412,11 @@ impl Chips {
         }
     }
 
-    /// What the owner of a slot asks for in which neither a plane nor a sprite asks.
+    /// What the owner of a slot asks for in which neither the side nor a plane nor a sprite asks.
     #[inline(always)]
     #[tactic(auto, unfolding(crate::specs::Chips::ask_with, serial_model::specs::Owner::owner_of))]
     fn late_ask(&self, beam: &Beam) -> Ask
-        ensures { result ≡ ask_with beam.now None None (kept_wish self.now)
+        ensures { result ≡ ask_with SideAsk.Nothing beam.now None None (kept_wish self.now)
             (wish_shown self.now.processor) (plain_chips self.now) }
     {
         if let Some(at) = self.copper_wish(beam) {
@@ -405,8 +439,8 @@ impl Chips {
     #[tactic(auto, unfolding(crate::specs::Chips::ask_with))]
     fn last_ask(&self, beam: &Beam, processor: Option<ProcessorAsk>) -> Ask
         requires { wish_of beam.now (plain_chips self.now) ≡ None }
-        ensures { result ≡ ask_with beam.now None None (kept_wish self.now) processor
-            (plain_chips self.now) }
+        ensures { result ≡ ask_with SideAsk.Nothing beam.now None None (kept_wish self.now)
+            processor (plain_chips self.now) }
     {
         let slot = SlotState {
             h: beam.h,
@@ -430,7 +464,7 @@ impl Chips {
     /// The word that answers the access of this clock; 0 where nothing is read, or no chip looks at the word.
     fn fetch(&self, ask: &Ask, beam: &Beam, clx: u16, chip: &mut Chip) -> u16
         ensures word { IsAnswer ask.now beam.now clx self.now chip.old.words result }
-        ensures reads { chip.new ≡ read_by (reads_of_ask ask.now) chip.old }
+        ensures reads { chip.new ≡ read_by (reads_by_chips ask.now) chip.old }
     {
         match ask {
             Ask::Copper { at } | Ask::SpriteControl { at, .. } | Ask::BlitRead { at } => {

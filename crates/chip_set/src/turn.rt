@@ -22,17 +22,17 @@ const FIRE0: u8 = 0x40;
 const FIRE1: u8 = 0x80;
 
 impl Chips {
-    /// At each fifth clock since reset the timers of both CIAs tick; and at every clock a CIA whose line is active
-    /// requests its interrupt. `t` is the number of the clock.
+    /// At each fifth clock since reset the timers of both CIAs tick. At every clock the side requests its interrupts,
+    /// `bits`, as bits of INTREQ, and a CIA whose line is active its own. `t` is the number of the clock.
     #[inline(always)]
     #[tactic(auto, unfolding(serial_model::specs::Cias::time_chips))]
-    pub fn count_timers(&mut self, t: u64)
-        ensures { (c : ChipsOf) → IsChipsOf self.old c → IsChipsOf self.new (time_chips 0 t c) }
+    pub fn count_timers(&mut self, t: u64, bits: u16)
+        ensures { (c : ChipsOf) → IsChipsOf self.old c → IsChipsOf self.new (time_chips bits t c) }
     {
         self.tick_timers(t);
-        if self.has_line() {
-            let bits = self.line_bits();
-            self.irq.request(bits);
+        if bits != 0 || self.has_line() {
+            let lines = self.line_bits();
+            self.irq.request(bits | lines);
         }
     }
 

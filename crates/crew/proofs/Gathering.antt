@@ -1,13 +1,15 @@
--- What a crew does with its outstanding bands: it is seen as a raster through the view of its front.
-use Rattle.std.proofs.Common.{◌≡◌, ◌≢◌, ℕ, zero, suc, ◌+◌, ◌-◌, ◌<◌, ◌≤◌, List, [], ◌∷◌, ◌++◌, length, drop, Option, Some, None}
+-- What a crew does with its outstanding bands: it is seen as a raster through the view of its front. `seen` tells what a side does.
+use Rattle.std.proofs.Common.{◌≡◌, ◌≢◌, ℕ, zero, suc, ◌+◌, ◌-◌, ◌<◌, ◌≤◌, List, [], ◌∷◌, ◌++◌, length, drop, Option, Some, None, option_map}
 use Rattle.std.proofs.Common.{sym, ap, ◌∙◌, refl, subst, arith}
 use Rattle.atomic_table.specs.Seated.{TableId}
-use Rattle.serial_bands.specs.Run.{RunValue}
+use Rattle.std.proofs.lemmas.Option.{none-some}
+use Rattle.serial_model.specs.Side.{SideValue}
+use Rattle.serial_bands.specs.Run.{RunOf, RunValue, run_over}
 use Rattle.band_log.specs.declared.job.Drawn.{Drawn}
 use Rattle.band_log.specs.Raster.{Outstanding, Takes, with_submitted, without_first, IsRightForFirst}
 use Rattle.band_board.specs.declared.view.View.{View}
 use Rattle.band_board.specs.View.{after_offer}
-use Rattle.crew.specs.Parts.{run_bands, bands_of, seen_of, GathersFirst}
+use Rattle.crew.specs.Parts.{run_bands, bands_of, outstanding_of, seen_of, GathersFirst}
 
 length-run_bands : (run : RunValue) (from n : ℕ) → length (run_bands run from n) ≡ n
 length-run_bands run from zero = refl
@@ -21,16 +23,16 @@ run_bands-more run from (suc n) =
     (run_bands-more run (suc from) n ∙ ap (λ m. run_bands run (suc from) n ++ record { run = run; number = m } ∷ []) shifted)
 
 -- how many bands are outstanding
-pub length-bands_of : (run : Option RunValue) (from n : ℕ) → run ≢ None → length (bands_of run from n) ≡ n
+length-bands_of : (run : Option RunValue) (from n : ℕ) → run ≢ None → length (bands_of run from n) ≡ n
 length-bands_of None from n is = absurd (is refl)
 length-bands_of (Some run) from n is = length-run_bands run from n
 
 -- there is one where they are counted
-pub some_outstanding : (run : Option RunValue) (c p : ℕ) → run ≢ None → 0 < length (bands_of run c (p - c)) → c < p
+some_outstanding : (run : Option RunValue) (c p : ℕ) → run ≢ None → 0 < length (bands_of run c (p - c)) → c < p
 some_outstanding run c p is some = let count = length-bands_of run c (p - c) is in omega arith
 
 -- a crew that takes bands of a run is bound to it
-pub takes_bound : (run : Option RunValue) (q : RunValue) → run ≢ None → Takes run q → run ≡ Some q
+takes_bound : (run : Option RunValue) (q : RunValue) → run ≢ None → Takes run q → run ≡ Some q
 takes_bound None q is takes = absurd (is refl)
 takes_bound (Some run) q is takes = ap (λ (r : RunValue). Some r) takes
 
@@ -49,27 +51,46 @@ bands_of-first (Some run) c p is some =
     let next : ◌≡◌ {A = ℕ} (c + 1) (suc c) = omega arith in
     ap (λ m. run_bands run m (p - (c + 1))) next ∙ sym (ap (λ m. drop 1 (run_bands run c m)) count)
 
--- a front that has offered a band of its run is seen as a raster to which it was submitted
-pub seen-offer : (z : TableId) (v w : View RunValue) (q : RunValue) (n : ℕ) → v.run ≡ Some q → v.collected ≤ v.published → n ≡ v.published
-    → w ≡ after_offer v → seen_of z w ≡ with_submitted q n (seen_of z v)
-seen-offer z v w q n is behind next same =
-    ap (seen_of z) same
-    ∙ ap (λ (bands : List Outstanding). record (seen_of z v) { outstanding = bands; next = v.published + 1 })
-    (bands_of-more v.run q v.collected v.published is behind)
-    ∙ ap (λ m. with_submitted q m (seen_of z v)) (sym next)
+module _ {S : Type 0} (seen : S → SideValue) where
+  -- where there is a run, there is one with what its side does
+  some_over : (run : Option (RunOf S)) → run ≢ None → option_map (run_over seen) run ≢ None
+  some_over None is = absurd (is refl)
+  some_over (Some run) is = λ none. none-some _ (sym none)
 
--- one that has collected a band is seen as one from which the first was taken away
-pub seen-gather : (z : TableId) (v w : View RunValue) (drawn : Drawn) → v.run ≢ None → v.collected < v.published → GathersFirst v w drawn
-    → seen_of z w ≡ without_first (seen_of z v)
-seen-gather z v w drawn is some gathered =
-    ap (seen_of z) gathered.view
-    ∙ ap (λ (bands : List Outstanding). record (seen_of z v) { outstanding = bands }) (bands_of-first v.run v.collected v.published is some)
+  -- how many bands a front has outstanding
+  pub length-outstanding : (v : View (RunOf S)) → v.run ≢ None → length (outstanding_of seen v) ≡ v.published - v.collected
+  length-outstanding v is =
+      length-bands_of (option_map (run_over seen) v.run) v.collected (v.published - v.collected) (some_over v.run is)
 
--- and what it got is right for that first band
-pub right-gather : (v w : View RunValue) (drawn : Drawn) → v.collected < v.published → GathersFirst v w drawn
-    → IsRightForFirst 0 (bands_of v.run v.collected (v.published - v.collected)) drawn
-right-gather v w drawn some gathered =
-    let right = gathered.right in
-    let count : ◌≡◌ {A = ℕ} (v.published - v.collected) (suc (v.published - (v.collected + 1))) = omega arith in
-    subst (λ (o : Option RunValue). IsRightForFirst 0 (bands_of o v.collected (v.published - v.collected)) drawn) (sym right.1)
-    (subst (λ m. IsRightForFirst 0 (run_bands right.0 v.collected m) drawn) (sym count) right.2)
+  -- a front that has offered a band of its run is seen as a raster to which it was submitted
+  pub seen-offer : (z : TableId) (v w : View (RunOf S)) (q : RunValue) (n : ℕ) → v.run ≢ None → Takes (option_map (run_over seen) v.run) q
+      → v.collected ≤ v.published → n ≡ v.published → w ≡ after_offer v → seen_of seen z w ≡ with_submitted q n (seen_of seen z v)
+  seen-offer z v w q n is takes behind next same =
+      let run = option_map (run_over seen) v.run in
+      let bound = takes_bound run q (some_over v.run is) takes in
+      ap (seen_of seen z) same
+      ∙ ap (λ (bands : List Outstanding). record (seen_of seen z v) { outstanding = bands; next = v.published + 1 })
+      (bands_of-more run q v.collected v.published bound behind)
+      ∙ ap (λ m. with_submitted q m (seen_of seen z v)) (sym next)
+
+  -- one that has collected a band is seen as one from which the first was taken away
+  pub seen-gather : (z : TableId) (v w : View (RunOf S)) (drawn : Drawn S) → v.run ≢ None → 0 < length (outstanding_of seen v)
+      → GathersFirst seen v w drawn → seen_of seen z w ≡ without_first (seen_of seen z v)
+  seen-gather z v w drawn is some gathered =
+      let run = option_map (run_over seen) v.run in
+      let over = some_over v.run is in
+      ap (seen_of seen z) gathered.view
+      ∙ ap (λ (bands : List Outstanding). record (seen_of seen z v) { outstanding = bands })
+      (bands_of-first run v.collected v.published over (some_outstanding run v.collected v.published over some))
+
+  -- and what it got is right for that first band
+  pub right-gather : (v w : View (RunOf S)) (drawn : Drawn S) → v.run ≢ None → 0 < length (outstanding_of seen v)
+      → GathersFirst seen v w drawn → IsRightForFirst seen 0 (outstanding_of seen v) drawn
+  right-gather v w drawn is some gathered =
+      let right = gathered.right in
+      let left = some_outstanding (option_map (run_over seen) v.run) v.collected v.published (some_over v.run is) some in
+      let count : ◌≡◌ {A = ℕ} (v.published - v.collected) (suc (v.published - (v.collected + 1))) = omega arith in
+      subst
+      (λ (o : Option (RunOf S)). IsRightForFirst seen 0 (bands_of (option_map (run_over seen) o) v.collected (v.published - v.collected)) drawn)
+      (sym right.1)
+      (subst (λ m. IsRightForFirst seen 0 (run_bands (run_over seen right.0) v.collected m) drawn) (sym count) right.2)

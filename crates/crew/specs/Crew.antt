@@ -2,16 +2,22 @@
 use Rattle.std.specs.Prelude.{◌≡◌, ◌<◌, ◌^◌, [], Some}
 use Rattle.std.proofs.Common.{lit<}
 use Rattle.std.specs.Arc.{arc_value}
+use Rattle.serial_model.specs.Side.{SideValue, no_side}
+use Rattle.serial_model.specs.declared.side.NoSide.{NoSide}
 use Rattle.serial_bands.specs.Run.{RunValue}
 use Rattle.band_log.specs.Raster.{RasterValue}
 use Rattle.band_board.specs.Answers.{front_view}
 use Rattle.crew.specs.declared.crew.Crew.{Crew}
 use Rattle.crew.specs.Parts.{seen_of}
 
+-- what a side of a crew's runs does
+abbrev pub side_seen : NoSide → SideValue
+side_seen side = no_side
+
 module _ {R G : Type 0} where
   -- the crew as a raster
   abbrev pub crew_seen : Crew R G → RasterValue
-  crew_seen crew = seen_of (arc_value crew.board).table.shared.table_id (front_view crew.front)
+  crew_seen crew = seen_of side_seen (arc_value crew.board).table.shared.table_id (front_view crew.front)
 
   -- its tint is a byte
   pub crew_tint : (crew : Crew R G) → (crew_seen crew).tint < 2 ^ 8

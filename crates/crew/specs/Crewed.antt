@@ -22,7 +22,7 @@ abbrev pub IsStatic : RattleType → Type 0
 IsStatic R = (a : ℕ) → Mem a R.lives → Mem a []
 
 -- so many hands more were made, and nothing else changed
-abbrev pub HasHired : View RunValue → View RunValue → ℕ → Type 0
+abbrev pub HasHired : {R : Type 0} → View R → View R → ℕ → Type 0
 HasHired old new n = new ≡ record old { hands = old.hands + n }
 
 module _ {R G : Type 0} where

@@ -1,6 +1,5 @@
 -- How many bands the hands drew.
 use Rattle.std.specs.Prelude.{◌≡◌, ℕ, ◌+◌, ◌*◌, ◌^◌, ◌≤◌, List, length}
-use Rattle.serial_bands.specs.Run.{RunValue}
 use Rattle.band_board.specs.declared.view.View.{View}
 use Rattle.band_board.specs.View.{after_join}
 use Rattle.band_board.specs.Steps.{band_count, IsAllIn, HoldsEachOnce}
@@ -12,7 +11,7 @@ pub record IsCounted (by_hands : ℕ) (joined : List (ℕ × List ℕ)) : Type 0
 
 -- The totals of a front, which the hands of the workers have joined, and of the crew's own hand. Where every hand but that one was
 -- joined and nothing is outstanding, all lists together hold each published number once, and so the totals come to their number
-pub record AreTotals (front own : View RunValue) (by_hands by_front : ℕ) : Type 0 where
+pub record AreTotals {R : Type 0} (front own : View R) (by_hands by_front : ℕ) : Type 0 where
   pub workers : by_hands ≡ band_count front.joined
   pub crew : by_front ≡ length own.done
   pub once : IsAllIn (after_join front own) → HoldsEachOnce front.published (after_join front own).joined

@@ -1,24 +1,27 @@
 //! The raster over a board of bands.
 
-ghost use Rattle.std.specs.Prelude.{◌≡◌, ◌<◌, Some};
+ghost use Rattle.std.specs.Prelude.{◌≡◌, ◌<◌, length};
 ghost use Rattle.std.specs.Arc.{arc_value};
-ghost use Rattle.serial_bands.specs.Run.{RunValue};
+ghost use Rattle.serial_bands.specs.Run.{run_over};
+ghost use Rattle.band_log.specs.Right.{IsRightJob};
+ghost use Rattle.band_log.specs.Raster.{Takes, with_submitted, without_first, IsRightForFirst};
 ghost use Rattle.band_board.specs.Answers.{front_view, hand_view, IsFrontOf, IsFree};
 ghost use Rattle.crew.specs.Parts.{IsCrew, IsStart, IsSteady, GathersFirst};
 
-use crate::bands::Bands;
+use crate::bands::{Bands, CrewSide};
 use crate::closed::Closed;
 use crate::gate::Gate;
 use crate::hands::draw_one;
 use crate::pause::Pause;
 use band_board::{Board, Collected, Front, Hand};
 use band_log::{Drawn, Job, Raster};
+use serial_model::Side;
 use std::sync::{Arc, Wait};
 
-/// The raster of one run, whose bands the hands of a board draw on their threads. It shares the
-/// board and the gate by an `Arc` each and keeps a runtime of its own. Where the first outstanding
-/// band is not drawn when it is collected, the crew draws bands itself, on a hand of its own, or
-/// waits.
+/// The raster of one run over a `CrewSide`, whose bands the hands of a board draw on their threads.
+/// It shares the board and the gate by an `Arc` each and keeps a runtime of its own. Where the
+/// first outstanding band is not drawn when it is collected, the crew draws bands itself, on a hand
+/// of its own, or waits.
 ///
 /// Its mark names its board and the number of hands, and its tint is 0.
 #[derive(Drop)]
@@ -81,21 +84,36 @@ impl<R: Drop, G: Drop> Crew<R, G> {
     }
 }
 
-impl<R: Wait, G: Gate + Sync> Raster for Crew<R, G> {
+impl<R: Wait, G: Gate + Sync> Raster<CrewSide> for Crew<R, G> {
     ghost use Rattle.crew.specs.Crew.{crew_seen, crew_tint};
 
     ghost seen = { crew_seen };
 
     ghost tint_is_byte = { crew_tint };
 
-    fn submit(&mut self, job: Job) {
+    fn submit(&mut self, job: Job<CrewSide>)
+        requires few { length (crew_seen self.old).outstanding < 16 }
+        requires number { job.number ≡ (crew_seen self.old).next }
+        requires right { IsRightJob ⟦<CrewSide as Side>⟧.seen
+            (run_over ⟦<CrewSide as Side>⟧.seen (arc_value job.run)) job.number job }
+        requires bound { Takes (crew_seen self.old).bound
+            (run_over ⟦<CrewSide as Side>⟧.seen (arc_value job.run)) }
+        ensures { crew_seen self.new
+            ≡ with_submitted (run_over ⟦<CrewSide as Side>⟧.seen (arc_value job.run)) job.number
+            (crew_seen self.old) }
+    {
         let _good = job.run.script();
         let number = job.number;
         self.front.offer(&self.board, number, job);
         self.waiting += 1;
     }
 
-    fn collect(&mut self) -> Drawn {
+    fn collect(&mut self) -> Drawn<CrewSide>
+        requires { 0 < length (crew_seen self.old).outstanding }
+        ensures taken { crew_seen self.new ≡ without_first (crew_seen self.old) }
+        ensures right { IsRightForFirst ⟦<CrewSide as Side>⟧.seen (crew_seen self.old).tint
+            (crew_seen self.old).outstanding result }
+    {
         let drawn = gather(
             &self.rt,
             &self.board,
@@ -107,7 +125,9 @@ impl<R: Wait, G: Gate + Sync> Raster for Crew<R, G> {
         drawn
     }
 
-    fn outstanding(&self) -> usize {
+    fn outstanding(&self) -> usize
+        ensures { result ≡ length (crew_seen self.now).outstanding }
+    {
         self.waiting
     }
 }
@@ -120,13 +140,14 @@ fn gather<R: Wait, G: Gate>(
     front: &mut Front<Bands>,
     hand: &mut Hand<Bands>,
     gate: &G,
-) -> Drawn
+) -> Drawn<CrewSide>
     requires front { IsFrontOf board.now front.old }
     requires some { (front_view front.old).collected < (front_view front.old).published }
     requires hand { IsFree board.now hand.old }
     ensures front { IsFrontOf board.now front.new }
     ensures hand { IsFree board.now hand.new }
-    ensures first { GathersFirst (front_view front.old) (front_view front.new) result }
+    ensures first { GathersFirst ⟦<CrewSide as Side>⟧.seen (front_view front.old)
+        (front_view front.new) result }
 {
     let mut pause = Pause::new();
     for _ in rt.forever() {

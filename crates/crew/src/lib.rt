@@ -12,7 +12,7 @@ pub mod start;
 mod task;
 mod worker;
 
-pub use bands::Bands;
+pub use bands::{Bands, CrewSide};
 pub use closed::Totals;
 pub use crew::Crew;
 pub use gate::{Gate, NoGate};

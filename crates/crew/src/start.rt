@@ -2,10 +2,11 @@
 
 ghost use Rattle.std.specs.Prelude.{◌≡◌, ◌+◌, ◌≤◌, length, IfOk, OnErr};
 ghost use Rattle.std.specs.Arc.{arc_value};
+ghost use Rattle.serial_bands.specs.Run.{run_over};
 ghost use Rattle.band_board.specs.Answers.{front_view, IsFrontOf};
 ghost use Rattle.crew.specs.Crewed.{TakesCrew, TakesNewCrews, IsStatic, AreWorkersOf, HasHired, Ran, RanWithCrew};
 
-use crate::bands::Bands;
+use crate::bands::{Bands, CrewSide};
 use crate::closed::{Closed, Totals};
 use crate::crew::Crew;
 use crate::gate::Gate;
@@ -14,15 +15,16 @@ use crate::worker::{FreeHand, Worker};
 use band_board::{Board, Front};
 use band_log::Run;
 use ocs_base::OutOfMemory;
+use serial_model::Side;
 use std::alloc::Global;
 use std::snapshot::Snapshot;
 use std::sync::{Arc, Wait};
 use std::thread::Threads;
 
 /// Calls the body once, on a crew of the run with so many workers, each a hand on a thread of its
-/// own. It takes all its memory first. Then it starts the threads, calls the body on the caller's
-/// own thread, closes the board, also where the body's answer tells of an error, and joins the
-/// threads and then the hands. It may wait.
+/// own. The run is over a `CrewSide`. It takes all its memory first. Then it starts the threads,
+/// calls the body on the caller's own thread, closes the board, also where the body's answer tells
+/// of an error, and joins the threads and then the hands. It may wait.
 ///
 /// A worker for which no thread can be made changes no answer: its hand looks once the board is
 /// closed. After `OutOfMemory` the body was not called. Bands that the body left outstanding are
@@ -35,15 +37,16 @@ pub fn with_crew<
 >(
     rt: &R,
     alloc: Global,
-    run: Arc<Run>,
+    run: Arc<Run<CrewSide>>,
     workers: u8,
     gate: G,
     body: &mut F,
 ) -> Result<(T, Totals), OutOfMemory>
     requires workers { workers ≤ 32 }
-    requires body { TakesNewCrews F.FnMut body.old (arc_value run) }
-    ensures ran { IfOk result (λ ran. RanWithCrew F.FnMut body.old (arc_value run) workers ran.0
-        body.new ran.1) }
+    requires body { TakesNewCrews F.FnMut body.old
+        (run_over ⟦<CrewSide as Side>⟧.seen (arc_value run)) }
+    ensures ran { IfOk result (λ ran. RanWithCrew F.FnMut body.old
+        (run_over ⟦<CrewSide as Side>⟧.seen (arc_value run)) workers ran.0 body.new ran.1) }
     ensures unchanged { OnErr result (body.new ≡ body.old) }
 {
     let (board, mut front) = Board::new(alloc, run)?;

@@ -2,7 +2,7 @@
 
 ghost use Rattle.std.specs.Prelude.{◌≡◌};
 
-use crate::{Bands, Gate, NoGate, hand_loop, with_crew};
+use crate::{Bands, CrewSide, Gate, NoGate, hand_loop, with_crew};
 use band_board::Board;
 use band_log::{Raster, Run};
 use ocs_base::{OutOfMemory, Script};
@@ -11,14 +11,14 @@ use std::sync::Arc;
 use std::sync::atomic::{AtomicU64, Ordering};
 
 /// A run of two frames over eight bytes.
-fn small_run(alloc: Global) -> Result<Run, OutOfMemory> {
+fn small_run(alloc: Global) -> Result<Run<CrewSide>, OutOfMemory> {
     let mut image = Vec::new(alloc);
     image.resize(8, 7)?;
     Ok(Run::new(image, Script::new(alloc, true, 2), 20))
 }
 
 /// How many bands are outstanding, whatever draws them.
-fn count_outstanding<Q: Raster>(raster: &mut Q) -> usize
+fn count_outstanding<Q: Raster<CrewSide>>(raster: &mut Q) -> usize
     ensures { Q.seen raster.new ≡ Q.seen raster.old }
 {
     raster.outstanding()

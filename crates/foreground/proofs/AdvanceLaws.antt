@@ -16,7 +16,7 @@ use Rattle.serial_bands.specs.Bands.{has_clx_read, has_read_before}
 use Rattle.serial_bands.proofs.BandRanges.{bytes_of_bands_tinted}
 use Rattle.band_log.specs.Raster.{RasterValue}
 use Rattle.foreground.specs.Out.{Gives, GivesLines}
-use Rattle.foreground.specs.Machine.{Start, Stands, Makes, MakesQuietly, IsSamePlace}
+use Rattle.foreground.specs.Machine.{MachineValue, Start, Stands, Makes, MakesQuietly, IsSamePlace}
 use Rattle.foreground.specs.Log.{IsLogOf}
 use Rattle.foreground.specs.Script.{IsLeft, IsMachine}
 use Rattle.foreground.specs.Gathered.{tinted_range}
@@ -24,7 +24,6 @@ use Rattle.foreground.specs.Clock.{IsAt, IsBehindAccess, Tells, HasGiven, HasGiv
 use Rattle.foreground.specs.Fore.{ForeValue, HasScript, IsUnderway, HasAdvanced, Advances, GivesPart, is_done}
 use Rattle.foreground.specs.Steps.{IsBefore, KeepsClock, HasBegunClock, BeginsClock, HasScriptBehind, ReachesAccess, HasMadeAccess, MakesItsAccess, AccessesPart, EndsClock, reads_more}
 use Rattle.foreground.specs.declared.log.Log.{Log}
-use Rattle.foreground.specs.declared.machine.Machine.{Machine}
 use Rattle.foreground.proofs.OutLaws.{gives_then}
 use Rattle.foreground.proofs.RunLaws.{stands_from, stands_behind_access}
 use Rattle.foreground.proofs.PlaceLaws.{IsOnScreen-same}
@@ -32,7 +31,7 @@ use Rattle.foreground.proofs.Cutting.{bytes_are_few}
 use Rattle.foreground.proofs.MadeLaws.{given_more, part_of_given}
 
 -- the steps behind the access, at one clock of a run
-ends : (run : RunValue) (c first clx : ℕ) (m0 m1 m2 : Machine) (log : Log) (seen : RasterValue) (out given : OutFilesValue)
+ends : (run : RunValue) (c first clx : ℕ) (m0 m1 m2 : MachineValue) (log : Log) (seen : RasterValue) (out given : OutFilesValue)
     → Makes run_processor m0 out m1 given → MakesQuietly advance_beam m1 m2 → m2.chip ≡ m0.chip → IsBehindAccess run c first m0 log clx seen
     → IsAt run (c + 1) first m2 log clx seen × Tells (accessed_state run c) (state_of run (c + 1)) out given
 ends run c first clx m0 m1 m2 log seen out given turns advances chip is =
@@ -50,33 +49,33 @@ ends run c first clx m0 m1 m2 log seen out given turns advances chip is =
       record { lines = after.told.lines; trace = after.told.trace; text = after.told.text },
     )
 
-ends_at : (g : ForeValue) (m1 m2 : Machine) (out given : OutFilesValue) → Makes run_processor g.machine out m1 given
+ends_at : (g : ForeValue) (m1 m2 : MachineValue) (out given : OutFilesValue) → Makes run_processor g.machine out m1 given
     → m1 ≡ record g.machine { chips = m1.chips } → MakesQuietly advance_beam m1 m2 → m2.t ≡ m1.t + 1 → m2.chip ≡ m1.chip
     → EndsClock g (record g { machine = m2 }) out given
 ends_at g m1 m2 out given turns same advances count chip =
-    let kept : m2.chip ≡ g.machine.chip = chip ∙ ap (λ (m : Machine). m.chip) same in
+    let kept : m2.chip ≡ g.machine.chip = chip ∙ ap (λ (m : MachineValue). m.chip) same in
     record {
       run = refl;
       next = refl;
       spent = refl;
-      t = count ∙ ap (λ (m : Machine). m.t + 1) same;
+      t = count ∙ ap (λ (m : MachineValue). m.t + 1) same;
       log = refl;
       clx = refl;
       chip = kept;
       stands = λ first seen is. ends g.run g.machine.t first g.clx g.machine m1 m2 g.log seen out given turns advances kept is;
     }
 
-pub ends_clock : (f g : ForeValue) (m1 m2 : Machine) (out given : OutFilesValue) → g ≡ f → Makes run_processor g.machine out m1 given
+pub ends_clock : (f g : ForeValue) (m1 m2 : MachineValue) (out given : OutFilesValue) → g ≡ f → Makes run_processor g.machine out m1 given
     → m1 ≡ record g.machine { chips = m1.chips } → MakesQuietly advance_beam m1 m2 → m2.t ≡ m1.t + 1 → m2.chip ≡ m1.chip
     → EndsClock f (record g { machine = m2 }) out given
 ends_clock f g m1 m2 out given view turns same advances count chip =
     subst (λ x. EndsClock x (record g { machine = m2 }) out given) view (ends_at g m1 m2 out given turns same advances count chip)
 
 -- the next place of the beam
-pub next_of : (f g : ForeValue) (m1 : Machine) (b : Beam) (lace : Bool) → g ≡ f → m1 ≡ record g.machine { chips = m1.chips }
+pub next_of : (f g : ForeValue) (m1 : MachineValue) (b : Beam) (lace : Bool) → g ≡ f → m1 ≡ record g.machine { chips = m1.chips }
     → b ≡ next_place lace m1.beam → b ≡ next_place lace f.machine.beam
 next_of f g m1 b lace view same next =
-    next ∙ ap (λ (m : Machine). next_place lace m.beam) same ∙ ap (λ (x : ForeValue). next_place lace x.machine.beam) view
+    next ∙ ap (λ (m : MachineValue). next_place lace m.beam) same ∙ ap (λ (x : ForeValue). next_place lace x.machine.beam) view
 
 -- the script's events that are left at the next place
 script_next : (run : RunValue) (b here next : Beam) (lace : Bool) (was left : ℕ) → HasScript run b was → HasScriptBehind run b was left → IsOnScreen b

@@ -20,10 +20,9 @@ use Rattle.foreground.specs.Gathered.{Fits}
 use Rattle.foreground.specs.Clock.{HasBegun, Rises}
 use Rattle.foreground.specs.Cuts.{StandsBefore, HasEnded, EndsAtLine, EndsPart}
 use Rattle.foreground.specs.Fore.{ForeValue, IsUnderway, is_done, looked_up}
-use Rattle.foreground.specs.Machine.{IsMachineOf}
+use Rattle.foreground.specs.Machine.{MachineValue, IsMachineOf}
 use Rattle.foreground.specs.Steps.{HasBegunClock, BeginsClock, BeginsPart, HasReadByScript, ReadsBits, ReadsPart, StandsBeforeRead}
 use Rattle.foreground.specs.declared.log.Log.{Log}
-use Rattle.foreground.specs.declared.machine.Machine.{Machine}
 use Rattle.foreground.proofs.Logging.{log_starts, log_begins}
 use Rattle.foreground.proofs.CutLaws.{gives_none, gives_no_part, rises_none}
 use Rattle.foreground.proofs.ReadingLaws.{fits_least, here_at}
@@ -42,8 +41,8 @@ frame_there fore first seen underway going =
     subst (λ (b : Beam). b.frame < fore.run.script.frames) (sym underway.at.machine.beam) going
 
 -- the machine with another memory that has the same words
-pub machine_kept : (m : Machine) (chip : ChipValue) (s : State) → IsMachineOf m s → chip.words ≡ m.chip.words → IsMachineOf (record m { chip = chip }) s
-machine_kept m chip s is same = record { t = is.t; beam = is.beam; memory = is.memory ∙ sym same; chips = is.chips }
+pub machine_kept : (m : MachineValue) (chip : ChipValue) (s : State) → IsMachineOf m s → chip.words ≡ m.chip.words → IsMachineOf (record m { chip = chip }) s
+machine_kept m chip s is same = record { t = is.t; beam = is.beam; memory = is.memory ∙ sym same; chips = is.chips; side = is.side }
 
 -- the band begins with this clock, and with the present place of the beam
 begun_with : (old : ForeValue) (chip : ChipValue) (log : Log) (clx first until : ℕ) (seen after : RasterValue) → IsUnderway old first seen →

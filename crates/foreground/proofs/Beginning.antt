@@ -16,7 +16,7 @@ use Rattle.serial_model.specs.declared.picture.Touch.TheVariants as T
 use Rattle.serial_model.specs.Beam.{first_place, is_line_start}
 use Rattle.serial_model.specs.Made.{word_of}
 use Rattle.serial_model.specs.Picture.{reset_picture, clear_line, set_picture, touch_if_any}
-use Rattle.serial_model.specs.Serial.{state_at}
+use Rattle.serial_model.specs.Serial.{state_over}
 use Rattle.serial_model.specs.State.{State, reset}
 use Rattle.serial_model.specs.Tick.{tick}
 use Rattle.serial_model.proofs.NextLaws.{beam_next}
@@ -24,7 +24,8 @@ use Rattle.serial_bands.specs.declared.event.Event.{Event}
 use Rattle.serial_bands.specs.declared.event.Event.TheVariants as E
 use Rattle.serial_bands.specs.declared.shadow.Filling.TheVariants as F
 use Rattle.serial_bands.specs.declared.shadow.Shadow.{Shadow}
-use Rattle.serial_bands.specs.Run.{RunValue, state_of, beam_at, run_memory}
+use Rattle.serial_model.specs.Side.{SideValue}
+use Rattle.serial_bands.specs.Run.{RunValue, run_over, state_of, beam_at, run_memory}
 use Rattle.serial_bands.specs.Clock.{opening_at, closing_at, bus_touch_at, write_alone}
 use Rattle.serial_bands.specs.Bands.{begins, begun}
 use Rattle.serial_bands.specs.BusReads.{filled_register, is_fetch, is_fetched, fetched_count}
@@ -59,7 +60,7 @@ first_log opening shadow events = record {
 }
 
 starts_at_reset : (run : RunValue) → IsLogOf run 0 (first_log reset_picture (shadow_of reset_picture) []) (memory_from run.image)
-unfolding begun opening_at state_at reset reset_picture
+unfolding begun opening_at state_over reset reset_picture
 starts_at_reset run = record {
   band = inl (
     record {
@@ -93,11 +94,11 @@ starts_first run chip opening shadow events memory picture still none =
     (starts_at_reset run))
 
 -- a band's job
-pub ended_job : (run : RunValue) (to : ℕ) (log : Log) (chip : ChipValue) (job : Job) (band : OpenBand) → IsEnding run to log chip
-    → band ≡ log.band → arc_value job.run ≡ run → job.number ≡ band.number → job.from.0 ≡ band.from → job.to.0 ≡ to
+pub ended_job : (run : RunValue) (to : ℕ) (log : Log) (chip : ChipValue) {S : Type 0} (side_of : S → SideValue) (job : Job S) (band : OpenBand) → IsEnding run to log chip
+    → band ≡ log.band → run_over side_of (arc_value job.run) ≡ run → job.number ≡ band.number → job.from.0 ≡ band.from → job.to.0 ≡ to
     → job.beam ≡ band.beam → job.opening ≡ band.opening → job.events ≡ band.events → IsViewOf chip to job.view
-    → length job.room ≡ log.band.bytes → IsJobOf run log.band to job
-ended_job run to log chip job band is same owner number from end beam opening events view room =
+    → length job.room ≡ log.band.bytes → IsJobOf side_of run log.band to job
+ended_job run to log chip side_of job band is same owner number from end beam opening events view room =
     let n : ℕ = log.band.number in
     let start : job.from.0 ≡ log.band.from = from ∙ ap (λ (b : OpenBand). b.from) same in
     let kept : IsOpen run n job.from.0 job.to.0 job.beam job.opening job.events (length job.room) chip =
@@ -238,7 +239,7 @@ clock_of_tick : (system : System) (events : List At) (s : State)
 clock_of_tick system events s = ap (λ (b : Beam). b.h) (beam_next system events s)
 
 next_clock : (run : RunValue) (c : ℕ) → (beam_at run (suc c)).h ≡ (if nat_le 226 (beam_at run c).h then 0 else (beam_at run c).h + 1)
-unfolding state_at
+unfolding state_over
 next_clock run c = clock_of_tick Pal run.script.events (state_of run c)
 
 next_positions : (h next : ℕ) → next ≡ (if nat_le 226 h then 0 else h + 1) → (next == 0) ≡ false → 4 * h ≤ 4 * next

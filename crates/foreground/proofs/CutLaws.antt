@@ -4,7 +4,8 @@ use Rattle.std.specs.Arc.{arc_value}
 use Rattle.mem_versions.specs.Chip.{ChipValue, after_cut, after_reads}
 use Rattle.out_files.specs.OutFiles.{OutFilesValue}
 use Rattle.serial_model.specs.declared.picture.Denise.{Denise}
-use Rattle.serial_bands.specs.Run.{RunValue, beam_at}
+use Rattle.serial_model.specs.Side.{SideValue}
+use Rattle.serial_bands.specs.Run.{RunValue, run_over, beam_at}
 use Rattle.serial_bands.specs.BusReads.{latched_words}
 use Rattle.serial_bands.specs.Fetches.{fetches_in}
 use Rattle.band_log.specs.declared.job.Job.{Job}
@@ -59,10 +60,10 @@ gives_part run number to first seen after old new is = record {
 }
 
 -- the job of the band that ends, submitted
-submits_of : (run : RunValue) (band : OpenBand) (to : ℕ) (job : Job) (seen after : RasterValue) (old new : OutFilesValue) (clx gathered : ℕ) →
-    IsJobOf run band to job → Submits (arc_value job.run) job.number job.from.0 job.to.0 seen after old new clx gathered →
+submits_of : (run : RunValue) (band : OpenBand) (to : ℕ) {S : Type 0} (side_of : S → SideValue) (job : Job S) (seen after : RasterValue) (old new : OutFilesValue) (clx gathered : ℕ) →
+    IsJobOf side_of run band to job → Submits (run_over side_of (arc_value job.run)) job.number job.from.0 job.to.0 seen after old new clx gathered →
     Submits run band.number band.from to seen after old new clx gathered
-submits_of run band to job seen after old new clx gathered is submits =
+submits_of run band to side_of job seen after old new clx gathered is submits =
     subst (λ (k : ℕ). Submits run band.number band.from k seen after old new clx gathered) is.end
     (subst (λ (k : ℕ). Submits run band.number k job.to.0 seen after old new clx gathered) is.from
     (subst (λ (k : ℕ). Submits run k job.from.0 job.to.0 seen after old new clx gathered) is.right.numbered
@@ -78,14 +79,14 @@ ends_submit_part to old seen after out given part first stands =
     gives_part old.run old.log.band.number old.log.band.from first seen after out given
     (part old.run old.log.band.number old.log.band.from first stands.fits)
 
-pub ends_gather_part : (to : ℕ) (old : ForeValue) (job : Job) (seen mid after : RasterValue) (out between given : OutFilesValue) (so_far : ℕ) →
-    IsJobOf old.run old.log.band to job →
-    Submits (arc_value job.run) job.number job.from.0 job.to.0 seen mid out between old.clx so_far → GathersPart mid after between given →
+pub ends_gather_part : (to : ℕ) (old : ForeValue) {S : Type 0} (side_of : S → SideValue) (job : Job S) (seen mid after : RasterValue) (out between given : OutFilesValue) (so_far : ℕ) →
+    IsJobOf side_of old.run old.log.band to job →
+    Submits (run_over side_of (arc_value job.run)) job.number job.from.0 job.to.0 seen mid out between old.clx so_far → GathersPart mid after between given →
     EndsPartAtRead to old seen after out given
-ends_gather_part to old job seen mid after out between given so_far is submits part first stands =
+ends_gather_part to old side_of job seen mid after out between given so_far is submits part first stands =
     let band : OpenBand = old.log.band in
     let sub : HasSubmitted old.run band.number band.from to first seen mid out between old.clx so_far =
-    submits_of old.run band to job seen mid out between old.clx so_far is submits first stands.fits in
+    submits_of old.run band to side_of job seen mid out between old.clx so_far is submits first stands.fits in
     gives_part old.run (band.number + 1) to first seen after out given
     (part_then old.run (band.number + 1) to first sub.then seen mid after out between given old.clx so_far sub.bands
     (part old.run (band.number + 1) to sub.then sub.bands.fits))
@@ -104,16 +105,16 @@ abbrev pub with_parts : ForeValue → ChipValue → Log → ℕ → ForeValue
 with_parts old chip log clx = record old { machine = record old.machine { chip = chip }; log = log; clx = clx }
 
 -- the band ended, and all bands were gathered
-pub ends_all : (to : ℕ) (old : ForeValue) (job : Job) (seen mid after : RasterValue) (out between given : OutFilesValue) (so_far gathered : ℕ)
-    (closing : Option Denise) (log : Log) (chip : ChipValue) → IsJobOf old.run old.log.band to job →
-    Submits (arc_value job.run) job.number job.from.0 job.to.0 seen mid out between old.clx so_far →
+pub ends_all : (to : ℕ) (old : ForeValue) {S : Type 0} (side_of : S → SideValue) (job : Job S) (seen mid after : RasterValue) (out between given : OutFilesValue) (so_far gathered : ℕ)
+    (closing : Option Denise) (log : Log) (chip : ChipValue) → IsJobOf side_of old.run old.log.band to job →
+    Submits (run_over side_of (arc_value job.run)) job.number job.from.0 job.to.0 seen mid out between old.clx so_far →
     GathersAll mid after between given so_far gathered closing → IsCut old.run to log chip →
     log ≡ record old.log { band = blank_after to old.log.band } → chip ≡ after_cut old.machine.chip to →
     EndsAll to old (with_parts old chip log gathered) seen after out given closing
-ends_all to old job seen mid after out between given so_far gathered closing log chip is submits gathers cut blank after_it first stands =
+ends_all to old side_of job seen mid after out between given so_far gathered closing log chip is submits gathers cut blank after_it first stands =
     let band : OpenBand = old.log.band in
     let sub : HasSubmitted old.run band.number band.from to first seen mid out between old.clx so_far =
-    submits_of old.run band to job seen mid out between old.clx so_far is submits first stands.fits in
+    submits_of old.run band to side_of job seen mid out between old.clx so_far is submits first stands.fits in
     let all : HasGatheredTo old.run (band.number + 1) to sub.then to mid after between given so_far gathered closing =
     gathers old.run (band.number + 1) to sub.then sub.bands.fits in
     let order : band.from < to = stands.ending.kept.order in
@@ -176,15 +177,15 @@ pub ends_with_some : (to : ℕ) (old mid : ForeValue) (seen after : RasterValue)
 ends_with_some to old mid seen after out given ends first stands = absurd (no_some (ends first stands).some)
 
 -- a line begins the next one
-pub ends_at_line : (to : ℕ) (old : ForeValue) (job : Job) (seen after : RasterValue) (out given : OutFilesValue) (gathered reads : ℕ)
-    (log : Log) (chip : ChipValue) → IsJobOf old.run old.log.band to job →
-    Submits (arc_value job.run) job.number job.from.0 job.to.0 seen after out given old.clx gathered → IsLogOf old.run to log chip →
+pub ends_at_line : (to : ℕ) (old : ForeValue) {S : Type 0} (side_of : S → SideValue) (job : Job S) (seen after : RasterValue) (out given : OutFilesValue) (gathered reads : ℕ)
+    (log : Log) (chip : ChipValue) → IsJobOf side_of old.run old.log.band to job →
+    Submits (run_over side_of (arc_value job.run)) job.number job.from.0 job.to.0 seen after out given old.clx gathered → IsLogOf old.run to log chip →
     log.band.from ≡ to → log.band.number ≡ old.log.band.number + 1 → chip ≡ after_reads (after_cut old.machine.chip to) reads →
     EndsAtLine to old (with_parts old chip log gathered) seen after out given
-ends_at_line to old job seen after out given gathered reads log chip is submits logged from number after_it first stands =
+ends_at_line to old side_of job seen after out given gathered reads log chip is submits logged from number after_it first stands =
     let band : OpenBand = old.log.band in
     let sub : HasSubmitted old.run band.number band.from to first seen after out given old.clx gathered =
-    submits_of old.run band to job seen after out given old.clx gathered is submits first stands.fits in
+    submits_of old.run band to side_of job seen after out given old.clx gathered is submits first stands.fits in
     let fits : Fits old.run log.band.number to sub.then after =
     subst (λ (k : ℕ). Fits old.run k to sub.then after) (sym number) sub.bands.fits in (
       sub.then,
@@ -216,25 +217,25 @@ line_rises run to log old new is before reads =
     (fetches_are_few run to log old is before)
 
 -- the same where a foreground is seen as its fields are
-pub ends_all_now : (to : ℕ) (old now : ForeValue) (job : Job) (seen mid after : RasterValue) (out between given : OutFilesValue) (so_far gathered : ℕ)
-    (closing : Option Denise) (log : Log) (chip : ChipValue) → old ≡ now → IsJobOf old.run old.log.band to job →
-    Submits (arc_value job.run) job.number job.from.0 job.to.0 seen mid out between old.clx so_far →
+pub ends_all_now : (to : ℕ) (old now : ForeValue) {S : Type 0} (side_of : S → SideValue) (job : Job S) (seen mid after : RasterValue) (out between given : OutFilesValue) (so_far gathered : ℕ)
+    (closing : Option Denise) (log : Log) (chip : ChipValue) → old ≡ now → IsJobOf side_of old.run old.log.band to job →
+    Submits (run_over side_of (arc_value job.run)) job.number job.from.0 job.to.0 seen mid out between old.clx so_far →
     GathersAll mid after between given so_far gathered closing → IsCut old.run to log chip →
     log ≡ record old.log { band = blank_after to old.log.band } → chip ≡ after_cut old.machine.chip to →
     EndsAll to now (with_parts old chip log gathered) seen after out given closing
-ends_all_now to old now job seen mid after out between given so_far gathered closing log chip same is submits gathers cut blank after_it =
+ends_all_now to old now side_of job seen mid after out between given so_far gathered closing log chip same is submits gathers cut blank after_it =
     subst (λ (o : ForeValue). EndsAll to o (with_parts old chip log gathered) seen after out given closing) same
-    (ends_all to old job seen mid after out between given so_far gathered closing log chip is submits gathers cut blank after_it)
+    (ends_all to old side_of job seen mid after out between given so_far gathered closing log chip is submits gathers cut blank after_it)
 
-pub ends_at_line_now : (old now : ForeValue) (job : Job) (seen after : RasterValue) (out given : OutFilesValue) (gathered reads : ℕ)
-    (log : Log) (chip : ChipValue) → old ≡ now → IsJobOf old.run old.log.band old.machine.t job →
-    Submits (arc_value job.run) job.number job.from.0 job.to.0 seen after out given old.clx gathered → IsLogOf old.run old.machine.t log chip →
+pub ends_at_line_now : (old now : ForeValue) {S : Type 0} (side_of : S → SideValue) (job : Job S) (seen after : RasterValue) (out given : OutFilesValue) (gathered reads : ℕ)
+    (log : Log) (chip : ChipValue) → old ≡ now → IsJobOf side_of old.run old.log.band old.machine.t job →
+    Submits (run_over side_of (arc_value job.run)) job.number job.from.0 job.to.0 seen after out given old.clx gathered → IsLogOf old.run old.machine.t log chip →
     log.band.from ≡ old.machine.t → log.band.number ≡ old.log.band.number + 1 →
     chip ≡ after_reads (after_cut old.machine.chip old.machine.t) reads →
     EndsAtLine now.machine.t now (with_parts old chip log gathered) seen after out given
-ends_at_line_now old now job seen after out given gathered reads log chip same is submits logged from number after_it =
+ends_at_line_now old now side_of job seen after out given gathered reads log chip same is submits logged from number after_it =
     subst (λ (o : ForeValue). EndsAtLine o.machine.t o (with_parts old chip log gathered) seen after out given) same
-    (ends_at_line old.machine.t old job seen after out given gathered reads log chip is submits logged from number after_it)
+    (ends_at_line old.machine.t old side_of job seen after out given gathered reads log chip is submits logged from number after_it)
 
 pub line_rises_now : (old now : ForeValue) (first : ℕ) (seen : RasterValue) (chip : ChipValue) → old ≡ now → StandsBefore now.machine.t first now seen →
     now.log.band.from < now.machine.t → chip ≡ after_reads (after_cut old.machine.chip old.machine.t) (fetches_in old.log.shadow) →

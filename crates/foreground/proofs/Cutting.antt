@@ -117,5 +117,5 @@ bytes_are_few run c log chip good going is =
     let most : length (bytes_from run log.band.from (c + 1 - log.band.from)) ≤ 12 * (c + 1 - log.band.from) =
     bytes_rise run log.band.from (c + 1 - log.band.from) in
     let place : place_of (beam_at run c) < 71051000 =
-    place_below (beam_at run c) run.script.frames (on_screen run.image run.script c) going good.most in
+    place_below (beam_at run c) run.script.frames (on_screen run.side run.image run.script c) going good.most in
     omega (arith, size, most, place, place_rises run c)

@@ -2,6 +2,7 @@
 use Rattle.std.proofs.Common.{◌≡◌, ◌≤◌, ◌<◌, ◌↔◌, ℕ, zero, suc, ◌+◌, ◌-◌, List, [], ◌∷◌, ◌++◌, length, drop, bit_or, Option, Some, None, IsSome, is_some, true, false, refl, sym, ap, ◌∙◌, subst, arith, append_assoc, add-one, length-drop}
 use Rattle.out_files.specs.OutFiles.{OutFilesValue}
 use Rattle.serial_model.specs.declared.picture.Denise.{Denise}
+use Rattle.serial_model.specs.Side.{SideValue}
 use Rattle.serial_bands.specs.Run.{RunValue}
 use Rattle.serial_bands.specs.Bands.{IsBand, AreBands}
 use Rattle.serial_bands.specs.BandShown.{bytes_from, clx_from, tinted_bytes}
@@ -77,7 +78,8 @@ record HasFirst (run : RunValue) (number to first : ℕ) (seen : RasterValue) : 
   then : ℕ
   band : IsBand run least first then
   fits : Fits run number to then (without_first seen)
-  right : (drawn : Drawn) → IsRightForFirst seen.tint seen.outstanding drawn → IsRightFor seen.tint run least drawn
+  rest : List Outstanding
+  ahead : seen.outstanding ≡ record { run = run; number = least } ∷ rest
 
 first_of : (run : RunValue) (number to first : ℕ) (seen : RasterValue) (least count : ℕ) → count ≤ 16 →
     seen.outstanding ≡ outstanding_from run least count → AreBands run least count first to → seen.next ≡ number → least + count ≡ number →
@@ -97,7 +99,8 @@ first_of run number to first seen least (suc count) few outstanding bands next s
     sum = omega (arith, sum);
     bound = bound;
   };
-  right = λ drawn right. subst (λ (l : List Outstanding). IsRightForFirst seen.tint l drawn) outstanding right;
+  rest = outstanding_from run (least + 1) count;
+  ahead = outstanding;
 }
 
 first_of_fits : (run : RunValue) (number to first : ℕ) (seen : RasterValue) → 0 < length seen.outstanding → Fits run number to first seen →
@@ -122,12 +125,13 @@ marks_stay seen after taken = record {
 }
 
 -- the first band was collected, and its pixels and bits were given
-pub gathers_one : (seen after : RasterValue) (old new : OutFilesValue) (clx gathered : ℕ) (drawn : Drawn) → 0 < length seen.outstanding →
-    after ≡ without_first seen → IsRightForFirst seen.tint seen.outstanding drawn → Gives old new drawn.job.room [] → gathered ≡ bit_or clx drawn.clx →
+pub gathers_one : (seen after : RasterValue) (old new : OutFilesValue) (clx gathered : ℕ) {S : Type 0} (side_of : S → SideValue) (drawn : Drawn S) → 0 < length seen.outstanding →
+    after ≡ without_first seen → IsRightForFirst side_of seen.tint seen.outstanding drawn → Gives old new drawn.job.room [] → gathered ≡ bit_or clx drawn.clx →
     GathersOne seen after old new clx gathered drawn.closing
-gathers_one seen after old new clx gathered drawn some taken right gives ored run number to first fits =
+gathers_one seen after old new clx gathered side_of drawn some taken right gives ored run number to first fits =
     let one : HasFirst run number to first seen = first_of_fits run number to first seen some fits in
-    let for : IsRightFor seen.tint run one.least drawn = one.right drawn right in
+    let for : IsRightFor side_of seen.tint run one.least drawn =
+    subst (λ (l : List Outstanding). IsRightForFirst side_of seen.tint l drawn) one.ahead right in
     let place : (drawn.job.from.0 ≡ first) × (drawn.job.to.0 ≡ one.then) =
     one_band run one.least drawn.job.from.0 drawn.job.to.0 first one.then for.shown.band one.band
     in

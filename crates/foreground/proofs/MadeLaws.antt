@@ -6,7 +6,6 @@ use Rattle.out_files.specs.OutFiles.{OutFilesValue}
 use Rattle.serial_model.specs.declared.bus.Ask.{Ask}
 use Rattle.serial_model.specs.declared.bus.Made.{Made}
 use Rattle.serial_model.specs.declared.bus.Made.TheVariants as M
-use Rattle.serial_model.specs.declared.bus.SideAsk.TheVariants as S
 use Rattle.serial_model.specs.declared.picture.Touch.{Touch}
 use Rattle.serial_model.specs.declared.trace.TraceLine.{TraceLine}
 use Rattle.serial_model.specs.Made.{is_clx_read, touch_of}
@@ -25,14 +24,13 @@ use Rattle.chip_set.specs.Chips.{CanDo}
 use Rattle.chip_set.proofs.ClxLaws.{clx_read}
 use Rattle.band_log.specs.Raster.{RasterValue}
 use Rattle.foreground.specs.Out.{Gives, GivesLines}
-use Rattle.foreground.specs.Machine.{IsMachineOf, HasMade, HasAskedOf, MakesAccess, IsSamePlace, StaysInPlace, StoresMade}
+use Rattle.foreground.specs.Machine.{MachineValue, IsMachineOf, HasMade, HasAskedOf, MakesAccess, IsSamePlace, StaysInPlace, StoresMade}
 use Rattle.foreground.specs.Log.{IsLogOf, IsBandOf, IsShown, with_access_touch}
 use Rattle.foreground.specs.Gathered.{Fits, tinted_range}
 use Rattle.foreground.specs.Clock.{IsLogged, IsBeforeAccess, IsBehindAccess, HasGiven, HasGivenPart, access_state, accessed_state}
 use Rattle.foreground.specs.Fore.{ForeValue}
 use Rattle.foreground.specs.Steps.{IsBefore, IsLoggedBefore, HasReadByAccess, HasMadeAccess, MakesItsAccess, MakesReadingAccess, HasAskedNow, StandsBeforeRead, ReadsBits, AccessesPart, reads_more}
 use Rattle.foreground.specs.declared.log.Log.{Log}
-use Rattle.foreground.specs.declared.machine.Machine.{Machine}
 use Rattle.foreground.proofs.OutLaws.{gives_nothing, gives_then}
 use Rattle.foreground.proofs.GatherLaws.{no_bytes}
 use Rattle.foreground.proofs.ToldLaws.{told_none}
@@ -40,10 +38,10 @@ use Rattle.foreground.proofs.RunLaws.{made_at_clock, memory_at_clock, stores_at_
 use Rattle.foreground.proofs.Logging.{log_accessed}
 
 -- the access of a clock reads CLXDAT exactly where its ask is for it
-pub clx_at_ask : (run : RunValue) (c : ℕ) (ask : Ask) → ask ≡ ask_of S.Nothing (access_state run c) → is_clx_read (made_at run c) ≡ is_clx_ask ask
+pub clx_at_ask : (run : RunValue) (c : ℕ) (ask : Ask) → ask ≡ ask_of (access_state run c) → is_clx_read (made_at run c) ≡ is_clx_ask ask
 unfolding made_at
 clx_at_ask run c ask is =
-    clx_read (ask_of S.Nothing (access_state run c)) (answer_of S.Nothing (access_state run c)) (access_state run c).chips
+    clx_read (ask_of (access_state run c)) (answer_of (access_state run c)) (access_state run c).chips
     ∙ sym (ap (λ a. is_clx_ask a) is)
 
 true_false : true ≡ false → ⊥
@@ -126,16 +124,16 @@ given_none run first seen out = record {
 }
 
 -- the access was made from where the clock's access is due
-made_from : (run : RunValue) (c clx : ℕ) (ask : Ask) (made : Made) (old new : Machine) (out given : OutFilesValue)
-    → ask ≡ ask_of S.Nothing (access_state run c) → HasAskedOf old (access_state run c) → (is_clx_ask ask ≡ true → (access_state run c).clx ≡ clx)
+made_from : (run : RunValue) (c clx : ℕ) (ask : Ask) (made : Made) (old new : MachineValue) (out given : OutFilesValue)
+    → ask ≡ ask_of (access_state run c) → HasAskedOf old (access_state run c) → (is_clx_ask ask ≡ true → (access_state run c).clx ≡ clx)
     → MakesAccess ask clx made old out new given
     → HasMade (record { out = out; trace = (access_state run c).trace }) made new given (access_state run c)
 made_from run c clx ask made old new out given is asked bits makes =
     makes (record { out = out; trace = (access_state run c).trace }) (access_state run c) is bits asked (told_none out (access_state run c))
 
 -- an access that does not read CLXDAT: `m1` has asked, `m2` has the answer
-pub accessed_quietly : (run : RunValue) (c first clx : ℕ) (ask : Ask) (made : Made) (touch : Option Touch) (m0 m1 m2 : Machine) (log noted : Log)
-    (seen : RasterValue) (out given : OutFilesValue) → IsBeforeAccess run c first m0 log clx seen → ask ≡ ask_of S.Nothing (access_state run c)
+pub accessed_quietly : (run : RunValue) (c first clx : ℕ) (ask : Ask) (made : Made) (touch : Option Touch) (m0 m1 m2 : MachineValue) (log noted : Log)
+    (seen : RasterValue) (out given : OutFilesValue) → IsBeforeAccess run c first m0 log clx seen → ask ≡ ask_of (access_state run c)
     → HasAskedOf m1 (access_state run c) → m1.t ≡ c → m1.chip ≡ m0.chip → is_clx_ask ask ≡ false → MakesAccess ask 0 made m1 out m2 given → CanDo made
     → StoresMade m1.t ask made m1.chip m2.chip → touch ≡ touch_of made → (CanDo made → IsInRange touch) → noted ≡ with_access_touch c touch log
     → IsBehindAccess run c first m2 noted clx seen × HasMade (record { out = out; trace = (access_state run c).trace }) made m2 given (access_state run c)
@@ -165,9 +163,9 @@ accessed_quietly run c first clx ask made touch m0 m1 m2 log noted seen out give
     )
 
 -- an access that reads CLXDAT, once all bands up to it are gathered
-pub accessed_clxdat : (run : RunValue) (c bits : ℕ) (ask : Ask) (made : Made) (m1 m2 : Machine) (log : Log) (after : RasterValue)
+pub accessed_clxdat : (run : RunValue) (c bits : ℕ) (ask : Ask) (made : Made) (m1 m2 : MachineValue) (log : Log) (after : RasterValue)
     (out given : OutFilesValue) → IsLogOf run (c + 1) log m1.chip → Fits run log.band.number (c + 1) (c + 1) after → log.band.from ≡ c + 1
-    → m1.chip.newest ≤ c + 1 → ask ≡ ask_of S.Nothing (access_state run c) → HasAskedOf m1 (access_state run c) → m1.t ≡ c → is_clx_ask ask ≡ true
+    → m1.chip.newest ≤ c + 1 → ask ≡ ask_of (access_state run c) → HasAskedOf m1 (access_state run c) → m1.t ≡ c → is_clx_ask ask ≡ true
     → (access_state run c).clx ≡ bits → MakesAccess ask bits made m1 out m2 given → StoresMade m1.t ask made m1.chip m2.chip
     → IsBehindAccess run c (c + 1) m2 log 0 after × HasMade (record { out = out; trace = (access_state run c).trace }) made m2 given (access_state run c)
 accessed_clxdat run c bits ask made m1 m2 log after out given logged fits begin newest asks asked t read sees makes stores =
@@ -189,19 +187,19 @@ accessed_clxdat run c bits ask made m1 m2 log after out given logged fits begin 
     )
 
 -- the foreground's access, where it does not read CLXDAT; `g` is the view of the foreground once its chips have asked
-pub makes_quietly : (f : ForeValue) (ask : Ask) (made : Made) (touch : Option Touch) (m1 m2 : Machine) (noted : Log) (seen : RasterValue)
+pub makes_quietly : (f : ForeValue) (ask : Ask) (made : Made) (touch : Option Touch) (m1 m2 : MachineValue) (noted : Log) (seen : RasterValue)
     (out given : OutFilesValue)
-    → ((s : State) → IsMachineOf f.machine s → ask ≡ ask_of S.Nothing s) → ((s : State) → IsMachineOf f.machine s → HasAskedOf m1 s)
+    → ((s : State) → IsMachineOf f.machine s → ask ≡ ask_of s) → ((s : State) → IsMachineOf f.machine s → HasAskedOf m1 s)
     → m1 ≡ record f.machine { chips = m1.chips } → is_clx_ask ask ≡ false → MakesAccess ask 0 made m1 out m2 given → CanDo made
     → StaysInPlace m1 m2 → StoresMade m1.t ask made m1.chip m2.chip → touch ≡ touch_of made → (CanDo made → IsInRange touch)
     → noted ≡ with_access_touch m2.t touch f.log
     → MakesItsAccess f (record f { machine = m2; log = noted }) seen seen out given
 makes_quietly f ask made touch m1 m2 noted seen out given asks asked same quiet makes able place stores by range notes first is =
     let c : ℕ = f.machine.t in
-    let t : m1.t ≡ c = ap (λ (m : Machine). m.t) same in
+    let t : m1.t ≡ c = ap (λ (m : MachineValue). m.t) same in
     let count : m2.t ≡ c = place.t ∙ t in
     let both = accessed_quietly f.run c first f.clx ask made touch f.machine m1 m2 f.log noted seen out given is (asks (access_state f.run c) is.machine)
-    (asked (access_state f.run c) is.machine) t (ap (λ (m : Machine). m.chip) same) quiet makes able stores by range
+    (asked (access_state f.run c) is.machine) t (ap (λ (m : MachineValue). m.chip) same) quiet makes able stores by range
     (notes ∙ ap (λ k. with_access_touch k touch f.log) count) in
     record {
       until = first;
@@ -212,8 +210,8 @@ makes_quietly f ask made touch m1 m2 noted seen out given asks asked same quiet 
     }
 
 -- and where it does: `g` is the foreground once CLXDAT was read
-pub makes_with_read : (f g : ForeValue) (first bits : ℕ) (ask : Ask) (made : Made) (m2 : Machine) (seen after : RasterValue) (out between given : OutFilesValue)
-    → HasReadByAccess f g first bits seen after out between → ask ≡ ask_of S.Nothing (access_state f.run f.machine.t)
+pub makes_with_read : (f g : ForeValue) (first bits : ℕ) (ask : Ask) (made : Made) (m2 : MachineValue) (seen after : RasterValue) (out between given : OutFilesValue)
+    → HasReadByAccess f g first bits seen after out between → ask ≡ ask_of (access_state f.run f.machine.t)
     → HasAskedOf f.machine (access_state f.run f.machine.t) → is_clx_ask ask ≡ true → MakesAccess ask bits made g.machine between m2 given
     → StaysInPlace g.machine m2 → StoresMade g.machine.t ask made g.machine.chip m2.chip
     → HasMadeAccess f (record g { machine = m2 }) first seen after out given
@@ -224,11 +222,13 @@ makes_with_read f g first bits ask made m2 seen after out between given read ask
     let count : m2.t ≡ c = place.t ∙ t in
     let chips = ap (λ (x : ForeValue). x.machine.chips) read.same in
     let so : HasAskedOf g.machine (access_state f.run c) =
-    subst (λ (m : Machine). HasAskedOf m (access_state f.run c)) (sym (ap (λ (x : ForeValue). x.machine) read.same)) (record {
+    subst (λ (m : MachineValue). HasAskedOf m (access_state f.run c)) (sym (ap (λ (x : ForeValue). x.machine) read.same)) (record {
       t = asked.t;
       beam = asked.beam;
       memory = asked.memory ∙ sym read.words;
       chips = asked.chips;
+      side = asked.side;
+      time = asked.time;
     }) in
     let both = accessed_clxdat f.run c bits ask made g.machine m2 g.log after between given
     (subst (λ r. IsLogOf r (c + 1) g.log g.machine.chip) run read.at.log)
@@ -252,11 +252,13 @@ stands_at_read f ask seen now is before =
 pub asked_after_read : (f g : ForeValue) (first bits : ℕ) (ask : Ask) (seen after : RasterValue) (out between : OutFilesValue)
     → HasReadByAccess f g first bits seen after out between → HasAskedNow ask f → HasAskedOf g.machine (access_state f.run f.machine.t)
 asked_after_read f g first bits ask seen after out between read now =
-    subst (λ (m : Machine). HasAskedOf m (access_state f.run f.machine.t)) (sym (ap (λ (x : ForeValue). x.machine) read.same)) (record {
+    subst (λ (m : MachineValue). HasAskedOf m (access_state f.run f.machine.t)) (sym (ap (λ (x : ForeValue). x.machine) read.same)) (record {
       t = now.asked.t;
       beam = now.asked.beam;
       memory = now.asked.memory ∙ sym read.words;
       chips = now.asked.chips;
+      side = now.asked.side;
+      time = now.asked.time;
     })
 
 -- a part of the pixels: none where only lines were given, or all that were
@@ -287,27 +289,27 @@ part_of_given run first until seen after out given lines all = record {
 }
 
 -- once the chips of a foreground have asked: `m1` is its machine then
-pub asked_now : (g : ForeValue) (m1 : Machine) (ask : Ask) (first : ℕ) (seen : RasterValue) → IsBefore g first seen
-    → ((s : State) → IsMachineOf g.machine s → ask ≡ ask_of S.Nothing s) → ((s : State) → IsMachineOf g.machine s → HasAskedOf m1 s)
+pub asked_now : (g : ForeValue) (m1 : MachineValue) (ask : Ask) (first : ℕ) (seen : RasterValue) → IsBefore g first seen
+    → ((s : State) → IsMachineOf g.machine s → ask ≡ ask_of s) → ((s : State) → IsMachineOf g.machine s → HasAskedOf m1 s)
     → m1 ≡ record g.machine { chips = m1.chips } → HasAskedNow ask (record g { machine = m1 })
 asked_now g m1 ask first seen is asks asked same =
-    let t : g.machine.t ≡ m1.t = sym (ap (λ (m : Machine). m.t) same) in
-    let beam : (access_state g.run g.machine.t).beam ≡ m1.beam = is.machine.beam ∙ sym (ap (λ (m : Machine). m.beam) same) in
+    let t : g.machine.t ≡ m1.t = sym (ap (λ (m : MachineValue). m.t) same) in
+    let beam : (access_state g.run g.machine.t).beam ≡ m1.beam = is.machine.beam ∙ sym (ap (λ (m : MachineValue). m.beam) same) in
     let place : IsSamePlace (beam_at g.run g.machine.t) m1.beam =
     subst (λ b. IsSamePlace (beam_at g.run g.machine.t) b) beam (place_at_clock g.run g.machine.t) in
     record {
-      asks = subst (λ k. ask ≡ ask_of S.Nothing (access_state g.run k)) t (asks (access_state g.run g.machine.t) is.machine);
+      asks = subst (λ k. ask ≡ ask_of (access_state g.run k)) t (asks (access_state g.run g.machine.t) is.machine);
       asked = subst (λ k. HasAskedOf m1 (access_state g.run k)) t (asked (access_state g.run g.machine.t) is.machine);
       place = subst (λ k. IsSamePlace (beam_at g.run k) m1.beam) t place;
     }
 
-pub logged_once_asked : (g : ForeValue) (m1 : Machine) (first : ℕ) (seen : RasterValue) → IsBefore g first seen
+pub logged_once_asked : (g : ForeValue) (m1 : MachineValue) (first : ℕ) (seen : RasterValue) → IsBefore g first seen
     → m1 ≡ record g.machine { chips = m1.chips } → IsLoggedBefore (record g { machine = m1 }) first seen
 logged_once_asked g m1 first seen is same =
-    subst (λ k. IsLogged g.run k first m1.chip g.log g.clx seen) (sym (ap (λ (m : Machine). m.t) same))
-    (subst (λ x. IsLogged g.run g.machine.t first x g.log g.clx seen) (sym (ap (λ (m : Machine). m.chip) same)) is.logged)
+    subst (λ k. IsLogged g.run k first m1.chip g.log g.clx seen) (sym (ap (λ (m : MachineValue). m.t) same))
+    (subst (λ x. IsLogged g.run g.machine.t first x g.log g.clx seen) (sym (ap (λ (m : MachineValue). m.chip) same)) is.logged)
 
-pub reads_by_access : (f g new : ForeValue) (m1 : Machine) (ask : Ask) (seen after : RasterValue) (out given : OutFilesValue) → g ≡ f
+pub reads_by_access : (f g new : ForeValue) (m1 : MachineValue) (ask : Ask) (seen after : RasterValue) (out given : OutFilesValue) → g ≡ f
     → m1 ≡ record g.machine { chips = m1.chips } → MakesReadingAccess (record g { machine = m1 }) new seen after out given
     → MakesItsAccess f new seen after out given
 reads_by_access f g new m1 ask seen after out given view same makes =
@@ -317,12 +319,12 @@ reads_by_access f g new m1 ask seen after out given view same makes =
       until = made.until;
       behind = made.behind;
       lines = made.lines;
-      trace = subst (λ k. (accessed_state g.run k).trace ≡ (access_state g.run k).trace ++ made.lines) (ap (λ (m : Machine). m.t) same) made.trace;
+      trace = subst (λ k. (accessed_state g.run k).trace ≡ (access_state g.run k).trace ++ made.lines) (ap (λ (m : MachineValue). m.t) same) made.trace;
       gives = made.gives;
     })
 
-pub reads_of_access : (f g : ForeValue) (m1 : Machine) (ask : Ask) (first reads : ℕ) (seen : RasterValue) → g ≡ f → IsBefore f first seen
-    → ((s : State) → IsMachineOf g.machine s → ask ≡ ask_of S.Nothing s) → m1 ≡ record g.machine { chips = m1.chips }
+pub reads_of_access : (f g : ForeValue) (m1 : MachineValue) (ask : Ask) (first reads : ℕ) (seen : RasterValue) → g ≡ f → IsBefore f first seen
+    → ((s : State) → IsMachineOf g.machine s → ask ≡ ask_of s) → m1 ≡ record g.machine { chips = m1.chips }
     → reads ≡ reads_more (reads_of_ask ask) m1.chip.reads → reads ≡ reads_more (bus_reads f.run f.machine.t) f.machine.chip.reads
 reads_of_access f g m1 ask first reads seen view is asks same count =
     let so : IsBefore g first seen = subst (λ x. IsBefore x first seen) (sym view) is in
@@ -330,11 +332,11 @@ reads_of_access f g m1 ask first reads seen view is asks same count =
     reads_at_clock g.run g.machine.t ask (asks (access_state g.run g.machine.t) so.machine) in
     subst (λ (x : ForeValue). reads ≡ reads_more (bus_reads x.run x.machine.t) x.machine.chip.reads) view
     (count ∙ ap (λ n. reads_more n m1.chip.reads) bus
-    ∙ ap (λ (m : Machine). reads_more (bus_reads g.run g.machine.t) m.chip.reads) same)
+    ∙ ap (λ (m : MachineValue). reads_more (bus_reads g.run g.machine.t) m.chip.reads) same)
 
 -- the lines of an access were given, also where memory was wanted for its touch
-pub lines_of_access : (f g : ForeValue) (m1 m2 : Machine) (ask : Ask) (made : Made) (first : ℕ) (seen : RasterValue) (out given : OutFilesValue)
-    → g ≡ f → IsBefore f first seen → ((s : State) → IsMachineOf g.machine s → ask ≡ ask_of S.Nothing s)
+pub lines_of_access : (f g : ForeValue) (m1 m2 : MachineValue) (ask : Ask) (made : Made) (first : ℕ) (seen : RasterValue) (out given : OutFilesValue)
+    → g ≡ f → IsBefore f first seen → ((s : State) → IsMachineOf g.machine s → ask ≡ ask_of s)
     → ((s : State) → IsMachineOf g.machine s → HasAskedOf m1 s) → is_clx_ask ask ≡ false → MakesAccess ask 0 made m1 out m2 given → GivesLines out given
 lines_of_access f g m1 m2 ask made first seen out given view is asks asked quiet makes =
     let so : IsBefore g first seen = subst (λ x. IsBefore x first seen) (sym view) is in
@@ -342,9 +344,9 @@ lines_of_access f g m1 m2 ask made first seen out given view is asks asked quiet
     (asked (access_state g.run g.machine.t) so.machine) (λ read. absurd (true_false (sym read ∙ quiet))) makes in
     (has.stands.told.lines, has.stands.told.text)
 
-pub makes_quietly_of : (f g : ForeValue) (ask : Ask) (made : Made) (touch : Option Touch) (m1 m2 : Machine) (noted : Log) (seen : RasterValue)
+pub makes_quietly_of : (f g : ForeValue) (ask : Ask) (made : Made) (touch : Option Touch) (m1 m2 : MachineValue) (noted : Log) (seen : RasterValue)
     (out given : OutFilesValue) → g ≡ f
-    → ((s : State) → IsMachineOf g.machine s → ask ≡ ask_of S.Nothing s) → ((s : State) → IsMachineOf g.machine s → HasAskedOf m1 s)
+    → ((s : State) → IsMachineOf g.machine s → ask ≡ ask_of s) → ((s : State) → IsMachineOf g.machine s → HasAskedOf m1 s)
     → m1 ≡ record g.machine { chips = m1.chips } → is_clx_ask ask ≡ false → MakesAccess ask 0 made m1 out m2 given → CanDo made
     → StaysInPlace m1 m2 → StoresMade m1.t ask made m1.chip m2.chip → touch ≡ touch_of made → (CanDo made → IsInRange touch)
     → noted ≡ with_access_touch m2.t touch g.log → MakesItsAccess f (record g { machine = m2; log = noted }) seen seen out given
@@ -352,7 +354,7 @@ makes_quietly_of f g ask made touch m1 m2 noted seen out given view asks asked s
     subst (λ x. MakesItsAccess x (record g { machine = m2; log = noted }) seen seen out given) view
     (makes_quietly g ask made touch m1 m2 noted seen out given asks asked same quiet makes able place stores by range notes)
 
-pub makes_with_read_of : (f f1 g : ForeValue) (bits : ℕ) (ask : Ask) (made : Made) (m2 : Machine) (seen after : RasterValue) (out between given : OutFilesValue)
+pub makes_with_read_of : (f f1 g : ForeValue) (bits : ℕ) (ask : Ask) (made : Made) (m2 : MachineValue) (seen after : RasterValue) (out between given : OutFilesValue)
     → g ≡ f1 → ReadsBits true f f1 bits seen after out between → HasAskedNow ask f → is_clx_ask ask ≡ true
     → MakesAccess ask bits made g.machine between m2 given → StaysInPlace g.machine m2 → StoresMade g.machine.t ask made g.machine.chip m2.chip
     → MakesReadingAccess f (record g { machine = m2 }) seen after out given
@@ -369,9 +371,9 @@ part_of_read f f1 bits seen after out between given reads same first logged =
 pub before_view : (f g : ForeValue) (first : ℕ) (seen : RasterValue) → g ≡ f → IsBefore f first seen → IsBefore g first seen
 before_view f g first seen view is = subst (λ x. IsBefore x first seen) (sym view) is
 
-pub some_state_asked : (f g : ForeValue) (m1 : Machine) (ask : Ask) (first : ℕ) (seen : RasterValue) → g ≡ f → IsBefore f first seen
-    → ((s : State) → IsMachineOf g.machine s → ask ≡ ask_of S.Nothing s) → ((s : State) → IsMachineOf g.machine s → HasAskedOf m1 s)
-    → (s : State) × (ask ≡ ask_of S.Nothing s) × HasAskedOf m1 s
+pub some_state_asked : (f g : ForeValue) (m1 : MachineValue) (ask : Ask) (first : ℕ) (seen : RasterValue) → g ≡ f → IsBefore f first seen
+    → ((s : State) → IsMachineOf g.machine s → ask ≡ ask_of s) → ((s : State) → IsMachineOf g.machine s → HasAskedOf m1 s)
+    → (s : State) × (ask ≡ ask_of s) × HasAskedOf m1 s
 some_state_asked f g m1 ask first seen view is asks asked =
     let so : IsBefore g first seen = before_view f g first seen view is in
     (access_state g.run g.machine.t, asks (access_state g.run g.machine.t) so.machine, asked (access_state g.run g.machine.t) so.machine)

@@ -5,9 +5,10 @@ use Rattle.ocs_base.specs.declared.beam.Beam.{Beam}
 use Rattle.ocs_base.specs.declared.script.At.{At}
 use Rattle.mem_versions.specs.Chip.{ChipValue, memory_from}
 use Rattle.serial_model.specs.Beam.{IsOnScreen, first_place}
-use Rattle.serial_model.specs.Serial.{state_at}
+use Rattle.serial_model.specs.Serial.{state_over}
 use Rattle.serial_model.specs.State.{reset}
-use Rattle.serial_bands.specs.Run.{RunValue, IsGoodRun, state_of}
+use Rattle.serial_model.specs.Side.{SideValue}
+use Rattle.serial_bands.specs.Run.{RunOf, RunValue, run_over, IsGoodRun, state_of}
 use Rattle.serial_bands.specs.Bands.{begun, has_read_before}
 use Rattle.serial_bands.proofs.Gathering.{gathered_first}
 use Rattle.band_log.specs.Raster.{RasterValue, Takes}
@@ -15,20 +16,24 @@ use Rattle.foreground.specs.Clock.{IsAt}
 use Rattle.foreground.specs.Fore.{HasScript, IsNew}
 use Rattle.foreground.specs.Gathered.{Fits}
 use Rattle.foreground.specs.Log.{IsLogOf}
-use Rattle.foreground.specs.Machine.{IsMachineOf, IsReset}
+use Rattle.foreground.specs.Machine.{MachineValue, IsMachineOf, IsReset}
 use Rattle.foreground.specs.declared.log.Log.{Log}
-use Rattle.foreground.specs.declared.machine.Machine.{Machine}
 use Rattle.foreground.proofs.GatherLaws.{fits_begin}
 use Rattle.foreground.proofs.SettleLaws.{number_here}
 
-machine_first : (run : RunValue) (m : Machine) → IsReset run.image run.script.cpu m → IsMachineOf m (state_of run 0)
-unfolding state_at reset
+machine_first : (run : RunValue) (m : MachineValue) → IsReset run.side run.image run.script.cpu m → IsMachineOf m (state_of run 0)
+unfolding state_over reset
 machine_first run m is = record {
   t = sym is.t;
   beam = sym is.beam;
   memory = sym (ap (λ (c : ChipValue). c.words) is.chip);
   chips = is.chips;
+  side = sym is.side;
 }
+
+-- a run is good whatever its side is
+pub good_over : {S : Type 0} (seen : S → SideValue) (run : RunOf S) → IsGoodRun run → IsGoodRun (run_over seen run)
+good_over seen run good = record { image = good.image; script = good.script; least = good.least; most = good.most }
 
 none_read : (run : RunValue) → has_read_before run 0 ≡ true → ⊥
 none_read run read = wrong read
@@ -40,7 +45,7 @@ none_begun : (run : RunValue) → begun run 0 ≡ 0
 unfolding begun
 none_begun run = refl
 
-first_at : (run : RunValue) (m : Machine) (log : Log) (seen : RasterValue) → IsReset run.image run.script.cpu m → IsLogOf run 0 log m.chip →
+first_at : (run : RunValue) (m : MachineValue) (log : Log) (seen : RasterValue) → IsReset run.side run.image run.script.cpu m → IsLogOf run 0 log m.chip →
     seen.outstanding ≡ [] → seen.next ≡ 0 → Takes seen.bound run → IsAt run 0 0 m log 0 seen
 first_at run m log seen is logged none next takes =
     let from : log.band.from ≡ 0 = (let least : log.band.from ≤ 0 = logged.least in omega (arith, least)) in
@@ -72,7 +77,7 @@ script_first run b good is = subst (λ (x : Beam). HasScript run x 0) (sym is) (
 screen_first : (b : Beam) → b ≡ first_place → IsOnScreen b
 screen_first b is = subst IsOnScreen (sym is) (record { line = omega arith; clock = omega arith })
 
-pub new_fore : (run : RunValue) (m : Machine) (log : Log) → IsGoodRun run → IsReset run.image run.script.cpu m →
+pub new_fore : (run : RunValue) (m : MachineValue) (log : Log) → IsGoodRun run → IsReset run.side run.image run.script.cpu m →
     ((r : RunValue) (chip : ChipValue) → chip ≡ memory_from r.image → IsLogOf r 0 log chip) →
     IsNew run (record { run = run; machine = m; log = log; next = 0; clx = 0; spent = false })
 new_fore run m log good is opens = record {

@@ -18,7 +18,7 @@ use Rattle.serial_bands.specs.Clock.{due_at, sets_at, bytes_at, picture_at}
 use Rattle.serial_bands.specs.Bands.{has_clx_read}
 use Rattle.serial_bands.proofs.NextClock.{bytes_are_of_step}
 use Rattle.band_log.specs.Raster.{RasterValue}
-use Rattle.foreground.specs.Machine.{IsMachineOf, Start, Stands, MakesQuietly, KeepsPlace, IsSamePlace}
+use Rattle.foreground.specs.Machine.{MachineValue, IsMachineOf, Start, Stands, MakesQuietly, KeepsPlace, IsSamePlace}
 use Rattle.foreground.specs.Log.{IsStarted, IsShown, with_script_touch, with_script_touches, with_bytes}
 use Rattle.foreground.specs.Script.{MakesEvents, IsMachine}
 use Rattle.foreground.specs.Gathered.{Fits}
@@ -26,15 +26,14 @@ use Rattle.foreground.specs.Clock.{HasBegun, IsBeforeAccess, Tells, access_state
 use Rattle.foreground.specs.Fore.{ForeValue, HasScript}
 use Rattle.foreground.specs.Steps.{HasScriptBehind, ReachesAccess}
 use Rattle.foreground.specs.declared.log.Log.{Log}
-use Rattle.foreground.specs.declared.machine.Machine.{Machine}
 use Rattle.foreground.proofs.ToldLaws.{told_none}
 use Rattle.foreground.proofs.RunLaws.{stands_shown, place_at_clock}
 use Rattle.foreground.proofs.Logging.{log_shown, touches_keep_bytes}
 
 -- from the state in which a clock begins to that in which its access is made
-pub stands_at_access : (run : RunValue) (c bits : ℕ) (m0 m1 m2 m3 : Machine) (out given : OutFilesValue) → IsMachineOf m0 (state_of run c)
+pub stands_at_access : (run : RunValue) (c bits : ℕ) (m0 m1 m2 m3 : MachineValue) (out given : OutFilesValue) → IsMachineOf m0 (state_of run c)
     → (has_clx_read (due_at run c) ≡ true → (state_of run c).clx ≡ bits) → MakesQuietly start_clock m0 m1
-    → MakesEvents bits (due_events m1.beam run.script.events) m1 out m2 given → MakesQuietly (count_timers 0) m2 m3
+    → MakesEvents bits (due_events m1.beam run.script.events) m1 out m2 given → MakesQuietly count_timers m2 m3
     → Stands (record { out = out; trace = (state_of run c).trace }) m3 given (access_state run c)
 stands_at_access run c bits m0 m1 m2 m3 out given is clx first events timers =
     let s : State = state_of run c in
@@ -45,10 +44,10 @@ stands_at_access run c bits m0 m1 m2 m3 out given is clx first events timers =
     events start (start_clock s) (λ reads. clx (ap (λ b. has_clx_read (due_events b run.script.events)) place ∙ reads)) begun in
     let script : Stands start m2 given (run_script run.script.events (start_clock s)) =
     subst (λ b. Stands start m2 given (do_events (due_events b run.script.events) (start_clock s))) (sym place) happened in
-    stands_shown start m3 given (count_timers 0 (run_script run.script.events (start_clock s)))
+    stands_shown start m3 given (count_timers (run_script run.script.events (start_clock s)))
     (timers given start (run_script run.script.events (start_clock s)) script)
 
-pub tells_at_access : (run : RunValue) (c : ℕ) (m : Machine) (out given : OutFilesValue)
+pub tells_at_access : (run : RunValue) (c : ℕ) (m : MachineValue) (out given : OutFilesValue)
     → Stands (record { out = out; trace = (state_of run c).trace }) m given (access_state run c) → Tells (state_of run c) (access_state run c) out given
 tells_at_access run c m out given is = record { lines = is.told.lines; trace = is.told.trace; text = is.told.text }
 
@@ -90,10 +89,10 @@ fits_logged run c n first touches log shown seen is fits =
     subst (λ k. Fits run k shown.band.from first seen) (sym number) (subst (λ k. Fits run log.band.number k first seen) (sym from) fits)
 
 -- all of it, at one clock of a run
-reaches : (run : RunValue) (c bits first clx : ℕ) (m0 m1 m2 m3 : Machine) (log noted shown : Log) (seen : RasterValue) (out given : OutFilesValue)
+reaches : (run : RunValue) (c bits first clx : ℕ) (m0 m1 m2 m3 : MachineValue) (log noted shown : Log) (seen : RasterValue) (out given : OutFilesValue)
     → HasBegun run c first m0 log clx seen → (has_clx_read (due_at run c) ≡ true → (state_of run c).clx ≡ bits)
     → MakesQuietly start_clock m0 m1 → MakesEvents bits (due_events m1.beam run.script.events) m1 out m2 given
-    → MakesQuietly (count_timers 0) m2 m3 → m3.chip ≡ m0.chip → m1.beam ≡ m0.beam
+    → MakesQuietly count_timers m2 m3 → m3.chip ≡ m0.chip → m1.beam ≡ m0.beam
     → noted ≡ with_script_touches c (touches_of (due_events m1.beam run.script.events)) log
     → ((p : Denise) → shown ≡ with_bytes (length (pixels Pal m3.beam.v m3.beam.h p)) noted)
     → IsBeforeAccess run c first m3 shown clx seen × Tells (state_of run c) (access_state run c) out given
@@ -119,30 +118,30 @@ reaches run c bits first clx m0 m1 m2 m3 log noted shown seen out given is reads
     )
 
 -- and of the foreground: `f2` is that behind the script's events
-pub reaches_access : (bits : ℕ) (f0 f2 : ForeValue) (m1 m3 : Machine) (shown : Log) (out given : OutFilesValue)
+pub reaches_access : (bits : ℕ) (f0 f2 : ForeValue) (m1 m3 : MachineValue) (shown : Log) (out given : OutFilesValue)
     → MakesQuietly start_clock f0.machine m1 → m1 ≡ record f0.machine { chips = m1.chips }
     → MakesEvents bits (due_events m1.beam f0.run.script.events) m1 out f2.machine given → KeepsPlace m1 f2.machine
     → f2.log ≡ with_script_touches m1.t (touches_of (due_events m1.beam f0.run.script.events)) f0.log
     → HasScriptBehind f0.run m1.beam f0.next f2.next
     → f2 ≡ record f0 { machine = f2.machine; log = f2.log; next = f2.next }
-    → MakesQuietly (count_timers 0) f2.machine m3 → m3 ≡ record f2.machine { chips = m3.chips }
+    → MakesQuietly count_timers f2.machine m3 → m3 ≡ record f2.machine { chips = m3.chips; side = m3.side }
     → ((p : Denise) → shown ≡ with_bytes (length (pixels Pal m3.beam.v m3.beam.h p)) f2.log)
     → ReachesAccess bits f0 (record f2 { machine = m3; log = shown }) out given
 reaches_access bits f0 f2 m1 m3 shown out given start first events place notes script same timers last shows =
-    let beam : m1.beam ≡ f0.machine.beam = ap (λ (m : Machine). m.beam) first in
-    let t : m1.t ≡ f0.machine.t = ap (λ (m : Machine). m.t) first in
+    let beam : m1.beam ≡ f0.machine.beam = ap (λ (m : MachineValue). m.beam) first in
+    let t : m1.t ≡ f0.machine.t = ap (λ (m : MachineValue). m.t) first in
     let run : f2.run ≡ f0.run = ap (λ (f : ForeValue). f.run) same in
     let clx : f2.clx ≡ f0.clx = ap (λ (f : ForeValue). f.clx) same in
     let spent : f2.spent ≡ f0.spent = ap (λ (f : ForeValue). f.spent) same in
-    let count : m3.t ≡ f0.machine.t = ap (λ (m : Machine). m.t) last ∙ place.t ∙ t in
-    let chip : m3.chip ≡ f0.machine.chip = ap (λ (m : Machine). m.chip) last ∙ place.chip ∙ ap (λ (m : Machine). m.chip) first in
+    let count : m3.t ≡ f0.machine.t = ap (λ (m : MachineValue). m.t) last ∙ place.t ∙ t in
+    let chip : m3.chip ≡ f0.machine.chip = ap (λ (m : MachineValue). m.chip) last ∙ place.chip ∙ ap (λ (m : MachineValue). m.chip) first in
     let here : IsSamePlace f0.machine.beam f2.machine.beam = subst (λ b. IsSamePlace b f2.machine.beam) beam place.beam in
     let noted : f2.log ≡ with_script_touches f0.machine.t (touches_of (due_events m1.beam f0.run.script.events)) f0.log =
     notes ∙ ap (λ k. with_script_touches k (touches_of (due_events m1.beam f0.run.script.events)) f0.log) t in
     record {
       run = run;
       t = count;
-      beam = subst (λ (m : Machine). IsSamePlace f0.machine.beam m.beam) (sym last) here;
+      beam = subst (λ (m : MachineValue). IsSamePlace f0.machine.beam m.beam) (sym last) here;
       spent = spent;
       script = λ whole. subst (λ b. HasScriptBehind f0.run b f0.next f2.next) beam script;
       stands = λ first_band seen begun whole reads.
@@ -159,13 +158,13 @@ reaches_access bits f0 f2 m1 m3 shown out given start first events place notes s
     }
 
 -- the same through the views of a foreground's struct
-pub reaches_fore : (bits : ℕ) (f0 g0 f2 g2 : ForeValue) (m1 m3 : Machine) (shown : Log) (out given : OutFilesValue) → g0 ≡ f0 → g2 ≡ f2
+pub reaches_fore : (bits : ℕ) (f0 g0 f2 g2 : ForeValue) (m1 m3 : MachineValue) (shown : Log) (out given : OutFilesValue) → g0 ≡ f0 → g2 ≡ f2
     → MakesQuietly start_clock g0.machine m1 → m1 ≡ record g0.machine { chips = m1.chips }
     → MakesEvents bits (due_events m1.beam g0.run.script.events) m1 out f2.machine given → KeepsPlace m1 f2.machine
     → f2.log ≡ with_script_touches m1.t (touches_of (due_events m1.beam g0.run.script.events)) g0.log
     → HasScriptBehind g0.run m1.beam g0.next f2.next
     → f2 ≡ record g0 { machine = f2.machine; log = f2.log; next = f2.next }
-    → MakesQuietly (count_timers 0) g2.machine m3 → m3 ≡ record g2.machine { chips = m3.chips }
+    → MakesQuietly count_timers g2.machine m3 → m3 ≡ record g2.machine { chips = m3.chips; side = m3.side }
     → ((p : Denise) → shown ≡ with_bytes (length (pixels Pal m3.beam.v m3.beam.h p)) g2.log)
     → ReachesAccess bits f0 (record g2 { machine = m3; log = shown }) out given
 reaches_fore bits f0 g0 f2 g2 m1 m3 shown out given view0 view2 start first events place notes script same timers last shows =
@@ -179,7 +178,7 @@ reaches_fore bits f0 g0 f2 g2 m1 m3 shown out given view0 view2 start first even
     (subst (λ (f : ForeValue). f ≡ record g0 { machine = f.machine; log = f.log; next = f.next }) back same)
     timers last shows)
 
-pub machine_started : (m new : Machine) (out : OutFilesValue) → IsMachine m → MakesQuietly start_clock m new → IsMachine new
+pub machine_started : (m new : MachineValue) (out : OutFilesValue) → IsMachine m → MakesQuietly start_clock m new → IsMachine new
 machine_started m new out is step =
     let stands : Stands (record { out = out; trace = is.0.trace }) new out (start_clock is.0) =
     step out (record { out = out; trace = is.0.trace }) is.0 (record { machine = is.1; told = told_none out is.0 }) in
@@ -198,7 +197,7 @@ rest_of_list n events =
     let size : length (drop n events) ≡ length events - n = length-drop n events in
     ap (λ k. take k (drop n events)) (sym size) ∙ take-length (drop n events)
 
-pub script_events_of : (bits : ℕ) (f g : ForeValue) (events : List At) (new : Machine) (out given : OutFilesValue) → IsOnScreen f.machine.beam
+pub script_events_of : (bits : ℕ) (f g : ForeValue) (events : List At) (new : MachineValue) (out given : OutFilesValue) → IsOnScreen f.machine.beam
     → HasScript f.run f.machine.beam f.next → g ≡ f → events ≡ g.run.script.events
     → MakesEvents bits (due_events g.machine.beam (take (length events - g.next) (drop g.next events))) g.machine out new given
     → MakesEvents bits (due_events f.machine.beam f.run.script.events) f.machine out new given

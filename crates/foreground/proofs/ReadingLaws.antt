@@ -5,12 +5,11 @@ use Rattle.ocs_base.specs.Limits.{IsRunnable}
 use Rattle.ocs_base.specs.declared.beam.Beam.{Beam}
 use Rattle.ocs_base.specs.declared.script.System.TheVariants.{Pal}
 use Rattle.out_files.specs.OutFiles.{OutFilesValue}
-use Rattle.serial_model.specs.declared.bus.SideAsk.TheVariants as S
 use Rattle.serial_model.specs.declared.picture.Denise.{Denise}
 use Rattle.serial_model.specs.Beam.{IsOnScreen, place_of, next_place}
 use Rattle.serial_model.specs.Made.{is_clx_read}
 use Rattle.serial_model.specs.Registers.{is_interlaced}
-use Rattle.serial_model.specs.Serial.{state_at}
+use Rattle.serial_model.specs.Serial.{state_over}
 use Rattle.serial_model.specs.State.{State}
 use Rattle.serial_model.specs.Tick.{before_access, make_access}
 use Rattle.serial_model.proofs.EndLaws.{on_screen}
@@ -37,7 +36,7 @@ place_small b frames on going most = grind (arith, on.line, on.clock)
 
 pub clock_small : (run : RunValue) (c : ℕ) → IsRunnable run.script → (beam_at run c).frame < run.script.frames → c < 71051000
 clock_small run c good going =
-    omega (arith, place_rises run c, place_small (beam_at run c) run.script.frames (on_screen run.image run.script c) going good.most)
+    omega (arith, place_rises run c, place_small (beam_at run c) run.script.frames (on_screen run.side run.image run.script c) going good.most)
 
 -- outstanding bands begin no later than the one that is open
 pub fits_least : (run : RunValue) (number to first : ℕ) (seen : RasterValue) → Fits run number to first seen → first ≤ to
@@ -48,14 +47,14 @@ before_next : (lace : Bool) (b : Beam) → b.h < 227 → clock_before (next_plac
 before_next lace b on = grind (arith, nat_tests)
 
 before_after : (run : RunValue) (c : ℕ) → clock_before (beam_at run (suc c)).h ≡ (beam_at run c).h
-unfolding state_at
+unfolding state_over
 before_after run c =
     let s : State = state_of run c in
-    let b : State = make_access S.Nothing (before_access Pal run.script.events s) in
+    let b : State = make_access (before_access Pal run.script.events s) in
     let lace : Bool = is_interlaced b.chips.registers in
     let place : Beam = record s.beam { lof = b.beam.lof } in
     ap (λ (x : Beam). clock_before x.h) (beam_next Pal run.script.events s)
-    ∙ before_next lace place (on_screen run.image run.script c).clock
+    ∙ before_next lace place (on_screen run.side run.image run.script c).clock
 
 pub before_at : (run : RunValue) (c : ℕ) → 0 < c → clock_before (beam_at run c).h ≡ (beam_at run (c - 1)).h
 before_at run zero some = absurd (omega (arith, some))

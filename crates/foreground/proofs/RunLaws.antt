@@ -5,11 +5,10 @@ use Rattle.ocs_base.specs.declared.script.System.TheVariants.{Pal}
 use Rattle.out_files.specs.OutFiles.{OutFilesValue}
 use Rattle.serial_model.specs.declared.bus.Ask.{Ask}
 use Rattle.serial_model.specs.declared.bus.Made.{Made}
-use Rattle.serial_model.specs.declared.bus.SideAsk.TheVariants as S
 use Rattle.serial_model.specs.declared.picture.Touch.{Touch}
 use Rattle.serial_model.specs.Events.{due_events, do_events}
 use Rattle.serial_model.specs.Made.{touch_of}
-use Rattle.serial_model.specs.Serial.{state_at}
+use Rattle.serial_model.specs.Serial.{state_over}
 use Rattle.serial_model.specs.State.{State, reset}
 use Rattle.serial_model.specs.Tick.{start_clock, run_script, count_timers, show_pixels, before_access, ask_of, made_of, make_access, run_processor, advance_beam, tick}
 use Rattle.serial_model.proofs.NextLaws.{memory_kept, count_kept, place_kept}
@@ -20,8 +19,7 @@ use Rattle.serial_bands.specs.Run.{RunValue, state_of, beam_at, run_memory}
 use Rattle.serial_bands.specs.Shadows.{IsInRange}
 use Rattle.serial_bands.specs.Stores.{stores_of, stores_at}
 use Rattle.chip_set.specs.Chips.{CanDo}
-use Rattle.foreground.specs.Machine.{IsMachineOf, Start, Stands, Makes, MakesQuietly, IsReset, StoresMade}
-use Rattle.foreground.specs.declared.machine.Machine.{Machine}
+use Rattle.foreground.specs.Machine.{MachineValue, IsMachineOf, Start, Stands, Makes, MakesQuietly, IsReset, StoresMade}
 use Rattle.foreground.proofs.ToldLaws.{told_same, told_none}
 
 -- the state in which the access of a clock is made
@@ -29,36 +27,37 @@ abbrev pub state_in : RunValue → ℕ → State
 state_in run c = before_access Pal run.script.events (state_of run c)
 
 -- at reset it stands for the run's first state
-pub machine_at_reset : (run : RunValue) (m : Machine) → IsReset run.image run.script.cpu m → IsMachineOf m (state_of run 0)
-unfolding state_at reset
+pub machine_at_reset : (run : RunValue) (m : MachineValue) → IsReset run.side run.image run.script.cpu m → IsMachineOf m (state_of run 0)
+unfolding state_over reset
 machine_at_reset run m is = record {
   t = sym is.t;
   beam = sym is.beam;
   memory = ap (λ (c : ChipValue). c.words) (sym is.chip);
   chips = is.chips;
+  side = sym is.side;
 }
 
 -- the picture step leaves it
-pub stands_shown : (start : Start) (m : Machine) (out : OutFilesValue) (s : State) → Stands start m out s → Stands start m out (show_pixels Pal s)
+pub stands_shown : (start : Start) (m : MachineValue) (out : OutFilesValue) (s : State) → Stands start m out s → Stands start m out (show_pixels Pal s)
 stands_shown start m out s is = record {
-  machine = record { t = is.machine.t; beam = is.machine.beam; memory = is.machine.memory; chips = is.machine.chips };
+  machine = record { t = is.machine.t; beam = is.machine.beam; memory = is.machine.memory; chips = is.machine.chips; side = is.machine.side };
   told = told_same start out s (show_pixels Pal s) refl is.told;
 }
 
 -- what is told is told from here on
-pub stands_from : (m : Machine) (out : OutFilesValue) (s : State) → IsMachineOf m s → Stands (record { out = out; trace = s.trace }) m out s
+pub stands_from : (m : MachineValue) (out : OutFilesValue) (s : State) → IsMachineOf m s → Stands (record { out = out; trace = s.trace }) m out s
 stands_from m out s is = record { machine = is; told = told_none out s }
 
 -- the access of a clock
-pub ask_at_clock : (run : RunValue) (c : ℕ) (ask : Ask) → ask ≡ ask_of S.Nothing (state_in run c) → ask ≡ access_at run c
+pub ask_at_clock : (run : RunValue) (c : ℕ) (ask : Ask) → ask ≡ ask_of (state_in run c) → ask ≡ access_at run c
 unfolding access_at
 ask_at_clock run c ask is = is
 
-pub made_at_clock : (run : RunValue) (c : ℕ) (made : Made) → made ≡ made_of S.Nothing (state_in run c) → made ≡ made_at run c
+pub made_at_clock : (run : RunValue) (c : ℕ) (made : Made) → made ≡ made_of (state_in run c) → made ≡ made_at run c
 unfolding made_at
 made_at_clock run c made is = is
 
-pub reads_at_clock : (run : RunValue) (c : ℕ) (ask : Ask) → ask ≡ ask_of S.Nothing (state_in run c) → reads_of_ask ask ≡ bus_reads run c
+pub reads_at_clock : (run : RunValue) (c : ℕ) (ask : Ask) → ask ≡ ask_of (state_in run c) → reads_of_ask ask ≡ bus_reads run c
 reads_at_clock run c ask is = ap (λ a. reads_of_ask a) (ask_at_clock run c ask is)
 
 pub memory_at_clock : (run : RunValue) (c : ℕ) → (state_in run c).memory ≡ run_memory run c
@@ -69,7 +68,7 @@ place_at_clock run c = place_kept (due_events (beam_at run c) run.script.events)
 
 -- the state's count of clocks is the clock, also at its access
 pub count_of_clock : (run : RunValue) (c : ℕ) → (state_of run c).t ≡ c
-unfolding state_at reset tick
+unfolding state_over reset tick
 count_of_clock run zero = refl
 count_of_clock run (suc c) =
     ap (λ t. t + 1) (count_kept (due_events (beam_at run c) run.script.events) (start_clock (state_of run c)) ∙ count_of_clock run c) ∙ add-one c
@@ -97,27 +96,27 @@ pub range_at_clock : (run : RunValue) (c : ℕ) (made : Made) (touch : Option To
 range_at_clock run c made touch is by range able = subst IsInRange (touch_at_clock run c made touch is by) (range able)
 
 -- the next state
-pub state_next : (run : RunValue) (c : ℕ) → state_of run (c + 1) ≡ advance_beam (run_processor (make_access S.Nothing (state_in run c)))
-unfolding state_at tick
+pub state_next : (run : RunValue) (c : ℕ) → state_of run (c + 1) ≡ advance_beam (run_processor (make_access (state_in run c)))
+unfolding state_over tick
 state_next run c = ap (λ n. state_of run n) (add-one c)
 
 -- the steps up to the access, where the collision bits are these if one of the script's events reads them
-pub stands_before_access : (run : RunValue) (c clx : ℕ) (m0 m1 m2 m3 : Machine) (out after : OutFilesValue) → MakesQuietly start_clock m0 m1
+pub stands_before_access : (run : RunValue) (c clx : ℕ) (m0 m1 m2 m3 : MachineValue) (out after : OutFilesValue) → MakesQuietly start_clock m0 m1
     → ((start : Start) (s : State) → (has_clx_read (due_at run c) ≡ true → s.clx ≡ clx) → Stands start m1 out s
     → Stands start m2 after (do_events (due_at run c) s))
-    → MakesQuietly (count_timers 0) m2 m3 → (has_clx_read (due_at run c) ≡ true → (state_of run c).clx ≡ clx) → (start : Start)
+    → MakesQuietly count_timers m2 m3 → (has_clx_read (due_at run c) ≡ true → (state_of run c).clx ≡ clx) → (start : Start)
     → Stands start m0 out (state_of run c) → Stands start m3 after (state_in run c)
 stands_before_access run c clx m0 m1 m2 m3 out after starts happens counts read start is =
     let s : State = state_of run c in
     let scripted : Stands start m2 after (run_script run.script.events (start_clock s)) =
     happens start (start_clock s) read (starts out start s is) in
-    stands_shown start m3 after (count_timers 0 (run_script run.script.events (start_clock s)))
+    stands_shown start m3 after (count_timers (run_script run.script.events (start_clock s)))
     (counts after start (run_script run.script.events (start_clock s)) scripted)
 
 -- and those behind it
-pub stands_behind_access : (run : RunValue) (c : ℕ) (m0 m1 m2 : Machine) (out after : OutFilesValue) → Makes run_processor m0 out m1 after
-    → MakesQuietly advance_beam m1 m2 → (start : Start) → Stands start m0 out (make_access S.Nothing (state_in run c))
+pub stands_behind_access : (run : RunValue) (c : ℕ) (m0 m1 m2 : MachineValue) (out after : OutFilesValue) → Makes run_processor m0 out m1 after
+    → MakesQuietly advance_beam m1 m2 → (start : Start) → Stands start m0 out (make_access (state_in run c))
     → Stands start m2 after (state_of run (c + 1))
 stands_behind_access run c m0 m1 m2 out after turns advances start is =
-    let s : State = make_access S.Nothing (state_in run c) in
+    let s : State = make_access (state_in run c) in
     subst (λ x. Stands start m2 after x) (sym (state_next run c)) (advances after start (run_processor s) (turns start s is))

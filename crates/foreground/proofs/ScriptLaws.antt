@@ -13,19 +13,18 @@ use Rattle.serial_model.specs.State.{State}
 use Rattle.serial_model.proofs.EventLaws.{IsQueue, due_events-more, due_events-later, due_events-none, IsQueue-more, IsQueue-end, IsQueue-empty}
 use Rattle.serial_bands.specs.Bands.{has_clx_read}
 use Rattle.foreground.specs.Out.{GivesLines}
-use Rattle.foreground.specs.Machine.{Start, Stands, KeepsPlace, IsSamePlace, MakesEvent}
+use Rattle.foreground.specs.Machine.{MachineValue, Start, Stands, KeepsPlace, IsSamePlace, MakesEvent}
 use Rattle.foreground.specs.Script.{IsLeft, HasLater, MakesEvents, IsMachine, IsRest, with_touch_if_any}
 use Rattle.foreground.specs.Log.{with_script_touches}
 use Rattle.foreground.specs.declared.log.Log.{Log}
-use Rattle.foreground.specs.declared.machine.Machine.{Machine}
 use Rattle.foreground.proofs.OutLaws.{gives_nothing, gives_then}
 use Rattle.foreground.proofs.ToldLaws.{told_none}
 
 -- the place of the beam stays
-pub KeepsPlace-none : (m : Machine) → KeepsPlace m m
+pub KeepsPlace-none : (m : MachineValue) → KeepsPlace m m
 KeepsPlace-none m = record { t = refl; beam = refl; chip = refl }
 
-pub KeepsPlace-more : (a b c : Machine) → KeepsPlace a b → KeepsPlace b c → KeepsPlace a c
+pub KeepsPlace-more : (a b c : MachineValue) → KeepsPlace a b → KeepsPlace b c → KeepsPlace a c
 KeepsPlace-more a b c first second = record {
   t = second.t ∙ first.t;
   beam = second.beam ∙ ap (λ (x : Beam). record x { lof = c.beam.lof }) first.beam;
@@ -33,15 +32,15 @@ KeepsPlace-more a b c first second = record {
 }
 
 -- so far the events before those that are left have happened: whatever makes the rest from here makes all from the start
-pub record HasDone (events left : List At) (old now : Machine) (was out : OutFilesValue) (log after : Log) (clx cleared : ℕ) : Type 0 where
+pub record HasDone (events left : List At) (old now : MachineValue) (was out : OutFilesValue) (log after : Log) (clx cleared : ℕ) : Type 0 where
   pub place : KeepsPlace old now
-  pub rest : (end : Machine) (given : OutFilesValue) →
+  pub rest : (end : MachineValue) (given : OutFilesValue) →
       MakesEvents cleared (due_events old.beam left) now out end given → MakesEvents clx (due_events old.beam events) old was end given
   pub noted : with_script_touches old.t (touches_of (due_events old.beam left)) after
       ≡ with_script_touches old.t (touches_of (due_events old.beam events)) log
   pub later : HasLater old.beam events left
 
-pub HasDone-start : (events : List At) (m : Machine) (out : OutFilesValue) (log : Log) (clx : ℕ) → HasDone events events m m out out log log clx clx
+pub HasDone-start : (events : List At) (m : MachineValue) (out : OutFilesValue) (log : Log) (clx : ℕ) → HasDone events events m m out out log log clx clx
 HasDone-start events m out log clx = record {
   place = KeepsPlace-none m;
   rest = λ end given makes. makes;
@@ -54,7 +53,7 @@ clx_of_event : (act : Act) (s : State) → (do_event act s).clx ≡ clx_after (m
 clx_of_event act s = refl
 
 -- an event and those behind it
-events_of_two : (clx cleared : ℕ) (e : At) (events : List At) (old now end : Machine) (was out given : OutFilesValue)
+events_of_two : (clx cleared : ℕ) (e : At) (events : List At) (old now end : MachineValue) (was out given : OutFilesValue)
     → (is_clx_read (made_by_act e.act) ≡ true → cleared ≡ 0) → (is_clx_read (made_by_act e.act) ≡ false → cleared ≡ clx)
     → MakesEvent clx e.act old was now out → MakesEvents cleared events now out end given → MakesEvents clx (e ∷ events) old was end given
 unfolding do_events has_clx_read
@@ -79,7 +78,7 @@ touches_more t e events log = added (touch_of (made_by_act e.act))
     added None = refl
     added (Some touch) = refl
 
-HasDone-more : (frames : ℕ) (events left : List At) (e : At) (old now new : Machine) (was out given : OutFilesValue) (log after noted : Log)
+HasDone-more : (frames : ℕ) (events left : List At) (e : At) (old now new : MachineValue) (was out given : OutFilesValue) (log after noted : Log)
     (clx cleared bits : ℕ) → IsOnScreen old.beam → IsQueue frames (place_of old.beam) (e ∷ left) → is_due now.beam e ≡ true
     → HasDone events (e ∷ left) old now was out log after clx cleared
     → (is_clx_read (made_by_act e.act) ≡ true → bits ≡ 0) → (is_clx_read (made_by_act e.act) ≡ false → bits ≡ cleared)
@@ -102,7 +101,7 @@ HasDone-more frames events left e old now new was out given log after noted clx 
     }
 
 -- one turn: the first that is left is due and happens
-pub turn : (events left others : List At) (e : At) (old now new : Machine) (was out given : OutFilesValue) (log after noted : Log)
+pub turn : (events left others : List At) (e : At) (old now new : MachineValue) (was out given : OutFilesValue) (log after noted : Log)
     (clx cleared bits : ℕ) → IsOnScreen old.beam
     → HasDone events left old now was out log after clx cleared × IsLeft (place_of old.beam) left → left ≡ e ∷ others → is_due now.beam e ≡ true
     → (is_clx_read (made_by_act e.act) ≡ true → bits ≡ 0) → (is_clx_read (made_by_act e.act) ≡ false → bits ≡ cleared)
@@ -119,14 +118,14 @@ turn events left others e old now new was out given log after noted clx cleared 
     )
 
 -- none of those that are left is due: the events of the clock have happened
-pub MakesEvents-all : (events left : List At) (old now : Machine) (was out : OutFilesValue) (log after : Log) (clx cleared : ℕ)
+pub MakesEvents-all : (events left : List At) (old now : MachineValue) (was out : OutFilesValue) (log after : Log) (clx cleared : ℕ)
     → HasDone events left old now was out log after clx cleared → due_events old.beam left ≡ []
     → MakesEvents clx (due_events old.beam events) old was now out
 unfolding do_events
 MakesEvents-all events left old now was out log after clx cleared so none =
     so.rest now out (subst (λ es. MakesEvents cleared es now out now out) (sym none) (λ start s bits stands. stands))
 
-pub noted-all : (events left : List At) (old now : Machine) (was out : OutFilesValue) (log after : Log) (clx cleared : ℕ)
+pub noted-all : (events left : List At) (old now : MachineValue) (was out : OutFilesValue) (log after : Log) (clx cleared : ℕ)
     → HasDone events left old now was out log after clx cleared → due_events old.beam left ≡ []
     → after ≡ with_script_touches old.t (touches_of (due_events old.beam events)) log
 unfolding touches_of with_script_touches
@@ -165,22 +164,22 @@ pub lines_same : (old new : OutFilesValue) → new ≡ old → GivesLines old ne
 lines_same old new same = subst (λ (o : OutFilesValue). GivesLines old o) (sym same) (lines_none old)
 
 -- an event of a machine that stands for some state
-event_stands : (clx : ℕ) (act : Act) (old new : Machine) (out given : OutFilesValue) → (machine : IsMachine old) → MakesEvent clx act old out new given →
+event_stands : (clx : ℕ) (act : Act) (old new : MachineValue) (out given : OutFilesValue) → (machine : IsMachine old) → MakesEvent clx act old out new given →
     Stands (record { out = out; trace = machine.0.trace }) new given (do_event act (record machine.0 { clx = clx }))
 event_stands clx act old new out given machine makes =
     let s : State = record machine.0 { clx = clx } in
     let start : Start = record { out = out; trace = machine.0.trace } in
     makes start s (λ is. refl) (record {
-      machine = record { t = machine.1.t; beam = machine.1.beam; memory = machine.1.memory; chips = machine.1.chips };
+      machine = record { t = machine.1.t; beam = machine.1.beam; memory = machine.1.memory; chips = machine.1.chips; side = machine.1.side };
       told = told_none out s;
     })
 
-pub lines_of_event : (clx : ℕ) (act : Act) (old new : Machine) (out given : OutFilesValue) → IsMachine old → MakesEvent clx act old out new given →
+pub lines_of_event : (clx : ℕ) (act : Act) (old new : MachineValue) (out given : OutFilesValue) → IsMachine old → MakesEvent clx act old out new given →
     GivesLines out given
 lines_of_event clx act old new out given machine makes =
     let stands = event_stands clx act old new out given machine makes in (stands.told.lines, stands.told.text)
 
-pub machine_of_event : (clx : ℕ) (act : Act) (old new : Machine) (out given : OutFilesValue) → IsMachine old → MakesEvent clx act old out new given →
+pub machine_of_event : (clx : ℕ) (act : Act) (old new : MachineValue) (out given : OutFilesValue) → IsMachine old → MakesEvent clx act old out new given →
     IsMachine new
 machine_of_event clx act old new out given machine makes =
     let stands = event_stands clx act old new out given machine makes in (do_event act (record machine.0 { clx = clx }), stands.machine)

@@ -5,8 +5,7 @@ use Rattle.mem_versions.specs.Chip.{ChipValue}
 use Rattle.out_files.specs.OutFiles.{OutFilesValue}
 use Rattle.ocs_base.specs.declared.beam.Beam.{Beam}
 use Rattle.serial_model.specs.declared.picture.Denise.{Denise}
-use Rattle.serial_model.specs.Serial.{IsEnd}
-use Rattle.serial_bands.specs.Run.{RunValue, state_of}
+use Rattle.serial_bands.specs.Run.{RunValue, state_of, IsEndOf}
 use Rattle.serial_bands.specs.Bands.{begun}
 use Rattle.serial_bands.proofs.WholeRun.{end_begins}
 use Rattle.band_log.specs.Raster.{RasterValue}
@@ -26,7 +25,7 @@ is_same a b here = grind (arith, nat_tests)
 
 -- the run has come to its end, where a band would begin
 ended : (fore : ForeValue) (first : ℕ) (seen : RasterValue) → IsUnderway fore first seen → is_done fore ≡ true →
-    IsEnd fore.run.image fore.run.script fore.machine.t
+    IsEndOf fore.run fore.machine.t
 ended fore first seen underway done = record {
   ended =
       ap (λ (b : Beam). b.frame) underway.at.machine.beam ∙ is_same fore.machine.beam.frame fore.run.script.frames done;

@@ -19,51 +19,85 @@ use Rattle.serial_model.specs.Beam.{next_place}
 use Rattle.serial_model.specs.Cias.{time_chips}
 use Rattle.serial_model.specs.Events.{made_by_act, tell_chips}
 use Rattle.serial_model.specs.Made.{lof_after, merge_half, memory_after, is_clx_read, lines_of, state_after}
-use Rattle.serial_model.specs.Registers.{effect_of, is_interlaced, word_at}
+use Rattle.serial_model.specs.Side.{poke_side, tick_side, bits_of_side, ask_of_side, side_by_made}
+use Rattle.serial_model.specs.Registers.{dmacon_of, effect_of, is_interlaced, word_at}
 use Rattle.serial_model.specs.State.{Chips, State, read_word, live_words}
-use Rattle.serial_model.specs.Tick.{start_clock, start_chips, count_timers, run_processor, advance_beam}
+use Rattle.serial_model.specs.Tick.{start_clock, start_chips, side_bits, side_wish, count_timers, run_processor, advance_beam}
 use Rattle.serial_model.specs.Turns.{run_chips, interrupt_of, taken_lines}
 use Rattle.serial_model.specs.Write.{write_chips, write_lof, lof_of}
 use Rattle.chip_set.specs.Chips.{IsChipsOf}
 use Rattle.foreground.specs.Out.{Gives}
-use Rattle.foreground.specs.Machine.{IsMachineOf, Start, Stands, Makes, MakesQuietly, MakesEvent, IsSamePlace, KeepsPlace}
+use Rattle.foreground.specs.Machine.{MachineValue, IsMachineOf, Start, Stands, Makes, MakesQuietly, MakesEvent, IsSamePlace, KeepsPlace}
 use Rattle.foreground.specs.MachineSteps.{WritesRegister, chip_after, Does}
-use Rattle.foreground.specs.declared.machine.Machine.{Machine}
 use Rattle.foreground.proofs.OutLaws.{gives_nothing, gives_line}
 use Rattle.foreground.proofs.ToldLaws.{told_same, told_more}
 use Rattle.foreground.proofs.WriteLaws.{lof_open}
 
 -- a step that changes the chips alone
-IsMachineOf-chips : (old new : Machine) (s after : State) → new ≡ record old { chips = new.chips } → IsMachineOf old s → after.t ≡ s.t
-    → after.beam ≡ s.beam → after.memory ≡ s.memory → IsChipsOf new.chips after.chips → IsMachineOf new after
-IsMachineOf-chips old new s after same is t beam memory chips =
+IsMachineOf-chips : (old new : MachineValue) (s after : State) → new ≡ record old { chips = new.chips } → IsMachineOf old s → after.t ≡ s.t
+    → after.beam ≡ s.beam → after.memory ≡ s.memory → after.side ≡ s.side → IsChipsOf new.chips after.chips → IsMachineOf new after
+IsMachineOf-chips old new s after same is t beam memory side chips =
     subst (λ m. IsMachineOf m after) (sym same) (record {
       t = t ∙ is.t;
       beam = beam ∙ is.beam;
       memory = memory ∙ is.memory;
       chips = chips;
+      side = side ∙ is.side;
     })
 
 -- first step
-pub Makes-started : (old new : Machine) → new ≡ record old { chips = new.chips }
+pub Makes-started : (old new : MachineValue) → new ≡ record old { chips = new.chips }
     → ((c : Chips) → IsChipsOf old.chips c → IsChipsOf new.chips (start_chips old.beam c)) → MakesQuietly start_clock old new
 Makes-started old new same started out start s is = record {
-  machine = IsMachineOf-chips old new s (start_clock s) same is.machine refl refl refl
+  machine = IsMachineOf-chips old new s (start_clock s) same is.machine refl refl refl refl
       (subst (λ b. IsChipsOf new.chips (start_chips b s.chips)) (sym is.machine.beam) (started s.chips is.machine.chips));
   told = told_same start out s (start_clock s) refl is.told;
 }
 
 -- third step: the CIAs had their time
-pub Makes-timed : (old new : Machine) → new ≡ record old { chips = new.chips }
-    → ((c : Chips) → IsChipsOf old.chips c → IsChipsOf new.chips (time_chips 0 old.t c)) → MakesQuietly (count_timers 0) old new
-Makes-timed old new same timed out start s is = record {
-  machine = IsMachineOf-chips old new s (count_timers 0 s) same is.machine refl refl refl
-      (subst (λ t. IsChipsOf new.chips (time_chips 0 t s.chips)) (sym is.machine.t) (timed s.chips is.machine.chips));
-  told = told_same start out s (count_timers 0 s) refl is.told;
+-- and the side ticked, as it stands where the machine stands for a state
+dmacon_in : (old : MachineValue) (s : State) (dmacon : ℕ) → dmacon ≡ dmacon_of old.chips.registers → IsMachineOf old s
+    → dmacon_of s.chips.registers ≡ dmacon
+dmacon_in old s dmacon kept is = ap (λ r. dmacon_of r) is.chips.registers ∙ sym kept
+
+pub bits_in : (old : MachineValue) (s : State) (dmacon : ℕ) → dmacon ≡ dmacon_of old.chips.registers → IsMachineOf old s
+    → side_bits s ≡ bits_of_side old.beam dmacon old.side
+bits_in old s dmacon kept is =
+    ap (λ b. bits_of_side b (dmacon_of s.chips.registers) s.side) is.beam
+    ∙ ap (λ d. bits_of_side old.beam d s.side) (dmacon_in old s dmacon kept is)
+    ∙ ap (λ v. bits_of_side old.beam dmacon v) is.side
+
+ticked_in : (old : MachineValue) (s : State) (dmacon : ℕ) → dmacon ≡ dmacon_of old.chips.registers → IsMachineOf old s
+    → tick_side s.beam (dmacon_of s.chips.registers) s.side ≡ tick_side old.beam dmacon old.side
+ticked_in old s dmacon kept is =
+    ap (λ b. tick_side b (dmacon_of s.chips.registers) s.side) is.beam
+    ∙ ap (λ d. tick_side old.beam d s.side) (dmacon_in old s dmacon kept is)
+    ∙ ap (λ v. tick_side old.beam dmacon v) is.side
+
+pub wish_in : (old : MachineValue) (s : State) (dmacon : ℕ) → dmacon ≡ dmacon_of old.chips.registers → IsMachineOf old s
+    → side_wish s ≡ ask_of_side old.beam dmacon old.side
+wish_in old s dmacon kept is =
+    ap (λ b. ask_of_side b (dmacon_of s.chips.registers) s.side) is.beam
+    ∙ ap (λ d. ask_of_side old.beam d s.side) (dmacon_in old s dmacon kept is)
+    ∙ ap (λ v. ask_of_side old.beam dmacon v) is.side
+
+pub Makes-timed : (old new : MachineValue) (dmacon bits : ℕ) → new ≡ record old { chips = new.chips; side = new.side }
+    → dmacon ≡ dmacon_of old.chips.registers → bits ≡ bits_of_side old.beam dmacon old.side → new.side ≡ tick_side old.beam dmacon old.side
+    → ((c : Chips) → IsChipsOf old.chips c → IsChipsOf new.chips (time_chips bits old.t c)) → MakesQuietly count_timers old new
+Makes-timed old new dmacon bits same kept given ticks timed out start s is = record {
+  machine = subst (λ m. IsMachineOf m (count_timers s)) (sym same) (record {
+    t = is.machine.t;
+    beam = is.machine.beam;
+    memory = is.machine.memory;
+    chips = subst (λ b. IsChipsOf new.chips (time_chips b s.t s.chips)) (given ∙ sym (bits_in old s dmacon kept is.machine))
+        (subst (λ t. IsChipsOf new.chips (time_chips bits t s.chips)) (sym is.machine.t) (timed s.chips is.machine.chips));
+    side = ticked_in old s dmacon kept is.machine ∙ sym ticks;
+  });
+  told = told_same start out s (count_timers s) refl is.told;
 }
 
 -- sixth step: the processor had its turn, and an interrupt that begins with it is traced
-pub Makes-processed : (old new : Machine) (out after : OutFilesValue) (begins : Option ℕ) → new ≡ record old { chips = new.chips }
+pub Makes-processed : (old new : MachineValue) (out after : OutFilesValue) (begins : Option ℕ) → new ≡ record old { chips = new.chips }
     → ((c : Chips) → IsChipsOf old.chips c → IsChipsOf new.chips (run_chips c))
     → ((c : Chips) → IsChipsOf old.chips c → begins ≡ interrupt_of c) → Gives out after [] (taken_lines old.beam begins)
     → Makes run_processor old out new after
@@ -71,13 +105,13 @@ Makes-processed old new out after begins same runs interrupt gives start s is =
     let lines : taken_lines old.beam begins ≡ taken_lines s.beam (interrupt_of s.chips) =
     ap (λ b. taken_lines b begins) (sym is.machine.beam) ∙ ap (λ i. taken_lines s.beam i) (interrupt s.chips is.machine.chips) in
     record {
-      machine = IsMachineOf-chips old new s (run_processor s) same is.machine refl refl refl (runs s.chips is.machine.chips);
+      machine = IsMachineOf-chips old new s (run_processor s) same is.machine refl refl refl refl (runs s.chips is.machine.chips);
       told = told_more start out after s (run_processor s) (taken_lines s.beam (interrupt_of s.chips)) refl
           (subst (λ ls. Gives out after [] ls) lines gives) is.told;
     }
 
 -- seventh step
-pub Makes-advanced : (old new : Machine) → new ≡ record old { t = new.t; beam = new.beam }
+pub Makes-advanced : (old new : MachineValue) → new ≡ record old { t = new.t; beam = new.beam }
     → new.beam ≡ next_place (is_interlaced old.chips.registers) old.beam → new.t ≡ old.t + 1 → MakesQuietly advance_beam old new
 Makes-advanced old new same beam count out start s is =
     let now : IsMachineOf (record old { t = new.t; beam = new.beam }) (advance_beam s) = record {
@@ -86,6 +120,7 @@ Makes-advanced old new same beam count out start s is =
           ∙ ap (λ b. next_place (is_interlaced old.chips.registers) b) is.machine.beam ∙ sym beam;
       memory = is.machine.memory;
       chips = is.machine.chips;
+      side = is.machine.side;
     } in
     record {
       machine = subst (λ m. IsMachineOf m (advance_beam s)) (sym same) now;
@@ -123,7 +158,7 @@ words_stored t (M.Plane plane at) chip = refl
 words_stored t (M.Sprite sprite second at) chip = refl
 
 -- what is made is done to the state too
-pub Makes-does : (made : Made) (clx : ℕ) (old new : Machine) (out after : OutFilesValue) → Does made clx old out new after → (start : Start) (s : State)
+pub Makes-does : (made : Made) (clx : ℕ) (old new : MachineValue) (out after : OutFilesValue) → Does made clx old out new after → (start : Start) (s : State)
     → (is_clx_read made ≡ true → s.clx ≡ clx) → Stands start old out s → Stands start new after (state_after made s)
 Makes-does made clx old new out after does start s read is =
     let lines : lines_of old.beam clx s.chips made ≡ lines_of s.beam s.clx s.chips made =
@@ -135,22 +170,24 @@ Makes-does made clx old new out after does start s read is =
         memory = ap (λ m. memory_after made m) is.machine.memory ∙ sym (words_stored old.t made old.chip)
             ∙ ap (λ (c : ChipValue). c.words) (sym does.chip);
         chips = does.chips s.chips is.machine.chips;
+        side = ap (λ v. side_by_made made v) is.machine.side ∙ sym does.side;
       };
       told = told_more start out after s (state_after made s) (lines_of s.beam s.clx s.chips made) refl
           (subst (λ ls. Gives out after [] ls) lines (does.lines s.chips is.machine.chips)) is.told;
     }
 
 -- a write, by its effect
-pub WritesRegister-by : (reg : Reg) (word : ℕ) (busy : Bool) (old new : Machine) (effect : Effect) → effect ≡ effect_of busy reg.offset word
-    → new ≡ record old { beam = new.beam; chips = new.chips } → new.beam ≡ record old.beam { lof = lof_of effect old.beam.lof }
+pub WritesRegister-by : (reg : Reg) (word : ℕ) (busy : Bool) (old new : MachineValue) (effect : Effect) → effect ≡ effect_of busy reg.offset word
+    → new ≡ record old { beam = new.beam; chips = new.chips; side = new.side } → new.side ≡ poke_side reg word old.side → new.beam ≡ record old.beam { lof = lof_of effect old.beam.lof }
     → ((c : Chips) → IsChipsOf old.chips c → IsChipsOf new.chips (write_chips reg.offset word c)) → WritesRegister reg word old new
 unfolding write_lof
-WritesRegister-by reg word busy old new effect is same beam chips = record {
-  t = ap (λ (m : Machine). m.t) same;
+WritesRegister-by reg word busy old new effect is same poked beam chips = record {
+  t = ap (λ (m : MachineValue). m.t) same;
   beam = beam ∙ ap (λ e. record old.beam { lof = lof_of e old.beam.lof }) is
       ∙ ap (λ l. record old.beam { lof = l }) (lof_open busy reg word old.beam.lof);
-  chip = ap (λ (m : Machine). m.chip) same;
+  chip = ap (λ (m : MachineValue). m.chip) same;
   chips = chips;
+  side = poked;
 }
 
 -- an effect that is not LOF's
@@ -164,7 +201,7 @@ other_lof Interrupt b lof = refl
 other_lof (Lof long) b lof = absurd (lof long refl)
 
 -- with its line, where there is someone to name, the write is done
-pub Does-write : (reg : Reg) (word : ℕ) (by : Source) (clx : ℕ) (old new : Machine) (out after : OutFilesValue)
+pub Does-write : (reg : Reg) (word : ℕ) (by : Source) (clx : ℕ) (old new : MachineValue) (out after : OutFilesValue)
     → after ≡ with_line out (Wrote old.beam reg word by) → AddsLine out after (Wrote old.beam reg word by) → WritesRegister reg word old new
     → Does (M.Wrote reg word (Some by)) clx old out new after
 Does-write reg word by clx old new out after line adds has = record {
@@ -172,21 +209,23 @@ Does-write reg word by clx old new out after line adds has = record {
   beam = has.beam;
   chip = has.chip;
   chips = has.chips;
+  side = has.side;
   lines = λ c is. gives_line out after (Wrote old.beam reg word by) line adds;
 }
 
-pub Does-quietly : (reg : Reg) (word clx : ℕ) (old new : Machine) (out : OutFilesValue) → WritesRegister reg word old new
+pub Does-quietly : (reg : Reg) (word clx : ℕ) (old new : MachineValue) (out : OutFilesValue) → WritesRegister reg word old new
     → Does (M.Wrote reg word None) clx old out new out
 Does-quietly reg word clx old new out has = record {
   t = has.t;
   beam = has.beam;
   chip = has.chip;
   chips = has.chips;
+  side = has.side;
   lines = λ c is. gives_nothing out;
 }
 
 -- a register was read
-pub Does-read : (reg : Reg) (by : Source) (clx word : ℕ) (old : Machine) (out after : OutFilesValue)
+pub Does-read : (reg : Reg) (by : Source) (clx word : ℕ) (old : MachineValue) (out after : OutFilesValue)
     → ((c : Chips) → IsChipsOf old.chips c → word ≡ read_word reg.offset old.beam clx c)
     → after ≡ with_line out (Peeked old.beam reg word by) → AddsLine out after (Peeked old.beam reg word by)
     → Does (M.Read reg by) clx old out old after
@@ -195,12 +234,13 @@ Does-read reg by clx word old out after is line adds = record {
   beam = refl;
   chip = refl;
   chips = λ c stands. stands;
+  side = refl;
   lines = λ c stands. subst (λ w. Gives out after [] (Peeked old.beam reg w by ∷ [])) (is c stands)
       (gives_line out after (Peeked old.beam reg word by) line adds);
 }
 
 -- a word was stored, or one half of it
-pub Does-store : (at : Addr) (half : Half) (word clx : ℕ) (old new : Machine) (out : OutFilesValue) → new ≡ record old { chip = new.chip }
+pub Does-store : (at : Addr) (half : Half) (word clx : ℕ) (old new : MachineValue) (out : OutFilesValue) → new ≡ record old { chip = new.chip }
     → new.chip ≡ after_write old.chip old.t at (merge_half half (slice_index old.chip.words (at.value / 2)) word)
     → Does (M.Stored at half word) clx old out new out
 Does-store at half word clx old new out same stored =
@@ -209,6 +249,7 @@ Does-store at half word clx old new out same stored =
       beam = refl;
       chip = stored;
       chips = λ c stands. stands;
+      side = refl;
       lines = λ c stands. gives_nothing out;
     })
 
@@ -216,14 +257,14 @@ Does-store at half word clx old new out same stored =
 abbrev tell_state : Act → State → State
 tell_state act s = record s { chips = tell_chips act s.chips }
 
-Stands-told : (act : Act) (old mid : Machine) → mid ≡ record old { chips = mid.chips }
+Stands-told : (act : Act) (old mid : MachineValue) → mid ≡ record old { chips = mid.chips }
     → ((c : Chips) → IsChipsOf old.chips c → IsChipsOf mid.chips (tell_chips act c)) → MakesQuietly (tell_state act) old mid
 Stands-told act old mid same tells out start s is = record {
-  machine = IsMachineOf-chips old mid s (tell_state act s) same is.machine refl refl refl (tells s.chips is.machine.chips);
+  machine = IsMachineOf-chips old mid s (tell_state act s) same is.machine refl refl refl refl (tells s.chips is.machine.chips);
   told = told_same start out s (tell_state act s) refl is.told;
 }
 
-pub Makes-happened : (act : Act) (clx : ℕ) (old mid new : Machine) (out after : OutFilesValue) → mid ≡ record old { chips = mid.chips }
+pub Makes-happened : (act : Act) (clx : ℕ) (old mid new : MachineValue) (out after : OutFilesValue) → mid ≡ record old { chips = mid.chips }
     → ((c : Chips) → IsChipsOf old.chips c → IsChipsOf mid.chips (tell_chips act c)) → Does (made_by_act act) clx mid out new after
     → MakesEvent clx act old out new after
 Makes-happened act clx old mid new out after same tells does start s read is =
@@ -238,11 +279,11 @@ none_stored t (Fire port down) chip = refl
 none_stored t (Key code) chip = refl
 
 -- the place of the beam stays
-pub same_place : (made : Made) (clx : ℕ) (old new : Machine) (out after : OutFilesValue) → Does made clx old out new after
+pub same_place : (made : Made) (clx : ℕ) (old new : MachineValue) (out after : OutFilesValue) → Does made clx old out new after
     → IsSamePlace old.beam new.beam
 same_place made clx old new out after does = does.beam ∙ ap (λ (b : Beam). record old.beam { lof = b.lof }) (sym does.beam)
 
-pub KeepsPlace-happened : (act : Act) (clx : ℕ) (old mid new : Machine) (out after : OutFilesValue) → mid ≡ record old { chips = mid.chips }
+pub KeepsPlace-happened : (act : Act) (clx : ℕ) (old mid new : MachineValue) (out after : OutFilesValue) → mid ≡ record old { chips = mid.chips }
     → Does (made_by_act act) clx mid out new after → KeepsPlace old new
 KeepsPlace-happened act clx old mid new out after same does =
     let has : Does (made_by_act act) clx (record old { chips = mid.chips }) out new after =
@@ -254,7 +295,7 @@ KeepsPlace-happened act clx old mid new out after same does =
     }
 
 -- where the answer is that of the line
-pub read_done : {E : Type 0} (reg : Reg) (by : Source) (clx word : ℕ) (old : Machine) (out after : OutFilesValue) (answer : Result (Unit {0}) E)
+pub read_done : {E : Type 0} (reg : Reg) (by : Source) (clx word : ℕ) (old : MachineValue) (out after : OutFilesValue) (answer : Result (Unit {0}) E)
     → ((c : Chips) → IsChipsOf old.chips c → word ≡ read_word reg.offset old.beam clx c)
     → OnOk answer (after ≡ with_line out (Peeked old.beam reg word by)) → OnOk answer (AddsLine out after (Peeked old.beam reg word by))
     → OnOk answer (Does (M.Read reg by) clx old out old after)

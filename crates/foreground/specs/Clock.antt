@@ -3,7 +3,6 @@ use Rattle.std.specs.Prelude.{◌≡◌, ◌≤◌, ◌^◌, ℕ, ◌+◌, ◌-�
 use Rattle.ocs_base.specs.declared.script.System.TheVariants.{Pal}
 use Rattle.mem_versions.specs.Chip.{ChipValue}
 use Rattle.out_files.specs.OutFiles.{OutFilesValue}
-use Rattle.serial_model.specs.declared.bus.SideAsk.TheVariants as S
 use Rattle.serial_model.specs.declared.trace.TraceLine.{TraceLine}
 use Rattle.serial_model.specs.State.{State}
 use Rattle.serial_model.specs.Tick.{before_access, make_access}
@@ -14,15 +13,14 @@ use Rattle.serial_bands.specs.Bands.{has_read_before}
 use Rattle.serial_bands.specs.Gathering.{IsGathered, IsGatheredIn}
 use Rattle.band_log.specs.Raster.{RasterValue}
 use Rattle.foreground.specs.Out.{Gives}
-use Rattle.foreground.specs.Machine.{IsMachineOf}
+use Rattle.foreground.specs.Machine.{MachineValue, IsMachineOf}
 use Rattle.foreground.specs.Log.{IsLogOf, IsStarted, IsShown}
 use Rattle.foreground.specs.Gathered.{Fits, KeepsMark, tinted_range}
 use Rattle.foreground.specs.declared.log.Log.{Log}
-use Rattle.foreground.specs.declared.machine.Machine.{Machine}
 
 -- At the start of clock c: machine and log stand there, outstanding are the bands from clock `first` up to the open one, and
 -- these are the collision bits of the bands that were gathered since CLXDAT was read.
-pub record IsAt (run : RunValue) (c first : ℕ) (m : Machine) (log : Log) (clx : ℕ) (seen : RasterValue) : Type 0 where
+pub record IsAt (run : RunValue) (c first : ℕ) (m : MachineValue) (log : Log) (clx : ℕ) (seen : RasterValue) : Type 0 where
   pub machine : IsMachineOf m (state_of run c)
   pub logged : IsLogOf run c log m.chip
   pub fits : Fits run log.band.number log.band.from first seen
@@ -32,7 +30,7 @@ pub record IsAt (run : RunValue) (c first : ℕ) (m : Machine) (log : Log) (clx 
   pub time : m.chip.newest ≤ c
 
 -- its band has begun; the collision bits are those behind the script's events
-pub record HasBegun (run : RunValue) (c first : ℕ) (m : Machine) (log : Log) (clx : ℕ) (seen : RasterValue) : Type 0 where
+pub record HasBegun (run : RunValue) (c first : ℕ) (m : MachineValue) (log : Log) (clx : ℕ) (seen : RasterValue) : Type 0 where
   pub machine : IsMachineOf m (state_of run c)
   pub logged : IsStarted run c log m.chip
   pub fits : Fits run log.band.number log.band.from first seen
@@ -44,7 +42,7 @@ abbrev pub access_state : RunValue → ℕ → State
 access_state run c = before_access Pal run.script.events (state_of run c)
 
 abbrev pub accessed_state : RunValue → ℕ → State
-accessed_state run c = make_access S.Nothing (access_state run c)
+accessed_state run c = make_access (access_state run c)
 
 -- behind the picture step: the log, and the machine
 pub record IsLogged (run : RunValue) (c first : ℕ) (chip : ChipValue) (log : Log) (clx : ℕ) (seen : RasterValue) : Type 0 where
@@ -53,12 +51,12 @@ pub record IsLogged (run : RunValue) (c first : ℕ) (chip : ChipValue) (log : L
   pub gathered : IsGatheredIn run c clx first
   pub time : chip.newest ≤ c
 
-pub record IsBeforeAccess (run : RunValue) (c first : ℕ) (m : Machine) (log : Log) (clx : ℕ) (seen : RasterValue) : Type 0 where
+pub record IsBeforeAccess (run : RunValue) (c first : ℕ) (m : MachineValue) (log : Log) (clx : ℕ) (seen : RasterValue) : Type 0 where
   pub machine : IsMachineOf m (access_state run c)
   pub logged : IsLogged run c first m.chip log clx seen
 
 -- behind the access
-pub record IsBehindAccess (run : RunValue) (c first : ℕ) (m : Machine) (log : Log) (clx : ℕ) (seen : RasterValue) : Type 0 where
+pub record IsBehindAccess (run : RunValue) (c first : ℕ) (m : MachineValue) (log : Log) (clx : ℕ) (seen : RasterValue) : Type 0 where
   pub machine : IsMachineOf m (accessed_state run c)
   pub logged : IsLogOf run (c + 1) log m.chip
   pub fits : Fits run log.band.number log.band.from first seen

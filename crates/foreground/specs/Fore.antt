@@ -3,22 +3,32 @@ use Rattle.std.specs.Prelude.{◌≡◌, ◌≤◌, ◌<◌, ◌==◌, if◌then
 use Rattle.out_files.specs.OutFiles.{OutFilesValue}
 use Rattle.serial_model.specs.Beam.{IsOnScreen, place_of}
 use Rattle.serial_model.specs.Events.{due_events}
-use Rattle.serial_model.specs.Serial.{IsEnd}
+use Rattle.serial_model.specs.Side.{SideValue}
 use Rattle.serial_model.specs.declared.trace.TraceLine.{TraceLine}
 use Rattle.ocs_base.specs.declared.beam.Beam.{Beam}
-use Rattle.serial_bands.specs.Run.{RunValue, IsGoodRun, state_of, beam_at}
+use Rattle.serial_bands.specs.Run.{RunOf, RunValue, run_over, IsEndOf, IsGoodRun, state_of, beam_at}
 use Rattle.serial_bands.specs.Bands.{begun, is_band_place}
 use Rattle.serial_bands.specs.BusReads.{latched_words}
 use Rattle.band_log.specs.Raster.{RasterValue, Takes}
 use Rattle.foreground.specs.Clock.{IsAt, HasGiven, HasGivenPart}
-use Rattle.foreground.specs.Machine.{IsMachineOf}
+use Rattle.foreground.specs.Machine.{MachineValue, machine_over, IsMachineOf}
 use Rattle.foreground.specs.Script.{IsLeft}
 use Rattle.foreground.specs.declared.log.Log.{Log}
 use Rattle.foreground.specs.declared.machine.Machine.{Machine}
 
+-- the foreground as it is kept, of a run over a side of some type
+pub record ForeOf (S : Type 0) : Type 0 where
+  pub run : RunOf S
+  pub machine : Machine S
+  pub log : Log
+  pub next : ℕ
+  pub clx : ℕ
+  pub spent : Bool
+
+-- with what run and machine are over
 pub record ForeValue : Type 0 where
   pub run : RunValue
-  pub machine : Machine
+  pub machine : MachineValue
   pub log : Log
   -- how many of the script's events have happened
   pub next : ℕ
@@ -26,6 +36,16 @@ pub record ForeValue : Type 0 where
   pub clx : ℕ
   -- whether memory was wanted before
   pub spent : Bool
+
+abbrev pub over : {S : Type 0} → (S → SideValue) → ForeOf S → ForeValue
+over seen fore = record {
+  run = run_over seen fore.run;
+  machine = machine_over seen fore.machine;
+  log = fore.log;
+  next = fore.next;
+  clx = fore.clx;
+  spent = fore.spent;
+}
 
 -- the script's events that are left at a place of the beam
 pub record HasScript (run : RunValue) (b : Beam) (next : ℕ) : Type 0 where
@@ -85,7 +105,7 @@ looked_up fore =
 -- It is settled: the run has come to its end, all its bands are gathered, and the memory is the run's last.
 pub record IsSettled (fore : ForeValue) (after : RasterValue) : Type 0 where
   pub machine : IsMachineOf fore.machine (state_of fore.run fore.machine.t)
-  pub end : IsEnd fore.run.image fore.run.script fore.machine.t
+  pub end : IsEndOf fore.run fore.machine.t
   pub gathered : after.outstanding ≡ []
   pub next : after.next ≡ begun fore.run fore.machine.t
 

@@ -9,3 +9,5 @@ pub mod Clock
 pub mod Fore
 pub mod Cuts
 pub mod Steps
+pub mod Recorder
+pub mod TestRasters

@@ -6,6 +6,7 @@ use Rattle.serial_model.specs.declared.picture.Denise.{Denise}
 use Rattle.serial_model.specs.declared.picture.Touch.{Touch}
 use Rattle.serial_model.specs.declared.picture.Touch.TheVariants as T
 use Rattle.serial_model.specs.Picture.{clear_line, set_picture, reset_picture}
+use Rattle.serial_model.specs.Side.{SideValue}
 use Rattle.serial_bands.specs.declared.event.Event.{Event}
 use Rattle.serial_bands.specs.declared.event.Event.TheVariants as E
 use Rattle.serial_bands.specs.Run.{RunValue, beam_at, run_memory}
@@ -87,8 +88,8 @@ pub record IsCut (run : RunValue) (to : ℕ) (log : Log) (chip : ChipValue) : Ty
   pub last : chip.last ≡ to
 
 -- a job is right for a band of which the clocks before `to` are done
-pub record IsJobOf (run : RunValue) (band : OpenBand) (to : ℕ) (job : Job) : Type 0 where
-  pub right : IsRightJob run band.number job
+pub record IsJobOf {S : Type 0} (seen : S → SideValue) (run : RunValue) (band : OpenBand) (to : ℕ) (job : Job S) : Type 0 where
+  pub right : IsRightJob seen run band.number job
   pub from : job.from.0 ≡ band.from
   pub end : job.to.0 ≡ to
 

@@ -9,10 +9,9 @@ use Rattle.serial_model.specs.State.{State}
 use Rattle.serial_model.proofs.EventLaws.{IsQueue}
 use Rattle.serial_model.specs.declared.picture.Touch.{Touch}
 use Rattle.serial_bands.specs.Bands.{has_clx_read}
-use Rattle.foreground.specs.Machine.{Start, Stands, IsMachineOf}
+use Rattle.foreground.specs.Machine.{MachineValue, Start, Stands, IsMachineOf}
 use Rattle.foreground.specs.Log.{with_script_touch}
 use Rattle.foreground.specs.declared.log.Log.{Log}
-use Rattle.foreground.specs.declared.machine.Machine.{Machine}
 
 -- events that are none of them before the place, in order and in the limits of a run of some length
 pub record IsLeft (place : ℕ) (events : List At) : Type 0 where
@@ -30,7 +29,7 @@ HasLater b events left =
     (later : Beam) → IsOnScreen later → place_of b < place_of later → due_events later events ≡ due_events later left
 
 -- events happen in their order, where the collision bits are these if one of them reads them
-abbrev pub MakesEvents : ℕ → List At → Machine → OutFilesValue → Machine → OutFilesValue → Type 0
+abbrev pub MakesEvents : ℕ → List At → MachineValue → OutFilesValue → MachineValue → OutFilesValue → Type 0
 MakesEvents clx events old out new after =
     (start : Start) (s : State) → (has_clx_read events ≡ true → s.clx ≡ clx) → Stands start old out s →
     Stands start new after (do_events events s)
@@ -41,5 +40,5 @@ with_touch_if_any c None log = log
 with_touch_if_any c (Some touch) log = with_script_touch c touch log
 
 -- it stands for some state
-abbrev pub IsMachine : Machine → Type 0
+abbrev pub IsMachine : MachineValue → Type 0
 IsMachine m = (s : State) × IsMachineOf m s

@@ -3,7 +3,6 @@ use Rattle.std.specs.Prelude.{◌≡◌, ◌≤◌, ◌<◌, ◌==◌, ◌^◌, 
 use Rattle.ocs_base.specs.declared.beam.Beam.{Beam}
 use Rattle.out_files.specs.OutFiles.{OutFilesValue}
 use Rattle.serial_model.specs.declared.bus.Ask.{Ask}
-use Rattle.serial_model.specs.declared.bus.SideAsk.TheVariants as S
 use Rattle.serial_model.specs.declared.trace.TraceLine.{TraceLine}
 use Rattle.serial_model.specs.Beam.{place_of}
 use Rattle.serial_model.specs.Tick.{ask_of}
@@ -89,7 +88,7 @@ reads_more count reads = if count == 0 then reads else min (reads + count) (2 ^ 
 
 -- its chips have asked for the slot, as the access of the clock does
 pub record HasAskedNow (ask : Ask) (fore : ForeValue) : Type 0 where
-  pub asks : ask ≡ ask_of S.Nothing (access_state fore.run fore.machine.t)
+  pub asks : ask ≡ ask_of (access_state fore.run fore.machine.t)
   pub asked : HasAskedOf fore.machine (access_state fore.run fore.machine.t)
   pub place : IsSamePlace (beam_at fore.run fore.machine.t) fore.machine.beam
 

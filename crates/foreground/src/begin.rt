@@ -5,7 +5,7 @@ ghost use Rattle.serial_bands.specs.Bands.{is_band_place as place_of_band, has_c
 ghost use Rattle.serial_bands.specs.BusReads.{latched_words};
 ghost use Rattle.serial_bands.specs.Clock.{due_at};
 ghost use Rattle.foreground.specs.Clock.{Rises};
-ghost use Rattle.foreground.specs.Fore.{IsUnderway, is_done, looked_up};
+ghost use Rattle.foreground.specs.Fore.{over, IsUnderway, is_done, looked_up};
 ghost use Rattle.foreground.specs.Log.{with_begin};
 ghost use Rattle.foreground.specs.Steps.{StandsBeforeRead, BeginsClock, BeginsPart, KeepsClock};
 
@@ -13,24 +13,27 @@ use crate::fore::Fore;
 use band_log::Raster;
 use ocs_base::OutOfMemory;
 use out_files::OutFiles;
+use serial_model::Side;
 
-impl Fore {
+impl<S: Side> Fore<S> {
     /// What precedes the first step of a clock: where a band begins, the one before it ends. The
     /// answer is what the script's first read of CLXDAT in this clock sees, if it has one.
     #[inline(always)]
-    pub(crate) fn begin_clock<Q: Raster>(
+    pub(crate) fn begin_clock<Q: Raster<S>>(
         &mut self,
         raster: &mut Q,
         out: &mut OutFiles,
     ) -> Result<u16, OutOfMemory>
-        requires underway { (first : ℕ) × IsUnderway self.old first (Q.seen raster.old) }
-        requires running { is_done self.old ≡ false }
-        ensures begins { IfOk result (λ clx. BeginsClock self.old self.new clx
+        requires underway { (first : ℕ) × IsUnderway (over S.seen self.old) first
+            (Q.seen raster.old) }
+        requires running { is_done (over S.seen self.old) ≡ false }
+        ensures begins { IfOk result (λ clx. BeginsClock (over S.seen self.old)
+            (over S.seen self.new) clx
             (Q.seen raster.old) (Q.seen raster.new) out.old out.new) }
-        ensures part { OnErr result (BeginsPart self.old
+        ensures part { OnErr result (BeginsPart (over S.seen self.old)
             (Q.seen raster.old) (Q.seen raster.new) out.old out.new) }
-        ensures kept { KeepsClock self.old self.new }
-        ensures reads { Rises 0 (looked_up self.old)
+        ensures kept { KeepsClock (over S.seen self.old) (over S.seen self.new) }
+        ensures reads { Rises 0 (looked_up (over S.seen self.old))
             self.old.machine.chip.reads self.new.machine.chip.reads }
     {
         if self.script_reads() {
@@ -49,17 +52,18 @@ impl Fore {
 
     /// The script reads CLXDAT in this clock, with which a band begins therefore.
     #[inline(never)]
-    fn begin_at_read<Q: Raster>(
+    fn begin_at_read<Q: Raster<S>>(
         &mut self,
         raster: &mut Q,
         out: &mut OutFiles,
     ) -> Result<u16, OutOfMemory>
-        requires { StandsBeforeRead false self.old (Q.seen raster.old) }
-        ensures begins { IfOk result (λ clx. BeginsClock self.old self.new clx
+        requires { StandsBeforeRead false (over S.seen self.old) (Q.seen raster.old) }
+        ensures begins { IfOk result (λ clx. BeginsClock (over S.seen self.old)
+            (over S.seen self.new) clx
             (Q.seen raster.old) (Q.seen raster.new) out.old out.new) }
-        ensures part { OnErr result (BeginsPart self.old
+        ensures part { OnErr result (BeginsPart (over S.seen self.old)
             (Q.seen raster.old) (Q.seen raster.new) out.old out.new) }
-        ensures kept { KeepsClock self.old self.new }
+        ensures kept { KeepsClock (over S.seen self.old) (over S.seen self.new) }
         ensures reads { self.new.machine.chip.reads ≡ self.old.machine.chip.reads }
     {
         let clx = self.read_clxdat(raster, false, out)?;
@@ -69,23 +73,26 @@ impl Fore {
 
     /// A band begins with this clock by its place alone.
     #[inline(never)]
-    fn begin_at_line<Q: Raster>(
+    fn begin_at_line<Q: Raster<S>>(
         &mut self,
         raster: &mut Q,
         out: &mut OutFiles,
     ) -> Result<u16, OutOfMemory>
-        requires underway { (first : ℕ) × IsUnderway self.old first (Q.seen raster.old) }
-        requires running { is_done self.old ≡ false }
+        requires underway { (first : ℕ) × IsUnderway (over S.seen self.old) first
+            (Q.seen raster.old) }
+        requires running { is_done (over S.seen self.old) ≡ false }
         requires before { self.old.log.band.from < self.old.machine.t }
         requires place { place_of_band self.old.run.height self.old.machine.beam ≡ true }
-        requires unread { has_clx_read (due_at self.old.run self.old.machine.t) ≡ false }
-        ensures begins { IfOk result (λ clx. BeginsClock self.old self.new clx
+        requires unread { has_clx_read (due_at (over S.seen self.old).run self.old.machine.t) ≡
+            false }
+        ensures begins { IfOk result (λ clx. BeginsClock (over S.seen self.old)
+            (over S.seen self.new) clx
             (Q.seen raster.old) (Q.seen raster.new) out.old out.new) }
-        ensures part { OnErr result (BeginsPart self.old
+        ensures part { OnErr result (BeginsPart (over S.seen self.old)
             (Q.seen raster.old) (Q.seen raster.new) out.old out.new) }
-        ensures kept { KeepsClock self.old self.new }
+        ensures kept { KeepsClock (over S.seen self.old) (over S.seen self.new) }
         ensures reads { Rises 0
-            (latched_words self.old.run self.old.log.band.from self.old.machine.t)
+            (latched_words (over S.seen self.old).run self.old.log.band.from self.old.machine.t)
             self.old.machine.chip.reads self.new.machine.chip.reads }
     {
         self.end_at_line(raster, out)?;

@@ -12,7 +12,7 @@ ghost use Rattle.foreground.specs.Machine.{KeepsPlace};
 ghost use Rattle.foreground.specs.Log.{with_script_touches};
 ghost use Rattle.foreground.specs.Script.{IsMachine, MakesEvents};
 ghost use Rattle.foreground.specs.Clock.{Rises};
-ghost use Rattle.foreground.specs.Fore.{HasScript, IsUnderway, Advances, GivesPart, is_done, looked_up};
+ghost use Rattle.foreground.specs.Fore.{over, HasScript, IsUnderway, Advances, GivesPart, is_done, looked_up};
 ghost use Rattle.foreground.specs.Steps.{IsBefore, IsLoggedBefore, HasScriptBehind, ReachesAccess, KeepsClock};
 ghost use Rattle.foreground.specs.Steps.{HasAskedNow, MakesItsAccess, MakesReadingAccess, AccessesPart, EndsClock, reads_more};
 
@@ -23,30 +23,33 @@ use band_log::Raster;
 use chip_set::is_clx_ask;
 use ocs_base::OutOfMemory;
 use out_files::OutFiles;
-use serial_model::Ask;
+use serial_model::{Ask, Side};
 
-impl Fore {
+impl<S: Side> Fore<S> {
     /// One colour clock. Memory may be wanted, and then a part of what the clock gives was given.
     #[inline(always)]
-    pub(crate) fn advance_clock<Q: Raster>(
+    pub(crate) fn advance_clock<Q: Raster<S>>(
         &mut self,
         raster: &mut Q,
         out: &mut OutFiles,
     ) -> Result<(), OutOfMemory>
-        requires underway { (first : ℕ) × IsUnderway self.old first (Q.seen raster.old) }
-        requires running { is_done self.old ≡ false }
-        ensures clock { OnOk result (Advances self.old self.new
+        requires underway { (first : ℕ) × IsUnderway (over S.seen self.old) first
+            (Q.seen raster.old) }
+        requires running { is_done (over S.seen self.old) ≡ false }
+        ensures clock { OnOk result (Advances (over S.seen self.old) (over S.seen self.new)
             (Q.seen raster.old) (Q.seen raster.new) out.old out.new) }
-        ensures part { OnErr result (GivesPart self.old
+        ensures part { OnErr result (GivesPart (over S.seen self.old)
             (Q.seen raster.old) (Q.seen raster.new) out.old out.new) }
         ensures count { OnOk result (self.new.machine.t ≡ self.old.machine.t + 1) }
-        ensures run { self.new.run ≡ self.old.run }
+        ensures run { (over S.seen self.new).run ≡ (over S.seen self.old).run }
         ensures spent { OnOk result (self.new.spent ≡ self.old.spent) }
-        ensures reads { OnOk result (Rises (bus_reads self.old.run self.old.machine.t)
-            (bus_reads self.old.run self.old.machine.t + looked_up self.old)
+        ensures reads { OnOk result (Rises (bus_reads (over S.seen self.old).run self.old.machine.t)
+            (bus_reads (over S.seen self.old).run self.old.machine.t + looked_up
+            (over S.seen self.old))
             self.old.machine.chip.reads self.new.machine.chip.reads) }
         ensures few { OnErr result (Rises 0
-            (bus_reads self.old.run self.old.machine.t + looked_up self.old)
+            (bus_reads (over S.seen self.old).run self.old.machine.t + looked_up
+            (over S.seen self.old))
             self.old.machine.chip.reads self.new.machine.chip.reads) }
     {
         let clx = self.begin_clock(raster, out)?;
@@ -58,7 +61,7 @@ impl Fore {
     /// Whether the script reads CLXDAT in this clock.
     #[inline(always)]
     pub(crate) fn script_reads(&self) -> bool
-        requires script { HasScript self.now.run self.now.machine.beam self.now.next }
+        requires script { HasScript (over S.seen self.now).run self.now.machine.beam self.now.next }
         requires screen { IsOnScreen self.now.machine.beam }
         ensures { result ≡ has_clx_read
             (due_events self.now.machine.beam self.now.run.script.events) }
@@ -70,12 +73,13 @@ impl Fore {
     /// The first four steps, up to the access. `clx` is what the script's first read of CLXDAT sees.
     #[inline(always)]
     fn run_to_access(&mut self, clx: u16, out: &mut OutFiles) -> Result<(), OutOfMemory>
-        requires script { HasScript self.old.run self.old.machine.beam self.old.next }
+        requires script { HasScript (over S.seen self.old).run self.old.machine.beam self.old.next }
         requires screen { IsOnScreen self.old.machine.beam }
-        requires some { IsMachine self.old.machine }
+        requires some { IsMachine (over S.seen self.old).machine }
         requires room { self.old.log.band.bytes < 2 ^ 32 }
-        ensures reaches { OnOk result (ReachesAccess clx self.old self.new out.old out.new) }
-        ensures run { self.new.run ≡ self.old.run }
+        ensures reaches { OnOk result (ReachesAccess clx (over S.seen self.old)
+            (over S.seen self.new) out.old out.new) }
+        ensures run { (over S.seen self.new).run ≡ (over S.seen self.old).run }
         ensures chip { self.new.machine.chip ≡ self.old.machine.chip }
         ensures told { OnErr result (GivesLines out.old out.new) }
     {
@@ -90,17 +94,19 @@ impl Fore {
     /// Second step: the script's events of the clock.
     #[inline(always)]
     fn run_events(&mut self, clx: u16, out: &mut OutFiles) -> Result<(), OutOfMemory>
-        requires script { HasScript self.old.run self.old.machine.beam self.old.next }
+        requires script { HasScript (over S.seen self.old).run self.old.machine.beam self.old.next }
         requires screen { IsOnScreen self.old.machine.beam }
-        requires some { IsMachine self.old.machine }
+        requires some { IsMachine (over S.seen self.old).machine }
         ensures step { OnOk result (MakesEvents clx
             (due_events self.old.machine.beam self.old.run.script.events)
-            self.old.machine out.old self.new.machine out.new) }
-        ensures place { OnOk result (KeepsPlace self.old.machine self.new.machine) }
+            (over S.seen self.old).machine out.old (over S.seen self.new).machine out.new) }
+        ensures place { OnOk result (KeepsPlace (over S.seen self.old).machine
+            (over S.seen self.new).machine) }
         ensures noted { OnOk result (self.new.log ≡ with_script_touches self.old.machine.t
             (touches_of (due_events self.old.machine.beam self.old.run.script.events))
             self.old.log) }
-        ensures script { OnOk result (HasScriptBehind self.old.run self.old.machine.beam
+        ensures script { OnOk result (HasScriptBehind (over S.seen self.old).run
+            self.old.machine.beam
             self.old.next self.new.next) }
         ensures same { self.new ≡ record self.old {
           machine = self.new.machine;
@@ -126,16 +132,16 @@ impl Fore {
 
     /// Fifth step: the access.
     #[inline(always)]
-    fn access<Q: Raster>(&mut self, raster: &mut Q, out: &mut OutFiles) -> Result<(), OutOfMemory>
-        requires before { (first : ℕ) × IsBefore self.old first (Q.seen raster.old) }
+    fn access<Q: Raster<S>>(&mut self, raster: &mut Q, out: &mut OutFiles) -> Result<(), OutOfMemory>
+        requires before { (first : ℕ) × IsBefore (over S.seen self.old) first (Q.seen raster.old) }
         requires room { self.old.machine.t + 1 < 2 ^ 64 }
-        ensures makes { OnOk result (MakesItsAccess self.old self.new
+        ensures makes { OnOk result (MakesItsAccess (over S.seen self.old) (over S.seen self.new)
             (Q.seen raster.old) (Q.seen raster.new) out.old out.new) }
-        ensures part { OnErr result (AccessesPart self.old
+        ensures part { OnErr result (AccessesPart (over S.seen self.old)
             (Q.seen raster.old) (Q.seen raster.new) out.old out.new) }
-        ensures kept { KeepsClock self.old self.new }
+        ensures kept { KeepsClock (over S.seen self.old) (over S.seen self.new) }
         ensures reads { self.new.machine.chip.reads ≡ reads_more
-            (bus_reads self.old.run self.old.machine.t) self.old.machine.chip.reads }
+            (bus_reads (over S.seen self.old).run self.old.machine.t) self.old.machine.chip.reads }
     {
         let ask = self.machine.ask();
         if is_clx_ask(&ask) {
@@ -149,22 +155,24 @@ impl Fore {
 
     /// The access reads CLXDAT: it sees the pixels of this clock too.
     #[inline(never)]
-    fn access_clxdat<Q: Raster>(
+    fn access_clxdat<Q: Raster<S>>(
         &mut self,
         ask: &Ask,
         raster: &mut Q,
         out: &mut OutFiles,
     ) -> Result<(), OutOfMemory>
-        requires logged { (first : ℕ) × IsLoggedBefore self.old first (Q.seen raster.old) }
-        requires asked { HasAskedNow ask.now self.old }
+        requires logged { (first : ℕ) × IsLoggedBefore (over S.seen self.old) first
+            (Q.seen raster.old) }
+        requires asked { HasAskedNow ask.now (over S.seen self.old) }
         requires read { is_clx_asked ask.now ≡ true }
         requires able { CanAsk ask.now }
         requires wish { IsBlitAsk ask.now (kept_wish self.old.machine.chips) }
-        ensures makes { OnOk result (MakesReadingAccess self.old self.new
+        ensures makes { OnOk result (MakesReadingAccess (over S.seen self.old)
+            (over S.seen self.new)
             (Q.seen raster.old) (Q.seen raster.new) out.old out.new) }
-        ensures part { OnErr result (AccessesPart self.old
+        ensures part { OnErr result (AccessesPart (over S.seen self.old)
             (Q.seen raster.old) (Q.seen raster.new) out.old out.new) }
-        ensures kept { KeepsClock self.old self.new }
+        ensures kept { KeepsClock (over S.seen self.old) (over S.seen self.new) }
         ensures reads { self.new.machine.chip.reads ≡ reads_more
             (reads_of_ask ask.now) self.old.machine.chip.reads }
     {
@@ -179,10 +187,11 @@ impl Fore {
         requires screen { IsOnScreen self.old.machine.beam }
         requires frame { self.old.machine.beam.frame + 1 < 2 ^ 32 }
         requires count { self.old.machine.t + 1 < 2 ^ 64 }
-        ensures ends { OnOk result (EndsClock self.old self.new out.old out.new) }
+        ensures ends { OnOk result (EndsClock (over S.seen self.old) (over S.seen self.new) out.old
+            out.new) }
         ensures place { OnOk result ((lace : Bool)
             × (self.new.machine.beam ≡ next_place lace self.old.machine.beam)) }
-        ensures run { self.new.run ≡ self.old.run }
+        ensures run { (over S.seen self.new).run ≡ (over S.seen self.old).run }
         ensures chip { self.new.machine.chip ≡ self.old.machine.chip }
         ensures refused { OnErr result (out.new ≡ out.old) }
     {

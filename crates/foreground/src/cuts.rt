@@ -7,6 +7,7 @@ ghost use Rattle.serial_bands.specs.Bands.{begins};
 ghost use Rattle.serial_bands.specs.BusReads.{latched_words};
 ghost use Rattle.foreground.specs.Clock.{Rises};
 ghost use Rattle.foreground.specs.Cuts.{StandsBefore, StandsAtEnd, EndsAtLine, EndsAtRead, EndsAll, EndsPart, EndsPartAtRead};
+ghost use Rattle.foreground.specs.Fore.{over};
 ghost use Rattle.foreground.specs.Steps.{KeepsClock};
 
 use crate::fore::Fore;
@@ -14,29 +15,31 @@ use crate::gather::{gather_all, submit};
 use band_log::Raster;
 use ocs_base::OutOfMemory;
 use out_files::OutFiles;
-use serial_model::Denise;
+use serial_model::{Denise, Side};
 
-impl Fore {
+impl<S: Side> Fore<S> {
     /// A band begins with the line at the present clock: the one before it ends there, and is
     /// submitted. The next one opens as the shadow says, with the words of the fetches that are left
     /// looked up.
-    pub(crate) fn end_at_line<Q: Raster>(
+    pub(crate) fn end_at_line<Q: Raster<S>>(
         &mut self,
         raster: &mut Q,
         out: &mut OutFiles,
     ) -> Result<(), OutOfMemory>
         requires stands { (first : ℕ)
-            × StandsBefore self.old.machine.t first self.old (Q.seen raster.old) }
+            × StandsBefore self.old.machine.t first (over S.seen self.old) (Q.seen raster.old) }
         requires before { self.old.log.band.from < self.old.machine.t }
-        requires line { is_line_start (beam_at self.old.run self.old.machine.t) ≡ true }
-        requires begins { begins self.old.run self.old.machine.t ≡ true }
-        ensures ends { OnOk result (EndsAtLine self.old.machine.t self.old self.new
+        requires line { is_line_start (beam_at (over S.seen self.old).run self.old.machine.t) ≡
+            true }
+        requires begins { begins (over S.seen self.old).run self.old.machine.t ≡ true }
+        ensures ends { OnOk result (EndsAtLine self.old.machine.t (over S.seen self.old)
+            (over S.seen self.new)
             (Q.seen raster.old) (Q.seen raster.new) out.old out.new) }
-        ensures part { OnErr result (EndsPart self.old.machine.t self.old
+        ensures part { OnErr result (EndsPart self.old.machine.t (over S.seen self.old)
             (Q.seen raster.old) (Q.seen raster.new) out.old out.new) }
-        ensures kept { KeepsClock self.old self.new }
+        ensures kept { KeepsClock (over S.seen self.old) (over S.seen self.new) }
         ensures reads { Rises 0
-            (latched_words self.old.run self.old.log.band.from self.old.machine.t)
+            (latched_words (over S.seen self.old).run self.old.log.band.from self.old.machine.t)
             self.old.machine.chip.reads self.new.machine.chip.reads }
     {
         let Fore {
@@ -55,19 +58,20 @@ impl Fore {
 
     /// The band that is open ends before clock `to`, and all bands are gathered. The answer is the
     /// closing picture state of the last; how the next band opens is not known yet.
-    pub(crate) fn end_all<Q: Raster>(
+    pub(crate) fn end_all<Q: Raster<S>>(
         &mut self,
         to: u64,
         raster: &mut Q,
         out: &mut OutFiles,
     ) -> Result<Option<Denise>, OutOfMemory>
-        requires { (first : ℕ) × StandsAtEnd to first self.old (Q.seen raster.old) }
-        ensures ends { IfOk result (λ closing. EndsAll to self.old self.new
+        requires { (first : ℕ) × StandsAtEnd to first (over S.seen self.old) (Q.seen raster.old) }
+        ensures ends { IfOk result (λ closing. EndsAll to (over S.seen self.old)
+            (over S.seen self.new)
             (Q.seen raster.old) (Q.seen raster.new) out.old out.new closing) }
         ensures none { OnOk result ((Q.seen raster.new).outstanding ≡ []) }
-        ensures part { OnErr result (EndsPartAtRead to self.old
+        ensures part { OnErr result (EndsPartAtRead to (over S.seen self.old)
             (Q.seen raster.old) (Q.seen raster.new) out.old out.new) }
-        ensures kept { KeepsClock self.old self.new }
+        ensures kept { KeepsClock (over S.seen self.old) (over S.seen self.new) }
         ensures reads { self.new.machine.chip.reads ≡ self.old.machine.chip.reads }
     {
         let Fore {
@@ -87,20 +91,21 @@ impl Fore {
     /// CLXDAT is read right before the picture step of clock `to`: the band ends there, and all bands
     /// are gathered. `h` is the clock of the line before it. The next band opens with what the last
     /// one closed with.
-    pub(crate) fn end_at_read<Q: Raster>(
+    pub(crate) fn end_at_read<Q: Raster<S>>(
         &mut self,
         to: u64,
         h: u16,
         raster: &mut Q,
         out: &mut OutFiles,
     ) -> Result<(), OutOfMemory>
-        requires stands { (first : ℕ) × StandsAtEnd to first self.old (Q.seen raster.old) }
-        requires clock { h ≡ (beam_at self.old.run (to - 1)).h }
-        ensures ends { OnOk result (EndsAtRead to self.old self.new
+        requires stands { (first : ℕ) × StandsAtEnd to first (over S.seen self.old)
+            (Q.seen raster.old) }
+        requires clock { h ≡ (beam_at (over S.seen self.old).run (to - 1)).h }
+        ensures ends { OnOk result (EndsAtRead to (over S.seen self.old) (over S.seen self.new)
             (Q.seen raster.old) (Q.seen raster.new) out.old out.new) }
-        ensures part { OnErr result (EndsPartAtRead to self.old
+        ensures part { OnErr result (EndsPartAtRead to (over S.seen self.old)
             (Q.seen raster.old) (Q.seen raster.new) out.old out.new) }
-        ensures kept { KeepsClock self.old self.new }
+        ensures kept { KeepsClock (over S.seen self.old) (over S.seen self.new) }
         ensures reads { self.new.machine.chip.reads ≡ self.old.machine.chip.reads }
     {
         match self.end_all(to, raster, out)? {

@@ -2,13 +2,15 @@
 
 ghost use Rattle.std.specs.Prelude.{◌≡◌, IfOk};
 ghost use Rattle.std.specs.Arc.{arc_value};
-ghost use Rattle.foreground.specs.Fore.{IsNew, is_done};
+ghost use Rattle.serial_bands.specs.Run.{run_over};
+ghost use Rattle.foreground.specs.Fore.{over, IsNew, is_done};
 
 use crate::log::Log;
 use crate::machine::Machine;
 use band_log::Run;
 use ocs_base::{Beam, OutOfMemory};
 use reg_file::Regs;
+use serial_model::{NoSide, Side};
 use std::alloc::Global;
 use std::marker::Model;
 use std::sync::Arc;
@@ -17,10 +19,10 @@ use std::sync::Arc;
 /// raster, which draws them, and the output files are lent to each call. After a refusal for want of memory each later call
 /// refuses too, and adds nothing.
 #[derive(Drop)]
-pub struct Fore {
+pub struct Fore<S> {
     pub(crate) alloc: Global,
-    pub(crate) run: Arc<Run>,
-    pub(crate) machine: Machine,
+    pub(crate) run: Arc<Run<S>>,
+    pub(crate) machine: Machine<S>,
     pub(crate) log: Log,
     /// How many of the script's events have happened.
     pub(crate) next: usize,
@@ -30,11 +32,11 @@ pub struct Fore {
     pub(crate) spent: bool,
 }
 
-impl Model for Fore {
+impl<S> Model for Fore<S> {
     ghost use Rattle.std.specs.Arc.{arc_value};
-    ghost use Rattle.foreground.specs.Fore.{ForeValue};
+    ghost use Rattle.foreground.specs.Fore.{ForeOf};
 
-    ghost Value = { ForeValue };
+    ghost Value = { ForeOf S };
 
     ghost view = { λ f. record {
       run = arc_value f.run;
@@ -46,13 +48,27 @@ impl Model for Fore {
     } };
 }
 
-impl Fore {
-    /// The foreground at reset. Any raster that takes bands of the run fits it, with none outstanding
-    /// and none submitted before.
-    pub fn new(alloc: Global, run: Arc<Run>) -> Result<Fore, OutOfMemory>
-        ensures { IfOk result (IsNew (arc_value run)) }
+impl Fore<NoSide> {
+    /// The foreground at reset of a run without a side. Any raster that takes bands of the run fits it,
+    /// with none outstanding and none submitted before.
+    pub fn new(alloc: Global, run: Arc<Run<NoSide>>) -> Result<Fore<NoSide>, OutOfMemory>
+        ensures { IfOk result (λ fore. IsNew (run_over ⟦<NoSide as Side>⟧.seen (arc_value run))
+            (over ⟦<NoSide as Side>⟧.seen fore)) }
     {
-        let machine = Machine::new(alloc, run.image(), run.script().cpu())?;
+        Fore::with_side(alloc, run, NoSide)
+    }
+}
+
+impl<S: Side> Fore<S> {
+    /// The foreground at reset of a run over a side. The side that it takes does what the one that the
+    /// run keeps does. Any raster that takes bands of the run fits it, with none outstanding and none
+    /// submitted before.
+    pub fn with_side(alloc: Global, run: Arc<Run<S>>, side: S) -> Result<Fore<S>, OutOfMemory>
+        requires { S.seen side ≡ S.seen (arc_value run).side }
+        ensures { IfOk result (λ fore. IsNew (run_over S.seen (arc_value run))
+            (over S.seen fore)) }
+    {
+        let machine = Machine::new(alloc, run.image(), run.script().cpu(), side)?;
         Ok(Fore {
             alloc,
             run,
@@ -67,7 +83,7 @@ impl Fore {
     /// Whether the run has come to its end.
     #[inline(always)]
     pub fn done(&self) -> bool
-        ensures { result ≡ is_done self.now }
+        ensures { result ≡ is_done (over S.seen self.now) }
     {
         self.machine.beam.frame == self.run.script().frames()
     }
@@ -85,6 +101,13 @@ impl Fore {
         ensures { result.now ≡ self.now.machine.chips.registers }
     {
         self.machine.chips.registers()
+    }
+
+    /// The side as it is now.
+    pub fn side(&self) -> &S
+        ensures { result.now ≡ self.now.machine.side }
+    {
+        &self.machine.side
     }
 
     /// How many words of chip memory were read; the count stands still at the greatest u64.

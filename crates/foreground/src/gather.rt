@@ -2,6 +2,7 @@
 
 ghost use Rattle.std.specs.Prelude.{◌≡◌, ◌<◌, ◌≤◌, ℕ, [], length, OnOk, OnErr, IfOk};
 ghost use Rattle.std.specs.Arc.{arc_value};
+ghost use Rattle.serial_bands.specs.Run.{run_over};
 ghost use Rattle.band_log.specs.Raster.{without_first};
 ghost use Rattle.band_log.specs.Right.{IsRightJob};
 ghost use Rattle.foreground.specs.Gathered.{Fits, GathersOne, GathersSome, GathersAll, GathersPart, Submits};
@@ -9,13 +10,14 @@ ghost use Rattle.foreground.specs.Gathered.{Fits, GathersOne, GathersSome, Gathe
 use band_log::{Denise, Drawn, Job, Raster};
 use ocs_base::OutOfMemory;
 use out_files::OutFiles;
+use serial_model::Side;
 
 /// How many bands may be outstanding.
 const PLACES: usize = 16;
 
 /// Gathers the first outstanding band: its pixels go to the output files, and its collision bits
 /// are added. The answer is its closing picture state. It may wait for the band.
-pub fn gather_one<Q: Raster>(
+pub fn gather_one<S: Side, Q: Raster<S>>(
     raster: &mut Q,
     out: &mut OutFiles,
     clx: &mut u16,
@@ -39,7 +41,7 @@ pub fn gather_one<Q: Raster>(
 
 /// Gathers all outstanding bands. The answer is the closing picture state of the last, if there was
 /// one. It may wait for each band.
-pub fn gather_all<Q: Raster>(
+pub fn gather_all<S: Side, Q: Raster<S>>(
     raster: &mut Q,
     out: &mut OutFiles,
     clx: &mut u16,
@@ -58,7 +60,7 @@ pub fn gather_all<Q: Raster>(
 }
 
 /// Makes a place for one more band: where 16 are outstanding, the first is gathered.
-fn make_place<Q: Raster>(
+fn make_place<S: Side, Q: Raster<S>>(
     raster: &mut Q,
     out: &mut OutFiles,
     clx: &mut u16,
@@ -79,16 +81,18 @@ fn make_place<Q: Raster>(
 
 /// Submits the job of the next band; where 16 are outstanding, the first is gathered before, which
 /// may wait. After a refusal, for want of memory alone, the job is lost.
-pub fn submit<Q: Raster>(
-    job: Job,
+pub fn submit<S: Side, Q: Raster<S>>(
+    job: Job<S>,
     raster: &mut Q,
     out: &mut OutFiles,
     clx: &mut u16,
 ) -> Result<(), OutOfMemory>
-    requires right { IsRightJob (arc_value job.run) job.number job }
-    requires fits { (first : ℕ) × Fits (arc_value job.run) job.number job.from.0 first
+    requires right { IsRightJob S.seen (run_over S.seen (arc_value job.run)) job.number job }
+    requires fits { (first : ℕ) × Fits (run_over S.seen (arc_value job.run)) job.number job.from.0
+        first
         (Q.seen raster.old) }
-    ensures submitted { OnOk result (Submits (arc_value job.run) job.number job.from.0 job.to.0
+    ensures submitted { OnOk result (Submits (run_over S.seen (arc_value job.run)) job.number
+        job.from.0 job.to.0
         (Q.seen raster.old) (Q.seen raster.new) out.old out.new clx.old clx.new) }
     ensures part { OnErr result (GathersPart (Q.seen raster.old) (Q.seen raster.new)
         out.old out.new) }

@@ -9,7 +9,7 @@ ghost use Rattle.mem_versions.specs.MemView.{IsViewOf};
 ghost use Rattle.serial_model.specs.declared.picture.Denise.{Denise as DeniseValue};
 ghost use Rattle.serial_model.specs.Beam.{is_line_start, is_visible as visible};
 ghost use Rattle.serial_model.specs.Picture.{pixels};
-ghost use Rattle.serial_bands.specs.Run.{RunValue, beam_at};
+ghost use Rattle.serial_bands.specs.Run.{RunValue, run_over, beam_at};
 ghost use Rattle.serial_bands.specs.Bands.{begins as begins_at};
 ghost use Rattle.serial_bands.specs.RightJob.{event_at as event_of};
 ghost use Rattle.serial_bands.specs.Shadows.{IsInRange};
@@ -25,7 +25,7 @@ use band_log::{Event, Events, Job, Reset, Room, Run};
 use mem_versions::Chip;
 use ocs_base::{Beam, Clock, OutOfMemory};
 use serial_bands::Shadow;
-use serial_model::{Denise, Touch};
+use serial_model::{Denise, Side, Touch};
 use std::alloc::Global;
 use std::mem;
 use std::sync::Arc;
@@ -136,21 +136,23 @@ impl Log {
 
     /// Ends the band before clock `to`, where the next one begins: its job, with a view of the memory,
     /// which is cut there. How the next band opens is not known yet. After a refusal all is as before.
-    pub fn close(
+    pub fn close<S: Side>(
         &mut self,
         alloc: Global,
-        run: &Arc<Run>,
+        run: &Arc<Run<S>>,
         chip: &mut Chip,
         to: u64,
-    ) -> Result<Job, OutOfMemory>
-        requires ending { IsEnding (arc_value run.now) to self.old chip.old }
+    ) -> Result<Job<S>, OutOfMemory>
+        requires ending { IsEnding (run_over S.seen (arc_value run.now)) to self.old chip.old }
         requires time { chip.old.newest ≤ to }
-        ensures job { IfOk result (IsJobOf (arc_value run.now) self.old.band to) }
+        ensures job { IfOk result (IsJobOf S.seen (run_over S.seen (arc_value run.now))
+            self.old.band to) }
         ensures view { IfOk result (λ job. IsViewOf chip.old to job.view) }
         ensures log { OnOk result (self.new
             ≡ record self.old { band = blank_after to self.old.band }) }
         ensures chip { OnOk result (chip.new ≡ after_cut chip.old to) }
-        ensures cut { OnOk result (IsCut (arc_value run.now) to self.new chip.new) }
+        ensures cut { OnOk result (IsCut (run_over S.seen (arc_value run.now)) to self.new
+            chip.new) }
         ensures refused { OnErr result (self.new ≡ self.old) }
         ensures kept { OnErr result (chip.new ≡ chip.old) }
     {
@@ -182,20 +184,22 @@ impl Log {
     /// A line starts a band at clock `to`: the band before it ends, and the next one opens as the
     /// shadow says once its fetches are looked up, each of them a read of the chip memory. After a
     /// refusal all is as before.
-    pub fn cut_line(
+    pub fn cut_line<S: Side>(
         &mut self,
         alloc: Global,
-        run: &Arc<Run>,
+        run: &Arc<Run<S>>,
         chip: &mut Chip,
         to: u64,
-    ) -> Result<Job, OutOfMemory>
-        requires log { IsLogOf (arc_value run.now) to self.old chip.old }
+    ) -> Result<Job<S>, OutOfMemory>
+        requires log { IsLogOf (run_over S.seen (arc_value run.now)) to self.old chip.old }
         requires before { self.old.band.from < to }
-        requires line { is_line_start (beam_at (arc_value run.now) to) ≡ true }
-        requires begins { begins_at (arc_value run.now) to ≡ true }
+        requires line { is_line_start (beam_at (run_over S.seen (arc_value run.now)) to) ≡ true }
+        requires begins { begins_at (run_over S.seen (arc_value run.now)) to ≡ true }
         requires time { chip.old.newest ≤ to }
-        ensures job { IfOk result (IsJobOf (arc_value run.now) self.old.band to) }
-        ensures log { OnOk result (IsLogOf (arc_value run.now) to self.new chip.new) }
+        ensures job { IfOk result (IsJobOf S.seen (run_over S.seen (arc_value run.now))
+            self.old.band to) }
+        ensures log { OnOk result (IsLogOf (run_over S.seen (arc_value run.now)) to self.new
+            chip.new) }
         ensures from { OnOk result (self.new.band.from ≡ to) }
         ensures number { OnOk result (self.new.band.number ≡ self.old.band.number + 1) }
         ensures chip { OnOk result (chip.new

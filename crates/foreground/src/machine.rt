@@ -4,7 +4,6 @@ ghost use Rattle.std.specs.Prelude.{◌≡◌, ◌+◌, ◌<◌, ◌^◌, ◌≤
 ghost use Rattle.ocs_base.specs.Image.{is_image};
 ghost use Rattle.out_files.specs.OutFiles.{OutFilesValue};
 ghost use Rattle.serial_model.specs.declared.bus.Made.TheVariants as M;
-ghost use Rattle.serial_model.specs.declared.bus.SideAsk.{SideAsk};
 ghost use Rattle.serial_model.specs.Beam.{IsOnScreen, next_place};
 ghost use Rattle.serial_model.specs.Made.{is_clx_read};
 ghost use Rattle.serial_model.specs.Registers.{is_interlaced};
@@ -13,40 +12,48 @@ ghost use Rattle.serial_model.specs.State.{State};
 ghost use Rattle.serial_model.specs.Tick.{ask_of, run_processor, advance_beam};
 ghost use Rattle.chip_set.specs.AskLaws.{is_clx_ask};
 ghost use Rattle.chip_set.specs.Chips.{CanAsk, CanDo, IsBlitAsk, kept_wish};
-ghost use Rattle.foreground.specs.Machine.{IsMachineOf, IsReset, Makes, MakesQuietly, MakesEvent, MakesAccess};
+ghost use Rattle.foreground.specs.Machine.{machine_over, IsMachineOf, IsReset, Makes, MakesQuietly, MakesEvent, MakesAccess};
 ghost use Rattle.foreground.specs.Machine.{HasAskedOf, StoresMade, StaysInPlace, KeepsPlace, reads_after};
-ghost use Rattle.foreground.specs.MachineSteps.{WritesRegister, Does};
+ghost use Rattle.foreground.specs.MachineSteps.{WritesRegister, GivesSide, Does};
 
 use chip_set::Chips;
 use mem_versions::Chip;
 use ocs_base::{Act, Addr, Beam, Clock, OutOfMemory, Reg};
 use out_files::OutFiles;
 use reg_file::Effect;
-use serial_model::{Ask, Half, Made, Source, TraceLine};
+use serial_model::{Ask, Half, Made, Side, Source, TraceLine};
 use std::alloc::Global;
 
-/// The machine without its picture: how many clocks are done since reset, the beam, the chip memory and the
-/// chips. Collision bits and output files are the caller's.
+/// The machine without its picture: how many clocks are done since reset, the beam, the chip memory, the
+/// chips, and what stands beside them. Collision bits and output files are the caller's.
 #[derive(Drop)]
-pub struct Machine {
+pub struct Machine<S> {
     pub t: u64,
     pub beam: Beam,
     pub chip: Chip,
     pub chips: Chips,
+    pub side: S,
 }
 
-impl Machine {
-    /// The machine at reset, with its memory made from the bytes of an image; `cpu` says whether the processor is
-    /// started.
-    pub fn new(alloc: Global, image: &[u8], cpu: bool) -> Result<Machine, OutOfMemory>
+impl<S: Side> Machine<S> {
+    /// The machine at reset, with its memory made from the bytes of an image, and a side as it is then; `cpu` says
+    /// whether the processor is started.
+    pub fn new(
+        alloc: Global,
+        image: &[u8],
+        cpu: bool,
+        side: S,
+    ) -> Result<Machine<S>, OutOfMemory>
         requires { is_image image.now ≡ true }
-        ensures { IfOk result (IsReset image.now cpu) }
+        ensures { IfOk result (λ machine.
+            IsReset (S.seen side) image.now cpu (machine_over S.seen machine)) }
     {
         Ok(Machine {
             t: 0,
             beam: beam::start(),
             chip: Chip::new(alloc, image)?,
             chips: Chips::reset(cpu),
+            side,
         })
     }
 
@@ -54,7 +61,8 @@ impl Machine {
     /// times of day count.
     #[inline(always)]
     pub fn start(&mut self)
-        ensures step { MakesQuietly start_clock self.old self.new }
+        ensures step { MakesQuietly start_clock (machine_over S.seen self.old)
+            (machine_over S.seen self.new) }
         ensures same { self.new ≡ record self.old { chips = self.new.chips } }
     {
         self.chips.start(&self.beam);
@@ -66,8 +74,9 @@ impl Machine {
     /// it tells the chips.
     pub fn act(&mut self, act: &Act, clx: u16, out: &mut OutFiles) -> Result<(), OutOfMemory>
         ensures step { OnOk result
-            (MakesEvent clx act.now self.old out.old self.new out.new) }
-        ensures place { KeepsPlace self.old self.new }
+            (MakesEvent clx act.now (machine_over S.seen self.old) out.old
+            (machine_over S.seen self.new) out.new) }
+        ensures place { KeepsPlace (machine_over S.seen self.old) (machine_over S.seen self.new) }
         ensures refused { OnErr result (out.new ≡ out.old) }
     {
         self.chips.tell(act);
@@ -79,26 +88,37 @@ impl Machine {
         Ok(())
     }
 
-    /// Third step: the timers of the CIAs tick at each fifth clock, and the CIAs request their interrupts.
+    /// Third step: the timers of the CIAs tick at each fifth clock, the side ticks, and CIAs and side request their
+    /// interrupts.
     #[inline(always)]
     pub fn count_timers(&mut self)
-        ensures step { MakesQuietly (count_timers_of 0) self.old self.new }
-        ensures same { self.new ≡ record self.old { chips = self.new.chips } }
+        ensures step { MakesQuietly count_timers_of (machine_over S.seen self.old)
+            (machine_over S.seen self.new) }
+        ensures same { self.new ≡ record self.old {
+          chips = self.new.chips;
+          side = self.new.side;
+        } }
     {
-        self.chips.count_timers(self.t);
+        let dmacon = self.chips.dmacon();
+        let bits = self.side.tick(&self.beam, dmacon);
+        self.chips.count_timers(self.t, bits);
     }
 
     /// Fifth step, its beginning: what the owner of the slot asks for. The fetches of bitplanes and sprites are done
     /// with it. `answer` is to be called next.
     #[inline(always)]
     pub fn ask(&mut self) -> Ask
-        ensures ask { (s : State) → IsMachineOf self.old s → result ≡ ask_of SideAsk.Nothing s }
-        ensures chips { (s : State) → IsMachineOf self.old s → HasAskedOf self.new s }
+        ensures ask { (s : State) → IsMachineOf (machine_over S.seen self.old) s → result ≡ ask_of
+            s }
+        ensures chips { (s : State) → IsMachineOf (machine_over S.seen self.old) s → HasAskedOf
+            (machine_over S.seen self.new) s }
         ensures able { CanAsk result }
         ensures wish { IsBlitAsk result (kept_wish self.new.chips) }
         ensures same { self.new ≡ record self.old { chips = self.new.chips } }
     {
-        self.chips.ask(&self.beam)
+        let dmacon = self.chips.dmacon();
+        let wish = self.side.ask(&self.beam, dmacon);
+        self.chips.ask(&self.beam, wish)
     }
 
     /// Fifth step, its end: the owner of the slot has its word and makes its access. The answer is what that makes. It
@@ -109,26 +129,50 @@ impl Machine {
         requires able { CanAsk ask.now }
         requires wish { IsBlitAsk ask.now (kept_wish self.old.chips) }
         requires time { is_clx_ask ask.now ≡ false → self.old.chip.newest ≤ self.old.t }
-        requires asked { (s : State) × (ask.now ≡ ask_of SideAsk.Nothing s) × HasAskedOf self.old s }
+        requires asked { (s : State) × (ask.now ≡ ask_of s) × HasAskedOf
+            (machine_over S.seen self.old) s }
         ensures access { IfOk result (λ made.
-            MakesAccess ask.now clx made self.old out.old self.new out.new) }
+            MakesAccess ask.now clx made (machine_over S.seen self.old) out.old
+            (machine_over S.seen self.new) out.new) }
         ensures able { IfOk result CanDo }
         ensures memory { IfOk result (λ made.
             StoresMade self.old.t ask.now made self.old.chip self.new.chip) }
         ensures reads { self.new.chip.reads ≡ reads_after ask.now self.old.chip.reads }
-        ensures place { StaysInPlace self.old self.new }
+        ensures place { StaysInPlace (machine_over S.seen self.old) (machine_over S.seen self.new) }
         ensures refused { OnErr result (out.new ≡ out.old) }
     {
+        self.give_side(ask);
         let made = self.chips.answer(ask, &self.beam, clx, &mut self.chip);
         self.carry_out(&made, clx, out)?;
         Ok(made)
+    }
+
+    /// A side that asked for the slot has its word: a disk the one that it stores, and audio the one that it reads.
+    #[inline(always)]
+    fn give_side(&mut self, ask: &Ask)
+        ensures gives { GivesSide ask.now (machine_over S.seen self.old)
+            (machine_over S.seen self.new) }
+        ensures same { self.new ≡ record self.old {
+          chip = self.new.chip;
+          side = self.new.side;
+        } }
+    {
+        match ask {
+            Ask::Disk { word, .. } => self.side.give(*word),
+            Ask::Audio { at, .. } => {
+                let word = self.chip.read(*at);
+                self.side.give(word);
+            }
+            _ => {}
+        }
     }
 
     /// What an access makes is done, but for the picture's part of it.
     #[inline(always)]
     fn carry_out(&mut self, made: &Made, clx: u16, out: &mut OutFiles) -> Result<(), OutOfMemory>
         requires { is_clx_read made.now ≡ false → self.old.chip.newest ≤ self.old.t }
-        ensures does { OnOk result (Does made.now clx self.old out.old self.new out.new) }
+        ensures does { OnOk result (Does made.now clx (machine_over S.seen self.old) out.old
+            (machine_over S.seen self.new) out.new) }
         ensures refused { OnErr result (out.new ≡ out.old) }
         ensures kept { OnErr result (self.new ≡ self.old) }
     {
@@ -150,7 +194,8 @@ impl Machine {
         out: &mut OutFiles,
     ) -> Result<(), OutOfMemory>
         ensures does { (clx : ℕ) → OnOk result
-            (Does (M.Wrote reg word by) clx self.old out.old self.new out.new) }
+            (Does (M.Wrote reg word by) clx (machine_over S.seen self.old) out.old
+            (machine_over S.seen self.new) out.new) }
         ensures refused { OnErr result (out.new ≡ out.old) }
         ensures kept { OnErr result (self.new ≡ self.old) }
     {
@@ -172,7 +217,8 @@ impl Machine {
         out: &mut OutFiles,
     ) -> Result<(), OutOfMemory>
         ensures does { (clx : ℕ) → OnOk result
-            (Does (M.Wrote reg word (Some by)) clx self.old out.old self.new out.new) }
+            (Does (M.Wrote reg word (Some by)) clx (machine_over S.seen self.old) out.old
+            (machine_over S.seen self.new) out.new) }
         ensures refused { OnErr result (out.new ≡ out.old) }
         ensures kept { OnErr result (self.new ≡ self.old) }
     {
@@ -186,12 +232,15 @@ impl Machine {
         Ok(())
     }
 
-    /// A write to a register, without its line of the trace: it reaches the chips, and LOF where the register is
-    /// VPOSW.
+    /// A write to a register, without its line of the trace: it reaches the chips, then the side, and LOF where the
+    /// register is VPOSW.
     fn write_register(&mut self, reg: Reg, word: u16)
-        ensures { WritesRegister reg word self.old self.new }
+        ensures { WritesRegister reg word (machine_over S.seen self.old)
+            (machine_over S.seen self.new) }
     {
-        if let Effect::Lof { long } = self.chips.poke(reg, word) {
+        let effect = self.chips.poke(reg, word);
+        self.side.poke(reg, word);
+        if let Effect::Lof { long } = effect {
             self.beam.lof = long;
         }
     }
@@ -205,7 +254,8 @@ impl Machine {
         out: &mut OutFiles,
     ) -> Result<(), OutOfMemory>
         ensures does { OnOk result
-            (Does (M.Read reg by) clx self.old out.old self.new out.new) }
+            (Does (M.Read reg by) clx (machine_over S.seen self.old) out.old
+            (machine_over S.seen self.new) out.new) }
         ensures refused { OnErr result (out.new ≡ out.old) }
         ensures kept { OnErr result (self.new ≡ self.old) }
     {
@@ -222,7 +272,8 @@ impl Machine {
     fn store(&mut self, at: Addr, half: Half, word: u16) -> Result<(), OutOfMemory>
         requires { self.old.chip.newest ≤ self.old.t }
         ensures does { (clx : ℕ) (out : OutFilesValue) → OnOk result
-            (Does (M.Stored at half word) clx self.old out self.new out) }
+            (Does (M.Stored at half word) clx (machine_over S.seen self.old) out
+            (machine_over S.seen self.new) out) }
         ensures kept { OnErr result (self.new ≡ self.old) }
     {
         let now = Clock(self.t);
@@ -237,7 +288,8 @@ impl Machine {
     /// Sixth step: the processor's part that needs no slot. An interrupt that begins with it is traced.
     #[inline(always)]
     pub fn process(&mut self, out: &mut OutFiles) -> Result<(), OutOfMemory>
-        ensures step { OnOk result (Makes run_processor self.old out.old self.new out.new) }
+        ensures step { OnOk result (Makes run_processor (machine_over S.seen self.old) out.old
+            (machine_over S.seen self.new) out.new) }
         ensures same { self.new ≡ record self.old { chips = self.new.chips } }
         ensures refused { OnErr result (out.new ≡ out.old) }
     {
@@ -256,7 +308,8 @@ impl Machine {
         requires screen { IsOnScreen self.old.beam }
         requires frame { self.old.beam.frame + 1 < 2 ^ 32 }
         requires count { self.old.t + 1 < 2 ^ 64 }
-        ensures step { MakesQuietly advance_beam self.old self.new }
+        ensures step { MakesQuietly advance_beam (machine_over S.seen self.old)
+            (machine_over S.seen self.new) }
         ensures beam { self.new.beam
             ≡ next_place (is_interlaced self.old.chips.registers) self.old.beam }
         ensures count { self.new.t ≡ self.old.t + 1 }

@@ -2,6 +2,7 @@
 
 ghost use Rattle.std.specs.Prelude.{◌≡◌, true, false, IfOk, OnErr};
 ghost use Rattle.foreground.specs.Cuts.{clock_before as clock_before_of};
+ghost use Rattle.foreground.specs.Fore.{over};
 ghost use Rattle.foreground.specs.Steps.{StandsBeforeRead, ReadsBits, ReadsPart, KeepsClock};
 
 use crate::fore::Fore;
@@ -9,27 +10,29 @@ use crate::gather::gather_all;
 use band_log::Raster;
 use ocs_base::{Beam, OutOfMemory};
 use out_files::OutFiles;
+use serial_model::Side;
 
 /// The last clock of a line.
 const LAST_CLOCK: u16 = 226;
 
-impl Fore {
+impl<S: Side> Fore<S> {
     /// The collision bits that a read of CLXDAT sees, which clears them. Where not `shown`, the script
     /// reads them before the picture step of the present clock; where `shown`, the access of the clock
     /// does, and sees the pixels of this clock too.
     #[inline(never)]
-    pub(crate) fn read_clxdat<Q: Raster>(
+    pub(crate) fn read_clxdat<Q: Raster<S>>(
         &mut self,
         raster: &mut Q,
         shown: bool,
         out: &mut OutFiles,
     ) -> Result<u16, OutOfMemory>
-        requires { StandsBeforeRead shown self.old (Q.seen raster.old) }
-        ensures bits { IfOk result (λ clx. ReadsBits shown self.old self.new clx
+        requires { StandsBeforeRead shown (over S.seen self.old) (Q.seen raster.old) }
+        ensures bits { IfOk result (λ clx. ReadsBits shown (over S.seen self.old)
+            (over S.seen self.new) clx
             (Q.seen raster.old) (Q.seen raster.new) out.old out.new) }
-        ensures part { OnErr result (ReadsPart shown self.old
+        ensures part { OnErr result (ReadsPart shown (over S.seen self.old)
             (Q.seen raster.old) (Q.seen raster.new) out.old out.new) }
-        ensures kept { KeepsClock self.old self.new }
+        ensures kept { KeepsClock (over S.seen self.old) (over S.seen self.new) }
         ensures reads { self.new.machine.chip.reads ≡ self.old.machine.chip.reads }
     {
         if shown {
@@ -40,17 +43,18 @@ impl Fore {
     }
 
     /// The read by the access of the present clock, behind its picture step.
-    fn read_by_access<Q: Raster>(
+    fn read_by_access<Q: Raster<S>>(
         &mut self,
         raster: &mut Q,
         out: &mut OutFiles,
     ) -> Result<u16, OutOfMemory>
-        requires { StandsBeforeRead true self.old (Q.seen raster.old) }
-        ensures bits { IfOk result (λ clx. ReadsBits true self.old self.new clx
+        requires { StandsBeforeRead true (over S.seen self.old) (Q.seen raster.old) }
+        ensures bits { IfOk result (λ clx. ReadsBits true (over S.seen self.old)
+            (over S.seen self.new) clx
             (Q.seen raster.old) (Q.seen raster.new) out.old out.new) }
-        ensures part { OnErr result (ReadsPart true self.old
+        ensures part { OnErr result (ReadsPart true (over S.seen self.old)
             (Q.seen raster.old) (Q.seen raster.new) out.old out.new) }
-        ensures kept { KeepsClock self.old self.new }
+        ensures kept { KeepsClock (over S.seen self.old) (over S.seen self.new) }
         ensures reads { self.new.machine.chip.reads ≡ self.old.machine.chip.reads }
     {
         let _height = self.run.height();
@@ -61,17 +65,18 @@ impl Fore {
     }
 
     /// The first read by the script in the present clock, before its picture step.
-    fn read_by_script<Q: Raster>(
+    fn read_by_script<Q: Raster<S>>(
         &mut self,
         raster: &mut Q,
         out: &mut OutFiles,
     ) -> Result<u16, OutOfMemory>
-        requires { StandsBeforeRead false self.old (Q.seen raster.old) }
-        ensures bits { IfOk result (λ clx. ReadsBits false self.old self.new clx
+        requires { StandsBeforeRead false (over S.seen self.old) (Q.seen raster.old) }
+        ensures bits { IfOk result (λ clx. ReadsBits false (over S.seen self.old)
+            (over S.seen self.new) clx
             (Q.seen raster.old) (Q.seen raster.new) out.old out.new) }
-        ensures part { OnErr result (ReadsPart false self.old
+        ensures part { OnErr result (ReadsPart false (over S.seen self.old)
             (Q.seen raster.old) (Q.seen raster.new) out.old out.new) }
-        ensures kept { KeepsClock self.old self.new }
+        ensures kept { KeepsClock (over S.seen self.old) (over S.seen self.new) }
         ensures reads { self.new.machine.chip.reads ≡ self.old.machine.chip.reads }
     {
         let to = self.machine.t;

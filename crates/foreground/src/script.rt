@@ -7,7 +7,7 @@ ghost use Rattle.serial_model.specs.Made.{is_clx_read, touch_of};
 ghost use Rattle.serial_bands.specs.Bands.{has_clx_read};
 ghost use Rattle.ocs_base.specs.declared.script.Act.TheVariants.{Poke};
 ghost use Rattle.foreground.specs.Out.{GivesLines};
-ghost use Rattle.foreground.specs.Machine.{MakesEvent, KeepsPlace};
+ghost use Rattle.foreground.specs.Machine.{machine_over, MakesEvent, KeepsPlace};
 ghost use Rattle.foreground.specs.Log.{with_script_touches};
 ghost use Rattle.foreground.specs.Script.{IsLeft, IsRest, HasLater, IsMachine, MakesEvents, with_touch_if_any};
 
@@ -16,7 +16,7 @@ use crate::machine::Machine;
 use band_draw::due::is_picture;
 use ocs_base::{Act, At, Beam, OutOfMemory, Reg};
 use out_files::OutFiles;
-use serial_model::Touch;
+use serial_model::{Side, Touch};
 
 /// The collision bits.
 const CLXDAT: u16 = 0xe;
@@ -25,19 +25,20 @@ const CLXDAT: u16 = 0xe;
 /// touches the picture. `events` are those that are left, and the answer is what is left after this
 /// clock. `clx` has the collision bits for the first read of CLXDAT, which clears them.
 #[inline(always)]
-pub fn run_script<'a>(
+pub fn run_script<'a, S: Side>(
     events: &'a [At],
-    machine: &mut Machine,
+    machine: &mut Machine<S>,
     log: &mut Log,
     clx: &mut u16,
     out: &mut OutFiles,
 ) -> Result<&'a [At], OutOfMemory>
     requires screen { IsOnScreen machine.old.beam }
     requires queue { IsLeft (place_of machine.old.beam) events.now }
-    requires some { IsMachine machine.old }
+    requires some { IsMachine (machine_over S.seen machine.old) }
     ensures step { OnOk result (MakesEvents clx.old (due_events machine.old.beam events.now)
-        machine.old out.old machine.new out.new) }
-    ensures place { OnOk result (KeepsPlace machine.old machine.new) }
+        (machine_over S.seen machine.old) out.old (machine_over S.seen machine.new) out.new) }
+    ensures place { OnOk result (KeepsPlace (machine_over S.seen machine.old)
+        (machine_over S.seen machine.new)) }
     ensures noted { OnOk result (log.new ≡ with_script_touches machine.old.t
         (touches_of (due_events machine.old.beam events.now)) log.old) }
     ensures left { IfOk result (λ left. IsLeft (place_of machine.old.beam + 1) left.now) }
@@ -58,18 +59,19 @@ pub fn run_script<'a>(
 }
 
 /// One event happens.
-fn happen(
+fn happen<S: Side>(
     act: &Act,
-    machine: &mut Machine,
+    machine: &mut Machine<S>,
     log: &mut Log,
     clx: &mut u16,
     out: &mut OutFiles,
 ) -> Result<(), OutOfMemory>
-    requires { IsMachine machine.old }
-    ensures step { OnOk result (MakesEvent clx.old act.now machine.old out.old
-        machine.new out.new) }
-    ensures some { OnOk result (IsMachine machine.new) }
-    ensures place { OnOk result (KeepsPlace machine.old machine.new) }
+    requires { IsMachine (machine_over S.seen machine.old) }
+    ensures step { OnOk result (MakesEvent clx.old act.now (machine_over S.seen machine.old) out.old
+        (machine_over S.seen machine.new) out.new) }
+    ensures some { OnOk result (IsMachine (machine_over S.seen machine.new)) }
+    ensures place { OnOk result (KeepsPlace (machine_over S.seen machine.old)
+        (machine_over S.seen machine.new)) }
     ensures noted { OnOk result (log.new ≡ with_touch_if_any machine.old.t
         (touch_of (made_by_act act.now)) log.old) }
     ensures read { OnOk result (is_clx_read (made_by_act act.now) ≡ true → clx.new ≡ 0) }

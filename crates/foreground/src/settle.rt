@@ -1,7 +1,7 @@
 //! The end of a run: the bands that are left are gathered.
 
 ghost use Rattle.std.specs.Prelude.{◌≡◌, ℕ, true, false, OnOk, OnErr, IsErr};
-ghost use Rattle.foreground.specs.Fore.{CanGo, IsUnderway, is_done, Settles, GivesPart};
+ghost use Rattle.foreground.specs.Fore.{over, CanGo, IsUnderway, is_done, Settles, GivesPart};
 ghost use Rattle.foreground.specs.Steps.{KeepsClock};
 
 use crate::fore::Fore;
@@ -11,24 +11,25 @@ use band_log::Raster;
 use mem_versions::Chip;
 use ocs_base::OutOfMemory;
 use out_files::OutFiles;
+use serial_model::Side;
 
-impl Fore {
+impl<S: Side> Fore<S> {
     /// Gathers the bands that are left, at the end of a run: then all its pixels and lines were given,
     /// and the memory is the run's last. No word is looked up. It may wait.
-    pub fn settle<Q: Raster>(
+    pub fn settle<Q: Raster<S>>(
         &mut self,
         raster: &mut Q,
         out: &mut OutFiles,
     ) -> Result<(), OutOfMemory>
-        requires fits { CanGo self.old (Q.seen raster.old) }
-        requires done { self.old.spent ≡ false → is_done self.old ≡ true }
-        ensures settled { OnOk result (Settles self.old self.new
+        requires fits { CanGo (over S.seen self.old) (Q.seen raster.old) }
+        requires done { self.old.spent ≡ false → is_done (over S.seen self.old) ≡ true }
+        ensures settled { OnOk result (Settles (over S.seen self.old) (over S.seen self.new)
             (Q.seen raster.old) (Q.seen raster.new) out.old out.new) }
-        ensures run { self.new.run ≡ self.old.run }
+        ensures run { (over S.seen self.new).run ≡ (over S.seen self.old).run }
         ensures fresh { OnOk result (self.new.spent ≡ false) }
         ensures reads { self.new.machine.chip.reads ≡ self.old.machine.chip.reads }
         ensures spent { OnErr result (self.new.spent ≡ true) }
-        ensures part { OnErr result (self.old.spent ≡ false → GivesPart self.old
+        ensures part { OnErr result (self.old.spent ≡ false → GivesPart (over S.seen self.old)
             (Q.seen raster.old) (Q.seen raster.new) out.old out.new) }
         ensures nothing { self.old.spent ≡ true → IsErr result × (out.new ≡ out.old)
             × (Q.seen raster.new ≡ Q.seen raster.old) × (self.new ≡ self.old) }
@@ -46,18 +47,19 @@ impl Fore {
     }
 
     /// Gathers the bands that are left, the open one last, in which memory may be wanted.
-    fn gather_rest<Q: Raster>(
+    fn gather_rest<Q: Raster<S>>(
         &mut self,
         raster: &mut Q,
         out: &mut OutFiles,
     ) -> Result<(), OutOfMemory>
-        requires underway { (first : ℕ) × IsUnderway self.old first (Q.seen raster.old) }
-        requires done { is_done self.old ≡ true }
-        ensures settled { OnOk result (Settles self.old self.new
+        requires underway { (first : ℕ) × IsUnderway (over S.seen self.old) first
+            (Q.seen raster.old) }
+        requires done { is_done (over S.seen self.old) ≡ true }
+        ensures settled { OnOk result (Settles (over S.seen self.old) (over S.seen self.new)
             (Q.seen raster.old) (Q.seen raster.new) out.old out.new) }
-        ensures part { OnErr result (GivesPart self.old
+        ensures part { OnErr result (GivesPart (over S.seen self.old)
             (Q.seen raster.old) (Q.seen raster.new) out.old out.new) }
-        ensures kept { KeepsClock self.old self.new }
+        ensures kept { KeepsClock (over S.seen self.old) (over S.seen self.new) }
         ensures reads { self.new.machine.chip.reads ≡ self.old.machine.chip.reads }
     {
         let to = self.machine.t;

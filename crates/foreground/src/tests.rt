@@ -1,20 +1,26 @@
 //! Whole runs of the foreground over rasters that draw at once. The expected pixels, counts and clocks are
 //! worked by hand.
 
-ghost use Rattle.std.specs.Prelude.{◌≡◌, ◌≤◌, ℕ, [], None, false};
+ghost use Rattle.std.specs.Prelude.{◌≡◌, ◌≤◌, ◌<◌, ℕ, [], None, false, length, IfOk};
+ghost use Rattle.band_log.specs.Right.{IsRightJob};
+ghost use Rattle.band_log.specs.Raster.{Takes, with_submitted, without_first, IsRightForFirst};
+ghost use Rattle.ocs_base.specs.Limits.{IsRunnable};
 ghost use Rattle.serial_bands.specs.BandShown.{tinted_bytes};
-ghost use Rattle.foreground.specs.Fore.{IsUnderway};
+ghost use Rattle.foreground.specs.Fore.{over, IsUnderway};
 
 use crate::Fore;
 use band_draw::Direct;
 use band_log::{Drawn, Job, Raster, Room, Run};
-use ocs_base::OutOfMemory;
+use ocs_base::{OutOfMemory, Script};
 use ocs_io::Shelf;
 use out_files::OutFiles;
 use script_read::read_script;
+use serial_model::{NoSide, Side};
 use std::alloc::Global;
 use std::sync::Arc;
 use std::test::Fail;
+
+mod side_runs;
 
 const HEADING: &[u8] = b"P6\n720 286\n255\n";
 
@@ -24,28 +30,42 @@ const CLOCKS: u32 = 72_000;
 /// A raster that hands its calls to another and turns each pixel byte b of a band into 255 - b.
 #[derive(Drop)]
 struct Inverted {
-    direct: Direct,
+    direct: Direct<NoSide>,
 }
 
-impl Raster for Inverted {
+impl Raster<NoSide> for Inverted {
     ghost use Rattle.std.proofs.Common.{lit<};
-    ghost use Rattle.band_draw.specs.Direct.{seen_of};
+    ghost use Rattle.foreground.specs.TestRasters.{none_seen, run_of_job, inverted};
 
-    ghost seen = { λ inverted. record (seen_of inverted.direct) { tint = 255 } };
+    ghost seen = { λ raster. inverted raster.direct };
 
-    ghost tint_is_byte = { λ inverted. lit< {m = 255} {n = 256} tt };
+    ghost tint_is_byte = { λ raster. lit< {m = 255} {n = 256} tt };
 
-    fn submit(&mut self, job: Job) {
+    fn submit(&mut self, job: Job<NoSide>)
+        requires few { length (inverted self.old.direct).outstanding < 16 }
+        requires number { job.number ≡ (inverted self.old.direct).next }
+        requires right { IsRightJob none_seen (run_of_job job) job.number job }
+        requires bound { Takes (inverted self.old.direct).bound (run_of_job job) }
+        ensures { inverted self.new.direct
+            ≡ with_submitted (run_of_job job) job.number (inverted self.old.direct) }
+    {
         self.direct.submit(job)
     }
 
-    fn collect(&mut self) -> Drawn {
+    fn collect(&mut self) -> Drawn<NoSide>
+        requires { 0 < length (inverted self.old.direct).outstanding }
+        ensures taken { inverted self.new.direct ≡ without_first (inverted self.old.direct) }
+        ensures right { IsRightForFirst none_seen (inverted self.old.direct).tint
+            (inverted self.old.direct).outstanding result }
+    {
         let mut drawn = self.direct.collect();
         invert(&mut drawn.job.room);
         drawn
     }
 
-    fn outstanding(&self) -> usize {
+    fn outstanding(&self) -> usize
+        ensures { result ≡ length (inverted self.now.direct).outstanding }
+    {
         self.direct.outstanding()
     }
 }
@@ -70,19 +90,27 @@ fn invert_bytes(bytes: &mut [u8])
 /// clock and that behind the last.
 #[derive(Drop)]
 struct Counted {
-    direct: Direct,
+    direct: Direct<NoSide>,
     jobs: usize,
     clocks: [(u64, u64); 3],
 }
 
-impl Raster for Counted {
-    ghost use Rattle.band_draw.specs.Direct.{seen_of, zero_is_byte};
+impl Raster<NoSide> for Counted {
+    ghost use Rattle.band_draw.specs.Direct.{zero_is_byte};
+    ghost use Rattle.foreground.specs.TestRasters.{none_seen, run_of_job, plainly};
 
-    ghost seen = { λ counted. seen_of counted.direct };
+    ghost seen = { λ raster. plainly raster.direct };
 
-    ghost tint_is_byte = { λ counted. zero_is_byte counted.direct };
+    ghost tint_is_byte = { λ raster. zero_is_byte none_seen raster.direct };
 
-    fn submit(&mut self, job: Job) {
+    fn submit(&mut self, job: Job<NoSide>)
+        requires few { length (plainly self.old.direct).outstanding < 16 }
+        requires number { job.number ≡ (plainly self.old.direct).next }
+        requires right { IsRightJob none_seen (run_of_job job) job.number job }
+        requires bound { Takes (plainly self.old.direct).bound (run_of_job job) }
+        ensures { plainly self.new.direct
+            ≡ with_submitted (run_of_job job) job.number (plainly self.old.direct) }
+    {
         if let Some(place) = self.clocks.get_mut(self.jobs) {
             *place = (job.from.0, job.to.0);
         }
@@ -90,26 +118,40 @@ impl Raster for Counted {
         self.direct.submit(job)
     }
 
-    fn collect(&mut self) -> Drawn {
+    fn collect(&mut self) -> Drawn<NoSide>
+        requires { 0 < length (plainly self.old.direct).outstanding }
+        ensures taken { plainly self.new.direct ≡ without_first (plainly self.old.direct) }
+        ensures right { IsRightForFirst none_seen (plainly self.old.direct).tint
+            (plainly self.old.direct).outstanding result }
+    {
         self.direct.collect()
     }
 
-    fn outstanding(&self) -> usize {
+    fn outstanding(&self) -> usize
+        ensures { result ≡ length (plainly self.now.direct).outstanding }
+    {
         self.direct.outstanding()
     }
 }
 
 /// A run of a script of one frame with these lines of events.
-fn run_of(alloc: Global, image: &[u8; 8], events: &str, height: u16) -> Result<Arc<Run>, Fail>
+fn run_of(alloc: Global, image: &[u8; 8], events: &str, height: u16) -> Result<Arc<Run<NoSide>>, Fail>
     requires least { 1 ≤ height }
     requires most { height ≤ 313 }
+{
+    let script = script_of(alloc, events)?;
+    let image = Vec::from_slice(alloc, image)?;
+    Ok(Arc::new(alloc, Run::new(image, script, height))?)
+}
+
+/// A script of one frame with these lines of events.
+fn script_of(alloc: Global, events: &str) -> Result<Script, Fail>
+    ensures { IfOk result IsRunnable }
 {
     let mut text = String::from_str(alloc, "ocs 1\ncpu off\nframes 1\n")?;
     text.push_str(events)?;
     text.push_str("end\n")?;
-    let script = read_script(alloc, text.as_bytes())?;
-    let image = Vec::from_slice(alloc, image)?;
-    Ok(Arc::new(alloc, Run::new(image, script, height))?)
+    Ok(read_script(alloc, text.as_bytes())?)
 }
 
 /// Files named frames, trace and memory.
@@ -121,13 +163,14 @@ fn out_files(alloc: Global) -> Result<OutFiles, OutOfMemory> {
 }
 
 /// Does all clocks of a run of one frame, and gathers the bands that are left.
-fn run_clocks<Q: Raster>(
-    fore: &mut Fore,
+fn run_clocks<S: Side, Q: Raster<S>>(
+    fore: &mut Fore<S>,
     raster: &mut Q,
     out: &mut OutFiles,
 ) -> Result<(), OutOfMemory>
     requires fresh { fore.old.spent ≡ false }
-    requires fits { (first : ℕ) × IsUnderway fore.old first (Q.seen raster.old) }
+    requires fits { (first : ℕ) × IsUnderway (over S.seen fore.old) first
+        (Q.seen raster.old) }
 {
     for _ in 0..CLOCKS {
         if fore.done() {
@@ -139,7 +182,11 @@ fn run_clocks<Q: Raster>(
 }
 
 /// A whole run over a raster that took no band yet: its files, and how many words of memory were read.
-fn run_whole<Q: Raster>(alloc: Global, run: Arc<Run>, raster: &mut Q) -> Result<(Shelf, u64), Fail>
+fn run_whole<Q: Raster<NoSide>>(
+    alloc: Global,
+    run: Arc<Run<NoSide>>,
+    raster: &mut Q,
+) -> Result<(Shelf, u64), Fail>
     requires empty { (Q.seen raster.old).outstanding ≡ [] }
     requires first { (Q.seen raster.old).next ≡ 0 }
     requires unbound { (Q.seen raster.old).bound ≡ None }

@@ -7,6 +7,7 @@ use Rattle.scene_gen.specs.Scene.{scene_image, scene_script}
 use Rattle.scene_gen.proofs.ScriptLaws.{IsRunnable-scene}
 use Rattle.script_read.specs.Grammar.{script_of, Good as GoodScript, Bad as BadLine, Verdict as ScriptVerdict}
 use Rattle.script_read.proofs.RunnableLaws.{IsPrintable-script_of}
+use Rattle.serial_model.specs.Side.{no_side}
 use Rattle.serial_model.proofs.EndLaws.{has_end}
 use Rattle.ocs_run.specs.Order.{OrderValue}
 use Rattle.ocs_run.specs.Top.{HasRunEnd}
@@ -15,7 +16,7 @@ use Rattle.ocs_run.specs.Words.{CommandValue, Run, Gen}
 
 script_ends : (order : OrderValue) (image text : List ℕ) (verdict : ScriptVerdict) → script_of text ≡ verdict
     → HasRunEnd (of_script order image verdict)
-script_ends order image text (GoodScript script) is = has_end image script (IsPrintable-script_of text script is).runnable
+script_ends order image text (GoodScript script) is = has_end no_side image script (IsPrintable-script_of text script is).runnable
 script_ends order image text (BadLine line kind) is = tt
 
 text_ends : (order : OrderValue) (image : List ℕ) (text : Option (List ℕ)) → HasRunEnd (of_text order image text)
@@ -37,7 +38,7 @@ order_ends order files = image_ends order files (file files order.image)
 verdict_ends : (command : Option CommandValue) (files : Files) → HasRunEnd (of_command command files)
 verdict_ends None files = tt
 verdict_ends (Some (Run order)) files = order_ends order files
-verdict_ends (Some (Gen scene)) files = has_end (scene_image scene.number) (scene_script scene.number) (IsRunnable-scene scene.number)
+verdict_ends (Some (Gen scene)) files = has_end no_side (scene_image scene.number) (scene_script scene.number) (IsRunnable-scene scene.number)
 
 pub ends_where_told : (command : Option CommandValue) (files : Option Files) → WhereTold files (λ f. HasRunEnd (of_command command f))
 ends_where_told command None = tt

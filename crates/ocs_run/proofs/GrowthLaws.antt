@@ -3,9 +3,9 @@ use Rattle.std.proofs.Common.{◌≡◌, ℕ, zero, suc, ◌+◌, List, [], ◌+
 use Rattle.ocs_base.specs.Script.{ScriptValue}
 use Rattle.ocs_base.specs.declared.script.At.{At}
 use Rattle.ocs_base.specs.declared.script.System.TheVariants.{Pal}
-use Rattle.serial_model.specs.Serial.{state_at}
+use Rattle.serial_model.specs.Side.{SideValue}
+use Rattle.serial_model.specs.Serial.{state_over}
 use Rattle.serial_model.specs.State.{State}
-use Rattle.serial_model.specs.declared.bus.SideAsk.TheVariants as S
 use Rattle.serial_model.specs.Events.{due_events, event_lines}
 use Rattle.serial_model.specs.Laws.{made_in, picture_step}
 use Rattle.serial_model.specs.Made.{lines_of}
@@ -32,22 +32,22 @@ shown-tick events s = record { more = (picture_step Pal events s).bytes; is = sh
 
 pub trace-tick : (events : List At) (s : State) → Extends s.trace (tick Pal events s).trace
 trace-tick events s =
-    let b : State = answer_state S.Nothing (before_access Pal events s) in
-    let done : State = make_access S.Nothing (before_access Pal events s) in
+    let b : State = answer_state (before_access Pal events s) in
+    let done : State = make_access (before_access Pal events s) in
     record {
       more = event_lines (due_events s.beam events) (start_clock s)
           ++ (lines_of b.beam b.clx b.chips (made_in Pal events s) ++ taken_lines done.beam (interrupt_of done.chips));
       is = trace_next Pal events s;
     }
 
-pub shown-later : (image : List ℕ) (script : ScriptValue) (n k : ℕ) → Extends (state_at image script n).shown (state_at image script (n + k)).shown
-unfolding state_at
-shown-later image script n zero = rw add-zero (Extends-refl (state_at image script n).shown)
-shown-later image script n (suc k) =
-    rw add-suc (Extends-trans _ _ _ (shown-later image script n k) (shown-tick script.events (state_at image script (n + k))))
+pub shown-later : (side : SideValue) (image : List ℕ) (script : ScriptValue) (n k : ℕ) → Extends (state_over side image script n).shown (state_over side image script (n + k)).shown
+unfolding state_over
+shown-later side image script n zero = rw add-zero (Extends-refl (state_over side image script n).shown)
+shown-later side image script n (suc k) =
+    rw add-suc (Extends-trans _ _ _ (shown-later side image script n k) (shown-tick script.events (state_over side image script (n + k))))
 
-pub trace-later : (image : List ℕ) (script : ScriptValue) (n k : ℕ) → Extends (state_at image script n).trace (state_at image script (n + k)).trace
-unfolding state_at
-trace-later image script n zero = rw add-zero (Extends-refl (state_at image script n).trace)
-trace-later image script n (suc k) =
-    rw add-suc (Extends-trans _ _ _ (trace-later image script n k) (trace-tick script.events (state_at image script (n + k))))
+pub trace-later : (side : SideValue) (image : List ℕ) (script : ScriptValue) (n k : ℕ) → Extends (state_over side image script n).trace (state_over side image script (n + k)).trace
+unfolding state_over
+trace-later side image script n zero = rw add-zero (Extends-refl (state_over side image script n).trace)
+trace-later side image script n (suc k) =
+    rw add-suc (Extends-trans _ _ _ (trace-later side image script n k) (trace-tick script.events (state_over side image script (n + k))))

@@ -8,24 +8,25 @@ use Rattle.out_files.specs.OutFiles.{OutNames}
 use Rattle.serial_model.specs.declared.trace.TraceLine.{TraceLine}
 use Rattle.serial_model.specs.MemoryText.{memory_text}
 use Rattle.serial_model.specs.Outputs.{with_headings, frames_text}
-use Rattle.serial_model.specs.Serial.{state_at, IsEnd}
+use Rattle.serial_model.specs.Side.{SideValue}
+use Rattle.serial_model.specs.Serial.{state_over, IsEndOver}
 use Rattle.serial_model.specs.TraceText.{line_text, trace_text}
 use Rattle.serial_model.proofs.HeadingLaws.{with_headings-append}
-use Rattle.ocs_run.specs.Prefix.{IsPartOf, LeavesPrefixes}
+use Rattle.ocs_run.specs.Prefix.{IsPartOf, LeavesPrefixesOver}
 use Rattle.ocs_run.specs.Run.{HasRun, HasParts, HasEndParts, Remains}
 use Rattle.ocs_run.proofs.GrowthLaws.{Extends, shown-later, trace-later}
 
 -- a state of the run is no later than its end
-not_later : (image : List ℕ) (script : ScriptValue) (clocks end : ℕ) → ((n : ℕ) → n < clocks → (state_at image script n).beam.frame < script.frames)
-    → IsEnd image script end → clocks ≤ end
-not_later image script clocks end running is = step (le_or_lt clocks end)
+not_later : (side : SideValue) (image : List ℕ) (script : ScriptValue) (clocks end : ℕ) → ((n : ℕ) → n < clocks → (state_over side image script n).beam.frame < script.frames)
+    → IsEndOver side image script end → clocks ≤ end
+not_later side image script clocks end running is = step (le_or_lt clocks end)
   where
     le_or_lt : (a b : ℕ) → (a ≤ b) ⊎ (b < a)
     le_or_lt a b = grind arith
 
     step : (clocks ≤ end) ⊎ (end < clocks) → clocks ≤ end
     step (inl le) = le
-    step (inr lt) = absurd (let below : (state_at image script end).beam.frame < script.frames = running end lt in omega (arith, is.ended))
+    step (inr lt) = absurd (let below : (state_over side image script end).beam.frame < script.frames = running end lt in omega (arith, is.ended))
 
 frames-grow : (first more now bytes rest : List ℕ) → now ≡ first ++ more → bytes ++ rest ≡ frames_text first → IsPartOf (frames_text now) (Some bytes)
 frames-grow first more now bytes rest is part = (
@@ -44,59 +45,59 @@ trace-grow first more now bytes rest is part = (
 )
 
 -- parts of the texts so far are parts of the texts at the end
-frames-part : (image : List ℕ) (script : ScriptValue) (clocks end : ℕ) (bytes rest : List ℕ) → HasRun image script clocks → IsEnd image script end
-    → bytes ++ rest ≡ frames_text (state_at image script clocks).shown → IsPartOf (frames_text (state_at image script end).shown) (Some bytes)
-frames-part image script clocks end bytes rest run is part =
-    let le : clocks ≤ end = not_later image script clocks end run.running is in
+frames-part : (side : SideValue) (image : List ℕ) (script : ScriptValue) (clocks end : ℕ) (bytes rest : List ℕ) → HasRun side image script clocks → IsEndOver side image script end
+    → bytes ++ rest ≡ frames_text (state_over side image script clocks).shown → IsPartOf (frames_text (state_over side image script end).shown) (Some bytes)
+frames-part side image script clocks end bytes rest run is part =
+    let le : clocks ≤ end = not_later side image script clocks end run.running is in
     let e : clocks + (end - clocks) ≡ end = omega arith in
-    let grown : Extends (state_at image script clocks).shown (state_at image script (clocks + (end - clocks))).shown =
-    shown-later image script clocks (end - clocks) in
-    subst (λ n. IsPartOf (frames_text (state_at image script n).shown) (Some bytes)) e
-    (frames-grow (state_at image script clocks).shown grown.more _ bytes rest grown.is part)
+    let grown : Extends (state_over side image script clocks).shown (state_over side image script (clocks + (end - clocks))).shown =
+    shown-later side image script clocks (end - clocks) in
+    subst (λ n. IsPartOf (frames_text (state_over side image script n).shown) (Some bytes)) e
+    (frames-grow (state_over side image script clocks).shown grown.more _ bytes rest grown.is part)
 
-trace-part : (image : List ℕ) (script : ScriptValue) (clocks end : ℕ) (bytes rest : List ℕ) → HasRun image script clocks → IsEnd image script end
-    → bytes ++ rest ≡ trace_text (state_at image script clocks).trace → IsPartOf (trace_text (state_at image script end).trace) (Some bytes)
-trace-part image script clocks end bytes rest run is part =
-    let le : clocks ≤ end = not_later image script clocks end run.running is in
+trace-part : (side : SideValue) (image : List ℕ) (script : ScriptValue) (clocks end : ℕ) (bytes rest : List ℕ) → HasRun side image script clocks → IsEndOver side image script end
+    → bytes ++ rest ≡ trace_text (state_over side image script clocks).trace → IsPartOf (trace_text (state_over side image script end).trace) (Some bytes)
+trace-part side image script clocks end bytes rest run is part =
+    let le : clocks ≤ end = not_later side image script clocks end run.running is in
     let e : clocks + (end - clocks) ≡ end = omega arith in
-    let grown : Extends (state_at image script clocks).trace (state_at image script (clocks + (end - clocks))).trace =
-    trace-later image script clocks (end - clocks) in
-    subst (λ n. IsPartOf (trace_text (state_at image script n).trace) (Some bytes)) e
-    (trace-grow (state_at image script clocks).trace grown.more _ bytes rest grown.is part)
+    let grown : Extends (state_over side image script clocks).trace (state_over side image script (clocks + (end - clocks))).trace =
+    trace-later side image script clocks (end - clocks) in
+    subst (λ n. IsPartOf (trace_text (state_over side image script n).trace) (Some bytes)) e
+    (trace-grow (state_over side image script clocks).trace grown.more _ bytes rest grown.is part)
 
 nothing-first : (bytes rest text : List ℕ) → bytes ++ rest ≡ [] → IsPartOf text (Some bytes)
 nothing-first [] rest text e = (text, refl)
 nothing-first (byte ∷ bytes) rest text e = cc
 
-one_end : (image : List ℕ) (script : ScriptValue) (a b : ℕ) → IsEnd image script a → IsEnd image script b → a ≡ b
-one_end image script a b first second =
-    let le : a ≤ b = not_later image script a b first.running second in
-    let ge : b ≤ a = not_later image script b a second.running first in
+one_end : (side : SideValue) (image : List ℕ) (script : ScriptValue) (a b : ℕ) → IsEndOver side image script a → IsEndOver side image script b → a ≡ b
+one_end side image script a b first second =
+    let le : a ≤ b = not_later side image script a b first.running second in
+    let ge : b ≤ a = not_later side image script b a second.running first in
     omega arith
 
-pub LeavesPrefixes-parts : (image : List ℕ) (script : ScriptValue) (names : OutNames) (base new : Option Files) (clocks : ℕ)
-    → HasParts image script names base new clocks → LeavesPrefixes image script names base new
-LeavesPrefixes-parts image script names base new clocks has = record {
+pub LeavesPrefixes-parts : (side : SideValue) (image : List ℕ) (script : ScriptValue) (names : OutNames) (base new : Option Files) (clocks : ℕ)
+    → HasParts side image script names base new clocks → LeavesPrefixesOver side image script names base new
+LeavesPrefixes-parts side image script names base new clocks has = record {
   frames = Some has.parts.frames;
   trace = Some has.parts.trace;
   memory = Some has.parts.bytes;
   held = has.parts.held;
-  frames_part = λ end is. frames-part image script clocks end has.parts.frames has.parts.frames_rest has.run is has.parts.frames_part;
-  trace_part = λ end is. trace-part image script clocks end has.parts.trace has.parts.trace_rest has.run is has.parts.trace_part;
+  frames_part = λ end is. frames-part side image script clocks end has.parts.frames has.parts.frames_rest has.run is has.parts.frames_part;
+  trace_part = λ end is. trace-part side image script clocks end has.parts.trace has.parts.trace_rest has.run is has.parts.trace_part;
   memory_part = λ end is. nothing-first has.parts.bytes has.parts.bytes_rest _ has.parts.bytes_part;
 }
 
-pub LeavesPrefixes-end : (image : List ℕ) (script : ScriptValue) (names : OutNames) (base new : Option Files) (clocks : ℕ)
-    → HasEndParts image script names base new clocks → LeavesPrefixes image script names base new
-LeavesPrefixes-end image script names base new clocks has = record {
+pub LeavesPrefixes-end : (side : SideValue) (image : List ℕ) (script : ScriptValue) (names : OutNames) (base new : Option Files) (clocks : ℕ)
+    → HasEndParts side image script names base new clocks → LeavesPrefixesOver side image script names base new
+LeavesPrefixes-end side image script names base new clocks has = record {
   frames = Some has.parts.frames;
   trace = Some has.parts.trace;
   memory = Some has.parts.bytes;
   held = has.parts.held;
-  frames_part = λ end is. frames-part image script clocks end has.parts.frames has.parts.frames_rest has.run is has.parts.frames_part;
-  trace_part = λ end is. trace-part image script clocks end has.parts.trace has.parts.trace_rest has.run is has.parts.trace_part;
-  memory_part = λ end is. subst (λ n. IsPartOf (memory_text (state_at image script n).memory) (Some has.parts.bytes))
-      (one_end image script clocks end has.end is)
+  frames_part = λ end is. frames-part side image script clocks end has.parts.frames has.parts.frames_rest has.run is has.parts.frames_part;
+  trace_part = λ end is. trace-part side image script clocks end has.parts.trace has.parts.trace_rest has.run is has.parts.trace_part;
+  memory_part = λ end is. subst (λ n. IsPartOf (memory_text (state_over side image script n).memory) (Some has.parts.bytes))
+      (one_end side image script clocks end has.end is)
       (has.parts.bytes_rest, has.parts.bytes_part);
 }
 
@@ -107,9 +108,9 @@ nothing_taken : (n : ℕ) → take {A = List ℕ} n [] ≡ []
 nothing_taken zero = refl
 nothing_taken (suc n) = refl
 
-LeavesPrefixes-created : (image : List ℕ) (script : ScriptValue) (names : OutNames) (base new : Option Files) (created : ℕ)
-    → new ≡ with_empty (take created (in_order names)) base → LeavesPrefixes image script names base new
-LeavesPrefixes-created image script names base new zero is = record {
+LeavesPrefixes-created : (side : SideValue) (image : List ℕ) (script : ScriptValue) (names : OutNames) (base new : Option Files) (created : ℕ)
+    → new ≡ with_empty (take created (in_order names)) base → LeavesPrefixesOver side image script names base new
+LeavesPrefixes-created side image script names base new zero is = record {
   frames = None;
   trace = None;
   memory = None;
@@ -118,7 +119,7 @@ LeavesPrefixes-created image script names base new zero is = record {
   trace_part = λ end e. tt;
   memory_part = λ end e. tt;
 }
-LeavesPrefixes-created image script names base new (suc zero) is = record {
+LeavesPrefixes-created side image script names base new (suc zero) is = record {
   frames = Some [];
   trace = None;
   memory = None;
@@ -127,7 +128,7 @@ LeavesPrefixes-created image script names base new (suc zero) is = record {
   trace_part = λ end e. tt;
   memory_part = λ end e. tt;
 }
-LeavesPrefixes-created image script names base new (suc (suc zero)) is = record {
+LeavesPrefixes-created side image script names base new (suc (suc zero)) is = record {
   frames = Some [];
   trace = Some [];
   memory = None;
@@ -136,7 +137,7 @@ LeavesPrefixes-created image script names base new (suc (suc zero)) is = record 
   trace_part = λ end e. empty_part _;
   memory_part = λ end e. tt;
 }
-LeavesPrefixes-created image script names base new (suc (suc (suc more))) is = record {
+LeavesPrefixes-created side image script names base new (suc (suc (suc more))) is = record {
   frames = Some [];
   trace = Some [];
   memory = Some [];
@@ -146,13 +147,13 @@ LeavesPrefixes-created image script names base new (suc (suc (suc more))) is = r
   memory_part = λ end e. empty_part _;
 }
 
-pub LeavesPrefixes-all : (image : List ℕ) (script : ScriptValue) (names : OutNames) (base new : Option Files) → Remains image script names base new
-    → LeavesPrefixes image script names base new
-LeavesPrefixes-all image script names base new (inl created) = LeavesPrefixes-created image script names base new created.0 created.1
-LeavesPrefixes-all image script names base new (inr (inl parts)) = LeavesPrefixes-parts image script names base new parts.0 parts.1
-LeavesPrefixes-all image script names base new (inr (inr parts)) = LeavesPrefixes-end image script names base new parts.0 parts.1
+pub LeavesPrefixes-all : (side : SideValue) (image : List ℕ) (script : ScriptValue) (names : OutNames) (base new : Option Files) → Remains side image script names base new
+    → LeavesPrefixesOver side image script names base new
+LeavesPrefixes-all side image script names base new (inl created) = LeavesPrefixes-created side image script names base new created.0 created.1
+LeavesPrefixes-all side image script names base new (inr (inl parts)) = LeavesPrefixes-parts side image script names base new parts.0 parts.1
+LeavesPrefixes-all side image script names base new (inr (inr parts)) = LeavesPrefixes-end side image script names base new parts.0 parts.1
 
 -- nothing was created
-pub prefixes_kept : (image : List ℕ) (script : ScriptValue) (names : OutNames) (base new : Option Files) → new ≡ base
-    → LeavesPrefixes image script names base new
-prefixes_kept image script names base new same = LeavesPrefixes-created image script names base new 0 same
+pub prefixes_kept : (side : SideValue) (image : List ℕ) (script : ScriptValue) (names : OutNames) (base new : Option Files) → new ≡ base
+    → LeavesPrefixesOver side image script names base new
+prefixes_kept side image script names base new same = LeavesPrefixes-created side image script names base new 0 same

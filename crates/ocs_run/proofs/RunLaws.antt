@@ -10,7 +10,8 @@ use Rattle.out_files.specs.declared.fault.WriteFault.TheVariants.{Failed, OutOfM
 use Rattle.serial_model.specs.declared.trace.TraceLine.{TraceLine}
 use Rattle.serial_model.specs.MemoryText.{memory_text}
 use Rattle.serial_model.specs.Outputs.{frames_text, with_headings}
-use Rattle.serial_model.specs.Serial.{state_at, IsEnd}
+use Rattle.serial_model.specs.Side.{SideValue}
+use Rattle.serial_model.specs.Serial.{state_over, IsEndOver}
 use Rattle.serial_model.specs.State.{State, reset}
 use Rattle.serial_model.specs.TraceText.{trace_text}
 use Rattle.serial_model.proofs.EndLaws.{frames_are_whole}
@@ -27,14 +28,14 @@ use Rattle.ocs_run.specs.declared.fault.RunFault.{RunFault}
 use Rattle.std.proofs.lemmas.Bool.Decides.{nat_tests}
 use Rattle.foreground.specs.Fore.{ForeValue, IsNew, is_done, Advances, HasAdvanced, HasSettled, Settles, GivesPart, IsUnderway as IsForeUnderway}
 use Rattle.foreground.specs.Gathered.{tinted_range}
-use Rattle.ocs_run.specs.Prefix.{LeavesPrefixes}
-use Rattle.ocs_run.specs.Run.{HasFiles, HasRun, HasParts, HasEndParts}
+use Rattle.ocs_run.specs.Prefix.{LeavesPrefixesOver}
+use Rattle.ocs_run.specs.Run.{HasFilesOver, HasRun, HasParts, HasEndParts}
 use Rattle.ocs_run.specs.Underway.{IsUnderway, CanRun, Runs, IsStopped, IsFresh, IsEmpty, Ends, IsCut, IsSettledRun, IsWritten, StartsRun, EndsFromStart, IsCutFromStart}
 use Rattle.ocs_run.proofs.PrefixLaws.{LeavesPrefixes-parts, LeavesPrefixes-end, LeavesPrefixes-all}
 
 -- what a run has shown at a clock are the bytes of its clocks
 shown_to : (run : RunValue) (t : ℕ) → (state_of run t).shown ≡ bytes_from run 0 t
-unfolding state_at reset
+unfolding state_over reset
 shown_to run t =
     let e : t ≡ 0 + t = omega arith in
     ap (λ n. (state_of run n).shown) e ∙ shown_in_range run 0 t
@@ -145,11 +146,11 @@ parts_together out base files pixels lines is = record {
 }
 
 run_so_far : (fore : ForeValue) (first : ℕ) (seen : RasterValue) → IsForeUnderway fore first seen
-    → HasRun fore.run.image fore.run.script fore.machine.t
+    → HasRun fore.run.side fore.run.image fore.run.script fore.machine.t
 run_so_far fore first seen is = record { running = is.running }
 
 pub HasParts-now : (base files : Option Files) (fore : ForeValue) (seen : RasterValue) (out : OutFilesValue) → IsUnderway base files fore seen out
-    → HasParts fore.run.image fore.run.script out.names base files fore.machine.t
+    → HasParts fore.run.side fore.run.image fore.run.script out.names base files fore.machine.t
 HasParts-now base files fore seen out is = record {
   run = run_so_far fore is.first seen is.stands;
   parts = parts_at fore.run is.first fore.machine.t out.names base files (gathered_before fore is.first seen is.stands)
@@ -158,7 +159,7 @@ HasParts-now base files fore seen out is = record {
 
 pub HasParts-refused : (base before after : Option Files) (fore : ForeValue) (seen : RasterValue) (out : OutFilesValue)
     → LeavesParts out before after [] → IsUnderway base before fore seen out
-    → HasParts fore.run.image fore.run.script out.names base after fore.machine.t
+    → HasParts fore.run.side fore.run.image fore.run.script out.names base after fore.machine.t
 unfolding LeavesParts
 HasParts-refused base before after fore seen out leaves is = record {
   run = run_so_far fore is.first seen is.stands;
@@ -172,7 +173,7 @@ on_err (Ok v) P p = tt
 on_err (Err e) P p = p
 
 abbrev RunParts : RunValue → OutNames → Option Files → Option Files → Type 0
-RunParts run names base files = (clocks : ℕ) × HasParts run.image run.script names base files clocks
+RunParts run names base files = (clocks : ℕ) × HasParts run.side run.image run.script names base files clocks
 
 pub stop-advance : (before now : Option Files) (first old : ForeValue) (seen last : RasterValue) (out given : OutFilesValue)
     → old.run ≡ first.run → given.names ≡ out.names → Runs first old seen last out given before now → IsStopped first seen out before now
@@ -208,41 +209,41 @@ IsSettledRun-settled base files old new seen after out given settles is =
           (subst (λ n. AreTogether given base files (state_of old.run n).shown (state_of old.run n).trace) (sym so.clock) whole);
     }
 
-HasRun-end : (image : List ℕ) (script : ScriptValue) (clocks : ℕ) → IsEnd image script clocks → HasRun image script clocks
-HasRun-end image script clocks end = record { running = end.running }
+HasRun-end : (side : SideValue) (image : List ℕ) (script : ScriptValue) (clocks : ℕ) → IsEndOver side image script clocks → HasRun side image script clocks
+HasRun-end side image script clocks end = record { running = end.running }
 
 pub HasFiles-written : (base mid after : Option Files) (fore : ForeValue) (out : OutFilesValue) → 1 ≤ fore.run.script.frames
     → Completes out mid after (memory_text fore.machine.chip.words) → IsWritten base mid fore out
-    → HasFiles fore.run.image fore.run.script out.names base after
+    → HasFilesOver fore.run.side fore.run.image fore.run.script out.names base after
 unfolding Completes
 HasFiles-written base mid after fore out some completes is =
     let s : State = state_of fore.run fore.machine.t in
     record {
       clocks = fore.machine.t;
       end = is.settled.end;
-      run = HasRun-end fore.run.image fore.run.script fore.machine.t is.settled.end;
-      shown = frames_are_whole fore.run.image fore.run.script fore.machine.t some is.settled.end;
+      run = HasRun-end fore.run.side fore.run.image fore.run.script fore.machine.t is.settled.end;
+      shown = frames_are_whole fore.run.side fore.run.image fore.run.script fore.machine.t some is.settled.end;
       files = completes base s.shown s.trace is.frames is.trace is.settled.text
           ∙ ap (λ words. three_files out.names base (frames_text s.shown) (trace_text s.trace) (memory_text words)) (sym is.settled.memory);
     }
 
 pub HasParts-flush : (base mid after : Option Files) (fore : ForeValue) (out : OutFilesValue) → LeavesParts out mid after []
-    → IsSettledRun base mid fore out → HasParts fore.run.image fore.run.script out.names base after fore.machine.t
+    → IsSettledRun base mid fore out → HasParts fore.run.side fore.run.image fore.run.script out.names base after fore.machine.t
 unfolding LeavesParts
 HasParts-flush base mid after fore out leaves is = record {
-  run = HasRun-end fore.run.image fore.run.script fore.machine.t is.end;
+  run = HasRun-end fore.run.side fore.run.image fore.run.script fore.machine.t is.end;
   parts = leaves base _ _ is.text;
 }
 
 pub HasEndParts-written : (base mid after : Option Files) (fore : ForeValue) (out : OutFilesValue)
     → LeavesParts out mid after (memory_text fore.machine.chip.words) → IsWritten base mid fore out
-    → HasEndParts fore.run.image fore.run.script out.names base after fore.machine.t
+    → HasEndParts fore.run.side fore.run.image fore.run.script out.names base after fore.machine.t
 unfolding LeavesParts
 HasEndParts-written base mid after fore out leaves is =
     let s : State = state_of fore.run fore.machine.t in
     record {
       end = is.settled.end;
-      run = HasRun-end fore.run.image fore.run.script fore.machine.t is.settled.end;
+      run = HasRun-end fore.run.side fore.run.image fore.run.script fore.machine.t is.settled.end;
       parts = subst (λ words. HoldParts out.names base after s.shown s.trace (memory_text words)) (sym is.settled.memory)
           (leaves base s.shown s.trace is.settled.text);
     }
@@ -258,7 +259,7 @@ CanRun-start run fore seen new empty = record {
 
 pub IsUnderway-start : (base files : Option Files) (run : RunValue) (fore : ForeValue) (seen : RasterValue) (out : OutFilesValue) → IsFresh out
     → Begins out base files → IsNew run fore → IsEmpty run seen → IsUnderway base files fore seen out
-unfolding Begins bytes_from state_at reset
+unfolding Begins bytes_from state_over reset
 IsUnderway-start base files run fore seen out fresh begins new empty = record {
   first = 0;
   stands = new.fits seen empty.outstanding empty.next empty.bound;
@@ -272,16 +273,16 @@ pub IsCut-clocks : (fore : ForeValue) (seen : RasterValue) (out : OutFilesValue)
     → IsCut fore seen out before after
 IsCut-clocks fore seen out before after stopped base is =
     let parts = stopped base is in
-    LeavesPrefixes-parts fore.run.image fore.run.script out.names base after parts.0 parts.1
+    LeavesPrefixes-parts fore.run.side fore.run.image fore.run.script out.names base after parts.0 parts.1
 
 pub IsCut-settle : (old fore : ForeValue) (seen last : RasterValue) (out given : OutFilesValue) (before now : Option Files) → fore.run ≡ old.run
     → given.names ≡ out.names → Runs old fore seen last out given before now → IsCut old seen out before now
 IsCut-settle old fore seen last out given before now run names runs base is =
     let parts = stop-advance before now old fore seen last out given run names runs base is in
-    LeavesPrefixes-parts old.run.image old.run.script out.names base now parts.0 parts.1
+    LeavesPrefixes-parts old.run.side old.run.image old.run.script out.names base now parts.0 parts.1
 
 abbrev CutParts : RunValue → OutNames → Option Files → Option Files → Type 0
-CutParts run names base files = LeavesPrefixes run.image run.script names base files
+CutParts run names base files = LeavesPrefixesOver run.side run.image run.script names base files
 
 -- the run has come to its end, and all is settled
 pub record IsSettling (old new : ForeValue) (seen after : RasterValue) (out given : OutFilesValue) (before mid : Option Files) : Type 0 where
@@ -303,10 +304,10 @@ IsSettling-settled old fore new seen last after out given settled before mid fir
 pub IsCut-flush : (old new : ForeValue) (seen last : RasterValue) (out settled : OutFilesValue) (before mid after : Option Files)
     → IsSettling old new seen last out settled before mid → LeavesParts settled mid after [] → IsCut old seen out before after
 IsCut-flush old new seen last out settled before mid after so leaves base is =
-    let parts : HasParts new.run.image new.run.script settled.names base after new.machine.t =
+    let parts : HasParts new.run.side new.run.image new.run.script settled.names base after new.machine.t =
     HasParts-flush base mid after new settled leaves (so.settled base is) in
     let cut : CutParts new.run settled.names base after =
-    LeavesPrefixes-parts new.run.image new.run.script settled.names base after new.machine.t parts in
+    LeavesPrefixes-parts new.run.side new.run.image new.run.script settled.names base after new.machine.t parts in
     subst (λ ns. CutParts old.run ns base after) so.names (subst (λ r. CutParts r settled.names base after) so.run cut)
 
 -- a flush that has nothing to append
@@ -357,10 +358,10 @@ is_empty run = record { outstanding = refl; next = refl; bound = tt; plain = ref
 pub IsCutFromStart-now : (run : RunValue) (fore : ForeValue) (out : OutFilesValue) (files : Option Files) → IsNew run fore
     → IsCutFromStart run fore out files files
 IsCutFromStart-now run fore out files new base begins =
-    let parts : HasParts fore.run.image fore.run.script out.names base files fore.machine.t =
+    let parts : HasParts fore.run.side fore.run.image fore.run.script out.names base files fore.machine.t =
     HasParts-now base files fore empty_raster out (begins empty_raster (is_empty run)) in
     subst (λ r. CutParts r out.names base files) new.run_of
-    (LeavesPrefixes-parts fore.run.image fore.run.script out.names base files fore.machine.t parts)
+    (LeavesPrefixes-parts fore.run.side fore.run.image fore.run.script out.names base files fore.machine.t parts)
 
 pub IsCutFromStart-cut : (run : RunValue) (fore : ForeValue) (seen : RasterValue) (out : OutFilesValue) (before after : Option Files) → IsNew run fore
     → IsEmpty run seen → IsCut fore seen out before after → IsCutFromStart run fore out before after
@@ -372,14 +373,14 @@ pub EndsFromStart-ends : (run : RunValue) (old new : ForeValue) (seen : RasterVa
 EndsFromStart-ends run old new seen out given before after empty ends base begins = ends base (begins seen empty)
 
 abbrev RunFiles : RunValue → OutNames → Option Files → Option Files → Type 0
-RunFiles run names base files = HasFiles run.image run.script names base files
+RunFiles run names base files = HasFilesOver run.side run.image run.script names base files
 
 -- the whole run and its stops
-pub LeavesPrefixes-create_refused : (image : List ℕ) (script : ScriptValue) (names : OutNames) (old new : Outside) (f : WriteFault)
-    → CreateAnswers names old new (Err f) → LeavesPrefixes image script names old.files new.files
-LeavesPrefixes-create_refused image script names old new (Failed file) made =
-    LeavesPrefixes-all image script names old.files new.files (inl (made.0, made.3))
-LeavesPrefixes-create_refused image script names old new NoRoomToWrite made = LeavesPrefixes-all image script names old.files new.files (inl made)
+pub LeavesPrefixes-create_refused : (side : SideValue) (image : List ℕ) (script : ScriptValue) (names : OutNames) (old new : Outside) (f : WriteFault)
+    → CreateAnswers names old new (Err f) → LeavesPrefixesOver side image script names old.files new.files
+LeavesPrefixes-create_refused side image script names old new (Failed file) made =
+    LeavesPrefixes-all side image script names old.files new.files (inl (made.0, made.3))
+LeavesPrefixes-create_refused side image script names old new NoRoomToWrite made = LeavesPrefixes-all side image script names old.files new.files (inl made)
 
 begins_created : (base mid : Option Files) (run : RunValue) (fore : ForeValue) (out created : OutFilesValue) → IsFresh out → created ≡ out
     → Begins created base mid → IsNew run fore → StartsRun run base mid fore created
@@ -389,7 +390,7 @@ begins_created base mid run fore out created fresh same begins new seen empty =
 pub HasFiles-run : (base mid now after : Option Files) (run : RunValue) (fore last : ForeValue) (out created given : OutFilesValue)
     → IsFresh out → created ≡ out → Begins created base mid → IsNew run fore → 1 ≤ run.script.frames
     → EndsFromStart run fore last created given mid now → last.run ≡ fore.run → given.names ≡ created.names
-    → Completes given now after (memory_text last.machine.chip.words) → HasFiles run.image run.script out.names base after
+    → Completes given now after (memory_text last.machine.chip.words) → HasFilesOver run.side run.image run.script out.names base after
 HasFiles-run base mid now after run fore last out created given fresh same begins new some ends kept names completes =
     let written : IsWritten base now last given = ends base (begins_created base mid run fore out created fresh same begins new) in
     let is : last.run ≡ run = kept ∙ new.run_of in
@@ -399,20 +400,20 @@ HasFiles-run base mid now after run fore last out created given fresh same begin
 
 pub LeavesPrefixes-run : (base mid after : Option Files) (run : RunValue) (fore : ForeValue) (out created : OutFilesValue)
     → IsFresh out → created ≡ out → Begins created base mid → IsNew run fore → IsCutFromStart run fore created mid after
-    → LeavesPrefixes run.image run.script out.names base after
+    → LeavesPrefixesOver run.side run.image run.script out.names base after
 LeavesPrefixes-run base mid after run fore out created fresh same begins new cut =
     subst (λ o. CutParts run o.names base after) same (cut base (begins_created base mid run fore out created fresh same begins new))
 
 pub LeavesPrefixes-memory : (base mid now after : Option Files) (run : RunValue) (fore last : ForeValue) (out created given : OutFilesValue)
     → IsFresh out → created ≡ out → Begins created base mid → IsNew run fore
     → EndsFromStart run fore last created given mid now → last.run ≡ fore.run → given.names ≡ created.names
-    → LeavesParts given now after (memory_text last.machine.chip.words) → LeavesPrefixes run.image run.script out.names base after
+    → LeavesParts given now after (memory_text last.machine.chip.words) → LeavesPrefixesOver run.side run.image run.script out.names base after
 LeavesPrefixes-memory base mid now after run fore last out created given fresh same begins new ends kept names leaves =
     let written : IsWritten base now last given = ends base (begins_created base mid run fore out created fresh same begins new) in
-    let parts : HasEndParts last.run.image last.run.script given.names base after last.machine.t =
+    let parts : HasEndParts last.run.side last.run.image last.run.script given.names base after last.machine.t =
     HasEndParts-written base now after last given leaves written in
     let cut : CutParts last.run given.names base after =
-    LeavesPrefixes-end last.run.image last.run.script given.names base after last.machine.t parts in
+    LeavesPrefixes-end last.run.side last.run.image last.run.script given.names base after last.machine.t parts in
     subst (λ ns. CutParts run ns base after) (names ∙ ap (λ o. o.names) same)
     (subst (λ r. CutParts r given.names base after) (kept ∙ new.run_of) cut)
 

@@ -16,7 +16,8 @@ use Rattle.serial_model.specs.Laws.{made_in}
 use Rattle.serial_model.specs.Made.{memory_after}
 use Rattle.serial_model.specs.MemoryText.{memory_text}
 use Rattle.serial_model.specs.Outputs.{heading, heading_at, with_headings, frames_text, frame_bytes}
-use Rattle.serial_model.specs.Serial.{state_at}
+use Rattle.serial_model.specs.Side.{SideValue, no_side}
+use Rattle.serial_model.specs.Serial.{state_at, state_over}
 use Rattle.serial_model.specs.State.{State, reset}
 use Rattle.serial_model.specs.TraceText.{trace_text}
 use Rattle.serial_model.specs.declared.bus.Made.{Made}
@@ -54,13 +55,13 @@ length-memory_after (M.Stored at half word) memory = length-set memory _ _
 length-memory_after (M.Plane plane at) memory = refl
 length-memory_after (M.Sprite sprite second at) memory = refl
 
-length-memory : (image : List ℕ) (script : ScriptValue) (n : ℕ) → length image ≤ 524288 → length (state_at image script n).memory ≡ 262144
-unfolding state_at reset
-length-memory image script zero fits = length-memory_of image fits
-length-memory image script (suc n) fits =
-    ap length (memory_next Pal script.events (state_at image script n))
-    ∙ length-memory_after (made_in Pal script.events (state_at image script n)) (state_at image script n).memory
-    ∙ length-memory image script n fits
+length-memory : (side : SideValue) (image : List ℕ) (script : ScriptValue) (n : ℕ) → length image ≤ 524288 → length (state_over side image script n).memory ≡ 262144
+unfolding state_over reset
+length-memory side image script zero fits = length-memory_of image fits
+length-memory side image script (suc n) fits =
+    ap length (memory_next Pal script.events (state_over side image script n))
+    ∙ length-memory_after (made_in Pal script.events (state_over side image script n)) (state_over side image script n).memory
+    ∙ length-memory side image script n fits
 
 length-memory_text : (words : List ℕ) → length (memory_text words) ≡ 2 * length words
 unfolding memory_text
@@ -117,7 +118,7 @@ memory_fits number files bytes has is =
     let same : bytes ≡ memory_text s.memory = is ∙ memory_held files _ _ _ has.files in
     let count : length bytes ≡ length (memory_text s.memory) = ap length same in
     let words : length s.memory ≡ 262144 =
-    length-memory (scene_image number) (scene_script number) has.clocks (image_fits (scene_image number) (is_image-scene number)) in
+    length-memory no_side (scene_image number) (scene_script number) has.clocks (image_fits (scene_image number) (is_image-scene number)) in
     omega (arith, count, length-memory_text s.memory, words)
 
 pub is_summary : (number : ℕ) (files : Files) (frames trace memory text : List ℕ) → HasSceneFiles number files

@@ -5,7 +5,8 @@ use Rattle.ocs_io.specs.Place.{Files, with_file}
 use Rattle.out_files.specs.OutFiles.{OutNames}
 use Rattle.serial_model.specs.MemoryText.{memory_text}
 use Rattle.serial_model.specs.Outputs.{frames_text}
-use Rattle.serial_model.specs.Serial.{state_at, IsEnd}
+use Rattle.serial_model.specs.Serial.{state_over, IsEndOver}
+use Rattle.serial_model.specs.Side.{SideValue, no_side}
 use Rattle.serial_model.specs.TraceText.{trace_text}
 
 -- the file of the name holds these bytes, or is as before
@@ -20,11 +21,15 @@ IsPartOf text (Some bytes) = (rest : List ℕ) × (bytes ++ rest ≡ text)
 
 -- each of the three files is as before or holds a part of its text, from the first byte on; every other file is as
 -- before. The texts are those of the run's end
-pub record LeavesPrefixes (image : List ℕ) (script : ScriptValue) (names : OutNames) (base new : Option Files) : Type 0 where
+pub record LeavesPrefixesOver (side : SideValue) (image : List ℕ) (script : ScriptValue) (names : OutNames) (base new : Option Files) : Type 0 where
   pub frames : Option (List ℕ)
   pub trace : Option (List ℕ)
   pub memory : Option (List ℕ)
   pub held : new ≡ with_part (with_part (with_part base names.frames frames) names.trace trace) names.memory memory
-  pub frames_part : (end : ℕ) → IsEnd image script end → IsPartOf (frames_text (state_at image script end).shown) frames
-  pub trace_part : (end : ℕ) → IsEnd image script end → IsPartOf (trace_text (state_at image script end).trace) trace
-  pub memory_part : (end : ℕ) → IsEnd image script end → IsPartOf (memory_text (state_at image script end).memory) memory
+  pub frames_part : (end : ℕ) → IsEndOver side image script end → IsPartOf (frames_text (state_over side image script end).shown) frames
+  pub trace_part : (end : ℕ) → IsEndOver side image script end → IsPartOf (trace_text (state_over side image script end).trace) trace
+  pub memory_part : (end : ℕ) → IsEndOver side image script end → IsPartOf (memory_text (state_over side image script end).memory) memory
+
+-- the same of the machine without a side
+abbrev pub LeavesPrefixes : List ℕ → ScriptValue → OutNames → Option Files → Option Files → Type 0
+LeavesPrefixes image script names base new = LeavesPrefixesOver no_side image script names base new

@@ -1,4 +1,4 @@
--- A run and its files.
+-- A run of the machine over a side, and its files.
 use Rattle.std.specs.Prelude.{◌≡◌, ℕ, ◌*◌, ◌<◌, length, List, [], ◌⊎◌, take, Option}
 use Rattle.ocs_base.specs.Script.{ScriptValue}
 use Rattle.ocs_io.specs.Place.{Files}
@@ -7,42 +7,47 @@ use Rattle.out_files.specs.Answers.{with_empty, in_order}
 use Rattle.out_files.specs.Together.{three_files, HoldParts}
 use Rattle.serial_model.specs.MemoryText.{memory_text}
 use Rattle.serial_model.specs.Outputs.{frames_text, frame_bytes}
-use Rattle.serial_model.specs.Serial.{state_at, IsEnd}
+use Rattle.serial_model.specs.Serial.{state_over, IsEndOver}
+use Rattle.serial_model.specs.Side.{SideValue, no_side}
 use Rattle.serial_model.specs.TraceText.{trace_text}
 
 -- the states before this clock are those of a run that goes on
-pub record HasRun (image : List ℕ) (script : ScriptValue) (clocks : ℕ) : Type 0 where
-  pub running : (n : ℕ) → n < clocks → (state_at image script n).beam.frame < script.frames
+pub record HasRun (side : SideValue) (image : List ℕ) (script : ScriptValue) (clocks : ℕ) : Type 0 where
+  pub running : (n : ℕ) → n < clocks → (state_over side image script n).beam.frame < script.frames
 
 -- the run came to its end, and the three files are its texts, whole; every other file is as before
-pub record HasFiles (image : List ℕ) (script : ScriptValue) (names : OutNames) (base new : Option Files) : Type 0 where
+pub record HasFilesOver (side : SideValue) (image : List ℕ) (script : ScriptValue) (names : OutNames) (base new : Option Files) : Type 0 where
   pub clocks : ℕ
-  pub end : IsEnd image script clocks
-  pub run : HasRun image script clocks
+  pub end : IsEndOver side image script clocks
+  pub run : HasRun side image script clocks
   -- all pixel bytes of the script's frames were shown, so that the frames file has a heading before each of them
-  pub shown : length (state_at image script clocks).shown ≡ script.frames * frame_bytes
-  pub files : new ≡ (let s = state_at image script clocks in
+  pub shown : length (state_over side image script clocks).shown ≡ script.frames * frame_bytes
+  pub files : new ≡ (let s = state_over side image script clocks in
       three_files names base (frames_text s.shown) (trace_text s.trace) (memory_text s.memory))
+
+-- the same of the machine without a side
+abbrev pub HasFiles : List ℕ → ScriptValue → OutNames → Option Files → Option Files → Type 0
+HasFiles image script names base new = HasFilesOver no_side image script names base new
 
 -- the run stopped after so many clocks: each of the three files holds a part of the text up to there, from the
 -- first byte on, and the memory file nothing; every other file is as before
-pub record HasParts (image : List ℕ) (script : ScriptValue) (names : OutNames) (base new : Option Files) (clocks : ℕ) : Type 0 where
-  pub run : HasRun image script clocks
-  pub parts : (let s = state_at image script clocks in HoldParts names base new s.shown s.trace [])
+pub record HasParts (side : SideValue) (image : List ℕ) (script : ScriptValue) (names : OutNames) (base new : Option Files) (clocks : ℕ) : Type 0 where
+  pub run : HasRun side image script clocks
+  pub parts : (let s = state_over side image script clocks in HoldParts names base new s.shown s.trace [])
 
 -- the same at the end of the run, where the memory file holds a part of its text too
-pub record HasEndParts (image : List ℕ) (script : ScriptValue) (names : OutNames) (base new : Option Files) (clocks : ℕ) : Type 0 where
-  pub end : IsEnd image script clocks
-  pub run : HasRun image script clocks
-  pub parts : (let s = state_at image script clocks in HoldParts names base new s.shown s.trace (memory_text s.memory))
+pub record HasEndParts (side : SideValue) (image : List ℕ) (script : ScriptValue) (names : OutNames) (base new : Option Files) (clocks : ℕ) : Type 0 where
+  pub end : IsEndOver side image script clocks
+  pub run : HasRun side image script clocks
+  pub parts : (let s = state_over side image script clocks in HoldParts names base new s.shown s.trace (memory_text s.memory))
 
 -- the first so many of the three files were created, and nothing else was done
 abbrev pub HasCreated : OutNames → Option Files → Option Files → Type 0
 HasCreated names base new = (created : ℕ) × (new ≡ with_empty (take created (in_order names)) base)
 
 -- the ways in which a whole run can have stopped by a fault of writing or want of memory
-abbrev pub Remains : List ℕ → ScriptValue → OutNames → Option Files → Option Files → Type 0
-Remains image script names base new =
+abbrev pub Remains : SideValue → List ℕ → ScriptValue → OutNames → Option Files → Option Files → Type 0
+Remains side image script names base new =
     HasCreated names base new
-    ⊎ (((clocks : ℕ) × HasParts image script names base new clocks)
-    ⊎ ((clocks : ℕ) × HasEndParts image script names base new clocks))
+    ⊎ (((clocks : ℕ) × HasParts side image script names base new clocks)
+    ⊎ ((clocks : ℕ) × HasEndParts side image script names base new clocks))

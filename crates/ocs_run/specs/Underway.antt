@@ -4,12 +4,20 @@ use Rattle.ocs_io.specs.Place.{Files}
 use Rattle.out_files.specs.OutFiles.{OutFilesValue}
 use Rattle.out_files.specs.Together.{AreTogether}
 use Rattle.band_log.specs.Raster.{RasterValue, Takes}
-use Rattle.serial_model.specs.Serial.{IsEnd}
-use Rattle.serial_bands.specs.Run.{RunValue, state_of}
+use Rattle.serial_model.specs.declared.side.NoSide.{NoSide}
+use Rattle.serial_model.specs.Side.{no_side}
+use Rattle.serial_bands.specs.Run.{RunOf, RunValue, run_over, state_of, IsEndOf}
 use Rattle.serial_bands.specs.BandShown.{bytes_from}
-use Rattle.foreground.specs.Fore.{ForeValue, IsUnderway as IsForeUnderway}
-use Rattle.ocs_run.specs.Prefix.{LeavesPrefixes}
+use Rattle.foreground.specs.Fore.{ForeOf, ForeValue, over, IsUnderway as IsForeUnderway}
+use Rattle.ocs_run.specs.Prefix.{LeavesPrefixesOver}
 use Rattle.ocs_run.specs.Run.{HasParts}
+
+-- a run without a side, and the foreground of one
+abbrev pub run_of : RunOf NoSide → RunValue
+run_of run = run_over (λ side. no_side) run
+
+abbrev pub fore_of : ForeOf NoSide → ForeValue
+fore_of fore = over (λ side. no_side) fore
 
 -- The foreground stands for the state after as many clocks as it counts, over a raster without a tint; of the files `base` the three were created,
 -- and they and what is pending for them are together the pixels of the bands that were gathered, and all lines of the trace.
@@ -36,7 +44,7 @@ Runs old new seen now out given before after =
 abbrev pub IsStopped : ForeValue → RasterValue → OutFilesValue → Option Files → Option Files → Type 0
 IsStopped fore seen out before after =
     (base : Option Files) → IsUnderway base before fore seen out →
-    (clocks : ℕ) × HasParts fore.run.image fore.run.script out.names base after clocks
+    (clocks : ℕ) × HasParts fore.run.side fore.run.image fore.run.script out.names base after clocks
 
 -- output files that nothing was given to yet
 pub record IsFresh (out : OutFilesValue) : Type 0 where
@@ -54,7 +62,7 @@ pub record IsEmpty (run : RunValue) (seen : RasterValue) : Type 0 where
 -- at the end all bands are gathered, and the texts are whole
 pub record IsSettledRun (base files : Option Files) (fore : ForeValue) (out : OutFilesValue) : Type 0 where
   pub memory : (state_of fore.run fore.machine.t).memory ≡ fore.machine.chip.words
-  pub end : IsEnd fore.run.image fore.run.script fore.machine.t
+  pub end : IsEndOf fore.run fore.machine.t
   pub text : AreTogether out base files (state_of fore.run fore.machine.t).shown (state_of fore.run fore.machine.t).trace
 
 -- and nothing is pending
@@ -71,7 +79,7 @@ Ends old new seen out given before after =
 -- or it was cut, and each file is as before or has a part of its text
 abbrev pub IsCut : ForeValue → RasterValue → OutFilesValue → Option Files → Option Files → Type 0
 IsCut fore seen out before after =
-    (base : Option Files) → IsUnderway base before fore seen out → LeavesPrefixes fore.run.image fore.run.script out.names base after
+    (base : Option Files) → IsUnderway base before fore seen out → LeavesPrefixesOver fore.run.side fore.run.image fore.run.script out.names base after
 
 -- a run that begins with whatever raster without bands
 abbrev pub StartsRun : RunValue → Option Files → Option Files → ForeValue → OutFilesValue → Type 0
@@ -84,4 +92,4 @@ EndsFromStart run old new out given before after =
 
 abbrev pub IsCutFromStart : RunValue → ForeValue → OutFilesValue → Option Files → Option Files → Type 0
 IsCutFromStart run fore out before after =
-    (base : Option Files) → StartsRun run base before fore out → LeavesPrefixes run.image run.script out.names base after
+    (base : Option Files) → StartsRun run base before fore out → LeavesPrefixesOver run.side run.image run.script out.names base after

@@ -13,7 +13,7 @@ ghost use Rattle.foreground.specs.Fore.{is_done, IsNew};
 ghost use Rattle.ocs_run.specs.Fault.{IsWrite};
 ghost use Rattle.ocs_run.specs.Prefix.{LeavesPrefixes};
 ghost use Rattle.ocs_run.specs.Run.{HasFiles};
-ghost use Rattle.ocs_run.specs.Underway.{CanRun, Runs, IsStopped, IsFresh, Ends, IsCut, EndsFromStart, IsCutFromStart};
+ghost use Rattle.ocs_run.specs.Underway.{fore_of, run_of, CanRun, Runs, IsStopped, IsFresh, Ends, IsCut, EndsFromStart, IsCutFromStart};
 
 use crate::fault::RunFault;
 use band_log::{Raster, Run};
@@ -22,6 +22,7 @@ use foreground::Fore;
 use ocs_base::{Beam, Script};
 use ocs_io::Place;
 use out_files::{OutFiles, WriteFault};
+use serial_model::NoSide;
 use std::alloc::Global;
 use std::sync::{Arc, Wait};
 use std::thread::Threads;
@@ -45,7 +46,7 @@ pub fn run_files<
     rt: &R,
     alloc: Global,
     drawing: Drawing<G>,
-    run: Run,
+    run: Run<NoSide>,
     out: OutFiles,
     place: &mut P,
 ) -> Result<(), RunFault>
@@ -78,19 +79,21 @@ fn draw_with_crew<
     rt: &R,
     alloc: Global,
     drawing: Drawing<G>,
-    run: Arc<Run>,
-    fore: &mut Fore,
+    run: Arc<Run<NoSide>>,
+    fore: &mut Fore<NoSide>,
     out: &mut OutFiles,
     place: &mut P,
 ) -> Result<(), RunFault>
     requires workers { drawing.workers ≤ 32 }
     requires growable { AreGrowable (P.growable place.old) out.old.names }
-    requires new { IsNew (arc_value run) fore.old }
-    ensures done { OnOk result (EndsFromStart (arc_value run) fore.old fore.new out.old out.new
+    requires new { IsNew (run_of (arc_value run)) (fore_of fore.old) }
+    ensures done { OnOk result (EndsFromStart (run_of (arc_value run)) (fore_of fore.old)
+        (fore_of fore.new) out.old out.new
         (P.outside place.old).files (P.outside place.new).files) }
-    ensures stopped { OnErr result (IsCutFromStart (arc_value run) fore.old out.old
+    ensures stopped { OnErr result (IsCutFromStart (run_of (arc_value run)) (fore_of fore.old)
+        out.old
         (P.outside place.old).files (P.outside place.new).files) }
-    ensures run { OnOk result (fore.new.run ≡ fore.old.run) }
+    ensures run { OnOk result ((fore_of fore.new).run ≡ (fore_of fore.old).run) }
     ensures out { OnOk result (out.new.names ≡ out.old.names) }
     ensures kept { OnlyWrites (P.outside place.old) (P.outside place.new) }
     ensures cause { IfErr result (λ fault. IsWrite fault
@@ -101,13 +104,15 @@ fn draw_with_crew<
     let Drawing { workers, gate } = drawing;
     let mut body = |crew: &mut Crew<R, G>| -> Result<(), RunFault>
         requires growable { AreGrowable (P.growable place.now) out.now.names }
-        requires able { CanRun fore.now (crew_seen crew.old) }
-        ensures done { OnOk result (Ends fore.entry.now fore.exit.now (crew_seen crew.old)
+        requires able { CanRun (fore_of fore.now) (crew_seen crew.old) }
+        ensures done { OnOk result (Ends (fore_of fore.entry.now) (fore_of fore.exit.now)
+            (crew_seen crew.old)
             out.entry.now out.exit.now (P.outside place.entry.now).files
             (P.outside place.exit.now).files) }
-        ensures stopped { OnErr result (IsCut fore.entry.now (crew_seen crew.old) out.entry.now
+        ensures stopped { OnErr result (IsCut (fore_of fore.entry.now) (crew_seen crew.old)
+            out.entry.now
             (P.outside place.entry.now).files (P.outside place.exit.now).files) }
-        ensures run { OnOk result (fore.exit.now.run ≡ fore.entry.now.run) }
+        ensures run { OnOk result ((fore_of fore.exit.now).run ≡ (fore_of fore.entry.now).run) }
         ensures out { OnOk result (out.exit.now.names ≡ out.entry.now.names) }
         ensures mark { (crew_seen crew.new).mark ≡ (crew_seen crew.old).mark }
         ensures kept { OnlyWrites (P.outside place.entry.now) (P.outside place.exit.now) }
@@ -122,7 +127,7 @@ fn draw_with_crew<
 }
 
 /// The run in an `Arc`, which its jobs share.
-fn share(alloc: Global, run: Run) -> Result<Arc<Run>, RunFault>
+fn share(alloc: Global, run: Run<NoSide>) -> Result<Arc<Run<NoSide>>, RunFault>
     ensures run { IfOk result (λ shared. arc_value shared ≡ run) }
     ensures memory { IfErr result (λ fault. fault ≡ RunFault.OutOfMemory) }
 {
@@ -133,7 +138,7 @@ fn share(alloc: Global, run: Run) -> Result<Arc<Run>, RunFault>
 }
 
 /// One share more of the run.
-fn shared(run: &Arc<Run>) -> Result<Arc<Run>, RunFault>
+fn shared(run: &Arc<Run<NoSide>>) -> Result<Arc<Run<NoSide>>, RunFault>
     ensures run { IfOk result (λ shared. arc_value shared ≡ arc_value run.now) }
     ensures memory { IfErr result (λ fault. fault ≡ RunFault.OutOfMemory) }
 {
@@ -144,19 +149,20 @@ fn shared(run: &Arc<Run>) -> Result<Arc<Run>, RunFault>
 }
 
 /// Runs all clocks of a foreground over a raster, and appends what is pending.
-pub fn run_whole<P: Place, Q: Raster>(
-    fore: &mut Fore,
+pub fn run_whole<P: Place, Q: Raster<NoSide>>(
+    fore: &mut Fore<NoSide>,
     raster: &mut Q,
     out: &mut OutFiles,
     place: &mut P,
 ) -> Result<(), RunFault>
     requires growable { AreGrowable (P.growable place.old) out.old.names }
-    requires able { CanRun fore.old (Q.seen raster.old) }
-    ensures done { OnOk result (Ends fore.old fore.new (Q.seen raster.old) out.old out.new
+    requires able { CanRun (fore_of fore.old) (Q.seen raster.old) }
+    ensures done { OnOk result (Ends (fore_of fore.old) (fore_of fore.new) (Q.seen raster.old)
+        out.old out.new
         (P.outside place.old).files (P.outside place.new).files) }
-    ensures stopped { OnErr result (IsCut fore.old (Q.seen raster.old) out.old
+    ensures stopped { OnErr result (IsCut (fore_of fore.old) (Q.seen raster.old) out.old
         (P.outside place.old).files (P.outside place.new).files) }
-    ensures run { OnOk result (fore.new.run ≡ fore.old.run) }
+    ensures run { OnOk result ((fore_of fore.new).run ≡ (fore_of fore.old).run) }
     ensures out { OnOk result (out.new.names ≡ out.old.names) }
     ensures mark { (Q.seen raster.new).mark ≡ (Q.seen raster.old).mark }
     ensures kept { OnlyWrites (P.outside place.old) (P.outside place.new) }
@@ -172,22 +178,23 @@ pub fn run_whole<P: Place, Q: Raster>(
 }
 
 /// Runs the clocks up to the first state whose frame is the script's number of frames.
-fn run_clocks<P: Place, Q: Raster>(
-    fore: &mut Fore,
+fn run_clocks<P: Place, Q: Raster<NoSide>>(
+    fore: &mut Fore<NoSide>,
     raster: &mut Q,
     out: &mut OutFiles,
     place: &mut P,
 ) -> Result<(), RunFault>
     requires growable { AreGrowable (P.growable place.old) out.old.names }
-    requires able { CanRun fore.old (Q.seen raster.old) }
-    ensures runs { OnOk result (Runs fore.old fore.new (Q.seen raster.old) (Q.seen raster.new)
+    requires able { CanRun (fore_of fore.old) (Q.seen raster.old) }
+    ensures runs { OnOk result (Runs (fore_of fore.old) (fore_of fore.new) (Q.seen raster.old)
+        (Q.seen raster.new)
         out.old out.new (P.outside place.old).files (P.outside place.new).files) }
-    ensures able { OnOk result (CanRun fore.new (Q.seen raster.new)) }
-    ensures ended { OnOk result (is_done fore.new ≡ true) }
-    ensures run { OnOk result (fore.new.run ≡ fore.old.run) }
+    ensures able { OnOk result (CanRun (fore_of fore.new) (Q.seen raster.new)) }
+    ensures ended { OnOk result (is_done (fore_of fore.new) ≡ true) }
+    ensures run { OnOk result ((fore_of fore.new).run ≡ (fore_of fore.old).run) }
     ensures out { OnOk result (out.new.names ≡ out.old.names) }
     ensures mark { (Q.seen raster.new).mark ≡ (Q.seen raster.old).mark }
-    ensures stopped { OnErr result (IsStopped fore.old (Q.seen raster.old) out.old
+    ensures stopped { OnErr result (IsStopped (fore_of fore.old) (Q.seen raster.old) out.old
         (P.outside place.old).files (P.outside place.new).files) }
     ensures kept { OnlyWrites (P.outside place.old) (P.outside place.new) }
     ensures cause { IfErr result (λ fault. IsWrite fault
@@ -215,7 +222,8 @@ fn flush_lines<P: Place>(beam: &Beam, out: &mut OutFiles, place: &mut P) -> Resu
         → Rose (P.outside place.old).write_faults (P.outside place.new).write_faults) }
     ensures names { KeepsNames (P.readable place.old) (P.growable place.old)
         (P.readable place.new) (P.growable place.new) }
-    ensures empty { OnOk result (beam.now.h ≡ 0 → beam.now.v % 32 ≡ 0 → out.new ≡ all_given out.old) }
+    ensures empty { OnOk result (beam.now.h ≡ 0 → beam.now.v % 32 ≡ 0 → out.new ≡ all_given
+        out.old) }
 {
     if beam.h == 0 && beam.v % 32 == 0 {
         return out.flush(place);
@@ -224,7 +232,7 @@ fn flush_lines<P: Place>(beam: &Beam, out: &mut OutFiles, place: &mut P) -> Resu
 }
 
 /// Appends the words of chip memory to the memory file.
-fn write_memory<P: Place>(fore: Fore, out: &mut OutFiles, place: &mut P) -> Result<(), WriteFault>
+fn write_memory<P: Place>(fore: Fore<NoSide>, out: &mut OutFiles, place: &mut P) -> Result<(), WriteFault>
     requires { AreGrowable (P.growable place.old) out.old.names }
     ensures whole { OnOk result (Completes out.old (P.outside place.old).files
         (P.outside place.new).files (memory_text fore.machine.chip.words)) }

@@ -1,7 +1,7 @@
 -- The order of bands.
 use Rattle.std.proofs.Common.{◌≡◌, ◌<◌, ◌≤◌, ℕ, zero, suc, ◌+◌, ◌-◌, Bool, true, false, if◌then◌else◌, refl, ap, ◌∙◌, sym, subst, arith, inl, inr, ◌++◌, bit_or, lit<}
 use Rattle.std.proofs.lemmas.Bool.{cases_eq}
-use Rattle.serial_model.specs.Serial.{state_at}
+use Rattle.serial_model.specs.Serial.{state_over}
 use Rattle.serial_model.specs.State.{reset}
 use Rattle.serial_bands.specs.Run.{RunValue, state_of, beam_at, run_memory}
 use Rattle.serial_bands.specs.Clock.{opening_at, closing_at, bus_touch_at, write_alone}
@@ -82,7 +82,7 @@ one_place run x y here there same =
     omega arith
 
 pub first_begins : (run : RunValue) → begins run 0 ≡ true
-unfolding begins state_at reset
+unfolding begins state_over reset
 first_begins run = refl
 
 -- how many have begun within a band
@@ -183,7 +183,7 @@ none_less : (n : ℕ) → n ≡ n - 0
 none_less n = omega arith
 
 pub shown_by_bands : ShownByBands
-unfolding state_at reset
+unfolding state_over reset
 shown_by_bands run count to bands =
     ap (λ k. (state_of run k).shown) (none_before to)
     ∙ shown_in_range run 0 to

@@ -24,7 +24,7 @@ one = omega arith
 few : (ask : Ask) → reads_of_ask ask ≤ 1
 few A.Free = none
 few (A.Disk at word) = none
-few (A.Audio channel at) = none
+few (A.Audio channel at) = one
 few (A.Plane plane at) = none
 few (A.SpriteControl sprite second at) = one
 few (A.SpriteWords sprite second at) = none

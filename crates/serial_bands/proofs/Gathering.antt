@@ -1,6 +1,6 @@
 -- Collision bits, gathered of bands.
 use Rattle.std.proofs.Common.{◌≡◌, ◌≤◌, ℕ, suc, ◌+◌, ◌-◌, if◌then◌else◌, refl, ap, ◌∙◌, sym, arith, bit_or}
-use Rattle.serial_model.specs.Serial.{state_at}
+use Rattle.serial_model.specs.Serial.{state_over}
 use Rattle.serial_model.specs.State.{reset}
 use Rattle.serial_bands.specs.Run.{RunValue, state_of}
 use Rattle.serial_bands.specs.Clock.{clx_at, clx_after_at}
@@ -62,7 +62,7 @@ next c = omega arith
 
 -- from clock to clock
 reset_clx : (run : RunValue) → (state_of run 0).clx ≡ 0
-unfolding state_at reset
+unfolding state_over reset
 reset_clx run = refl
 
 pub gathered_first : GatheredFirst

@@ -4,7 +4,6 @@ use Rattle.std.proofs.lemmas.Bool.Decides.{nat_tests}
 use Rattle.ocs_base.specs.declared.beam.Beam.{Beam}
 use Rattle.ocs_base.specs.declared.script.At.{At}
 use Rattle.ocs_base.specs.declared.script.System.TheVariants.{Pal}
-use Rattle.serial_model.specs.declared.bus.SideAsk.TheVariants as S
 use Rattle.serial_model.specs.declared.picture.Denise.{Denise}
 use Rattle.serial_model.specs.declared.picture.Touch.{Touch}
 use Rattle.serial_model.specs.declared.picture.Touch.TheVariants.{Set, Plane, Sprite}
@@ -14,7 +13,7 @@ use Rattle.serial_model.specs.Laws.{picture_before}
 use Rattle.serial_model.specs.Made.{word_of, is_clx_read}
 use Rattle.serial_model.specs.Picture.{clear_line, step_of, touch_if_any}
 use Rattle.serial_model.specs.Registers.{is_interlaced}
-use Rattle.serial_model.specs.Serial.{state_at}
+use Rattle.serial_model.specs.Serial.{state_over}
 use Rattle.serial_model.specs.State.{State, read_word}
 use Rattle.serial_model.specs.Tick.{start_clock, run_script, before_access, make_access, tick}
 use Rattle.serial_model.proofs.NextLaws.{memory_next, picture_next, shown_next, beam_next, place_kept, picture_touched}
@@ -95,7 +94,7 @@ next_in_field lace b inner = record {
 
 pub place_of_tick : PlaceOfTick
 place_of_tick system events s inner =
-    let b : State = make_access S.Nothing (before_access system events s) in
+    let b : State = make_access (before_access system events s) in
     let place : Beam = record s.beam { lof = b.beam.lof } in
     let here : (tick system events s).beam ≡ next_place (is_interlaced b.chips.registers) place = beam_next system events s in
     let next : IsNextInField place (next_place (is_interlaced b.chips.registers) place) =
@@ -104,11 +103,11 @@ place_of_tick system events s inner =
 
 -- at the clocks of a run
 pub next_memory : NextMemory
-unfolding state_at made_at
+unfolding state_over made_at
 next_memory run c = memory_next Pal run.script.events (state_of run c)
 
 pub next_opening : NextOpening
-unfolding state_at opening_at made_at closing_at
+unfolding state_over opening_at made_at closing_at
 next_opening run c = opening_of_tick Pal run.script.events (state_of run c)
 
 pub displayed_is_step : DisplayedIsStep
@@ -128,7 +127,7 @@ unfolding closing_at made_at displayed_at
 closing_has_fetch run c = refl
 
 pub next_shown : NextShown
-unfolding state_at bytes_at
+unfolding state_over bytes_at
 next_shown run c = shown_next Pal run.script.events (state_of run c)
 
 pub clx_at_start : ClxAtStart
@@ -140,7 +139,7 @@ unfolding clx_after_at clx_before_at clx_at
 clx_at_access run c = clx_after Pal run.script.events (state_of run c)
 
 pub next_clx : NextClx
-unfolding state_at made_at clx_after_at
+unfolding state_over made_at clx_after_at
 next_clx run c = clx_of_tick Pal run.script.events (state_of run c)
 
 pub first_of_three : (a b c : Bool) → ((a || b) || c) ≡ false → a ≡ false
@@ -148,7 +147,7 @@ first_of_three false b c none = refl
 first_of_three true b c none = none
 
 pub next_in_band : NextInBand
-unfolding state_at begins
+unfolding state_over begins
 next_in_band run c inner =
     let b : Beam = beam_at run (suc c) in
     place_of_tick Pal run.script.events (state_of run c)

@@ -4,7 +4,7 @@ use Rattle.std.proofs.lemmas.Bool.Decides.{nat_tests}
 use Rattle.serial_model.specs.declared.picture.Touch.{Touch}
 use Rattle.serial_model.specs.declared.picture.Touch.TheVariants.{Set, Plane, Sprite}
 use Rattle.serial_model.specs.Made.{is_clx_read}
-use Rattle.serial_model.specs.Serial.{state_at}
+use Rattle.serial_model.specs.Serial.{state_over}
 use Rattle.serial_model.specs.State.{reset}
 use Rattle.serial_bands.specs.declared.event.Event.{Event}
 use Rattle.serial_bands.specs.Run.{RunValue, state_of}
@@ -116,7 +116,7 @@ not_first : (c : ℕ) (b : Bool) → (suc c == 0) || b ≡ true → b ≡ true
 not_first c b begin = ap (λ z. z || b) (sym (not_zero c)) ∙ begin
 
 begun_empty : (run : RunValue) (c : ℕ) → (c == 0) || has_read_at run c ≡ true → clx_before_at run c ≡ 0
-unfolding has_read_at state_at reset
+unfolding has_read_at state_over reset
 begun_empty run zero begin = clx_at_start run 0 ∙ empty_either_way (has_clx_read (due_at run 0))
 begun_empty run (suc c) begin =
     started run c ∙ emptied (has_clx_read (due_at run (suc c))) (is_clx_read (made_at run c)) (clx_after_at run c) (not_first c _ begin)

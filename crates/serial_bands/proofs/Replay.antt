@@ -8,7 +8,7 @@ use Rattle.ocs_base.specs.declared.script.System.TheVariants.{Pal}
 use Rattle.serial_model.specs.declared.picture.Denise.{Denise}
 use Rattle.serial_model.specs.Made.{word_of}
 use Rattle.serial_model.specs.Picture.{clear_line, PictureStep, after_step}
-use Rattle.serial_model.specs.Serial.{state_at}
+use Rattle.serial_model.specs.Serial.{state_over}
 use Rattle.serial_model.specs.State.{State}
 use Rattle.serial_model.specs.Tick.{tick}
 use Rattle.serial_model.proofs.NextLaws.{beam_next}
@@ -58,7 +58,7 @@ next_positions : (h next : ℕ) → next ≡ (if nat_le 226 h then 0 else h + 1)
 next_positions h next is inner = grind (arith, nat_tests, is, inner)
 
 next_clock : (run : RunValue) (c : ℕ) → (beam_at run (suc c)).h ≡ (if nat_le 226 (beam_at run c).h then 0 else (beam_at run c).h + 1)
-unfolding state_at
+unfolding state_over
 next_clock run c = clock_of_tick Pal run.script.events (state_of run c)
 
 pub opening_of_kept : OpeningOfKept

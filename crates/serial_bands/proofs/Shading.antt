@@ -11,7 +11,7 @@ use Rattle.serial_model.specs.Picture.{reset_picture, set_picture, set_sprite, p
 use Rattle.serial_bands.specs.declared.shadow.Filling.{Filling}
 use Rattle.serial_bands.specs.declared.shadow.Filling.TheVariants.{Word, Fetched}
 use Rattle.serial_bands.specs.declared.shadow.Shadow.{Shadow}
-use Rattle.serial_model.specs.Serial.{state_at}
+use Rattle.serial_model.specs.Serial.{state_over}
 use Rattle.serial_model.specs.State.{reset}
 use Rattle.serial_bands.specs.Run.{RunValue, state_of, beam_at, run_memory}
 use Rattle.serial_bands.specs.Clock.{opening_at, closing_at, displayed_at, picture_at, sets_at, bus_touch_at, due_at, write_alone}
@@ -298,6 +298,6 @@ shadow_of_kept run from s kept p stands is = record {
 }
 
 pub first_shadow : FirstShadow
-unfolding opening_at state_at reset
+unfolding opening_at state_over reset
 first_shadow run =
     shadow_cleared run (beam_at run 0) (shadow_of reset_picture) reset_picture (shadow_of_picture run reset_picture)

@@ -5,16 +5,15 @@ use Rattle.std.proofs.lemmas.Bool.Decides.{nat_tests}
 use Rattle.ocs_base.specs.Limits.{IsRunnable}
 use Rattle.ocs_base.specs.declared.beam.Beam.{Beam}
 use Rattle.ocs_base.specs.declared.script.System.TheVariants.{Pal}
-use Rattle.serial_model.specs.declared.bus.SideAsk.TheVariants as S
 use Rattle.serial_model.specs.Beam.{IsOnScreen, place_of, next_place, is_field_start, is_line_start}
 use Rattle.serial_model.specs.Registers.{is_interlaced}
-use Rattle.serial_model.specs.Serial.{state_at, IsEnd}
+use Rattle.serial_model.specs.Serial.{state_over}
 use Rattle.serial_model.specs.State.{State}
 use Rattle.serial_model.specs.Tick.{before_access, make_access, tick}
 use Rattle.serial_model.proofs.BeamLaws.{IsNext}
 use Rattle.serial_model.proofs.EndLaws.{tick-IsNext, on_screen}
 use Rattle.serial_model.proofs.NextLaws.{beam_next}
-use Rattle.serial_bands.specs.Run.{RunValue, state_of, beam_at}
+use Rattle.serial_bands.specs.Run.{RunValue, state_of, beam_at, IsEndOf}
 use Rattle.serial_bands.specs.Bands.{has_read_at, begins, begun, IsBand, AreBands}
 use Rattle.serial_bands.specs.BandLaws.{ClockHasBand, NumberHasBand, BandsOfRun, BandsAreFew, NumberIsSmall}
 use Rattle.serial_bands.specs.ClockLaws.{FramesRise}
@@ -33,12 +32,12 @@ field_begins run c start =
     let b : Beam = beam_at run c in
     first_of_three (is_field_start b) (is_line_start b && (b.v % run.height == 0)) (has_read_at run c) start
 
-pub end_begins : (run : RunValue) (clocks : ℕ) → IsEnd run.image run.script clocks → begins run clocks ≡ true
-unfolding state_at
+pub end_begins : (run : RunValue) (clocks : ℕ) → IsEndOf run clocks → begins run clocks ≡ true
+unfolding state_over
 end_begins run zero end = first_begins run
 end_begins run (suc c) end =
     let s : State = state_of run c in
-    let b : State = make_access S.Nothing (before_access Pal run.script.events s) in
+    let b : State = make_access (before_access Pal run.script.events s) in
     let lace : Bool = is_interlaced b.chips.registers in
     let place : Beam = record s.beam { lof = b.beam.lof } in
     let here : (tick Pal run.script.events s).beam ≡ next_place lace place = beam_next Pal run.script.events s in
@@ -101,7 +100,7 @@ find_next run a m (suc fuel) most there after inner stop =
     ]) refl
 
 -- each begin before the end is that of a band
-band_from : (run : RunValue) (clocks a : ℕ) → IsEnd run.image run.script clocks → a < clocks → begins run a ≡ true
+band_from : (run : RunValue) (clocks a : ℕ) → IsEndOf run clocks → a < clocks → begins run a ≡ true
     → (b : ℕ) × IsBand run (begun run a) a b × (b ≤ clocks)
 band_from run clocks a end before here =
     let found : (b : ℕ) × IsNextBegin run a clocks b =
@@ -145,7 +144,7 @@ clock_has_band run clocks c end before =
     (begun run a, a, b, band.1, omega (arith, found.1.below), omega (arith, after))
 
 -- all of them
-all_from : (run : RunValue) (clocks count n a : ℕ) → IsEnd run.image run.script clocks → begins run a ≡ true → begun run a ≡ n
+all_from : (run : RunValue) (clocks count n a : ℕ) → IsEndOf run clocks → begins run a ≡ true → begun run a ≡ n
     → a ≤ clocks → n + count ≡ begun run clocks → AreBands run n count a clocks
 all_from run clocks zero n a end here number order all =
     one_place run a clocks here (end_begins run clocks end) (omega (arith, number, all))
@@ -171,12 +170,12 @@ bands_of_run run clocks end =
 
 -- each clock is one place later at least, which the frames of a run bound
 pub place_rises : (run : RunValue) (c : ℕ) → c ≤ place_of (beam_at run c)
-unfolding state_at
+unfolding state_over
 place_rises run zero = omega arith
 place_rises run (suc c) =
     let s : State = state_of run c in
     let next : IsNext s.beam (tick Pal run.script.events s).beam =
-    tick-IsNext Pal run.script.events s (on_screen run.image run.script c) in
+    tick-IsNext Pal run.script.events s (on_screen run.side run.image run.script c) in
     omega (arith, next.later, place_rises run c)
 
 place_below : (b : Beam) (frames : ℕ) → IsOnScreen b → b.frame < frames → frames ≤ 1000 → place_of b < 71051000
@@ -184,7 +183,7 @@ place_below b frames on going most = grind (arith, on.line, on.clock)
 
 clock_below : (run : RunValue) (c : ℕ) → IsRunnable run.script → (beam_at run c).frame < run.script.frames → c < 71051000
 clock_below run c good going =
-    omega (arith, place_rises run c, place_below (beam_at run c) run.script.frames (on_screen run.image run.script c) going good.most)
+    omega (arith, place_rises run c, place_below (beam_at run c) run.script.frames (on_screen run.side run.image run.script c) going good.most)
 
 pub number_is_small : NumberIsSmall
 number_is_small run n from to good band =
@@ -196,8 +195,8 @@ bands_are_few run (suc c) good end =
     omega (arith, clock_below run c good (end.running c (omega arith)), counted run (suc c))
 
 frame_rises : (run : RunValue) (c : ℕ) → (beam_at run c).frame ≤ (beam_at run (suc c)).frame
-unfolding state_at
-frame_rises run c = (tick-IsNext Pal run.script.events (state_of run c) (on_screen run.image run.script c)).frame
+unfolding state_over
+frame_rises run c = (tick-IsNext Pal run.script.events (state_of run c) (on_screen run.side run.image run.script c)).frame
 
 none_after : (c : ℕ) → c + 0 ≡ c
 none_after c = omega arith

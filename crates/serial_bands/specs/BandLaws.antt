@@ -1,8 +1,7 @@
 -- Laws of the bands of a run: they are its picture steps, each in one band, in order of number from 0.
 use Rattle.std.specs.Prelude.{◌≡◌, ◌<◌, ◌≤◌, ℕ, ◌+◌, ◌-◌, ◌^◌, false, List}
 use Rattle.ocs_base.specs.Limits.{IsRunnable}
-use Rattle.serial_model.specs.Serial.{IsEnd}
-use Rattle.serial_bands.specs.Run.{RunValue, state_of, beam_at, run_memory}
+use Rattle.serial_bands.specs.Run.{RunValue, state_of, beam_at, run_memory, IsEndOf}
 use Rattle.serial_bands.specs.Clock.{opening_at, closing_at, made_at, bus_touch_at, write_alone, clx_after_at}
 use Rattle.serial_model.specs.Made.{word_of, is_clx_read}
 use Rattle.serial_model.specs.Picture.{clear_line, touch_if_any}
@@ -29,15 +28,15 @@ BegunInBand = (run : RunValue) (n from to c : ℕ) → IsBand run n from to → 
 -- each clock of a run is in a band, each number below the count is that of a band, and so the bands of a whole run are as many
 -- as have begun before its end
 abbrev pub ClockHasBand : Type 0
-ClockHasBand = (run : RunValue) (clocks c : ℕ) → IsEnd run.image run.script clocks → c < clocks →
+ClockHasBand = (run : RunValue) (clocks c : ℕ) → IsEndOf run clocks → c < clocks →
     (n : ℕ) × (from : ℕ) × (to : ℕ) × IsBand run n from to × (from ≤ c) × (c < to)
 
 abbrev pub NumberHasBand : Type 0
-NumberHasBand = (run : RunValue) (clocks n : ℕ) → IsEnd run.image run.script clocks → n < begun run clocks →
+NumberHasBand = (run : RunValue) (clocks n : ℕ) → IsEndOf run clocks → n < begun run clocks →
     (from : ℕ) × (to : ℕ) × IsBand run n from to
 
 abbrev pub BandsOfRun : Type 0
-BandsOfRun = (run : RunValue) (clocks : ℕ) → IsEnd run.image run.script clocks → AreBands run 0 (begun run clocks) 0 clocks
+BandsOfRun = (run : RunValue) (clocks : ℕ) → IsEndOf run clocks → AreBands run 0 (begun run clocks) 0 clocks
 
 -- a band follows bands
 abbrev pub OneBandMore : Type 0
@@ -78,7 +77,7 @@ PeekAfterBands = (run : RunValue) (n count from to : ℕ) (bands : AreBands run 
 
 -- in the limits of scripts a run has fewer than 2^32 bands, and a number of a band fits 32 bits
 abbrev pub BandsAreFew : Type 0
-BandsAreFew = (run : RunValue) (clocks : ℕ) → IsRunnable run.script → IsEnd run.image run.script clocks → begun run clocks < 2 ^ 32
+BandsAreFew = (run : RunValue) (clocks : ℕ) → IsRunnable run.script → IsEndOf run clocks → begun run clocks < 2 ^ 32
 
 abbrev pub NumberIsSmall : Type 0
 NumberIsSmall = (run : RunValue) (n from to : ℕ) → IsRunnable run.script → IsBand run n from to → n < 2 ^ 32

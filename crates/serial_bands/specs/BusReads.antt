@@ -22,7 +22,7 @@ reads_of_processor (P.WriteRegister reg word) = 0
 abbrev pub reads_of_ask : Ask → ℕ
 reads_of_ask A.Free = 0
 reads_of_ask (A.Disk at word) = 0
-reads_of_ask (A.Audio channel at) = 0
+reads_of_ask (A.Audio channel at) = 1
 reads_of_ask (A.Plane plane at) = 0
 reads_of_ask (A.SpriteControl sprite second at) = 1
 reads_of_ask (A.SpriteWords sprite second at) = 0

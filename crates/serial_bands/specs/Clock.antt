@@ -5,7 +5,6 @@ use Rattle.ocs_base.specs.declared.script.System.{System}
 use Rattle.ocs_base.specs.declared.script.System.TheVariants.{Pal}
 use Rattle.serial_model.specs.declared.bus.Ask.{Ask}
 use Rattle.serial_model.specs.declared.bus.Made.{Made}
-use Rattle.serial_model.specs.declared.bus.SideAsk.TheVariants as S
 use Rattle.serial_model.specs.declared.picture.Denise.{Denise}
 use Rattle.serial_model.specs.declared.picture.Touch.{Touch}
 use Rattle.serial_model.specs.declared.picture.Touch.TheVariants.{Set, Plane, Sprite}
@@ -27,7 +26,7 @@ displayed_in system events s = after_step (picture_step system events s) (pictur
 
 -- the access, and how what it makes touches the picture
 abbrev pub access_in : System → List At → State → Ask
-access_in system events s = ask_of S.Nothing (before_access system events s)
+access_in system events s = ask_of (before_access system events s)
 
 abbrev pub bus_touch_in : System → List At → State → Option Touch
 bus_touch_in system events s = touch_of (made_in system events s)

@@ -4,19 +4,30 @@ use Rattle.ocs_base.specs.Image.{is_image}
 use Rattle.ocs_base.specs.Limits.{IsRunnable}
 use Rattle.ocs_base.specs.Script.{ScriptValue}
 use Rattle.ocs_base.specs.declared.beam.Beam.{Beam}
-use Rattle.serial_model.specs.Serial.{state_at}
+use Rattle.serial_model.specs.Serial.{state_over, IsEndOver}
+use Rattle.serial_model.specs.Side.{SideValue}
 use Rattle.serial_model.specs.State.{State}
 
-pub record RunValue : Type 0 where
+-- what a run is made of, with a side as a value of some type
+pub record RunOf (S : Type 0) : Type 0 where
   -- the bytes from which chip memory is made
   pub image : List ℕ
   pub script : ScriptValue
   -- the height of a band, in lines
   pub height : ℕ
+  -- the side as it is at reset
+  pub side : S
+
+-- a run: with what its side does
+abbrev pub RunValue : Type 0
+RunValue = RunOf SideValue
+
+abbrev pub run_over : {S : Type 0} → (S → SideValue) → RunOf S → RunValue
+run_over seen run = record { image = run.image; script = run.script; height = run.height; side = seen run.side }
 
 -- what a run takes: an image that makes a memory, a script in its limits and in order, and a height of 1 to the lines of a
 -- long field
-pub record IsGoodRun (run : RunValue) : Type 0 where
+pub record IsGoodRun {S : Type 0} (run : RunOf S) : Type 0 where
   pub image : is_image run.image ≡ true
   pub script : IsRunnable run.script
   pub least : 1 ≤ run.height
@@ -24,7 +35,11 @@ pub record IsGoodRun (run : RunValue) : Type 0 where
 
 -- the state in which a clock begins
 abbrev pub state_of : RunValue → ℕ → State
-state_of run c = state_at run.image run.script c
+state_of run c = state_over run.side run.image run.script c
+
+-- the run ends at a clock
+abbrev pub IsEndOf : RunValue → ℕ → Type 0
+IsEndOf run clocks = IsEndOver run.side run.image run.script clocks
 
 abbrev pub beam_at : RunValue → ℕ → Beam
 beam_at run c = (state_of run c).beam

@@ -6,3 +6,4 @@ pub mod EndLaws
 pub mod WriteLaws
 pub mod FetchLaws
 pub mod SlotLaws
+pub mod SideLaws

@@ -4,7 +4,6 @@ use Rattle.ocs_base.specs.declared.beam.Beam.{Beam}
 use Rattle.ocs_base.specs.declared.script.Act.{Act}
 use Rattle.ocs_base.specs.declared.script.Act.TheVariants.{Poke, Peek, Joy, Fire, Key}
 use Rattle.ocs_base.specs.declared.script.At.{At}
-use Rattle.serial_model.specs.declared.bus.SideAsk.TheVariants as S
 use Rattle.serial_model.specs.declared.picture.Denise.{Denise}
 use Rattle.serial_model.specs.declared.picture.Touch.{Touch}
 use Rattle.serial_model.specs.Beam.{next_place}
@@ -129,8 +128,8 @@ clx_next system events s none =
 pub trace_next : TraceNext
 unfolding tick
 trace_next system events s =
-    let b : State = answer_state S.Nothing (before_access system events s) in
-    let done : State = make_access S.Nothing (before_access system events s) in
+    let b : State = answer_state (before_access system events s) in
+    let done : State = make_access (before_access system events s) in
     let told : List TraceLine = event_lines (due_events s.beam events) (start_clock s) in
     let made : List TraceLine = lines_of b.beam b.clx b.chips (made_in system events s) in
     let begun : List TraceLine = taken_lines done.beam (interrupt_of done.chips) in
@@ -155,6 +154,6 @@ run_keeps c = turn_keeps (turn_of c.processor) c
 pub beam_next : BeamNext
 unfolding tick
 beam_next system events s =
-    let b : State = make_access S.Nothing (before_access system events s) in
+    let b : State = make_access (before_access system events s) in
     ap (λ registers. next_place (is_interlaced registers) b.beam) (run_keeps b.chips) ∙
     ap (λ (p : Beam). next_place (is_interlaced b.chips.registers) (record p { lof = b.beam.lof })) (at_place events s)

@@ -1,5 +1,5 @@
 -- The CIAs in the machine: their pins, the processor's accesses to them, their time, and their interrupts.
-use Rattle.std.specs.Prelude.{ℕ, ◌+◌, ◌-◌, ◌*◌, ◌%◌, ◌==◌, if◌then◌else◌, Option, Some, None}
+use Rattle.std.specs.Prelude.{ℕ, ◌+◌, ◌-◌, ◌*◌, ◌%◌, ◌==◌, bit_or, if◌then◌else◌, Option, Some, None}
 use Rattle.irq_cia.specs.Cia.{after_tick, byte_at, after_read, after_write}
 use Rattle.irq_cia.specs.Icr.{is_active}
 use Rattle.irq_cia.specs.Interrupts.{after_request}
@@ -52,7 +52,7 @@ abbrev pub line_bits : Chips → ℕ
 line_bits c = (if is_active c.cia_a.icr then 8 else 0) + (if is_active c.cia_b.icr then 0x2000 else 0)
 
 abbrev pub request_lines : ℕ → Chips → Chips
-request_lines bits c = record c { irq = after_request (bits + line_bits c) c.irq }
+request_lines bits c = record c { irq = after_request (bit_or bits (line_bits c)) c.irq }
 
 -- the timers, and then the requests of the CIAs beside those bits
 unfoldable pub time_chips : ℕ → ℕ → Chips → Chips

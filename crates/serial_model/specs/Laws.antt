@@ -5,7 +5,6 @@ use Rattle.ocs_base.specs.Script.{ScriptValue}
 use Rattle.ocs_base.specs.declared.script.At.{At}
 use Rattle.ocs_base.specs.declared.script.System.{System}
 use Rattle.serial_model.specs.declared.bus.Made.{Made}
-use Rattle.serial_model.specs.declared.bus.SideAsk.TheVariants as S
 use Rattle.serial_model.specs.declared.picture.Denise.{Denise}
 use Rattle.serial_model.specs.Beam.{next_place}
 use Rattle.serial_model.specs.Events.{due_events, touches_of, event_lines}
@@ -13,14 +12,15 @@ use Rattle.serial_model.specs.Made.{word_of, memory_after, touch_of, is_clx_read
 use Rattle.serial_model.specs.Outputs.{frame_bytes}
 use Rattle.serial_model.specs.Picture.{touch_if_any, touch_in_order, clear_line, PictureStep, step_of, after_step}
 use Rattle.serial_model.specs.Registers.{is_interlaced}
-use Rattle.serial_model.specs.Serial.{state_at, IsEnd}
+use Rattle.serial_model.specs.Serial.{state_over, IsEndOver}
+use Rattle.serial_model.specs.Side.{SideValue, FitsSide}
 use Rattle.serial_model.specs.State.{State}
 use Rattle.serial_model.specs.Turns.{interrupt_of, taken_lines}
 use Rattle.serial_model.specs.Tick.{start_clock, run_script, before_access, made_of, answer_state, make_access, tick}
 
 -- what the access of the clock that begins in this state makes
 abbrev pub made_in : System → List At → State → Made
-made_in system events s = made_of S.Nothing (before_access system events s)
+made_in system events s = made_of (before_access system events s)
 
 -- the picture state that the picture step of this clock shows: cleared at a line's start, and touched by the script, whose
 -- touches are a function of the script and the place of the beam alone
@@ -58,22 +58,28 @@ abbrev pub TraceNext : Type 0
 TraceNext = (system : System) (events : List At) (s : State) →
     (tick system events s).trace
     ≡ s.trace ++ (event_lines (due_events s.beam events) (start_clock s)
-    ++ ((let b = answer_state S.Nothing (before_access system events s) in
+    ++ ((let b = answer_state (before_access system events s) in
     lines_of b.beam b.clx b.chips (made_in system events s))
-    ++ (let b = make_access S.Nothing (before_access system events s) in taken_lines b.beam (interrupt_of b.chips))))
+    ++ (let b = make_access (before_access system events s) in taken_lines b.beam (interrupt_of b.chips))))
 
 -- the beam: the next place, where LOF is all that the writes of this clock can have changed
 abbrev pub BeamNext : Type 0
 BeamNext = (system : System) (events : List At) (s : State) →
     (tick system events s).beam
-    ≡ (let b = make_access S.Nothing (before_access system events s) in
+    ≡ (let b = make_access (before_access system events s) in
     next_place (is_interlaced b.chips.registers) (record s.beam { lof = b.beam.lof }))
 
--- a run of a script has an end
+-- each side fits chip memory of 512 KiB, since addresses are below it
+abbrev pub EachSideFits : Type 0
+EachSideFits = (side : SideValue) → FitsSide 524288 side
+
+-- a run of a script has an end, over each side
 abbrev pub HasEnd : Type 0
-HasEnd = (image : List ℕ) (script : ScriptValue) → IsRunnable script → (clocks : ℕ) × IsEnd image script clocks
+HasEnd = (side : SideValue) (image : List ℕ) (script : ScriptValue) → IsRunnable script →
+    (clocks : ℕ) × IsEndOver side image script clocks
 
 -- and has shown whole frames there
 abbrev pub FramesAreWhole : Type 0
-FramesAreWhole = (image : List ℕ) (script : ScriptValue) (clocks : ℕ) → 1 ≤ script.frames → IsEnd image script clocks →
-    length (state_at image script clocks).shown ≡ script.frames * frame_bytes
+FramesAreWhole = (side : SideValue) (image : List ℕ) (script : ScriptValue) (clocks : ℕ) → 1 ≤ script.frames →
+    IsEndOver side image script clocks →
+    length (state_over side image script clocks).shown ≡ script.frames * frame_bytes

@@ -8,6 +8,7 @@ pub mod PlaneFetch
 pub mod SpriteFetch
 pub mod Picture
 pub mod Processor
+pub mod Side
 pub mod State
 pub mod Cias
 pub mod Turns

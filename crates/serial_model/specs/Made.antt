@@ -13,6 +13,7 @@ use Rattle.serial_model.specs.declared.trace.TraceLine.{TraceLine}
 use Rattle.serial_model.specs.declared.trace.TraceLine.TheVariants.{Wrote, Peeked}
 use Rattle.serial_model.specs.Picture.{touch_if_any}
 use Rattle.serial_model.specs.Registers.{is_picture_register}
+use Rattle.serial_model.specs.Side.{side_by_made}
 use Rattle.serial_model.specs.State.{Chips, State, read_word}
 use Rattle.serial_model.specs.Write.{write_chips, write_lof}
 
@@ -93,6 +94,7 @@ state_after made s = record s {
   beam = record s.beam { lof = lof_after made s.beam.lof };
   memory = memory_after made s.memory;
   chips = chips_after made s.chips;
+  side = side_by_made made s.side;
   picture = touch_if_any s.beam.h (word_of s.memory) (touch_of made) s.picture;
   clx = clx_after made s.clx;
   trace = s.trace ++ lines_of s.beam s.clx s.chips made;

@@ -31,17 +31,21 @@ pointer_at registers high = addr_at (65536 * kept_word registers high + kept_wor
 abbrev pub with_pointer : List ℕ → ℕ → ℕ → List ℕ
 with_pointer registers high address = with_word (with_word registers high (address / 65536)) (high + 2) (address % 65536)
 
+-- the kept word of DMACON
+abbrev pub dmacon_of : List ℕ → ℕ
+dmacon_of registers = kept_word registers 0x96
+
 -- DMAEN, bit 9, and COPEN, bit 7, of DMACON are both set
 abbrev pub copper_dma : List ℕ → Bool
-copper_dma registers = has_bits (kept_word registers 0x96) 640
+copper_dma registers = has_bits (dmacon_of registers) 640
 
 -- DMAEN, bit 9, and BLTEN, bit 6, of DMACON are both set
 abbrev pub blitter_dma : List ℕ → Bool
-blitter_dma registers = has_bits (kept_word registers 0x96) 576
+blitter_dma registers = has_bits (dmacon_of registers) 576
 
 -- BLTPRI, bit 10 of DMACON
 abbrev pub blitter_first : List ℕ → Bool
-blitter_first registers = has_bits (kept_word registers 0x96) 1024
+blitter_first registers = has_bits (dmacon_of registers) 1024
 
 -- LACE, bit 2 of BPLCON0
 abbrev pub is_interlaced : List ℕ → Bool

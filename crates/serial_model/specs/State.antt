@@ -19,6 +19,7 @@ use Rattle.serial_model.specs.Copper.{copper_from}
 use Rattle.irq_cia.specs.Interrupts.{Interrupts, no_interrupts}
 use Rattle.serial_model.specs.Picture.{reset_picture}
 use Rattle.serial_model.specs.Processor.{Processor, reset_processor}
+use Rattle.serial_model.specs.Side.{SideValue}
 use Rattle.serial_model.specs.SpriteFetch.{no_kinds}
 
 -- a blit under way: its registers at the start, and the answers of its slots so far, of which only the words that it reads
@@ -65,6 +66,8 @@ pub record State : Type 0 where
   -- the words of chip memory
   pub memory : List ℕ
   pub chips : Chips
+  -- what stands beside the chips
+  pub side : SideValue
   pub picture : Denise
   -- the collision bits gathered since CLXDAT was last read
   pub clx : ℕ
@@ -89,13 +92,14 @@ reset_chips cpu = record {
   inputs = no_inputs;
 }
 
--- the state at reset, with the processor started or not
-unfoldable pub reset : List ℕ → Bool → State
-reset image cpu = record {
+-- the state at reset with a side as it is then, and the processor started or not
+unfoldable pub reset : SideValue → List ℕ → Bool → State
+reset side image cpu = record {
   t = 0;
   beam = first_place;
   memory = memory_of image;
   chips = reset_chips cpu;
+  side = side;
   picture = reset_picture;
   clx = 0;
   shown = [];

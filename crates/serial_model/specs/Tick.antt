@@ -6,7 +6,6 @@ use Rattle.ocs_base.specs.declared.script.System.{System}
 use Rattle.serial_model.specs.declared.bus.Ask.{Ask}
 use Rattle.serial_model.specs.declared.bus.Made.{Made}
 use Rattle.serial_model.specs.declared.bus.SideAsk.{SideAsk}
-use Rattle.serial_model.specs.declared.bus.SideAsk.TheVariants as S
 use Rattle.serial_model.specs.Beam.{next_place, is_line_start, is_field_start}
 use Rattle.serial_model.specs.Bus.{ask_at, answer_to, answer_chips, made_by_ask}
 use Rattle.serial_model.specs.Events.{due_events, do_events}
@@ -14,7 +13,8 @@ use Rattle.irq_cia.specs.Cia.{after_tod_pulse}
 use Rattle.irq_cia.specs.Interrupts.{after_request}
 use Rattle.serial_model.specs.Made.{state_after}
 use Rattle.serial_model.specs.Picture.{clear_line, step_of, after_step}
-use Rattle.serial_model.specs.Registers.{is_interlaced}
+use Rattle.serial_model.specs.Registers.{is_interlaced, dmacon_of}
+use Rattle.serial_model.specs.Side.{tick_side, bits_of_side, ask_of_side, answer_side}
 use Rattle.serial_model.specs.State.{Chips, State}
 use Rattle.serial_model.specs.Cias.{time_chips}
 use Rattle.serial_model.specs.Turns.{run_chips, interrupt_of, taken_lines}
@@ -41,10 +41,16 @@ start_clock s = record s { chips = start_chips s.beam s.chips; picture = clear_l
 abbrev pub run_script : List At → State → State
 run_script events s = do_events (due_events s.beam events) s
 
--- third: the timers of the CIAs tick at each fifth clock, and interrupts are requested: these bits by the side, of which this
--- machine has none yet, and those of the CIAs
-abbrev pub count_timers : ℕ → State → State
-count_timers bits s = record s { chips = time_chips bits s.t s.chips }
+-- third: the timers of the CIAs tick at each fifth clock, and then the side ticks, with the beam and the kept word of DMACON;
+-- interrupts are requested, by the CIAs and by the side
+abbrev pub side_bits : State → ℕ
+side_bits s = bits_of_side s.beam (dmacon_of s.chips.registers) s.side
+
+abbrev pub count_timers : State → State
+count_timers s = record s {
+  chips = time_chips (side_bits s) s.t s.chips;
+  side = tick_side s.beam (dmacon_of s.chips.registers) s.side;
+}
 
 -- fourth: Denise shows the pixels of this clock and gathers their collisions
 abbrev pub show_pixels : System → State → State
@@ -54,21 +60,27 @@ show_pixels system s = record s {
   shown = s.shown ++ (step_of system s.beam.v s.beam.h s.picture).bytes;
 }
 
--- fifth: the owner of the slot makes its access, the chips have their answers, and what the access makes is done
-abbrev pub ask_of : SideAsk → State → Ask
-ask_of side s = ask_at side s.beam s.chips
+-- fifth: the owner of the slot makes its access, chips and side have their answers, and what the access makes is done
+abbrev pub side_wish : State → SideAsk
+side_wish s = ask_of_side s.beam (dmacon_of s.chips.registers) s.side
 
-abbrev pub answer_of : SideAsk → State → ℕ
-answer_of side s = answer_to (ask_of side s) s.beam s.clx s.chips s.memory
+abbrev pub ask_of : State → Ask
+ask_of s = ask_at (side_wish s) s.beam s.chips
 
-abbrev pub made_of : SideAsk → State → Made
-made_of side s = made_by_ask (ask_of side s) (answer_of side s) s.chips
+abbrev pub answer_of : State → ℕ
+answer_of s = answer_to (ask_of s) s.beam s.clx s.chips s.memory
 
-abbrev pub answer_state : SideAsk → State → State
-answer_state side s = record s { chips = answer_chips s.beam (ask_of side s) (answer_of side s) s.chips }
+abbrev pub made_of : State → Made
+made_of s = made_by_ask (ask_of s) (answer_of s) s.chips
 
-abbrev pub make_access : SideAsk → State → State
-make_access side s = state_after (made_of side s) (answer_state side s)
+abbrev pub answer_state : State → State
+answer_state s = record s {
+  chips = answer_chips s.beam (ask_of s) (answer_of s) s.chips;
+  side = answer_side (ask_of s) (answer_of s) s.side;
+}
+
+abbrev pub make_access : State → State
+make_access s = state_after (made_of s) (answer_state s)
 
 -- sixth: the processor's part that needs no slot. It takes the word of its access and goes on, or a clock passes of what it
 -- waits for; an interrupt that begins is traced
@@ -81,8 +93,8 @@ advance_beam s = record s { t = s.t + 1; beam = next_place (is_interlaced s.chip
 
 -- the state in which the access of this clock is made
 abbrev pub before_access : System → List At → State → State
-before_access system events s = show_pixels system (count_timers 0 (run_script events (start_clock s)))
+before_access system events s = show_pixels system (count_timers (run_script events (start_clock s)))
 
 -- the state after one colour clock
 unfoldable pub tick : System → List At → State → State
-tick system events s = advance_beam (run_processor (make_access S.Nothing (before_access system events s)))
+tick system events s = advance_beam (run_processor (make_access (before_access system events s)))

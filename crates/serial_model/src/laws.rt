@@ -1,6 +1,6 @@
 //! Laws of the definitions, each the contract of a function that does nothing.
 
-ghost use Rattle.serial_model.specs.Laws.{MemoryNext, PictureNext, ShownNext, ClxNext, TraceNext, BeamNext, FramesAreWhole, HasEnd};
+ghost use Rattle.serial_model.specs.Laws.{MemoryNext, PictureNext, ShownNext, ClxNext, TraceNext, BeamNext, FramesAreWhole, HasEnd, EachSideFits};
 
 /// What one colour clock makes of a state, part by part, by the script's touches, the picture step and what the
 /// access makes. Drawing a part of the picture later, from the writes that were noted and the memory of that
@@ -12,6 +12,11 @@ pub fn next_state()
     ensures clx { ClxNext }
     ensures trace { TraceNext }
     ensures beam { BeamNext }
+{}
+
+/// What a side asks for is in chip memory.
+pub fn sides_fit()
+    ensures { EachSideFits }
 {}
 
 /// A run has an end, and has then shown all the bytes of its frames.

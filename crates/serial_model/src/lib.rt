@@ -9,6 +9,7 @@ pub mod laws;
 pub mod picture;
 pub mod processor;
 pub mod registers;
+pub mod side;
 pub mod slots;
 pub mod trace;
 
@@ -18,5 +19,6 @@ pub use fetch::{PlaneAsk, SpriteAsk, SpriteKind};
 pub use picture::{Denise, Touch};
 pub use processor::{CiaName, CiaRegister, Target, Turn, Wait};
 pub use registers::{Effect, Inputs, Live, Reading, Writing};
+pub use side::{NoSide, Side};
 pub use slots::{Owner, SlotState};
 pub use trace::{Source, TraceLine};

@@ -5,7 +5,7 @@ ghost use Rattle.std.specs.Prelude.{◌≡◌, ◌≤◌, OnOk};
 ghost use Rattle.std.specs.Arc.{arc_value};
 ghost use Rattle.crew.specs.Crew.{crew_seen};
 ghost use Rattle.foreground.specs.Fore.{IsNew};
-ghost use Rattle.ocs_run.specs.Underway.{CanRun};
+ghost use Rattle.ocs_run.specs.Underway.{fore_of, run_of, CanRun};
 
 use super::{BAR_TRACE, START, bars, holds, picture_of_bars, run_with_gate, script, shelf};
 use crate::Gate;
@@ -17,6 +17,7 @@ use ocs_base::OutOfMemory;
 use ocs_io::Shelf;
 use out_files::OutFiles;
 use script_read::read_script;
+use serial_model::NoSide;
 use std::alloc::Global;
 use std::sync::atomic::{AtomicU64, Ordering};
 use std::sync::{Arc, Wait};
@@ -106,23 +107,23 @@ fn a_band_is_drawn_beside_another(rt: HostRuntime) -> Result<(), OutOfMemory> {
 }
 
 /// Where a band is outstanding it may wait until band 0 is about to be drawn.
-fn wait_if_outstanding<Q: Raster>(raster: &Q, told: &Told, waits: bool) {
+fn wait_if_outstanding<Q: Raster<NoSide>>(raster: &Q, told: &Told, waits: bool) {
     if waits && raster.outstanding() == 1 {
         told.wait_for(&told.first);
     }
 }
 
 /// Does all clocks of a run, and gathers the bands that are left. After each clock it may wait.
-fn run_clocks<Q: Raster>(
-    fore: &mut Fore,
+fn run_clocks<Q: Raster<NoSide>>(
+    fore: &mut Fore<NoSide>,
     raster: &mut Q,
     out: &mut OutFiles,
     told: &Told,
     waits: bool,
 ) -> Result<(), OutOfMemory>
-    requires able { CanRun fore.old (Q.seen raster.old) }
+    requires able { CanRun (fore_of fore.old) (Q.seen raster.old) }
     ensures mark { (Q.seen raster.new).mark ≡ (Q.seen raster.old).mark }
-    ensures run { OnOk result (fore.new.run ≡ fore.old.run) }
+    ensures run { OnOk result ((fore_of fore.new).run ≡ (fore_of fore.old).run) }
 {
     while !fore.done() {
         fore.advance(raster, out)?;
@@ -147,21 +148,21 @@ fn draw_over_crew<R: Threads + Wait + Clone + Drop + Send + Sync + 'static>(
     workers: u8,
     told: &Arc<Told>,
     waits: bool,
-    run: Arc<Run>,
-    fore: &mut Fore,
+    run: Arc<Run<NoSide>>,
+    fore: &mut Fore<NoSide>,
     out: &mut OutFiles,
 ) -> Result<Totals, OutOfMemory>
     requires workers { workers ≤ 32 }
-    requires new { IsNew (arc_value run) fore.old }
+    requires new { IsNew (run_of (arc_value run)) (fore_of fore.old) }
 {
     let gate = Watch {
         told: Arc::try_clone(told)?,
         holds: false,
     };
     let mut body = |crew: &mut Crew<R, Watch>| -> Result<(), OutOfMemory>
-        requires able { CanRun fore.now (crew_seen crew.old) }
+        requires able { CanRun (fore_of fore.now) (crew_seen crew.old) }
         ensures mark { (crew_seen crew.new).mark ≡ (crew_seen crew.old).mark }
-        ensures run { OnOk result (fore.exit.now.run ≡ fore.entry.now.run) }
+        ensures run { OnOk result ((fore_of fore.exit.now).run ≡ (fore_of fore.entry.now).run) }
     { run_clocks(fore, crew, out, told, waits) };
     let (answer, totals) = with_crew(rt, alloc, run, workers, gate, &mut body)?;
     answer?;

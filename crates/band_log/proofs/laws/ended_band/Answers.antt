@@ -3,7 +3,7 @@ use Rattle.std.proofs.Common.{refl, arith}
 use Rattle.band_log.proofs.laws.ended_band.Goals as goal
 
 pub returns : goal.returns
-returns c = λ job chip band begins cut view. record {
+returns g c = λ job chip band begins cut view. record {
   owner = refl;
   numbered = refl;
   covered = λ k least most. (omega (arith, view.from, cut), omega (arith, view.to));

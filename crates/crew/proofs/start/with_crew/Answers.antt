@@ -1,7 +1,8 @@
-use Rattle.std.proofs.Common.{◌≤◌, length, sym, ap, ◌∙◌, arith}
+use Rattle.std.proofs.Common.{◌≤◌, length, ap, ◌∙◌, arith}
 use Rattle.std.specs.Arc.{arc_value}
 use Rattle.band_board.specs.Answers.{front_view, hand_view}
-use Rattle.serial_bands.specs.Run.{RunValue}
+use Rattle.serial_model.specs.declared.side.NoSide.{NoSide}
+use Rattle.serial_bands.specs.Run.{RunOf}
 use Rattle.band_board.specs.declared.view.View.{View}
 use Rattle.crew.proofs.Marks.{same_table}
 use Rattle.crew.proofs.Ending.{starts_new, all_drawn}
@@ -15,16 +16,16 @@ returns-clause-ran g c =
     let totals = c.totals.ensures in
     let table = (arc_value crew.board).table.shared.table_id in
     let hires = c.new-crew.ensures.front ∙ c.in_ok-hired.ensures.hands in
-    let starts =
-    starts_new table (arc_value c.args.run) _ _ (front_view crew.front) c.args.workers c.in_ok-board.ensures.view c.split-hand.ensures.view hires in
     let left = ran.left in
     let v = front_view left.front in
-    let hands = (same_table _ _ _ _ ran.same).1 ∙ starts.1 in
     let sum = left.is_crew.behind in
     let behind : v.collected ≤ v.published = omega arith in
+    let starts =
+    starts_new _ table (arc_value c.args.run) _ _ (front_view crew.front) c.args.workers c.in_ok-board.ensures.view c.split-hand.ensures.view hires in
+    let hands = (same_table _ _ _ _ ran.same).1 ∙ starts.1 in
     let workers = ran.joined ∙ c.in_ok-hired.ensures.count in
     let drawn =
-    all_drawn v (front_view closed.front) (hand_view closed.hand) (hand_view left.hand) _ _ c.args.workers ran.front ran.hand workers hands
+    all_drawn _ v (front_view closed.front) (hand_view closed.hand) (hand_view left.hand) _ _ c.args.workers ran.front ran.hand workers hands
     left.is_crew.run_is behind totals in
     record {
       crew = crew;
@@ -35,7 +36,7 @@ returns-clause-ran g c =
       joined = (front_view closed.front).joined;
       all_joined = workers;
       by_hands = totals.workers;
-      by_front = totals.crew ∙ ap (λ (w : View RunValue). length w.done) ran.hand;
+      by_front = totals.crew ∙ ap (λ (w : View (RunOf NoSide)). length w.done) ran.hand;
       once = drawn.0;
       sum = drawn.1;
     }

@@ -21,6 +21,6 @@ returns-clause-gathered g c =
     let piece : Gives c.args.out.now c.pixels-2.new.self c.pixels.result.now [] =
     gives_pixels c.args.out.now c.pixels-2.new.self c.pixels.result.now c.in_ok-pixels.ensures.ok c.in_ok-pixels.ensures.together
     in
-    gathers_one (seen c.args.raster.now) (seen c.collect-job.new.self) c.args.out.now c.pixels-2.new.self c.args.clx.now _ c.collect-job.result
+    gathers_one (seen c.args.raster.now) (seen c.collect-job.new.self) c.args.out.now c.pixels-2.new.self c.args.clx.now _ g.S.Side.seen c.collect-job.result
     c.requires c.collect-job.ensures.taken c.collect-job.ensures.right
     (subst (λ (l : List ℕ). Gives c.args.out.now c.pixels-2.new.self l []) c.pixels.ensures piece) refl

@@ -1,7 +1,7 @@
 use Rattle.std.proofs.Common.{rules, subst}
 use Rattle.std.specs.Arc.{arc_value}
 use Rattle.crew.specs.Crew.{crew_seen}
-use Rattle.ocs_run.specs.Underway.{IsCutFromStart}
+use Rattle.ocs_run.specs.Underway.{run_of, fore_of, IsCutFromStart}
 use Rattle.ocs_run.proofs.RunLaws.{on_err, CanRun-start, IsCutFromStart-now}
 use Rattle.ocs_run.proofs.CrewLaws.{IsEmpty-lent, mark_left, EndsFromStart-left, IsCutFromStart-left}
 use Rattle.ocs_run.proofs.run.draw_with_crew.Goals as goal
@@ -15,9 +15,9 @@ with_crew-requires-clause-body g c κs within = λ crew new. record {
 
 pub returns-in_err-answer-clause-stopped : goal.returns-in_err-answer-clause-stopped
 returns-in_err-answer-clause-stopped g c =
-    on_err _ _ (subst (λ p. IsCutFromStart (arc_value c.args.run) c.args.fore.now c.args.out.now (g.P.Place.outside c.args.place.now).files
+    on_err _ _ (subst (λ p. IsCutFromStart (run_of (arc_value c.args.run)) (fore_of c.args.fore.now) c.args.out.now (g.P.Place.outside c.args.place.now).files
     (g.P.Place.outside p).files) (search rules)
-    (IsCutFromStart-now _ c.args.fore.now c.args.out.now (g.P.Place.outside c.args.place.now).files c.requires.new))
+    (IsCutFromStart-now _ (fore_of c.args.fore.now) c.args.out.now (g.P.Place.outside c.args.place.now).files c.requires.new))
 
 pub returns-clause-done : goal.returns-clause-done
 returns-clause-done g c =

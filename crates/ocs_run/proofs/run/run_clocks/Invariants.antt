@@ -1,7 +1,7 @@
 use Rattle.std.proofs.Common.{◌≡◌, ◌-◌, ◌*◌}
 use Rattle.ocs_io.specs.Place.{OnlyWrites, KeepsNames}
 use Rattle.out_files.specs.Answers.{AreGrowable}
-use Rattle.ocs_run.specs.Underway.{CanRun, Runs}
+use Rattle.ocs_run.specs.Underway.{fore_of, CanRun, Runs}
 use Rattle.ocs_run.proofs.run.run_clocks.Given as goal
 
 abbrev pub invariant-loop-fore : goal.invariant-loop-fore
@@ -10,10 +10,10 @@ invariant-loop-fore g l =
     let seen = g.Q.Raster.seen in
     record {
       growable : AreGrowable (g.P.Place.growable l.place) l.out.names;
-      able : CanRun l.fore (seen l.raster);
-      runs : Runs l.initial.fore l.fore (seen l.initial.raster) (seen l.raster) l.initial.out l.out
+      able : CanRun (fore_of l.fore) (seen l.raster);
+      runs : Runs (fore_of l.initial.fore) (fore_of l.fore) (seen l.initial.raster) (seen l.raster) l.initial.out l.out
           (outside l.initial.place).files (outside l.place).files;
-      run : l.fore.run ≡ l.initial.fore.run;
+      run : (fore_of l.fore).run ≡ (fore_of l.initial.fore).run;
       out : l.out.names ≡ l.initial.out.names;
       mark : (seen l.raster).mark ≡ (seen l.initial.raster).mark;
       kept : OnlyWrites (outside l.initial.place) (outside l.place);

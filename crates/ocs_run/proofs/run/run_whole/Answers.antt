@@ -1,14 +1,15 @@
 use Rattle.std.proofs.Common.{◌≡◌, ◌∙◌, ap}
+use Rattle.ocs_run.specs.Underway.{fore_of}
 use Rattle.ocs_run.proofs.KeptLaws.{OnlyWrites-more, KeepsNames-more, AreGrowable-kept}
 use Rattle.ocs_run.proofs.RunLaws.{on_err, cause_err, IsCut-clocks, IsCut-settle, IsCut-flush, IsSettling, IsSettling-settled, Ends-flushed, mark_part, mark_settled, names_settled}
 use Rattle.ocs_run.proofs.run.run_whole.Goals as goal
 
 pub returns-in_err-run_clocks-clause-stopped : goal.returns-in_err-run_clocks-clause-stopped
-returns-in_err-run_clocks-clause-stopped g c = on_err _ _ (IsCut-clocks c.args.fore.now _ _ _ _ c.in_err-run_clocks.ensures.stopped)
+returns-in_err-run_clocks-clause-stopped g c = on_err _ _ (IsCut-clocks (fore_of c.args.fore.now) _ _ _ _ c.in_err-run_clocks.ensures.stopped)
 
 pub returns-in_err-settle-clause-stopped : goal.returns-in_err-settle-clause-stopped
 returns-in_err-settle-clause-stopped g c =
-    on_err _ _ (IsCut-settle c.args.fore.now c.run_clocks.new.fore _ _ _ c.run_clocks.new.out _ _ c.in_ok-run_clocks.ensures.run
+    on_err _ _ (IsCut-settle (fore_of c.args.fore.now) (fore_of c.run_clocks.new.fore) _ _ _ c.run_clocks.new.out _ _ c.in_ok-run_clocks.ensures.run
     c.in_ok-run_clocks.ensures.out c.in_ok-run_clocks.ensures.runs)
 
 pub returns-in_err-settle-clause-mark : goal.returns-in_err-settle-clause-mark
@@ -27,7 +28,7 @@ pub returns-in_err-flush-clause-stopped : goal.returns-in_err-flush-clause-stopp
 returns-in_err-flush-clause-stopped g c =
     let names : c.settle.new.out.names ≡ c.run_clocks.new.out.names =
     names_settled _ _ _ _ _ _ c.in_ok-settle.ensures.settled c.in_ok-run_clocks.ensures.able in
-    on_err _ _ (IsCut-flush c.args.fore.now c.settle.new.self _ _ _ c.settle.new.out _ _ _
+    on_err _ _ (IsCut-flush (fore_of c.args.fore.now) (fore_of c.settle.new.self) _ _ _ c.settle.new.out _ _ _
     (IsSettling-settled _ _ _ _ _ _ _ _ _ _ _ c.in_ok-run_clocks.ensures.run c.settle.ensures.run c.in_ok-run_clocks.ensures.out names
     c.in_ok-run_clocks.ensures.runs c.in_ok-settle.ensures.settled)
     c.in_err-flush.ensures.parts)
@@ -51,7 +52,7 @@ pub returns-clause-done : goal.returns-clause-done
 returns-clause-done g c =
     let names : c.settle.new.out.names ≡ c.run_clocks.new.out.names =
     names_settled _ _ _ _ _ _ c.in_ok-settle.ensures.settled c.in_ok-run_clocks.ensures.able in
-    Ends-flushed c.args.fore.now c.settle.new.self _ _ _ c.settle.new.out _ _ _ _
+    Ends-flushed (fore_of c.args.fore.now) (fore_of c.settle.new.self) _ _ _ c.settle.new.out _ _ _ _
     (IsSettling-settled _ _ _ _ _ _ _ _ _ _ _ c.in_ok-run_clocks.ensures.run c.settle.ensures.run c.in_ok-run_clocks.ensures.out names
     c.in_ok-run_clocks.ensures.runs c.in_ok-settle.ensures.settled)
     c.in_ok-flush.ensures.together c.in_ok-flush.ensures.answer.kept

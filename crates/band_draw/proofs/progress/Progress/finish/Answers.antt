@@ -2,6 +2,7 @@ use Rattle.std.proofs.Common.{◌*◌, arith, subst, ◌∙◌}
 use Rattle.mem_versions.specs.MemView.{word_then}
 use Rattle.serial_bands.specs.DrawnTo.{touch_by_address}
 use Rattle.serial_bands.specs.EventReading.{bus_touch_of}
+use Rattle.serial_bands.specs.Run.{run_over}
 use Rattle.band_draw.specs.BandPainter.{Paints}
 use Rattle.band_draw.specs.declared.progress.Progress.{Progress}
 use Rattle.band_draw.proofs.Turning.{part_there, screen_there, room_there, given_part, ended}
@@ -9,39 +10,50 @@ use Rattle.band_draw.proofs.Painting.{keeps_last}
 use Rattle.band_draw.proofs.progress.Progress.finish.Goals as goal
 
 pub part-due-requires : goal.part-due-requires
-part-due-requires c = part_there c.args.run.now c.args.events.now c.args.room.now c.args.self.now c.requires.at
+part-due-requires g c =
+    let run = run_over g.S.Side.seen c.args.run.now in
+    part_there run c.args.events.now c.args.room.now c.args.self.now c.requires.at
 
 pub show_clock-requires-clause-place : goal.show_clock-requires-clause-place
-show_clock-requires-clause-place c =
-    omega (arith, (screen_there c.args.run.now c.args.events.now c.args.room.now c.args.self.now c.requires.at).clock)
+show_clock-requires-clause-place g c =
+    let run = run_over g.S.Side.seen c.args.run.now in
+    omega (arith, (screen_there run c.args.events.now c.args.room.now c.args.self.now c.requires.at).clock)
 
 pub show_clock-requires-clause-room : goal.show_clock-requires-clause-room
-show_clock-requires-clause-room c = room_there c.args.run.now c.args.events.now c.args.room.now c.args.self.now c.requires.at
+show_clock-requires-clause-room g c =
+    let run = run_over g.S.Side.seen c.args.run.now in
+    room_there run c.args.events.now c.args.room.now c.args.self.now c.requires.at
 
 pub overflow_add-self : goal.overflow_add-self
-overflow_add-self c =
-    omega (arith, part_there c.args.run.now c.args.events.now c.args.room.now c.args.self.now c.requires.at, c.part-due.ensures.few)
+overflow_add-self g c =
+    let run = run_over g.S.Side.seen c.args.run.now in
+    omega (arith, part_there run c.args.events.now c.args.room.now c.args.self.now c.requires.at, c.part-due.ensures.few)
 
 pub behind-rest-requires : goal.behind-rest-requires
-behind-rest-requires c = part_there c.args.run.now c.args.events.now c.args.room.now c.args.self.now c.requires.at
+behind-rest-requires g c =
+    let run = run_over g.S.Side.seen c.args.run.now in
+    part_there run c.args.events.now c.args.room.now c.args.self.now c.requires.at
 
 pub touch_access-requires-clause-place : goal.touch_access-requires-clause-place
-touch_access-requires-clause-place c =
-    omega (arith, (screen_there c.args.run.now c.args.events.now c.args.room.now c.args.self.now c.requires.at).clock)
+touch_access-requires-clause-place g c =
+    let run = run_over g.S.Side.seen c.args.run.now in
+    omega (arith, (screen_there run c.args.events.now c.args.room.now c.args.self.now c.requires.at).clock)
 
 pub close-requires : goal.close-requires
-close-requires c =
+close-requires g c =
+    let run = run_over g.S.Side.seen c.args.run.now in
     let p : Progress = c.args.self.now in
     c.touch_access.ensures.keeps ∙ c.show_clock.ensures.keeps
     ∙ keeps_last p.painter.keeps p.to p.clock p.beam.h c.requires.at.kept c.requires.last
-    (screen_there c.args.run.now c.args.events.now c.args.room.now p c.requires.at).clock
+    (screen_there run c.args.events.now c.args.room.now p c.requires.at).clock
 
 pub returns-clause-ended : goal.returns-clause-ended
-returns-clause-ended c =
+returns-clause-ended g c =
+    let run = run_over g.S.Side.seen c.args.run.now in
     let p : Progress = c.args.self.now in
     let given = c.show_clock in
     let access = c.touch_access in
-    ended c.args.run.now c.args.events.now c.args.view.now c.args.room.now given.new.room p given.new.painter access.new.painter c.close.result
+    ended run c.args.events.now c.args.view.now c.args.room.now given.new.room p given.new.painter access.new.painter c.close.result
     given.result given.new.clx 0 c.requires.source c.requires.at c.requires.last
     (given_part p c.args.events.now c.args.view.now c.part-due.result.now _ _ given.new.painter given.new.clx c.part-due.ensures.part
     given.ensures.given)

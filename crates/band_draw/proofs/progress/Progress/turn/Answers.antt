@@ -10,6 +10,7 @@ use Rattle.band_draw.specs.Due.{IsLeft}
 use Rattle.mem_versions.specs.MemView.{word_then}
 use Rattle.serial_bands.specs.DrawnTo.{touch_by_address}
 use Rattle.serial_bands.specs.EventReading.{bus_touch_of}
+use Rattle.serial_bands.specs.Run.{run_over}
 use Rattle.band_draw.specs.BandPainter.{Paints}
 use Rattle.band_draw.specs.declared.progress.Progress.{Progress}
 use Rattle.band_draw.proofs.Turning.{part_there, screen_there, room_there, screen_next, left_there, next_within, given_part, turned}
@@ -17,53 +18,68 @@ use Rattle.band_draw.proofs.Painting.{keeps_next}
 use Rattle.band_draw.proofs.progress.Progress.turn.Goals as goal
 
 pub part-due-requires : goal.part-due-requires
-part-due-requires c = part_there c.args.run.now c.args.events.now c.args.room.now c.args.self.now c.requires.at
+part-due-requires g c =
+    let run = run_over g.S.Side.seen c.args.run.now in
+    part_there run c.args.events.now c.args.room.now c.args.self.now c.requires.at
 
 pub show_clock-filled-requires-clause-place : goal.show_clock-filled-requires-clause-place
-show_clock-filled-requires-clause-place c =
-    omega (arith, (screen_there c.args.run.now c.args.events.now c.args.room.now c.args.self.now c.requires.at).clock)
+show_clock-filled-requires-clause-place g c =
+    let run = run_over g.S.Side.seen c.args.run.now in
+    omega (arith, (screen_there run c.args.events.now c.args.room.now c.args.self.now c.requires.at).clock)
 
 pub show_clock-filled-requires-clause-room : goal.show_clock-filled-requires-clause-room
-show_clock-filled-requires-clause-room c = room_there c.args.run.now c.args.events.now c.args.room.now c.args.self.now c.requires.at
+show_clock-filled-requires-clause-room g c =
+    let run = run_over g.S.Side.seen c.args.run.now in
+    room_there run c.args.events.now c.args.room.now c.args.self.now c.requires.at
 
 pub overflow_add-self : goal.overflow_add-self
-overflow_add-self c =
-    omega (arith, part_there c.args.run.now c.args.events.now c.args.room.now c.args.self.now c.requires.at, c.part-due.ensures.few)
+overflow_add-self g c =
+    let run = run_over g.S.Side.seen c.args.run.now in
+    omega (arith, part_there run c.args.events.now c.args.room.now c.args.self.now c.requires.at, c.part-due.ensures.few)
 
 pub behind-rest-requires : goal.behind-rest-requires
-behind-rest-requires c = part_there c.args.run.now c.args.events.now c.args.room.now c.args.self.now c.requires.at
+behind-rest-requires g c =
+    let run = run_over g.S.Side.seen c.args.run.now in
+    part_there run c.args.events.now c.args.room.now c.args.self.now c.requires.at
 
 pub next_place-requires : goal.next_place-requires
-next_place-requires c = (screen_there c.args.run.now c.args.events.now c.args.room.now c.args.self.now c.requires.at).line
+next_place-requires g c =
+    let run = run_over g.S.Side.seen c.args.run.now in
+    (screen_there run c.args.events.now c.args.room.now c.args.self.now c.requires.at).line
 
 pub due_from-coming-requires-clause-screen : goal.due_from-coming-requires-clause-screen
-due_from-coming-requires-clause-screen c =
-    screen_next c.args.run.now c.args.events.now c.args.view.now c.args.room.now c.args.self.now c.next_place.new.beam c.requires.source
+due_from-coming-requires-clause-screen g c =
+    let run = run_over g.S.Side.seen c.args.run.now in
+    screen_next run c.args.events.now c.args.view.now c.args.room.now c.args.self.now c.next_place.new.beam c.requires.source
     c.requires.at c.requires.more c.next_place.ensures
 
 pub due_from-coming-requires-clause-left : goal.due_from-coming-requires-clause-left
-due_from-coming-requires-clause-left c =
+due_from-coming-requires-clause-left g c =
+    let run = run_over g.S.Side.seen c.args.run.now in
     let script : c.events.result.now ≡ c.args.run.now.script.events =
     c.events.ensures ∙ ap (λ (s : ScriptValue). s.events) c.script.ensures.value in
     subst (λ l. IsLeft (place_of c.next_place.new.beam) l (drop c.args.self.now.due l)) (sym script)
-    (left_there c.args.run.now c.args.events.now c.args.room.now c.args.self.now c.next_place.new.beam c.requires.at c.next_place.ensures)
+    (left_there run c.args.events.now c.args.room.now c.args.self.now c.next_place.new.beam c.requires.at c.next_place.ensures)
 
 pub overflow_add-self-4 : goal.overflow_add-self-4
-overflow_add-self-4 c =
+overflow_add-self-4 g c =
+    let run = run_over g.S.Side.seen c.args.run.now in
     let within : c.touch_access-count.result ≤ length (drop (c.args.self.now.next + c.args.self.now.sets) c.args.events.now) =
     subst (λ (l : List Event). c.touch_access-count.result ≤ length l) c.behind-rest.ensures.part c.touch_access-count.ensures.within in
     omega (
       arith,
-      next_within c.args.run.now c.args.events.now c.args.room.now c.args.self.now c.touch_access-count.result c.requires.at within,
+      next_within run c.args.events.now c.args.room.now c.args.self.now c.touch_access-count.result c.requires.at within,
       c.behind-rest.ensures.few,
     )
 
 pub touch_access-count-requires-clause-place : goal.touch_access-count-requires-clause-place
-touch_access-count-requires-clause-place c =
-    omega (arith, (screen_there c.args.run.now c.args.events.now c.args.room.now c.args.self.now c.requires.at).clock)
+touch_access-count-requires-clause-place g c =
+    let run = run_over g.S.Side.seen c.args.run.now in
+    omega (arith, (screen_there run c.args.events.now c.args.room.now c.args.self.now c.requires.at).clock)
 
 pub returns-clause-at : goal.returns-clause-at
-returns-clause-at c =
+returns-clause-at g c =
+    let run = run_over g.S.Side.seen c.args.run.now in
     let p : Progress = c.args.self.now in
     let given = c.show_clock-filled in
     let access = c.touch_access-count in
@@ -73,7 +89,7 @@ returns-clause-at c =
     c.events.ensures ∙ ap (λ (s : ScriptValue). s.events) c.script.ensures.value in
     let h : ℕ = p.beam.h in
     let words : Addr → ℕ = word_then c.args.view.now p.clock in
-    turned c.args.run.now c.args.events.now c.args.view.now c.args.room.now given.new.room p given.new.painter access.new.painter c.clear_line.new.self
+    turned run c.args.events.now c.args.view.now c.args.room.now given.new.room p given.new.painter access.new.painter c.clear_line.new.self
     given.result given.new.clx c.next_place.new.beam due.result.sets due.result.next access.result c.requires.source c.requires.at
     c.requires.more
     (record {

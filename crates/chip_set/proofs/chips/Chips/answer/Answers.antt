@@ -4,13 +4,13 @@ use Rattle.chip_set.proofs.AskLaws.{answer_is}
 use Rattle.chip_set.proofs.chips.Chips.answer.Goals as goal
 
 pub returns-in-Free-clause-access : goal.returns-in-Free-clause-access
-returns-in-Free-clause-access c chips asked same =
+returns-in-Free-clause-access c side chips time asked same =
     answer_is c.args.beam.now c.args.clx c.args.chip.now.words A.Free c.args.self.now c.answer_with.new.self c.answer_with.result
     (record { word = 0; answer = refl; owner = c.answer_with.ensures.owner; makes = c.answer_with.ensures.made })
-    chips asked (sym c.in-Free.is ∙ same)
+    side chips time asked (sym c.in-Free.is ∙ same)
 
 pub returns-in-Plane-clause-access : goal.returns-in-Plane-clause-access
-returns-in-Plane-clause-access c chips asked same =
+returns-in-Plane-clause-access c side chips time asked same =
     answer_is c.args.beam.now c.args.clx c.args.chip.now.words (A.Plane c.in-Plane.plane c.in-Plane.at) c.args.self.now c.answer_with-in-Plane.new.self
     c.answer_with-in-Plane.result (record { word = 0; answer = tt; owner = c.answer_with-in-Plane.ensures.owner; makes = c.answer_with-in-Plane.ensures.made })
-    chips asked (sym c.in-Plane.is ∙ same)
+    side chips time asked (sym c.in-Plane.is ∙ same)

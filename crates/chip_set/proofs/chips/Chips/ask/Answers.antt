@@ -3,7 +3,6 @@ use Rattle.serial_model.specs.State.{Chips}
 use Rattle.serial_model.specs.Bus.{ask_at}
 use Rattle.serial_model.specs.PlaneFetch.{move_planes}
 use Rattle.serial_model.specs.SpriteFetch.{kinds_at, sprite_ask, move_sprites}
-use Rattle.serial_model.specs.declared.bus.SideAsk.TheVariants as S
 use Rattle.chip_set.specs.Chips.{WorkingChips, IsChipsOf, HasAsked, IsBlitAsk, kept_wish, plain_chips}
 use Rattle.cpu_bus.specs.Bus.{wish_shown}
 use Rattle.chip_set.proofs.AskLaws.{HasFetched, ask_is_at, has_asked, ask_can, ask_is_of_blit}
@@ -49,8 +48,8 @@ has_fetched c = record {
 
 pub returns-clause-ask : goal.returns-clause-ask
 returns-clause-ask c =
-    subst (λ old. (x : Chips) → IsChipsOf old x → c.owner_ask.result ≡ ask_at S.Nothing c.args.beam.now x) c.self.view_is
-    (ask_is_at c.args.beam.now c.owner_ask.result (before c) (between c) c.step-plane.result c.step-sprite.result (has_fetched c)
+    subst (λ old. (x : Chips) → IsChipsOf old x → c.owner_ask.result ≡ ask_at c.args.side c.args.beam.now x) c.self.view_is
+    (ask_is_at c.args.side c.args.beam.now c.owner_ask.result (before c) (between c) c.step-plane.result c.step-sprite.result (has_fetched c)
     c.owner_ask.ensures)
 
 pub returns-clause-chips : goal.returns-clause-chips
@@ -60,11 +59,11 @@ returns-clause-chips c =
 
 pub returns-clause-able : goal.returns-clause-able
 returns-clause-able c =
-    ask_can c.args.beam.now c.owner_ask.result (before c) (between c) c.step-plane.result c.step-sprite.result (has_fetched c)
+    ask_can c.args.side c.args.beam.now c.owner_ask.result (before c) (between c) c.step-plane.result c.step-sprite.result (has_fetched c)
     c.owner_ask.ensures
 
 pub returns-clause-wish : goal.returns-clause-wish
 returns-clause-wish c =
     subst (λ a. IsBlitAsk a (kept_wish (between c))) (sym c.owner_ask.ensures)
-    (ask_is_of_blit c.args.beam.now c.step-plane.result c.step-sprite.result (kept_wish (between c)) (wish_shown (between c).processor)
+    (ask_is_of_blit c.args.side c.args.beam.now c.step-plane.result c.step-sprite.result (kept_wish (between c)) (wish_shown (between c).processor)
     (plain_chips (between c)))

@@ -1,7 +1,7 @@
-use Rattle.std.proofs.Common.{rules, sym, subst}
+use Rattle.std.proofs.Common.{rules, sym, subst, ap}
 use Rattle.foreground.specs.Machine.{HasAskedOf}
 use Rattle.foreground.specs.Clock.{access_state}
-use Rattle.foreground.specs.Fore.{ForeValue}
+use Rattle.foreground.specs.Fore.{ForeValue, over}
 use Rattle.foreground.proofs.MadeLaws.{stands_at_read, asked_after_read, makes_with_read_of, part_of_read}
 use Rattle.foreground.proofs.fore.Fore.access_clxdat.Goals as goal
 
@@ -10,9 +10,9 @@ read_clxdat-requires g c = stands_at_read _ c.args.ask.now _ c.requires.asked c.
 
 pub answer-requires-clause-asked : goal.answer-requires-clause-asked
 answer-requires-clause-asked g c = (
-  access_state c.args.self.now.run c.args.self.now.machine.t,
+  access_state (over g.S.Side.seen c.args.self.now).run c.args.self.now.machine.t,
   c.requires.asked.asks,
-  subst (λ (f : ForeValue). HasAskedOf f.machine (access_state c.args.self.now.run c.args.self.now.machine.t)) (sym c.self.view_is)
+  subst (λ (f : ForeValue). HasAskedOf f.machine (access_state (over g.S.Side.seen c.args.self.now).run c.args.self.now.machine.t)) (sym (ap (over g.S.Side.seen) c.self.view_is))
       (asked_after_read _ _ _ _ c.args.ask.now _ _ _ _ (c.in_ok-clx.ensures.bits c.requires.logged.0 c.requires.logged.1) c.requires.asked),
 )
 
@@ -23,5 +23,5 @@ returns-in_err-answer-clause-part g c =
 
 pub returns-clause-makes : goal.returns-clause-makes
 returns-clause-makes g c =
-    makes_with_read_of _ _ _ _ c.args.ask.now _ _ _ _ _ _ _ c.self.view_is c.in_ok-clx.ensures.bits c.requires.asked c.requires.read
+    makes_with_read_of _ _ _ _ c.args.ask.now _ _ _ _ _ _ _ (ap (over g.S.Side.seen) c.self.view_is) c.in_ok-clx.ensures.bits c.requires.asked c.requires.read
     c.in_ok-answer.ensures.access c.answer.ensures.place c.in_ok-answer.ensures.memory

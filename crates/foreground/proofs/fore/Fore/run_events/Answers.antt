@@ -1,16 +1,16 @@
 use Rattle.std.proofs.Common.{sym, ap, subst, ◌∙◌}
 use Rattle.ocs_base.specs.Script.{ScriptValue}
-use Rattle.serial_bands.specs.Run.{RunValue}
-use Rattle.foreground.specs.Fore.{ForeValue}
+use Rattle.serial_bands.specs.Run.{RunOf}
+use Rattle.foreground.specs.Fore.{ForeValue, over}
 use Rattle.foreground.specs.Script.{IsMachine}
 use Rattle.foreground.proofs.ReachLaws.{script_events_of}
 use Rattle.foreground.proofs.fore.Fore.run_events.Goals as goal
 
 pub run_script-requires-clause-some : goal.run_script-requires-clause-some
-run_script-requires-clause-some c = subst (λ (f : ForeValue). IsMachine f.machine) (sym c.self.view_is) c.requires.some
+run_script-requires-clause-some g c = subst (λ (f : ForeValue). IsMachine f.machine) (sym (ap (over g.S.Side.seen) c.self.view_is)) c.requires.some
 
 pub returns-clause-step : goal.returns-clause-step
-returns-clause-step c =
-    script_events_of c.args.clx c.args.self.now _ c.events-events.result.now _ _ _ c.requires.screen c.requires.script c.self.view_is
-    (c.events-events.ensures ∙ ap (λ (s : ScriptValue). s.events) c.script.ensures.value ∙ ap (λ (r : RunValue). r.script.events) c.deref.ensures)
+returns-clause-step g c =
+    script_events_of c.args.clx (over g.S.Side.seen c.args.self.now) _ c.events-events.result.now _ _ _ c.requires.screen c.requires.script (ap (over g.S.Side.seen) c.self.view_is)
+    (c.events-events.ensures ∙ ap (λ (s : ScriptValue). s.events) c.script.ensures.value ∙ ap (λ (r : RunOf _). r.script.events) c.deref.ensures)
     c.in_ok-left.ensures.step

@@ -1,3 +1,4 @@
+use Rattle.serial_bands.specs.Run.{run_over}
 use Rattle.std.proofs.Common.{◌≡◌, ◌+◌, ◌≤◌, rules, length, refl, ap, ◌∙◌, sym, subst, arith}
 use Rattle.std.proofs.lemmas.List.{length-replicate}
 use Rattle.std.specs.Arc.{arc_value}
@@ -7,20 +8,20 @@ use Rattle.foreground.proofs.Cutting.{log_cuts, number_fits}
 use Rattle.foreground.proofs.log.Log.close.Goals as goal
 
 pub overflow_add-next : goal.overflow_add-next
-overflow_add-next c =
+overflow_add-next g c =
     let most : c.args.self.now.band.number + 1 ≤ c.args.to =
-    number_fits (arc_value c.args.run.now) c.args.to c.args.self.now c.args.chip.now c.requires.ending in
+    number_fits (run_over g.S.Side.seen (arc_value c.args.run.now)) c.args.to c.args.self.now c.args.chip.now c.requires.ending in
     omega (arith, most, c.ranges.to.fits)
 
 pub returns-clause-job : goal.returns-clause-job
-returns-clause-job c =
-    ended_job (arc_value c.args.run.now) c.args.to c.args.self.now c.args.chip.now _ c.replace-band.result c.requires.ending
-    c.replace-band.ensures.value c.in_ok-run.ensures refl refl refl refl refl refl c.in_ok-view.ensures.view
+returns-clause-job g c =
+    ended_job (run_over g.S.Side.seen (arc_value c.args.run.now)) c.args.to c.args.self.now c.args.chip.now g.S.Side.seen _ c.replace-band.result c.requires.ending
+    c.replace-band.ensures.value (ap (run_over g.S.Side.seen) c.in_ok-run.ensures) refl refl refl refl refl refl c.in_ok-view.ensures.view
     (ap length c.in_ok-room.ensures ∙ length-replicate c.args.self.now.band.bytes 0)
 
 pub returns-clause-cut : goal.returns-clause-cut
-returns-clause-cut c =
-    let run = arc_value c.args.run.now in
+returns-clause-cut g c =
+    let run = run_over g.S.Side.seen (arc_value c.args.run.now) in
     let log = c.args.self.now in
     let next : c.replace-band.new.dest ≡ blank_after c.args.to log.band = search rules in
     subst (λ band. IsCut run c.args.to (record log { band = band }) c.cut.new.self) (sym next)

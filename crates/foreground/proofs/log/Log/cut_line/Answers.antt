@@ -1,3 +1,4 @@
+use Rattle.serial_bands.specs.Run.{run_over}
 use Rattle.std.proofs.Common.{◌≡◌, ap, ◌∙◌, sym, subst}
 use Rattle.std.specs.Arc.{arc_value}
 use Rattle.mem_versions.specs.Chip.{after_reads}
@@ -10,7 +11,7 @@ use Rattle.foreground.proofs.Beginning.{all_found, line_begins, with_opening}
 use Rattle.foreground.proofs.log.Log.cut_line.Goals as goal
 
 pub opening-self-requires : goal.opening-self-requires
-opening-self-requires c =
+opening-self-requires g c =
     let log = c.args.self.now in
     let found = word_then c.in_ok-job.job.view in
     ap fetches_in c.find_words.ensures.words
@@ -18,8 +19,8 @@ opening-self-requires c =
     ∙ all_found found _ log.shadow c.requires.log.left
 
 pub returns-clause-log : goal.returns-clause-log
-returns-clause-log c =
-    let run = arc_value c.args.run.now in
+returns-clause-log g c =
+    let run = run_over g.S.Side.seen (arc_value c.args.run.now) in
     let log = c.args.self.now in
     let cut = c.close.new.self in
     let view = c.in_ok-job.job.view in

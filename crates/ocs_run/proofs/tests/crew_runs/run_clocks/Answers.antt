@@ -1,5 +1,6 @@
 -- The raster keeps its mark, however the run ends.
 use Rattle.std.proofs.Common.{◌∙◌}
+use Rattle.ocs_run.specs.Underway.{fore_of}
 use Rattle.ocs_run.proofs.RunLaws.{fewer_clocks, CanRun-advanced, mark_advanced, mark_part, mark_settled}
 use Rattle.ocs_run.proofs.tests.crew_runs.run_clocks.Goals as goal
 
@@ -9,7 +10,7 @@ returns-in_err-advance-clause-mark g c =
 
 pub loop-fore-smaller : goal.loop-fore-smaller
 loop-fore-smaller g c =
-    fewer_clocks c.loop-fore.fore c.advance.new.self _ _ c.loop-fore.invariant.able c.done.ensures c.loop-fore-test.true c.advance.ensures.run
+    fewer_clocks (fore_of c.loop-fore.fore) (fore_of c.advance.new.self) _ _ c.loop-fore.invariant.able c.done.ensures c.loop-fore-test.true c.advance.ensures.run
     c.in_ok-advance.ensures.count
 
 pub loop-fore-preserved : goal.loop-fore-preserved

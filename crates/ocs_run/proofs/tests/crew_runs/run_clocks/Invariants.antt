@@ -1,14 +1,14 @@
 -- The foreground stands somewhere in the run, and the raster keeps its mark.
 use Rattle.std.proofs.Common.{◌≡◌, ◌-◌, ◌*◌}
-use Rattle.ocs_run.specs.Underway.{CanRun}
+use Rattle.ocs_run.specs.Underway.{fore_of, CanRun}
 use Rattle.ocs_run.proofs.tests.crew_runs.run_clocks.Given as goal
 
 abbrev pub invariant-loop-fore : goal.invariant-loop-fore
 invariant-loop-fore g l =
     let seen = g.Q.Raster.seen in
     record {
-      able : CanRun l.fore (seen l.raster);
-      run : l.fore.run ≡ l.initial.fore.run;
+      able : CanRun (fore_of l.fore) (seen l.raster);
+      run : (fore_of l.fore).run ≡ (fore_of l.initial.fore).run;
       mark : (seen l.raster).mark ≡ (seen l.initial.raster).mark;
     }
 

@@ -1,7 +1,7 @@
 use Rattle.std.proofs.Common.{◌≡◌, ℕ, ◌-◌, sym, ◌∙◌, arith}
 use Rattle.band_board.specs.Answers.{front_view}
-use Rattle.crew.proofs.Gathering.{length-bands_of}
-use Rattle.crew.proofs.crew.CrewRaster.outstanding.Goals as goal
+use Rattle.crew.proofs.Gathering.{length-outstanding}
+use Rattle.crew.proofs.crew.CrewRasterCrewSide.outstanding.Goals as goal
 
 pub returns : goal.returns
 returns g c =
@@ -9,4 +9,4 @@ returns g c =
     let is = c.args.self.now.is_crew in
     let behind = is.behind in
     let count : ◌≡◌ {A = ℕ} c.args.self.now.waiting (v.published - v.collected) = omega arith in
-    count ∙ sym (length-bands_of v.run v.collected (v.published - v.collected) is.run_is)
+    count ∙ sym (length-outstanding _ v is.run_is)

@@ -1,0 +1,94 @@
+-- A side: what stands beside the chips and takes part in the bus, as a sound channel or a disk does, and how contracts see it.
+use Rattle.std.specs.Prelude.{◌≡◌, ◌<◌, ℕ, ◌+◌, ◌*◌, ◌==◌, ◌||◌, true, List, [], ◌∷◌}
+use Rattle.ocs_base.specs.declared.beam.Beam.{Beam}
+use Rattle.ocs_base.specs.declared.reg.Reg.{Reg}
+use Rattle.serial_model.specs.declared.bus.Ask.{Ask}
+use Rattle.serial_model.specs.declared.bus.Ask.TheVariants as A
+use Rattle.serial_model.specs.declared.bus.Made.{Made}
+use Rattle.serial_model.specs.declared.bus.Made.TheVariants as M
+use Rattle.serial_model.specs.declared.bus.SideAsk.{SideAsk}
+use Rattle.serial_model.specs.declared.bus.SideAsk.TheVariants as S
+
+-- what happens to a side
+pub data Happening : Type 0 where
+  -- a register was written
+  Poked : Reg → ℕ → Happening
+  -- a clock came, with the beam there and the kept word of DMACON
+  Ticked : Beam → ℕ → Happening
+  -- it got the slot for which it asked, with this word
+  Given : ℕ → Happening
+
+-- A side at some moment is what it does from then on: which bits of INTREQ it requests at a clock, and what it asks for there,
+-- once these happenings came, the first of them first. So two states that always do the same are one.
+pub record SideValue : Type 0 where
+  pub bits : List Happening → Beam → ℕ → ℕ
+  pub ask : List Happening → Beam → ℕ → SideAsk
+
+-- the side after one happening
+abbrev pub side_after : Happening → SideValue → SideValue
+side_after happening side = record {
+  bits = λ later b dmacon. side.bits (happening ∷ later) b dmacon;
+  ask = λ later b dmacon. side.ask (happening ∷ later) b dmacon;
+}
+
+-- the four calls: after the write of a register; after a tick, with the bits that it gives; what it asks for; and after a word
+-- was given
+abbrev pub poke_side : Reg → ℕ → SideValue → SideValue
+poke_side reg word side = side_after (Poked reg word) side
+
+abbrev pub tick_side : Beam → ℕ → SideValue → SideValue
+tick_side b dmacon side = side_after (Ticked b dmacon) side
+
+abbrev pub bits_of_side : Beam → ℕ → SideValue → ℕ
+bits_of_side b dmacon side = side.bits [] b dmacon
+
+abbrev pub ask_of_side : Beam → ℕ → SideValue → SideAsk
+ask_of_side b dmacon side = side.ask [] b dmacon
+
+abbrev pub give_side : ℕ → SideValue → SideValue
+give_side word side = side_after (Given word) side
+
+-- a disk asks at clocks 7, 9 and 11 of a line alone, and audio's channel c, of four, at clock 13 + 2c alone
+abbrev pub IsInTime : Beam → SideAsk → Type 0
+IsInTime b S.Nothing = Unit {0}
+IsInTime b (S.Disk at word) = ((b.h == 7) || (b.h == 9) || (b.h == 11)) ≡ true
+IsInTime b (S.Audio channel at) = (channel < 4) × (b.h ≡ 13 + 2 * channel)
+
+-- it fits a size of chip memory: the address of each of its asks, whatever happens before, is below that many bytes
+abbrev pub IsBelow : ℕ → SideAsk → Type 0
+IsBelow size S.Nothing = Unit {0}
+IsBelow size (S.Disk at word) = at.value < size
+IsBelow size (S.Audio channel at) = at.value < size
+
+abbrev pub FitsSide : ℕ → SideValue → Type 0
+FitsSide size side = (later : List Happening) (b : Beam) (dmacon : ℕ) → IsBelow size (side.ask later b dmacon)
+
+-- no side: it requests nothing and asks for nothing, whatever happens
+abbrev pub no_side : SideValue
+no_side = record {
+  bits = λ later b dmacon. 0;
+  ask = λ later b dmacon. S.Nothing;
+}
+
+-- a side once the owner of the slot has this answer: its own ask gives it the word, that which the disk stored or audio read
+abbrev pub answer_side : Ask → ℕ → SideValue → SideValue
+answer_side A.Free word side = side
+answer_side (A.Disk at stored) word side = give_side stored side
+answer_side (A.Audio channel at) word side = give_side word side
+answer_side (A.Plane plane at) word side = side
+answer_side (A.SpriteControl sprite second at) word side = side
+answer_side (A.SpriteWords sprite second at) word side = side
+answer_side (A.Copper at) word side = side
+answer_side (A.BlitRead at) word side = side
+answer_side (A.BlitWrite at stored) word side = side
+answer_side A.BlitRest word side = side
+answer_side (A.Processor ask) word side = side
+
+-- and once this was made: each write of a register, by whomever, is given to it
+abbrev pub side_by_made : Made → SideValue → SideValue
+side_by_made M.Nothing side = side
+side_by_made (M.Wrote reg word by) side = poke_side reg word side
+side_by_made (M.Read reg by) side = side
+side_by_made (M.Stored at half word) side = side
+side_by_made (M.Plane plane at) side = side
+side_by_made (M.Sprite sprite second at) side = side

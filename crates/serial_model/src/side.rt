@@ -1,0 +1,61 @@
+//! What stands beside the chips and takes part in the bus.
+
+ghost use Rattle.std.specs.Prelude.{◌≡◌};
+ghost use Rattle.serial_model.specs.Side.{SideValue, IsInTime, poke_side, tick_side, bits_of_side, ask_of_side, give_side};
+
+use crate::bus::SideAsk;
+use ocs_base::{Beam, Reg};
+
+/// A side: a part of the machine beside the chips that sees each write of a register, counts colour clocks, requests
+/// interrupts, and asks for slots of the bus, as disk and audio do. Its state, as contracts see it, is what it does from
+/// then on.
+pub trait Side: Drop {
+    /// What it does from now on.
+    ghost seen: { Self → SideValue };
+
+    /// A register was written, by whomever.
+    fn poke(&mut self, reg: Reg, word: u16)
+        ensures { seen self.new ≡ poke_side reg word (seen self.old) };
+
+    /// A colour clock came, with the beam at this place and this kept word of DMACON. The answer is the bits of INTREQ that it
+    /// requests.
+    fn tick(&mut self, beam: &Beam, dmacon: u16) -> u16
+        ensures state { seen self.new ≡ tick_side beam.now dmacon (seen self.old) }
+        ensures bits { result ≡ bits_of_side beam.now dmacon (seen self.old) };
+
+    /// What it asks for at this clock: a disk at clocks 7, 9 and 11 of a line, audio's channel c, 0 to 3, at clock 13 + 2c. Where it
+    /// gets the slot it is given the word.
+    fn ask(&self, beam: &Beam, dmacon: u16) -> SideAsk
+        ensures ask { result ≡ ask_of_side beam.now dmacon (seen self.now) }
+        ensures time { IsInTime beam.now result };
+
+    /// It got the slot, with this word: the one that it stores, or the one that it reads.
+    fn give(&mut self, word: u16)
+        ensures { seen self.new ≡ give_side word (seen self.old) };
+}
+
+/// No side: it asks for nothing and requests nothing.
+#[derive(Clone, Copy, Drop)]
+pub struct NoSide;
+
+impl Side for NoSide {
+    ghost use Rattle.serial_model.specs.Side.{no_side};
+
+    ghost seen = { λ side. no_side };
+
+    #[inline(always)]
+    fn poke(&mut self, _reg: Reg, _word: u16) {}
+
+    #[inline(always)]
+    fn tick(&mut self, _beam: &Beam, _dmacon: u16) -> u16 {
+        0
+    }
+
+    #[inline(always)]
+    fn ask(&self, _beam: &Beam, _dmacon: u16) -> SideAsk {
+        SideAsk::Nothing
+    }
+
+    #[inline(always)]
+    fn give(&mut self, _word: u16) {}
+}
