@@ -61,7 +61,7 @@ fn begin<S: Side>(run: &Run<S>, from: Clock, to: Clock, beam: Beam, opening: &De
     requires eight { length opening.now.runs ≡ 8 }
     ensures at { (n : ℕ) (events : List EventValue) (words : ℕ → AddrValue → ℕ) (room : List ℕ)
         → AreRightParts (run_over S.seen run.now)
-            n from.0 to.0 beam opening.now events words (length room)
+        n from.0 to.0 beam opening.now events words (length room)
         → IsAt (run_over S.seen run.now) events room result }
     ensures from { result.from ≡ from.0 }
     ensures to { result.to ≡ to.0 }

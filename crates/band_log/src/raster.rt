@@ -31,9 +31,8 @@ pub trait Raster<S: Side> {
     fn collect(&mut self) -> Drawn<S>
         requires { 0 < length (seen self.old).outstanding }
         ensures taken { seen self.new ≡ without_first (seen self.old) }
-        ensures right {
-            IsRightForFirst S.seen (seen self.old).tint (seen self.old).outstanding result
-        };
+        ensures right { IsRightForFirst S.seen (seen self.old).tint
+            (seen self.old).outstanding result };
 
     /// How many bands are outstanding.
     fn outstanding(&self) -> usize

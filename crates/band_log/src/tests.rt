@@ -26,7 +26,12 @@ fn a_run_over_a_side_has_what_it_is_made_of(rt: HostRuntime) -> Result<(), OutOf
     let alloc = rt.alloc();
     let mut image = Vec::new(alloc);
     image.resize(8, 7)?;
-    let run = Run::over(image, Script::new(alloc, false, 3), 313, Steady { bits: 0x0080 });
+    let run = Run::over(
+        image,
+        Script::new(alloc, false, 3),
+        313,
+        Steady { bits: 0x0080 },
+    );
     assert_eq!(rt; run.image(), [7; 8].as_slice());
     assert_eq!(rt; run.script().frames(), 3);
     assert!(rt; !run.script().cpu());

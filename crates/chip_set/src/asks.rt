@@ -94,11 +94,8 @@ pub fn made_by(ask: &Ask, word: u16, act: &CopperAct) -> Made
             word: *word,
         },
         Ask::Processor { ask } => made_by_processor(ask),
-        Ask::Free
-        | Ask::Audio { .. }
-        | Ask::Copper { .. }
-        | Ask::BlitRead { .. }
-        | Ask::BlitRest => made_by_copper(act),
+        Ask::Free | Ask::Audio { .. } | Ask::Copper { .. } | Ask::BlitRead { .. } | Ask::BlitRest =>
+            made_by_copper(act),
     }
 }
 

@@ -361,7 +361,8 @@ impl Chips {
     #[inline(always)]
     fn answer_with(&mut self, ask: &Ask, beam: &Beam, word: u16) -> Made
         requires { IsBlitAsk ask.now (kept_wish self.old) }
-        ensures owner { AnswersOwner ask.now word (answering beam.now ask.now word self.old) self.new }
+        ensures owner { AnswersOwner ask.now word
+            (answering beam.now ask.now word self.old) self.new }
         ensures made { result
             ≡ made_with ask.now word (act_at beam.now ask.now word (plain_chips self.old)) }
     {

@@ -28,9 +28,9 @@ starts_new {S} seen z run first split hired n is_new makes hires =
     hires ∙ ap (λ (v : View (RunOf S)). record v { hands = v.hands + n }) (makes ∙ ap (λ (v : View (RunOf S)). after_split v) is_new) in
     let hands = ap (λ (v : View (RunOf S)). v.hands) made in (
       subst
-      (λ (v : View (RunOf S)). seen_of seen z v
+          (λ (v : View (RunOf S)). seen_of seen z v
           ≡ record { outstanding = []; next = 0; bound = Some (run_over seen run); mark = mark_of z v.hands; tint = 0 })
-      (sym made) refl,
+          (sym made) refl,
       omega arith,
     )
 

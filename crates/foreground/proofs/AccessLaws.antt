@@ -235,7 +235,8 @@ pub time_left : (ask : Ask) (clx : ℕ) (made : Made) (old : MachineValue) (chip
     → is_clx_read made ≡ false → chip.newest ≤ old.t
 time_left ask clx made old chip chips reads answers s is asked time not =
     let seen : State = record s { clx = clx } in
-    let so : HasAskedOf old seen = record { t = asked.t; beam = asked.beam; memory = asked.memory; chips = asked.chips; side = asked.side; time = asked.time } in
+    let so : HasAskedOf old seen = record { t = asked.t; beam = asked.beam; memory = asked.memory; chips = asked.chips; side = asked.side; time = asked.time }
+    in
     let makes : made ≡ made_of seen = (accessed ask clx made old chips answers seen is (λ read. refl) so).makes in
     let clxdat : is_clx_read made ≡ is_clx_ask ask =
     ap (λ m. is_clx_read m) makes ∙ clx_read (ask_of seen) (answer_of seen) seen.chips ∙ ap (λ a. is_clx_ask a) (sym is) in

@@ -94,7 +94,8 @@ starts_first run chip opening shadow events memory picture still none =
     (starts_at_reset run))
 
 -- a band's job
-pub ended_job : (run : RunValue) (to : ℕ) (log : Log) (chip : ChipValue) {S : Type 0} (side_of : S → SideValue) (job : Job S) (band : OpenBand) → IsEnding run to log chip
+pub ended_job : (run : RunValue) (to : ℕ) (log : Log) (chip : ChipValue) {S : Type 0} (side_of : S → SideValue) (job : Job S) (band : OpenBand) → IsEnding run
+    to log chip
     → band ≡ log.band → run_over side_of (arc_value job.run) ≡ run → job.number ≡ band.number → job.from.0 ≡ band.from → job.to.0 ≡ to
     → job.beam ≡ band.beam → job.opening ≡ band.opening → job.events ≡ band.events → IsViewOf chip to job.view
     → length job.room ≡ log.band.bytes → IsJobOf side_of run log.band to job

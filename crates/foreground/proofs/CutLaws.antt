@@ -60,7 +60,8 @@ gives_part run number to first seen after old new is = record {
 }
 
 -- the job of the band that ends, submitted
-submits_of : (run : RunValue) (band : OpenBand) (to : ℕ) {S : Type 0} (side_of : S → SideValue) (job : Job S) (seen after : RasterValue) (old new : OutFilesValue) (clx gathered : ℕ) →
+submits_of : (run : RunValue) (band : OpenBand) (to : ℕ) {S : Type 0} (side_of : S → SideValue) (job : Job S) (seen after : RasterValue)
+    (old new : OutFilesValue) (clx gathered : ℕ) →
     IsJobOf side_of run band to job → Submits (run_over side_of (arc_value job.run)) job.number job.from.0 job.to.0 seen after old new clx gathered →
     Submits run band.number band.from to seen after old new clx gathered
 submits_of run band to side_of job seen after old new clx gathered is submits =
@@ -79,7 +80,8 @@ ends_submit_part to old seen after out given part first stands =
     gives_part old.run old.log.band.number old.log.band.from first seen after out given
     (part old.run old.log.band.number old.log.band.from first stands.fits)
 
-pub ends_gather_part : (to : ℕ) (old : ForeValue) {S : Type 0} (side_of : S → SideValue) (job : Job S) (seen mid after : RasterValue) (out between given : OutFilesValue) (so_far : ℕ) →
+pub ends_gather_part : (to : ℕ) (old : ForeValue) {S : Type 0} (side_of : S → SideValue) (job : Job S) (seen mid after : RasterValue)
+    (out between given : OutFilesValue) (so_far : ℕ) →
     IsJobOf side_of old.run old.log.band to job →
     Submits (run_over side_of (arc_value job.run)) job.number job.from.0 job.to.0 seen mid out between old.clx so_far → GathersPart mid after between given →
     EndsPartAtRead to old seen after out given
@@ -105,7 +107,8 @@ abbrev pub with_parts : ForeValue → ChipValue → Log → ℕ → ForeValue
 with_parts old chip log clx = record old { machine = record old.machine { chip = chip }; log = log; clx = clx }
 
 -- the band ended, and all bands were gathered
-pub ends_all : (to : ℕ) (old : ForeValue) {S : Type 0} (side_of : S → SideValue) (job : Job S) (seen mid after : RasterValue) (out between given : OutFilesValue) (so_far gathered : ℕ)
+pub ends_all : (to : ℕ) (old : ForeValue) {S : Type 0} (side_of : S → SideValue) (job : Job S) (seen mid after : RasterValue)
+    (out between given : OutFilesValue) (so_far gathered : ℕ)
     (closing : Option Denise) (log : Log) (chip : ChipValue) → IsJobOf side_of old.run old.log.band to job →
     Submits (run_over side_of (arc_value job.run)) job.number job.from.0 job.to.0 seen mid out between old.clx so_far →
     GathersAll mid after between given so_far gathered closing → IsCut old.run to log chip →
@@ -177,7 +180,8 @@ pub ends_with_some : (to : ℕ) (old mid : ForeValue) (seen after : RasterValue)
 ends_with_some to old mid seen after out given ends first stands = absurd (no_some (ends first stands).some)
 
 -- a line begins the next one
-pub ends_at_line : (to : ℕ) (old : ForeValue) {S : Type 0} (side_of : S → SideValue) (job : Job S) (seen after : RasterValue) (out given : OutFilesValue) (gathered reads : ℕ)
+pub ends_at_line : (to : ℕ) (old : ForeValue) {S : Type 0} (side_of : S → SideValue) (job : Job S) (seen after : RasterValue) (out given : OutFilesValue)
+    (gathered reads : ℕ)
     (log : Log) (chip : ChipValue) → IsJobOf side_of old.run old.log.band to job →
     Submits (run_over side_of (arc_value job.run)) job.number job.from.0 job.to.0 seen after out given old.clx gathered → IsLogOf old.run to log chip →
     log.band.from ≡ to → log.band.number ≡ old.log.band.number + 1 → chip ≡ after_reads (after_cut old.machine.chip to) reads →
@@ -217,7 +221,8 @@ line_rises run to log old new is before reads =
     (fetches_are_few run to log old is before)
 
 -- the same where a foreground is seen as its fields are
-pub ends_all_now : (to : ℕ) (old now : ForeValue) {S : Type 0} (side_of : S → SideValue) (job : Job S) (seen mid after : RasterValue) (out between given : OutFilesValue) (so_far gathered : ℕ)
+pub ends_all_now : (to : ℕ) (old now : ForeValue) {S : Type 0} (side_of : S → SideValue) (job : Job S) (seen mid after : RasterValue)
+    (out between given : OutFilesValue) (so_far gathered : ℕ)
     (closing : Option Denise) (log : Log) (chip : ChipValue) → old ≡ now → IsJobOf side_of old.run old.log.band to job →
     Submits (run_over side_of (arc_value job.run)) job.number job.from.0 job.to.0 seen mid out between old.clx so_far →
     GathersAll mid after between given so_far gathered closing → IsCut old.run to log chip →
@@ -227,9 +232,11 @@ ends_all_now to old now side_of job seen mid after out between given so_far gath
     subst (λ (o : ForeValue). EndsAll to o (with_parts old chip log gathered) seen after out given closing) same
     (ends_all to old side_of job seen mid after out between given so_far gathered closing log chip is submits gathers cut blank after_it)
 
-pub ends_at_line_now : (old now : ForeValue) {S : Type 0} (side_of : S → SideValue) (job : Job S) (seen after : RasterValue) (out given : OutFilesValue) (gathered reads : ℕ)
+pub ends_at_line_now : (old now : ForeValue) {S : Type 0} (side_of : S → SideValue) (job : Job S) (seen after : RasterValue) (out given : OutFilesValue)
+    (gathered reads : ℕ)
     (log : Log) (chip : ChipValue) → old ≡ now → IsJobOf side_of old.run old.log.band old.machine.t job →
-    Submits (run_over side_of (arc_value job.run)) job.number job.from.0 job.to.0 seen after out given old.clx gathered → IsLogOf old.run old.machine.t log chip →
+    Submits (run_over side_of (arc_value job.run)) job.number job.from.0 job.to.0 seen after out given old.clx gathered → IsLogOf old.run old.machine.t log
+    chip →
     log.band.from ≡ old.machine.t → log.band.number ≡ old.log.band.number + 1 →
     chip ≡ after_reads (after_cut old.machine.chip old.machine.t) reads →
     EndsAtLine now.machine.t now (with_parts old chip log gathered) seen after out given

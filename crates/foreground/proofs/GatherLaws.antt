@@ -125,7 +125,8 @@ marks_stay seen after taken = record {
 }
 
 -- the first band was collected, and its pixels and bits were given
-pub gathers_one : (seen after : RasterValue) (old new : OutFilesValue) (clx gathered : ℕ) {S : Type 0} (side_of : S → SideValue) (drawn : Drawn S) → 0 < length seen.outstanding →
+pub gathers_one : (seen after : RasterValue) (old new : OutFilesValue) (clx gathered : ℕ) {S : Type 0} (side_of : S → SideValue) (drawn : Drawn S) → 0 < length
+    seen.outstanding →
     after ≡ without_first seen → IsRightForFirst side_of seen.tint seen.outstanding drawn → Gives old new drawn.job.room [] → gathered ≡ bit_or clx drawn.clx →
     GathersOne seen after old new clx gathered drawn.closing
 gathers_one seen after old new clx gathered side_of drawn some taken right gives ored run number to first fits =

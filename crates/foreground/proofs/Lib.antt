@@ -19,3 +19,4 @@ pub mod BeginLaws
 pub mod SettleLaws
 pub mod NewLaws
 pub mod CutLaws
+pub mod EmptyLaws

@@ -210,7 +210,8 @@ makes_quietly f ask made touch m1 m2 noted seen out given asks asked same quiet 
     }
 
 -- and where it does: `g` is the foreground once CLXDAT was read
-pub makes_with_read : (f g : ForeValue) (first bits : ℕ) (ask : Ask) (made : Made) (m2 : MachineValue) (seen after : RasterValue) (out between given : OutFilesValue)
+pub makes_with_read : (f g : ForeValue) (first bits : ℕ) (ask : Ask) (made : Made) (m2 : MachineValue) (seen after : RasterValue)
+    (out between given : OutFilesValue)
     → HasReadByAccess f g first bits seen after out between → ask ≡ ask_of (access_state f.run f.machine.t)
     → HasAskedOf f.machine (access_state f.run f.machine.t) → is_clx_ask ask ≡ true → MakesAccess ask bits made g.machine between m2 given
     → StaysInPlace g.machine m2 → StoresMade g.machine.t ask made g.machine.chip m2.chip
@@ -354,7 +355,8 @@ makes_quietly_of f g ask made touch m1 m2 noted seen out given view asks asked s
     subst (λ x. MakesItsAccess x (record g { machine = m2; log = noted }) seen seen out given) view
     (makes_quietly g ask made touch m1 m2 noted seen out given asks asked same quiet makes able place stores by range notes)
 
-pub makes_with_read_of : (f f1 g : ForeValue) (bits : ℕ) (ask : Ask) (made : Made) (m2 : MachineValue) (seen after : RasterValue) (out between given : OutFilesValue)
+pub makes_with_read_of : (f f1 g : ForeValue) (bits : ℕ) (ask : Ask) (made : Made) (m2 : MachineValue) (seen after : RasterValue)
+    (out between given : OutFilesValue)
     → g ≡ f1 → ReadsBits true f f1 bits seen after out between → HasAskedNow ask f → is_clx_ask ask ≡ true
     → MakesAccess ask bits made g.machine between m2 given → StaysInPlace g.machine m2 → StoresMade g.machine.t ask made g.machine.chip m2.chip
     → MakesReadingAccess f (record g { machine = m2 }) seen after out given

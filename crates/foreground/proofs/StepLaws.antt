@@ -178,7 +178,8 @@ Makes-does made clx old new out after does start s read is =
 
 -- a write, by its effect
 pub WritesRegister-by : (reg : Reg) (word : ℕ) (busy : Bool) (old new : MachineValue) (effect : Effect) → effect ≡ effect_of busy reg.offset word
-    → new ≡ record old { beam = new.beam; chips = new.chips; side = new.side } → new.side ≡ poke_side reg word old.side → new.beam ≡ record old.beam { lof = lof_of effect old.beam.lof }
+    → new ≡ record old { beam = new.beam; chips = new.chips; side = new.side } → new.side ≡ poke_side reg word old.side → new.beam ≡ record old.beam
+    { lof = lof_of effect old.beam.lof }
     → ((c : Chips) → IsChipsOf old.chips c → IsChipsOf new.chips (write_chips reg.offset word c)) → WritesRegister reg word old new
 unfolding write_lof
 WritesRegister-by reg word busy old new effect is same poked beam chips = record {

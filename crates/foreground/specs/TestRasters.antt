@@ -1,5 +1,4 @@
 -- Rasters of the tests, which hand their calls to one that draws its bands itself, of runs without a side.
-use Rattle.std.specs.Prelude.{ℕ}
 use Rattle.std.specs.Arc.{arc_value}
 use Rattle.serial_model.specs.declared.side.NoSide.{NoSide}
 use Rattle.serial_model.specs.Side.{SideValue, no_side}

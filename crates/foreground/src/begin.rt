@@ -66,7 +66,7 @@ impl<S: Side> Fore<S> {
         ensures kept { KeepsClock (over S.seen self.old) (over S.seen self.new) }
         ensures reads { self.new.machine.chip.reads ≡ self.old.machine.chip.reads }
     {
-        let clx = self.read_clxdat(raster, false, out)?;
+        let clx = self.gather_clxdat(raster, false, out)?;
         self.begin_log();
         Ok(clx)
     }

@@ -91,9 +91,40 @@ impl<S: Side> Fore<S> {
         Ok(())
     }
 
-    /// Second step: the script's events of the clock.
+    /// Second step: the script's events of the clock. Once none is left there is nothing to do.
     #[inline(always)]
     fn run_events(&mut self, clx: u16, out: &mut OutFiles) -> Result<(), OutOfMemory>
+        requires script { HasScript (over S.seen self.old).run self.old.machine.beam self.old.next }
+        requires screen { IsOnScreen self.old.machine.beam }
+        requires some { IsMachine (over S.seen self.old).machine }
+        ensures step { OnOk result (MakesEvents clx
+            (due_events self.old.machine.beam self.old.run.script.events)
+            (over S.seen self.old).machine out.old (over S.seen self.new).machine out.new) }
+        ensures place { OnOk result (KeepsPlace (over S.seen self.old).machine
+            (over S.seen self.new).machine) }
+        ensures noted { OnOk result (self.new.log ≡ with_script_touches self.old.machine.t
+            (touches_of (due_events self.old.machine.beam self.old.run.script.events))
+            self.old.log) }
+        ensures script { OnOk result (HasScriptBehind (over S.seen self.old).run
+            self.old.machine.beam
+            self.old.next self.new.next) }
+        ensures same { self.new ≡ record self.old {
+          machine = self.new.machine;
+          log = self.new.log;
+          next = self.new.next;
+        } }
+        ensures chip { self.new.machine.chip ≡ self.old.machine.chip }
+        ensures told { OnErr result (GivesLines out.old out.new) }
+    {
+        if self.next == self.run.script().events().len() {
+            return Ok(());
+        }
+        self.run_due_events(clx, out)
+    }
+
+    /// The script's events of the clock, of which some are left.
+    #[inline(never)]
+    fn run_due_events(&mut self, clx: u16, out: &mut OutFiles) -> Result<(), OutOfMemory>
         requires script { HasScript (over S.seen self.old).run self.old.machine.beam self.old.next }
         requires screen { IsOnScreen self.old.machine.beam }
         requires some { IsMachine (over S.seen self.old).machine }
@@ -132,7 +163,11 @@ impl<S: Side> Fore<S> {
 
     /// Fifth step: the access.
     #[inline(always)]
-    fn access<Q: Raster<S>>(&mut self, raster: &mut Q, out: &mut OutFiles) -> Result<(), OutOfMemory>
+    fn access<Q: Raster<S>>(
+        &mut self,
+        raster: &mut Q,
+        out: &mut OutFiles,
+    ) -> Result<(), OutOfMemory>
         requires before { (first : ℕ) × IsBefore (over S.seen self.old) first (Q.seen raster.old) }
         requires room { self.old.machine.t + 1 < 2 ^ 64 }
         ensures makes { OnOk result (MakesItsAccess (over S.seen self.old) (over S.seen self.new)
@@ -176,7 +211,7 @@ impl<S: Side> Fore<S> {
         ensures reads { self.new.machine.chip.reads ≡ reads_more
             (reads_of_ask ask.now) self.old.machine.chip.reads }
     {
-        let clx = self.read_clxdat(raster, true, out)?;
+        let clx = self.gather_clxdat(raster, true, out)?;
         self.machine.answer(ask, clx, out)?;
         Ok(())
     }

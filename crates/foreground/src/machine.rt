@@ -38,12 +38,7 @@ pub struct Machine<S> {
 impl<S: Side> Machine<S> {
     /// The machine at reset, with its memory made from the bytes of an image, and a side as it is then; `cpu` says
     /// whether the processor is started.
-    pub fn new(
-        alloc: Global,
-        image: &[u8],
-        cpu: bool,
-        side: S,
-    ) -> Result<Machine<S>, OutOfMemory>
+    pub fn new(alloc: Global, image: &[u8], cpu: bool, side: S) -> Result<Machine<S>, OutOfMemory>
         requires { is_image image.now ≡ true }
         ensures { IfOk result (λ machine.
             IsReset (S.seen side) image.now cpu (machine_over S.seen machine)) }

@@ -1,6 +1,6 @@
 //! Reads of CLXDAT: the collision bits of all bands up to the read are gathered.
 
-ghost use Rattle.std.specs.Prelude.{◌≡◌, true, false, IfOk, OnErr};
+ghost use Rattle.std.specs.Prelude.{◌≡◌, true, false, IfOk, IsErr, OnOk, OnErr};
 ghost use Rattle.foreground.specs.Cuts.{clock_before as clock_before_of};
 ghost use Rattle.foreground.specs.Fore.{over};
 ghost use Rattle.foreground.specs.Steps.{StandsBeforeRead, ReadsBits, ReadsPart, KeepsClock};
@@ -16,11 +16,44 @@ use serial_model::Side;
 const LAST_CLOCK: u16 = 226;
 
 impl<S: Side> Fore<S> {
-    /// The collision bits that a read of CLXDAT sees, which clears them. Where not `shown`, the script
-    /// reads them before the picture step of the present clock; where `shown`, the access of the clock
-    /// does, and sees the pixels of this clock too.
+    /// The collision bits that a read of CLXDAT sees, which clears them: the band ends there, and all
+    /// bands are gathered. Where not `shown`, the script reads them before the picture step of the
+    /// present clock; where `shown`, the access of the clock does, and sees the pixels of this clock
+    /// too. It may wait. A clock (`advance`) does this where its script or its access reads CLXDAT.
+    /// After a refusal, for want of memory alone, each later call refuses and gives nothing.
+    pub fn read_clxdat<Q: Raster<S>>(
+        &mut self,
+        raster: &mut Q,
+        shown: bool,
+        out: &mut OutFiles,
+    ) -> Result<u16, OutOfMemory>
+        requires { self.old.spent ≡ false → StandsBeforeRead shown (over S.seen self.old)
+            (Q.seen raster.old) }
+        ensures bits { IfOk result (λ clx. ReadsBits shown (over S.seen self.old)
+            (over S.seen self.new) clx (Q.seen raster.old) (Q.seen raster.new) out.old out.new) }
+        ensures fresh { OnOk result (self.new.spent ≡ false) }
+        ensures reads { self.new.machine.chip.reads ≡ self.old.machine.chip.reads }
+        ensures spent { OnErr result (self.new.spent ≡ true) }
+        ensures part { OnErr result (self.old.spent ≡ false → ReadsPart shown
+            (over S.seen self.old) (Q.seen raster.old) (Q.seen raster.new) out.old out.new) }
+        ensures nothing { self.old.spent ≡ true → IsErr result × (out.new ≡ out.old)
+            × (Q.seen raster.new ≡ Q.seen raster.old) × (self.new ≡ self.old) }
+    {
+        if self.spent {
+            return Err(OutOfMemory);
+        }
+        match self.gather_clxdat(raster, shown, out) {
+            Ok(clx) => Ok(clx),
+            Err(refused) => {
+                self.spent = true;
+                Err(refused)
+            }
+        }
+    }
+
+    /// The same within a clock, where memory was not wanted before.
     #[inline(never)]
-    pub(crate) fn read_clxdat<Q: Raster<S>>(
+    pub(crate) fn gather_clxdat<Q: Raster<S>>(
         &mut self,
         raster: &mut Q,
         shown: bool,

@@ -135,7 +135,12 @@ impl Raster<NoSide> for Counted {
 }
 
 /// A run of a script of one frame with these lines of events.
-fn run_of(alloc: Global, image: &[u8; 8], events: &str, height: u16) -> Result<Arc<Run<NoSide>>, Fail>
+fn run_of(
+    alloc: Global,
+    image: &[u8; 8],
+    events: &str,
+    height: u16,
+) -> Result<Arc<Run<NoSide>>, Fail>
     requires least { 1 ≤ height }
     requires most { height ≤ 313 }
 {

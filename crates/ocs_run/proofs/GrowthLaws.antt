@@ -40,13 +40,15 @@ trace-tick events s =
       is = trace_next Pal events s;
     }
 
-pub shown-later : (side : SideValue) (image : List ℕ) (script : ScriptValue) (n k : ℕ) → Extends (state_over side image script n).shown (state_over side image script (n + k)).shown
+pub shown-later : (side : SideValue) (image : List ℕ) (script : ScriptValue) (n k : ℕ) → Extends (state_over side image script n).shown
+    (state_over side image script (n + k)).shown
 unfolding state_over
 shown-later side image script n zero = rw add-zero (Extends-refl (state_over side image script n).shown)
 shown-later side image script n (suc k) =
     rw add-suc (Extends-trans _ _ _ (shown-later side image script n k) (shown-tick script.events (state_over side image script (n + k))))
 
-pub trace-later : (side : SideValue) (image : List ℕ) (script : ScriptValue) (n k : ℕ) → Extends (state_over side image script n).trace (state_over side image script (n + k)).trace
+pub trace-later : (side : SideValue) (image : List ℕ) (script : ScriptValue) (n k : ℕ) → Extends (state_over side image script n).trace
+    (state_over side image script (n + k)).trace
 unfolding state_over
 trace-later side image script n zero = rw add-zero (Extends-refl (state_over side image script n).trace)
 trace-later side image script n (suc k) =

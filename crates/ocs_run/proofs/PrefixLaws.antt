@@ -17,7 +17,8 @@ use Rattle.ocs_run.specs.Run.{HasRun, HasParts, HasEndParts, Remains}
 use Rattle.ocs_run.proofs.GrowthLaws.{Extends, shown-later, trace-later}
 
 -- a state of the run is no later than its end
-not_later : (side : SideValue) (image : List ℕ) (script : ScriptValue) (clocks end : ℕ) → ((n : ℕ) → n < clocks → (state_over side image script n).beam.frame < script.frames)
+not_later : (side : SideValue) (image : List ℕ) (script : ScriptValue) (clocks end : ℕ) → ((n : ℕ) → n < clocks → (state_over side image script n).beam.frame <
+    script.frames)
     → IsEndOver side image script end → clocks ≤ end
 not_later side image script clocks end running is = step (le_or_lt clocks end)
   where
@@ -45,7 +46,8 @@ trace-grow first more now bytes rest is part = (
 )
 
 -- parts of the texts so far are parts of the texts at the end
-frames-part : (side : SideValue) (image : List ℕ) (script : ScriptValue) (clocks end : ℕ) (bytes rest : List ℕ) → HasRun side image script clocks → IsEndOver side image script end
+frames-part : (side : SideValue) (image : List ℕ) (script : ScriptValue) (clocks end : ℕ) (bytes rest : List ℕ) → HasRun side image script clocks → IsEndOver
+    side image script end
     → bytes ++ rest ≡ frames_text (state_over side image script clocks).shown → IsPartOf (frames_text (state_over side image script end).shown) (Some bytes)
 frames-part side image script clocks end bytes rest run is part =
     let le : clocks ≤ end = not_later side image script clocks end run.running is in
@@ -55,7 +57,8 @@ frames-part side image script clocks end bytes rest run is part =
     subst (λ n. IsPartOf (frames_text (state_over side image script n).shown) (Some bytes)) e
     (frames-grow (state_over side image script clocks).shown grown.more _ bytes rest grown.is part)
 
-trace-part : (side : SideValue) (image : List ℕ) (script : ScriptValue) (clocks end : ℕ) (bytes rest : List ℕ) → HasRun side image script clocks → IsEndOver side image script end
+trace-part : (side : SideValue) (image : List ℕ) (script : ScriptValue) (clocks end : ℕ) (bytes rest : List ℕ) → HasRun side image script clocks → IsEndOver
+    side image script end
     → bytes ++ rest ≡ trace_text (state_over side image script clocks).trace → IsPartOf (trace_text (state_over side image script end).trace) (Some bytes)
 trace-part side image script clocks end bytes rest run is part =
     let le : clocks ≤ end = not_later side image script clocks end run.running is in
@@ -147,7 +150,8 @@ LeavesPrefixes-created side image script names base new (suc (suc (suc more))) i
   memory_part = λ end e. empty_part _;
 }
 
-pub LeavesPrefixes-all : (side : SideValue) (image : List ℕ) (script : ScriptValue) (names : OutNames) (base new : Option Files) → Remains side image script names base new
+pub LeavesPrefixes-all : (side : SideValue) (image : List ℕ) (script : ScriptValue) (names : OutNames) (base new : Option Files) → Remains side image script
+    names base new
     → LeavesPrefixesOver side image script names base new
 LeavesPrefixes-all side image script names base new (inl created) = LeavesPrefixes-created side image script names base new created.0 created.1
 LeavesPrefixes-all side image script names base new (inr (inl parts)) = LeavesPrefixes-parts side image script names base new parts.0 parts.1

@@ -55,7 +55,8 @@ length-memory_after (M.Stored at half word) memory = length-set memory _ _
 length-memory_after (M.Plane plane at) memory = refl
 length-memory_after (M.Sprite sprite second at) memory = refl
 
-length-memory : (side : SideValue) (image : List ℕ) (script : ScriptValue) (n : ℕ) → length image ≤ 524288 → length (state_over side image script n).memory ≡ 262144
+length-memory : (side : SideValue) (image : List ℕ) (script : ScriptValue) (n : ℕ) → length image ≤ 524288 → length (state_over side image script n).memory ≡
+    262144
 unfolding state_over reset
 length-memory side image script zero fits = length-memory_of image fits
 length-memory side image script (suc n) fits =

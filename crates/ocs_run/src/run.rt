@@ -232,7 +232,11 @@ fn flush_lines<P: Place>(beam: &Beam, out: &mut OutFiles, place: &mut P) -> Resu
 }
 
 /// Appends the words of chip memory to the memory file.
-fn write_memory<P: Place>(fore: Fore<NoSide>, out: &mut OutFiles, place: &mut P) -> Result<(), WriteFault>
+fn write_memory<P: Place>(
+    fore: Fore<NoSide>,
+    out: &mut OutFiles,
+    place: &mut P,
+) -> Result<(), WriteFault>
     requires { AreGrowable (P.growable place.old) out.old.names }
     ensures whole { OnOk result (Completes out.old (P.outside place.old).files
         (P.outside place.new).files (memory_text fore.machine.chip.words)) }

@@ -1,5 +1,4 @@
 -- What a side asks for is in chip memory.
-use Rattle.std.proofs.Common.{◌<◌}
 use Rattle.serial_model.specs.declared.bus.SideAsk.{SideAsk}
 use Rattle.serial_model.specs.declared.bus.SideAsk.TheVariants.{Nothing, Disk, Audio}
 use Rattle.serial_model.specs.Side.{IsBelow}

@@ -1,5 +1,5 @@
 -- The kept words of the custom registers: what reads, writes and pointers make of them.
-use Rattle.std.specs.Prelude.{ℕ, ◌+◌, ◌-◌, ◌*◌, ◌/◌, ◌%◌, Bool, true, false, ◌&&◌, ◌==◌, nat_le, if◌then◌else◌, List, slice_index, slice_set, replicate, bit_and, bit_or}
+use Rattle.std.specs.Prelude.{ℕ, ◌+◌, ◌*◌, ◌/◌, ◌%◌, Bool, true, false, ◌&&◌, ◌==◌, nat_le, if◌then◌else◌, List, slice_index, slice_set, replicate, bit_and}
 use Rattle.irq_cia.specs.Bits.{has_bits, set_or_clear}
 use Rattle.ocs_base.specs.AddressOf.{addr_at}
 use Rattle.ocs_base.specs.declared.addr.Addr.{Addr}

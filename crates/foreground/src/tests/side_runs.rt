@@ -77,7 +77,10 @@ fn fresh_side() -> Recorder
 #[test]
 fn a_side_takes_part_in_the_run(rt: HostRuntime) -> Result<(), Fail> {
     let alloc = rt.alloc();
-    let script = script_of(alloc, "at 0 0 0 poke 180 0102\nat 0 0 19 peek 01e\nat 0 0 21 peek 01e\n")?;
+    let script = script_of(
+        alloc,
+        "at 0 0 0 poke 180 0102\nat 0 0 19 peek 01e\nat 0 0 21 peek 01e\n",
+    )?;
     let image = Vec::from_slice(alloc, &[0; 8])?;
     let run = Arc::new(alloc, Run::over(image, script, 100, fresh_side()))?;
     let mut fore = Fore::with_side(alloc, run, fresh_side())?;

@@ -8,7 +8,8 @@ use Rattle.foreground.proofs.script.run_script.Given as goal
 
 abbrev pub invariant-loop-event : goal.invariant-loop-event
 invariant-loop-event g l =
-    (HasDone l.events l.left (machine_over g.S.Side.seen l.initial.machine) (machine_over g.S.Side.seen l.machine) l.initial.out l.out l.initial.log l.log l.initial.clx l.clx
+    (HasDone l.events l.left (machine_over g.S.Side.seen l.initial.machine) (machine_over g.S.Side.seen l.machine) l.initial.out l.out l.initial.log l.log
+    l.initial.clx l.clx
     × IsLeft (place_of l.initial.machine.beam) l.left)
     × (GivesLines l.initial.out l.out × (IsMachine (machine_over g.S.Side.seen l.machine) × IsRest l.events l.left))
 

@@ -13,4 +13,5 @@ begins run fore seen new empty first unbound =
 
 pub run_clocks-requires-clause-fits : goal.run_clocks-requires-clause-fits
 run_clocks-requires-clause-fits g c =
-    begins _ (over (λ side. no_side) c.in_ok-fore.fore) (g.Q.Raster.seen c.args.raster.now) c.in_ok-fore.ensures c.requires.empty c.requires.first c.requires.unbound
+    begins _ (over (λ side. no_side) c.in_ok-fore.fore) (g.Q.Raster.seen c.args.raster.now) c.in_ok-fore.ensures c.requires.empty c.requires.first
+    c.requires.unbound

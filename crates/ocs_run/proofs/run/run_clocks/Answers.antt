@@ -1,5 +1,4 @@
-use Rattle.std.proofs.Common.{◌≡◌, ◌∙◌, ap}
-use Rattle.out_files.specs.OutFiles.{OutNames}
+use Rattle.std.proofs.Common.{◌≡◌, ◌∙◌}
 use Rattle.ocs_run.specs.Underway.{fore_of}
 use Rattle.ocs_run.proofs.KeptLaws.{OnlyWrites-more, KeepsNames-more, AreGrowable-kept}
 use Rattle.ocs_run.proofs.RunLaws.{on_err, cause_err, fewer_clocks, stop-advance, stop-flush, IsUnderway-advanced, IsUnderway-flushed, CanRun-advanced, mark_advanced, names_advanced}
@@ -12,7 +11,8 @@ returns-in_err-advance-clause-stopped g c =
 
 pub loop-fore-smaller : goal.loop-fore-smaller
 loop-fore-smaller g c =
-    fewer_clocks (fore_of c.loop-fore.fore) (fore_of c.advance.new.self) _ _ c.loop-fore.invariant.able c.done.ensures c.loop-fore-test.true c.advance.ensures.run
+    fewer_clocks (fore_of c.loop-fore.fore) (fore_of c.advance.new.self) _ _ c.loop-fore.invariant.able c.done.ensures c.loop-fore-test.true
+    c.advance.ensures.run
     c.in_ok-advance.ensures.count
 
 pub loop-fore-preserved : goal.loop-fore-preserved
@@ -37,7 +37,8 @@ pub returns-in_err-flush_lines-clause-stopped : goal.returns-in_err-flush_lines-
 returns-in_err-flush_lines-clause-stopped g c =
     let names : c.advance.new.out.names ≡ c.loop-fore.out.names =
     names_advanced _ _ _ _ _ _ c.in_ok-advance.ensures.clock c.loop-fore.invariant.able in
-    on_err _ _ (stop-flush _ _ _ (fore_of c.args.fore.now) (fore_of c.advance.new.self) _ _ _ c.advance.new.out (c.advance.ensures.run ∙ c.loop-fore.invariant.run)
+    on_err _ _ (stop-flush _ _ _ (fore_of c.args.fore.now) (fore_of c.advance.new.self) _ _ _ c.advance.new.out
+    (c.advance.ensures.run ∙ c.loop-fore.invariant.run)
     (names ∙ c.loop-fore.invariant.out)
     (λ base is. IsUnderway-advanced base _ _ _ _ _ _ _ c.in_ok-advance.ensures.clock c.advance.ensures.run c.in_ok-advance.ensures.count
     c.in_ok-advance.ensures.fresh (c.loop-fore.invariant.runs base is))

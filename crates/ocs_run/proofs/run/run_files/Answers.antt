@@ -1,4 +1,4 @@
-use Rattle.std.proofs.Common.{◌≤◌, ap, refl, subst, sym}
+use Rattle.std.proofs.Common.{◌≤◌, refl, subst, sym}
 use Rattle.std.specs.Arc.{arc_value}
 use Rattle.serial_model.specs.declared.side.NoSide.{NoSide}
 use Rattle.serial_model.specs.Side.{no_side}

@@ -5,14 +5,15 @@ use Rattle.foreground.specs.Fore.{ForeValue, over}
 use Rattle.foreground.proofs.MadeLaws.{stands_at_read, asked_after_read, makes_with_read_of, part_of_read}
 use Rattle.foreground.proofs.fore.Fore.access_clxdat.Goals as goal
 
-pub read_clxdat-requires : goal.read_clxdat-requires
-read_clxdat-requires g c = stands_at_read _ c.args.ask.now _ c.requires.asked c.requires.read c.requires.logged
+pub gather_clxdat-requires : goal.gather_clxdat-requires
+gather_clxdat-requires g c = stands_at_read _ c.args.ask.now _ c.requires.asked c.requires.read c.requires.logged
 
 pub answer-requires-clause-asked : goal.answer-requires-clause-asked
 answer-requires-clause-asked g c = (
   access_state (over g.S.Side.seen c.args.self.now).run c.args.self.now.machine.t,
   c.requires.asked.asks,
-  subst (λ (f : ForeValue). HasAskedOf f.machine (access_state (over g.S.Side.seen c.args.self.now).run c.args.self.now.machine.t)) (sym (ap (over g.S.Side.seen) c.self.view_is))
+  subst (λ (f : ForeValue). HasAskedOf f.machine (access_state (over g.S.Side.seen c.args.self.now).run c.args.self.now.machine.t))
+      (sym (ap (over g.S.Side.seen) c.self.view_is))
       (asked_after_read _ _ _ _ c.args.ask.now _ _ _ _ (c.in_ok-clx.ensures.bits c.requires.logged.0 c.requires.logged.1) c.requires.asked),
 )
 

@@ -8,7 +8,8 @@ use Rattle.foreground.proofs.fore.Fore.begin_at_line.Goals as goal
 
 pub end_at_line-requires : goal.end_at_line-requires
 end_at_line-requires g c =
-    let found = line_requires (over g.S.Side.seen c.args.self.now) c.requires.underway.0 (g.Q.Raster.seen c.args.raster.now) c.requires.underway.1 c.requires.place in
+    let found = line_requires (over g.S.Side.seen c.args.self.now) c.requires.underway.0 (g.Q.Raster.seen c.args.raster.now) c.requires.underway.1
+    c.requires.place in
     record { stands = (c.requires.underway.0, found.2); before = c.requires.before; line = found.0; begins = found.1 }
 
 pub returns-clause-begins : goal.returns-clause-begins

@@ -17,8 +17,13 @@ begin_at_read-requires g c =
     let first = c.requires.underway.0 in
     let read : has_clx_read (due_at (over g.S.Side.seen c.args.self.now).run c.args.self.now.machine.t) ≡ true =
     reads_there (over g.S.Side.seen c.args.self.now) first (seen c.args.raster.now) c.script_reads.result c.requires.underway.1 c.script_reads.ensures
-    ∙ c.if-script_reads.true in
-    (first, c.requires.underway.1, read, is_running (over g.S.Side.seen c.args.self.now) first (seen c.args.raster.now) c.requires.underway.1 c.requires.running)
+    ∙ c.if-script_reads.true in (
+      first,
+      c.requires.underway.1,
+      read,
+      is_running (over g.S.Side.seen c.args.self.now) first (seen c.args.raster.now) c.requires.underway.1
+          c.requires.running,
+    )
 
 pub begin_at_line-requires : goal.begin_at_line-requires
 begin_at_line-requires g c = record {
@@ -41,7 +46,8 @@ returns-in_err-take_waiting-clause-part g c =
 pub returns-then-self-clause-begins : goal.returns-then-self-clause-begins
 returns-then-self-clause-begins g c =
     let seen = g.Q.Raster.seen in
-    begins_within_now _ (over g.S.Side.seen c.args.self.now) c.take_waiting.new.self (seen c.args.raster.now) c.args.out.now (ap (over g.S.Side.seen) c.self.view_is) c.requires.running
+    begins_within_now _ (over g.S.Side.seen c.args.self.now) c.take_waiting.new.self (seen c.args.raster.now) c.args.out.now
+    (ap (over g.S.Side.seen) c.self.view_is) c.requires.running
     c.if-self.true (sym c.is_band_place.ensures ∙ c.if-is_band_place.false)
     (reads_there (over g.S.Side.seen c.args.self.now) c.requires.underway.0 (seen c.args.raster.now) c.script_reads.result c.requires.underway.1
     c.script_reads.ensures ∙ c.if-script_reads.false) c.in_ok-take_waiting.ensures
@@ -49,7 +55,8 @@ returns-then-self-clause-begins g c =
 pub returns-clause-begins : goal.returns-clause-begins
 returns-clause-begins g c =
     let seen = g.Q.Raster.seen in
-    begins_already_now _ (over g.S.Side.seen c.args.self.now) (over g.S.Side.seen c.begin_log.new.self) (seen c.args.raster.now) c.args.out.now (ap (over g.S.Side.seen) c.self.view_is) c.requires.running
+    begins_already_now _ (over g.S.Side.seen c.args.self.now) (over g.S.Side.seen c.begin_log.new.self) (seen c.args.raster.now) c.args.out.now
+    (ap (over g.S.Side.seen) c.self.view_is) c.requires.running
     (omega (arith, c.if-self.false))
     (reads_there (over g.S.Side.seen c.args.self.now) c.requires.underway.0 (seen c.args.raster.now) c.script_reads.result c.requires.underway.1
     c.script_reads.ensures ∙ c.if-script_reads.false) (ap (over g.S.Side.seen) c.begin_log.ensures)

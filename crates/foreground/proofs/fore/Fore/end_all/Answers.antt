@@ -35,7 +35,9 @@ returns-in_err-closing-clause-part g c =
 pub returns-clause-ends : goal.returns-clause-ends
 returns-clause-ends g c =
     let seen = g.Q.Raster.seen in
-    ends_all_now c.args.to _ (over g.S.Side.seen c.args.self.now) g.S.Side.seen c.in_ok-job.job (seen c.args.raster.now) (seen c.submit.new.raster) (seen c.gather_all.new.raster)
+    ends_all_now c.args.to _ (over g.S.Side.seen c.args.self.now) g.S.Side.seen c.in_ok-job.job (seen c.args.raster.now) (seen c.submit.new.raster)
+    (seen c.gather_all.new.raster)
     c.args.out.now c.submit.new.out c.gather_all.new.out c.submit.new.clx c.gather_all.new.clx c.in_ok-closing.closing
-    c.close.new.self c.close.new.chip (ap (over g.S.Side.seen) c.self.view_is) c.in_ok-job.ensures.job c.in_ok-submit.ensures.submitted c.in_ok-closing.ensures.gathered
+    c.close.new.self c.close.new.chip (ap (over g.S.Side.seen) c.self.view_is) c.in_ok-job.ensures.job c.in_ok-submit.ensures.submitted
+    c.in_ok-closing.ensures.gathered
     c.in_ok-job.ensures.cut c.in_ok-job.ensures.log c.in_ok-job.ensures.chip

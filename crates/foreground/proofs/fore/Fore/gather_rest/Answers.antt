@@ -23,7 +23,8 @@ returns-in_err-end_all-clause-part g c =
 pub returns-then-self-to-clause-settled : goal.returns-then-self-to-clause-settled
 returns-then-self-to-clause-settled g c =
     let seen = g.Q.Raster.seen in
-    settles_open_now _ (over g.S.Side.seen c.args.self.now) (over g.S.Side.seen c.end_all.new.self) (seen c.args.raster.now) (seen c.end_all.new.raster) c.args.out.now c.end_all.new.out
+    settles_open_now _ (over g.S.Side.seen c.args.self.now) (over g.S.Side.seen c.end_all.new.self) (seen c.args.raster.now) (seen c.end_all.new.raster)
+    c.args.out.now c.end_all.new.out
     c.in_ok-end_all.field-0 (ap (over g.S.Side.seen) c.self.view_is) c.requires.done c.if-self-to.true c.in_ok-end_all.ensures.none c.in_ok-end_all.ensures.ends
 
 pub returns-in_err-gather_all-clause-part : goal.returns-in_err-gather_all-clause-part

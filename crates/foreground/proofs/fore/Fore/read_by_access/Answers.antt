@@ -34,7 +34,8 @@ end_at_read-requires g c =
 pub returns-clause-bits : goal.returns-clause-bits
 returns-clause-bits g c =
     let seen = g.Q.Raster.seen in
-    access_taken _ (over g.S.Side.seen c.args.self.now) (over g.S.Side.seen c.end_at_read.new.self) (over g.S.Side.seen c.take_bits.new.self) (seen c.args.raster.now) (seen c.end_at_read.new.raster)
+    access_taken _ (over g.S.Side.seen c.args.self.now) (over g.S.Side.seen c.end_at_read.new.self) (over g.S.Side.seen c.take_bits.new.self)
+    (seen c.args.raster.now) (seen c.end_at_read.new.raster)
     c.args.out.now c.end_at_read.new.out c.take_bits.result (ap (over g.S.Side.seen) c.self.view_is) c.requires.2 c.in_ok-end_at_read.ensures.ends
     (ap (over g.S.Side.seen) c.take_bits.ensures.same) c.take_bits.ensures.bits
 

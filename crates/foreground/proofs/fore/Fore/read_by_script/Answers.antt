@@ -11,9 +11,14 @@ end_at_read-requires g c =
     let seen = g.Q.Raster.seen in
     let first = c.requires.0 in
     record {
-      stands = (first, script_ends_now _ (over g.S.Side.seen c.args.self.now) first (seen c.args.raster.now) (ap (over g.S.Side.seen) c.self.view_is) c.requires.1 c.requires.2 c.if-self-to.true);
+      stands = (
+        first,
+        script_ends_now _ (over g.S.Side.seen c.args.self.now) first (seen c.args.raster.now) (ap (over g.S.Side.seen) c.self.view_is)
+            c.requires.1 c.requires.2 c.if-self-to.true,
+      );
       clock =
-          script_place_now _ (over g.S.Side.seen c.args.self.now) first c.clock_before-h.result (seen c.args.raster.now) (ap (over g.S.Side.seen) c.self.view_is) c.requires.1 c.if-self-to.true
+          script_place_now _ (over g.S.Side.seen c.args.self.now) first c.clock_before-h.result (seen c.args.raster.now)
+          (ap (over g.S.Side.seen) c.self.view_is) c.requires.1 c.if-self-to.true
           c.clock_before-h.ensures;
     }
 
@@ -28,8 +33,10 @@ returns-in_err-end_at_read-clause-part g c =
 pub returns-then-self-to-clause-bits : goal.returns-then-self-to-clause-bits
 returns-then-self-to-clause-bits g c =
     let seen = g.Q.Raster.seen in
-    script_taken _ (over g.S.Side.seen c.args.self.now) (over g.S.Side.seen c.end_at_read.new.self) (over g.S.Side.seen c.take_bits.new.self) (seen c.args.raster.now) (seen c.end_at_read.new.raster)
-    c.args.out.now c.end_at_read.new.out c.take_bits.result (ap (over g.S.Side.seen) c.self.view_is) c.requires.2 c.if-self-to.true c.in_ok-end_at_read.ensures.ends
+    script_taken _ (over g.S.Side.seen c.args.self.now) (over g.S.Side.seen c.end_at_read.new.self) (over g.S.Side.seen c.take_bits.new.self)
+    (seen c.args.raster.now) (seen c.end_at_read.new.raster)
+    c.args.out.now c.end_at_read.new.out c.take_bits.result (ap (over g.S.Side.seen) c.self.view_is) c.requires.2 c.if-self-to.true
+    c.in_ok-end_at_read.ensures.ends
     (ap (over g.S.Side.seen) c.take_bits.ensures.same) c.take_bits.ensures.bits
 
 pub returns-in_err-gather_all-clause-part : goal.returns-in_err-gather_all-clause-part
@@ -43,6 +50,7 @@ returns-in_err-gather_all-clause-part g c =
 pub returns-clause-bits : goal.returns-clause-bits
 returns-clause-bits g c =
     let seen = g.Q.Raster.seen in
-    all_taken _ (over g.S.Side.seen c.args.self.now) _ (over g.S.Side.seen c.take_bits-2.new.self) (seen c.args.raster.now) (seen c.gather_all.new.raster) c.args.out.now c.gather_all.new.out
+    all_taken _ (over g.S.Side.seen c.args.self.now) _ (over g.S.Side.seen c.take_bits-2.new.self) (seen c.args.raster.now) (seen c.gather_all.new.raster)
+    c.args.out.now c.gather_all.new.out
     c.gather_all.new.clx c.take_bits-2.result c.in_ok-gather_all.field-0 (ap (over g.S.Side.seen) c.self.view_is) (omega (arith, c.if-self-to.false))
     c.in_ok-gather_all.ensures.gathered refl (ap (over g.S.Side.seen) c.take_bits-2.ensures.same) c.take_bits-2.ensures.bits

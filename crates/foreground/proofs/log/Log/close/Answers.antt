@@ -15,7 +15,8 @@ overflow_add-next g c =
 
 pub returns-clause-job : goal.returns-clause-job
 returns-clause-job g c =
-    ended_job (run_over g.S.Side.seen (arc_value c.args.run.now)) c.args.to c.args.self.now c.args.chip.now g.S.Side.seen _ c.replace-band.result c.requires.ending
+    ended_job (run_over g.S.Side.seen (arc_value c.args.run.now)) c.args.to c.args.self.now c.args.chip.now g.S.Side.seen _ c.replace-band.result
+    c.requires.ending
     c.replace-band.ensures.value (ap (run_over g.S.Side.seen) c.in_ok-run.ensures) refl refl refl refl refl refl c.in_ok-view.ensures.view
     (ap length c.in_ok-room.ensures ∙ length-replicate c.args.self.now.band.bytes 0)
 

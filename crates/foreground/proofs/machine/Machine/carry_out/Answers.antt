@@ -6,12 +6,14 @@ use Rattle.foreground.proofs.machine.Machine.carry_out.Goals as goal
 
 pub returns-in_ok-write-in-Wrote-clause-does : goal.returns-in_ok-write-in-Wrote-clause-does
 returns-in_ok-write-in-Wrote-clause-does g c =
-    subst (λ m. Does m c.args.clx (machine_over g.S.Side.seen c.args.self.now) c.args.out.now (machine_over g.S.Side.seen c.write.new.self) c.write.new.out) (sym c.in-Wrote.is)
+    subst (λ m. Does m c.args.clx (machine_over g.S.Side.seen c.args.self.now) c.args.out.now (machine_over g.S.Side.seen c.write.new.self) c.write.new.out)
+    (sym c.in-Wrote.is)
     (c.in_ok-write-in-Wrote.ensures.does c.args.clx)
 
 pub returns-in_ok-store-in-Stored-clause-does : goal.returns-in_ok-store-in-Stored-clause-does
 returns-in_ok-store-in-Stored-clause-does g c =
-    subst (λ m. Does m c.args.clx (machine_over g.S.Side.seen c.args.self.now) c.args.out.now (machine_over g.S.Side.seen c.store.new.self) c.args.out.now) (sym c.in-Stored.is)
+    subst (λ m. Does m c.args.clx (machine_over g.S.Side.seen c.args.self.now) c.args.out.now (machine_over g.S.Side.seen c.store.new.self) c.args.out.now)
+    (sym c.in-Stored.is)
     (c.in_ok-store-in-Stored.ensures.does c.args.clx c.args.out.now)
 
 pub store-requires : goal.store-requires

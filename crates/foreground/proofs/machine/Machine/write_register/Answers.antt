@@ -6,7 +6,8 @@ use Rattle.foreground.proofs.machine.Machine.write_register.Goals as goal
 
 pub returns-in-Lof : goal.returns-in-Lof
 returns-in-Lof g c =
-    WritesRegister-by c.args.reg c.args.word _ (machine_over g.S.Side.seen c.args.self.now) _ (Lof c.in-Lof.long) (sym c.in-Lof.is ∙ c.poke-effect.ensures.effect)
+    WritesRegister-by c.args.reg c.args.word _ (machine_over g.S.Side.seen c.args.self.now) _ (Lof c.in-Lof.long)
+    (sym c.in-Lof.is ∙ c.poke-effect.ensures.effect)
     refl c.poke.ensures refl c.poke-effect.ensures.chips
 
 pub returns-in_default : goal.returns-in_default

@@ -25,4 +25,5 @@ turned_over (band ∷ bands) drawn room same right = record {
 
 pub returns-clause-right : goal.returns-clause-right
 returns-clause-right c =
-    turned_over (map (outstanding_of (λ side. no_side)) c.args.self.now.direct.bands) c.collect-drawn.result c.invert.new.room c.invert.ensures c.collect-drawn.ensures.right
+    turned_over (map (outstanding_of (λ side. no_side)) c.args.self.now.direct.bands) c.collect-drawn.result c.invert.new.room c.invert.ensures
+    c.collect-drawn.ensures.right

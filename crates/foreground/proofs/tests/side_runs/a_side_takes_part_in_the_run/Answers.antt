@@ -8,9 +8,11 @@ use Rattle.foreground.proofs.tests.side_runs.a_side_takes_part_in_the_run.Goals 
 
 begins : (run : RunValue) (fore : ForeValue) (seen : RasterValue) → IsNew run fore
     → seen ≡ record { outstanding = []; next = 0; bound = None; mark = 0; tint = 0 } → (first : ℕ) × IsUnderway fore first seen
-begins run fore seen new is =
-    (0, new.fits seen (ap (λ (r : RasterValue). r.outstanding) is) (ap (λ (r : RasterValue). r.next) is)
-    (subst (λ (r : RasterValue). Takes r.bound run) (sym is) tt))
+begins run fore seen new is = (
+  0,
+  new.fits seen (ap (λ (r : RasterValue). r.outstanding) is) (ap (λ (r : RasterValue). r.next) is)
+      (subst (λ (r : RasterValue). Takes r.bound run) (sym is) tt),
+)
 
 pub run_clocks-requires-clause-fits : goal.run_clocks-requires-clause-fits
 run_clocks-requires-clause-fits g c = begins _ _ _ c.in_ok-fore.ensures c.in_ok-raster.ensures

@@ -10,7 +10,8 @@ returns-in_err-advance-clause-mark g c =
 
 pub loop-fore-smaller : goal.loop-fore-smaller
 loop-fore-smaller g c =
-    fewer_clocks (fore_of c.loop-fore.fore) (fore_of c.advance.new.self) _ _ c.loop-fore.invariant.able c.done.ensures c.loop-fore-test.true c.advance.ensures.run
+    fewer_clocks (fore_of c.loop-fore.fore) (fore_of c.advance.new.self) _ _ c.loop-fore.invariant.able c.done.ensures c.loop-fore-test.true
+    c.advance.ensures.run
     c.in_ok-advance.ensures.count
 
 pub loop-fore-preserved : goal.loop-fore-preserved
