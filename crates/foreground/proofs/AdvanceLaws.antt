@@ -27,7 +27,6 @@ use Rattle.foreground.specs.declared.log.Log.{Log}
 use Rattle.foreground.proofs.OutLaws.{gives_then}
 use Rattle.foreground.proofs.RunLaws.{stands_from, stands_behind_access}
 use Rattle.foreground.proofs.PlaceLaws.{IsOnScreen-same}
-use Rattle.foreground.proofs.Cutting.{bytes_are_few}
 use Rattle.foreground.proofs.MadeLaws.{given_more, part_of_given}
 
 -- the steps behind the access, at one clock of a run
@@ -328,15 +327,6 @@ screen_at_begin f0 f1 first clx seen s1 o0 o1 is begins =
 pub machine_at_begin : (f0 f1 : ForeValue) (first clx : ℕ) (seen s1 : RasterValue) (o0 o1 : OutFilesValue) → IsUnderway f0 first seen
     → BeginsClock f0 f1 clx seen s1 o0 o1 → IsMachine f1.machine
 machine_at_begin f0 f1 first clx seen s1 o0 o1 is begins = (state_of f1.run f1.machine.t, (begins first is).begun.machine)
-
-pub room_at_begin : (f0 f1 : ForeValue) (first clx : ℕ) (seen s1 : RasterValue) (o0 o1 : OutFilesValue) → IsUnderway f0 first seen → is_done f0 ≡ false
-    → BeginsClock f0 f1 clx seen s1 o0 o1 → f1.log.band.bytes < 2 ^ 32
-room_at_begin f0 f1 first clx seen s1 o0 o1 is not begins =
-    let begun : HasBegunClock f0 f1 first clx seen s1 o0 o1 = begins first is in
-    let low : (beam_at f1.run f1.machine.t).frame < f1.run.script.frames =
-    subst (λ (f : ForeValue). (beam_at f.run f.machine.t).frame < f.run.script.frames) (sym begun.same) (going f0 first seen is not) in
-    let good : IsGoodRun f1.run = subst (λ (f : ForeValue). IsGoodRun f.run) (sym begun.same) is.good in
-    bytes_are_few f1.run f1.machine.t f1.log f1.machine.chip good.script low begun.begun.logged
 
 pub before_access_of : (f0 f1 f2 : ForeValue) (first clx : ℕ) (seen s1 : RasterValue) (o0 o1 o2 : OutFilesValue) → IsUnderway f0 first seen
     → BeginsClock f0 f1 clx seen s1 o0 o1 → ReachesAccess clx f1 f2 o1 o2 → (until : ℕ) × IsBefore f2 until s1

@@ -48,13 +48,13 @@ use Rattle.band_log.specs.declared.job.Job.{Job}
 use Rattle.foreground.specs.declared.band.OpenBand.{OpenBand}
 use Rattle.foreground.specs.declared.log.Log.{Log}
 use Rattle.foreground.specs.Gathered.{IsClosing}
-use Rattle.foreground.specs.Log.{waiting_list, IsLogOf, IsEnding, IsCut, IsJobOf, with_write_at}
+use Rattle.foreground.specs.Log.{size_to, waiting_list, IsLogOf, IsEnding, IsCut, IsJobOf, with_write_at}
 use Rattle.foreground.proofs.Logging.{growing_of}
 
 -- at reset
 abbrev pub first_log : Denise → Shadow → List Event → Log
 first_log opening shadow events = record {
-  band = record { number = 0; from = 0; beam = first_place; opening = opening; events = events; bytes = 0 };
+  band = record { number = 0; from = 0; beam = first_place; opening = opening; events = events };
   waiting = None;
   shadow = shadow;
 }
@@ -69,7 +69,6 @@ starts_at_reset run = record {
       begin = first_begins run;
       stands = stands_for_itself 0 (opening_at run 0);
       events = refl;
-      bytes = refl;
       base = refl;
       writes = refl;
     },
@@ -98,7 +97,7 @@ pub ended_job : (run : RunValue) (to : ℕ) (log : Log) (chip : ChipValue) {S : 
     to log chip
     → band ≡ log.band → run_over side_of (arc_value job.run) ≡ run → job.number ≡ band.number → job.from.0 ≡ band.from → job.to.0 ≡ to
     → job.beam ≡ band.beam → job.opening ≡ band.opening → job.events ≡ band.events → IsViewOf chip to job.view
-    → length job.room ≡ log.band.bytes → IsJobOf side_of run log.band to job
+    → length job.room ≡ size_to run log.band.from to → IsJobOf side_of run log.band to job
 ended_job run to log chip side_of job band is same owner number from end beam opening events view room =
     let n : ℕ = log.band.number in
     let start : job.from.0 ≡ log.band.from = from ∙ ap (λ (b : OpenBand). b.from) same in
@@ -172,7 +171,6 @@ line_begins run to log cut chip after reads view opening is before start has see
           begin = has.begin;
           stands = subst (λ p. StandsFor (4 * b.h) p (opening_at run to)) (sym cleared) (stands_for_itself (4 * b.h) (opening_at run to));
           events = has.events;
-          bytes = has.bytes;
           base = has.base;
           writes = has.writes;
         },
@@ -282,7 +280,6 @@ log_opens run to h log chip closing opening has stands place is planes first sec
           begin = has.begin;
           stands = opens;
           events = has.events;
-          bytes = has.bytes;
           base = has.base;
           writes = has.writes;
         },

@@ -1,33 +1,26 @@
 -- The log at a band's end: the memory is cut, and the next band begins.
-use Rattle.std.proofs.Common.{◌≡◌, ◌≤◌, ◌<◌, ℕ, zero, suc, ◌+◌, ◌-◌, ◌*◌, true, not, nat_lt, List, [], ◌++◌, length, refl, ap, ◌∙◌, sym, subst, arith}
+use Rattle.std.proofs.Common.{◌≡◌, ◌≤◌, ◌<◌, ℕ, zero, suc, ◌+◌, ◌-◌, true, not, nat_lt, List, [], ◌++◌, refl, ap, ◌∙◌, sym, subst, arith}
 use Rattle.std.proofs.lemmas.Bool.Decides.{nat_tests}
 use Rattle.std.proofs.lemmas.List.Elements.{filter-append}
-use Rattle.mem_versions.specs.Chip.{ChipValue}
 use Rattle.mem_versions.specs.MemoryAt.{memory_at, writes_from}
 use Rattle.mem_versions.specs.declared.write.Write.{Write}
-use Rattle.ocs_base.specs.declared.beam.Beam.{Beam}
 use Rattle.serial_model.specs.declared.bus.Made.{Made}
 use Rattle.serial_model.specs.declared.bus.Made.TheVariants as M
-use Rattle.serial_model.specs.Beam.{IsOnScreen, place_of}
-use Rattle.serial_model.proofs.EndLaws.{on_screen}
 use Rattle.serial_bands.specs.declared.event.Event.{Event}
-use Rattle.serial_bands.specs.Run.{RunValue, beam_at, run_memory}
-use Rattle.serial_bands.specs.Clock.{made_at, bytes_at, bus_touch_at}
+use Rattle.serial_bands.specs.Run.{RunValue, run_memory}
+use Rattle.serial_bands.specs.Clock.{made_at, bus_touch_at}
 use Rattle.serial_bands.specs.Bands.{begun, IsBand}
-use Rattle.serial_bands.specs.BandShown.{bytes_from}
 use Rattle.serial_bands.specs.BusReads.{fetched_count, latched_words}
 use Rattle.serial_bands.specs.Stores.{stores_of, stores_at, stores_from}
-use Rattle.serial_bands.specs.OpenBand.{IsOpen, clock_events}
+use Rattle.serial_bands.specs.OpenBand.{IsOpen}
 use Rattle.serial_bands.specs.Fetches.{fetches_in}
 use Rattle.serial_bands.proofs.BandOrder.{begun_in_band, counted}
-use Rattle.serial_bands.proofs.BandRanges.{open_is_band, bytes_rise}
+use Rattle.serial_bands.proofs.BandRanges.{open_is_band}
 use Rattle.serial_bands.proofs.Fetches.{fewer_with_write, fetches_are_latched}
 use Rattle.serial_bands.proofs.Storing.{memory_by_stores}
-use Rattle.serial_bands.proofs.WholeRun.{place_rises}
-use Rattle.foreground.specs.declared.band.OpenBand.{OpenBand}
-use Rattle.foreground.specs.Log.{waiting_list, IsGrowing}
+use Rattle.foreground.specs.Log.{waiting_list, IsGrowing, size_to}
 use Rattle.foreground.proofs.Logging.{growing_of}
-use Rattle.foreground.specs.LogLaws.{LogCuts, NumberFits, FetchesAreFew, BytesAreFew}
+use Rattle.foreground.specs.LogLaws.{LogCuts, NumberFits, FetchesAreFew}
 
 -- no store of a clock below a cut is left by it
 is_below : (c to : ℕ) → c < to → nat_lt c to ≡ true
@@ -63,9 +56,9 @@ none_there run from to order = all_cut run from (to - from) to (omega (arith, or
 pub log_cuts : LogCuts
 log_cuts run to log chip is =
     let from : ℕ = log.band.from in
-    let kept : IsOpen run log.band.number from to log.band.beam log.band.opening log.band.events log.band.bytes chip = is.kept in
+    let kept : IsOpen run log.band.number from to log.band.beam log.band.opening log.band.events (size_to run from to) chip = is.kept in
     let band : IsBand run log.band.number from to =
-    open_is_band run log.band.number from to log.band.beam log.band.opening log.band.events log.band.bytes chip kept is.begin in
+    open_is_band run log.band.number from to log.band.beam log.band.opening log.band.events (size_to run from to) chip kept is.begin in
     let order : from ≤ to = (let less : from < to = kept.order in omega (arith, less)) in
     record {
       later = (let less : from < to = kept.order in omega (arith, less));
@@ -74,7 +67,6 @@ log_cuts run to log chip is =
       begin = is.begin;
       waits = is.waits;
       events = refl;
-      bytes = refl;
       base =
           ap (λ base. memory_at to base chip.writes) kept.base
           ∙ ap (λ writes. memory_at to (run_memory run from) writes) kept.writes
@@ -101,21 +93,3 @@ fetches_are_few run to log chip is before =
     (fewer_with_write (to - 1) (bus_touch_at run (to - 1)) events) in
     let third : fetched_count events ≡ latched_words run log.band.from to = ap fetched_count growing.kept.log in
     omega (arith, first, second, third)
-
--- the clocks of a run are few, and so are the bytes of a band
-place_below : (b : Beam) (frames : ℕ) → IsOnScreen b → b.frame < frames → frames ≤ 1000 → place_of b < 71051000
-place_below b frames on going most = grind (arith, on.line, on.clock)
-
-pub bytes_are_few : BytesAreFew
-bytes_are_few run c log chip good going is =
-    let count : ℕ = length (bytes_at run c) in
-    let grown : OpenBand = record log.band { events = log.band.events ++ clock_events run c; bytes = log.band.bytes + count } in
-    let after : ChipValue = record chip { writes = chip.writes ++ stores_at run c } in
-    let kept : IsOpen run log.band.number log.band.from (c + 1) log.band.beam log.band.opening grown.events grown.bytes after =
-    is.grows grown after refl refl refl in
-    let size : log.band.bytes + count ≡ length (bytes_from run log.band.from (c + 1 - log.band.from)) = kept.size in
-    let most : length (bytes_from run log.band.from (c + 1 - log.band.from)) ≤ 12 * (c + 1 - log.band.from) =
-    bytes_rise run log.band.from (c + 1 - log.band.from) in
-    let place : place_of (beam_at run c) < 71051000 =
-    place_below (beam_at run c) run.script.frames (on_screen run.side run.image run.script c) going good.most in
-    omega (arith, size, most, place, place_rises run c)

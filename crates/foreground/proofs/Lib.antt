@@ -20,3 +20,4 @@ pub mod SettleLaws
 pub mod NewLaws
 pub mod CutLaws
 pub mod EmptyLaws
+pub mod ShownLaws

@@ -1,5 +1,5 @@
 -- The log from clock to clock.
-use Rattle.std.proofs.Common.{◌≡◌, ◌≤◌, ◌<◌, inl, inr, ℕ, suc, ◌+◌, ◌-◌, Bool, true, false, ◌==◌, ◌%◌, ◌&&◌, ◌||◌, if◌then◌else◌, List, [], ◌∷◌, ◌++◌, length, map, Option, Some, None, refl, ap, ◌∙◌, sym, subst, arith, true≢false, add-one, append_assoc, append-nil}
+use Rattle.std.proofs.Common.{◌≡◌, ◌≤◌, ◌<◌, inl, inr, ℕ, suc, ◌+◌, ◌-◌, Bool, true, false, ◌==◌, ◌%◌, ◌&&◌, ◌||◌, List, [], ◌∷◌, ◌++◌, length, map, Option, Some, None, refl, ap, ◌∙◌, sym, subst, arith, true≢false, add-one, append_assoc, append-nil}
 use Rattle.ocs_base.specs.declared.beam.Beam.{Beam}
 use Rattle.mem_versions.specs.Chip.{ChipValue}
 use Rattle.mem_versions.specs.declared.write.Write.{Write}
@@ -8,14 +8,13 @@ use Rattle.serial_model.specs.declared.bus.Made.TheVariants as M
 use Rattle.serial_model.specs.declared.picture.Denise.{Denise}
 use Rattle.serial_model.specs.declared.picture.Touch.{Touch}
 use Rattle.serial_model.specs.declared.picture.Touch.TheVariants as T
-use Rattle.serial_model.specs.Beam.{is_line_start, is_visible}
+use Rattle.serial_model.specs.Beam.{is_line_start}
 use Rattle.serial_model.specs.Made.{touch_of, is_clx_read}
-use Rattle.serial_model.specs.Picture.{clear_line, pixel_bytes, pixels, step_of}
-use Rattle.ocs_base.specs.declared.script.System.TheVariants.{Pal}
+use Rattle.serial_model.specs.Picture.{clear_line}
 use Rattle.serial_bands.specs.declared.event.Event.{Event}
 use Rattle.serial_bands.specs.declared.shadow.Shadow.{Shadow}
 use Rattle.serial_bands.specs.Run.{RunValue, beam_at, run_memory}
-use Rattle.serial_bands.specs.Clock.{made_at, bytes_at, sets_at, bus_touch_at, fetch_alone, write_alone, opening_at, picture_at}
+use Rattle.serial_bands.specs.Clock.{made_at, bytes_at, sets_at, bus_touch_at, fetch_alone, write_alone, opening_at}
 use Rattle.serial_bands.specs.Bands.{is_band_place, begins, begun, has_read_at}
 use Rattle.serial_bands.specs.RightJob.{event_at, script_events, bus_events, events_from}
 use Rattle.serial_bands.specs.Shadows.{IsInRange, IsShadowOf, touch_shadow, touch_shadow_if_any, touch_shadow_in_order}
@@ -24,14 +23,13 @@ use Rattle.serial_bands.specs.Stores.{stores_of, stores_at}
 use Rattle.serial_bands.specs.OpenBand.{IsOpen, clock_events, waiting_events}
 use Rattle.serial_bands.proofs.Fetches.{left_by_sets, left_by_touch, touch_in_two}
 use Rattle.serial_bands.proofs.FetchRanges.{range_of_sets, range_of_touch}
-use Rattle.serial_bands.proofs.NextClock.{bytes_are_of_step}
 use Rattle.serial_bands.proofs.Opening.{band_opens, band_goes_on}
 use Rattle.serial_bands.proofs.Shading.{shadow_sets, shadow_access}
 use Rattle.serial_bands.proofs.WholeRun.{frames_rise}
 use Rattle.foreground.specs.declared.band.OpenBand.{OpenBand}
 use Rattle.foreground.specs.declared.log.Log.{Log}
-use Rattle.foreground.specs.Log.{waiting_list, IsBeginning, IsGrowing, IsLogOf, Grows, IsShown, with_begin, with_access_touch, with_script_touch, with_script_touches, waiting_write, with_bytes}
-use Rattle.foreground.specs.LogLaws.{LogStarts, LogBegins, OneTouchMore, TouchesKeepBytes, BytesByPlace, LogShown, LogAccessed, BeginsWithLine, LogRead, ReadBegins, LogEnds}
+use Rattle.foreground.specs.Log.{waiting_list, IsBeginning, IsGrowing, IsLogOf, Grows, IsShown, with_begin, with_access_touch, with_script_touch, with_script_touches, waiting_write, size_to}
+use Rattle.foreground.specs.LogLaws.{LogStarts, LogBegins, OneTouchMore, LogShown, LogAccessed, BeginsWithLine, LogRead, ReadBegins, LogEnds}
 
 not_both : (b : Bool) → b ≡ true → b ≡ false → ⊥
 not_both b one other = true≢false (sym one ∙ other)
@@ -41,17 +39,17 @@ goes_on : (run : RunValue) (c : ℕ) (band : OpenBand) (waiting : Option Event) 
     → begins run c ≡ false → (beam_at run c).frame < run.script.frames
     → Grows run c (record band { events = band.events ++ waiting_list waiting }) chip
 goes_on run c band waiting chip is none going grown after made base writes =
+    let count : ℕ = size_to run band.from c + length (bytes_at run c) in
     let more : IsOpen run band.number band.from (c + 1) band.beam band.opening
-    (band.events ++ (waiting_events run c ++ clock_events run c)) (band.bytes + length (bytes_at run c)) after =
-    band_goes_on run band.number band.from c band.beam band.opening band.events band.bytes chip after is.kept none going base writes in
+    (band.events ++ (waiting_events run c ++ clock_events run c)) count after =
+    band_goes_on run band.number band.from c band.beam band.opening band.events (size_to run band.from c) chip after is.kept none going base writes in
     let events : grown.events ≡ band.events ++ (waiting_events run c ++ clock_events run c) =
     ap (λ (b : OpenBand). b.events) made
     ∙ append_assoc band.events (waiting_list waiting) (clock_events run c)
     ∙ ap (λ l. band.events ++ (l ++ clock_events run c)) is.waits in
-    let bytes : grown.bytes ≡ band.bytes + length (bytes_at run c) = ap (λ (b : OpenBand). b.bytes) made in
-    subst (λ l. IsOpen run band.number band.from (c + 1) band.beam band.opening l grown.bytes after) (sym events)
+    subst (λ l. IsOpen run band.number band.from (c + 1) band.beam band.opening l (size_to run band.from (c + 1)) after) (sym events)
     (subst (λ n. IsOpen run band.number band.from (c + 1) band.beam band.opening
-    (band.events ++ (waiting_events run c ++ clock_events run c)) n after) (sym bytes) more)
+    (band.events ++ (waiting_events run c ++ clock_events run c)) n after) more.size more)
 
 pub log_starts : LogStarts
 log_starts run c log chip is none going =
@@ -76,32 +74,31 @@ all_running run c going k before =
     omega (arith, rise, going)
 
 -- what is kept of a band, as one record
-abbrev band_of : ℕ → ℕ → Beam → Denise → List Event → ℕ → OpenBand
-band_of number from beam opening events bytes =
-    record { number = number; from = from; beam = beam; opening = opening; events = events; bytes = bytes }
+abbrev band_of : ℕ → ℕ → Beam → Denise → List Event → OpenBand
+band_of number from beam opening events =
+    record { number = number; from = from; beam = beam; opening = opening; events = events }
 
 abbrev IsKept : RunValue → ℕ → OpenBand → ChipValue → Type 0
-IsKept run c band chip = IsOpen run band.number band.from c band.beam band.opening band.events band.bytes chip
+IsKept run c band chip = IsOpen run band.number band.from c band.beam band.opening band.events (size_to run band.from c) chip
 
 begins_here : (run : RunValue) (c : ℕ) (beam : Beam) (log : Log) (chip : ChipValue) → IsBeginning run c log.band chip
     → (beam_at run c).frame < run.script.frames → beam ≡ beam_at run c → Grows run c (with_begin beam log).band chip
 begins_here run c beam log chip is going here grown after made base writes =
     let opening : Denise = log.band.opening in
-    let count : ℕ = length (bytes_at run c) in
     let there : Beam = beam_at run c in
-    let kept : IsKept run (c + 1) (band_of (begun run c) c there (clear_line there opening) (clock_events run c) count) after =
+    let open_here : IsOpen run (begun run c) c (c + 1) there (clear_line there opening) (clock_events run c) (length (bytes_at run c)) after =
     band_opens run c (clear_line there opening) after is.begin (all_running run c going) is.stands
     (base ∙ is.base) (writes ∙ ap (λ (l : List Write). l ++ stores_at run c) is.writes) in
-    let same : band_of (begun run c) c there (clear_line there opening) (clock_events run c) count ≡ grown =
-    ap (λ n. band_of n c there (clear_line there opening) (clock_events run c) count) is.number
-    ∙ ap (λ from. band_of log.band.number from there (clear_line there opening) (clock_events run c) count) (sym is.from)
-    ∙ ap (λ b. band_of log.band.number log.band.from b (clear_line b opening) (clock_events run c) count) (sym here)
-    ∙ ap (λ l. band_of log.band.number log.band.from beam (clear_line beam opening) (l ++ clock_events run c) count) (sym is.events)
-    ∙ ap (λ n. band_of log.band.number log.band.from beam (clear_line beam opening) (log.band.events ++ clock_events run c) n)
-    (let more : count ≡ log.band.bytes + count = omega (arith, is.bytes) in more)
+    let kept : IsKept run (c + 1) (band_of (begun run c) c there (clear_line there opening) (clock_events run c)) after =
+    subst (λ n. IsOpen run (begun run c) c (c + 1) there (clear_line there opening) (clock_events run c) n after) open_here.size open_here in
+    let same : band_of (begun run c) c there (clear_line there opening) (clock_events run c) ≡ grown =
+    ap (λ n. band_of n c there (clear_line there opening) (clock_events run c)) is.number
+    ∙ ap (λ from. band_of log.band.number from there (clear_line there opening) (clock_events run c)) (sym is.from)
+    ∙ ap (λ b. band_of log.band.number log.band.from b (clear_line b opening) (clock_events run c)) (sym here)
+    ∙ ap (λ l. band_of log.band.number log.band.from beam (clear_line beam opening) (l ++ clock_events run c)) (sym is.events)
     ∙ sym made in
     let moved : IsKept run (c + 1) grown after = subst (λ b. IsKept run (c + 1) b after) same kept in
-    subst (λ (b : OpenBand). IsOpen run b.number b.from (c + 1) b.beam b.opening grown.events grown.bytes after) made moved
+    subst (λ (b : OpenBand). IsOpen run b.number b.from (c + 1) b.beam b.opening grown.events (size_to run b.from (c + 1)) after) made moved
 
 pub log_begins : LogBegins
 log_begins run c beam log chip is from going here =
@@ -140,13 +137,9 @@ unfolding with_script_touches
 one_touch_more c touch [] log = refl
 one_touch_more c touch (first ∷ touches) log = one_touch_more c touch touches (with_script_touch c first log)
 
-pub touches_keep_bytes : TouchesKeepBytes
-touches_keep_bytes c touches log = ap (λ (l : Log). l.band.bytes) (all_noted c touches log)
-
 pub log_shown : LogShown
 log_shown run c log chip is =
-    let count : ℕ = length (bytes_at run c) in
-    subst (λ l. IsShown run c (with_bytes count l) chip) (sym (all_noted c (sets_at run c) log))
+    subst (λ l. IsShown run c l chip) (sym (all_noted c (sets_at run c) log))
     (record {
       before = log.band;
       grows = is.grows;
@@ -158,25 +151,6 @@ log_shown run c log chip is =
       range = range_of_sets run log.band.from c log.shadow is.range;
       left = left_by_sets run c log.band.events log.shadow is.left;
     })
-
--- twelve bytes of a visible clock, whatever it shows
-same_length : (v h : ℕ) (p q : Denise) → length (pixels Pal v h p) ≡ length (pixels Pal v h q)
-same_length v h p q = by_sight (is_visible Pal v h)
-  where
-    by_sight : (seen : Bool) → length (if seen then pixel_bytes v h 0 p ++ (pixel_bytes v h 1 p ++ (pixel_bytes v h 2 p ++ pixel_bytes v h 3 p)) else [])
-        ≡ length (if seen then pixel_bytes v h 0 q ++ (pixel_bytes v h 1 q ++ (pixel_bytes v h 2 q ++ pixel_bytes v h 3 q)) else [])
-    by_sight true = refl
-    by_sight false = refl
-
-bytes_of_step : (v h : ℕ) (p : Denise) → (step_of Pal v h p).bytes ≡ pixels Pal v h p
-unfolding step_of
-bytes_of_step v h p = refl
-
-pub bytes_by_place : BytesByPlace
-bytes_by_place run c p =
-    let v : ℕ = (beam_at run c).v in
-    let h : ℕ = (beam_at run c).h in
-    ap length (bytes_are_of_step run c ∙ bytes_of_step v h (picture_at run c)) ∙ same_length v h (picture_at run c) p
 
 -- the access
 clock_events_are : (run : RunValue) (c : ℕ)
@@ -200,16 +174,14 @@ grows_on : (run : RunValue) (c : ℕ) (before : OpenBand) (chip after : ChipValu
     → after.base ≡ chip.base → after.writes ≡ chip.writes ++ stores_at run c
     → IsGrowing run (c + 1) (record before {
       events = (before.events ++ script_events run c) ++ bus_events c (fetch_alone (bus_touch_at run c));
-      bytes = before.bytes + length (bytes_at run c);
     }) (waiting_write c (bus_touch_at run c)) after
 grows_on run c before chip after grows base writes =
-    let count : ℕ = before.bytes + length (bytes_at run c) in
     let fetch : List Event = bus_events c (fetch_alone (bus_touch_at run c)) in
     let events : (before.events ++ script_events run c) ++ fetch ≡ before.events ++ clock_events run c =
     append_assoc before.events (script_events run c) fetch ∙ ap (λ l. before.events ++ l) (sym (clock_events_are run c)) in
     record {
-      kept = grows (record before { events = (before.events ++ script_events run c) ++ fetch; bytes = count }) after
-          (ap (λ (l : List Event). record before { events = l; bytes = count }) events) base writes;
+      kept = grows (record before { events = (before.events ++ script_events run c) ++ fetch }) after
+          (ap (λ (l : List Event). record before { events = l }) events) base writes;
       waits = waits_for_next c (bus_touch_at run c) ∙ sym (waiting_next run c);
     }
 

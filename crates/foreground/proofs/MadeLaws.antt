@@ -1,6 +1,5 @@
 -- The access of a clock by the foreground, over plain values.
 use Rattle.std.proofs.Common.{◌≡◌, ◌≤◌, ℕ, ◌+◌, true, false, List, [], ◌++◌, Option, Result, Ok, Err, OnErr, OnOk, arith, refl, ap, subst, ◌∙◌, sym, inl, inr, append-nil}
-use Rattle.ocs_base.specs.declared.beam.Beam.{Beam}
 use Rattle.mem_versions.specs.Chip.{ChipValue}
 use Rattle.out_files.specs.OutFiles.{OutFilesValue}
 use Rattle.serial_model.specs.declared.bus.Ask.{Ask}
@@ -71,7 +70,6 @@ open_same run c log chip after base writes band = elim band [
       begin = begins.0.begin;
       stands = begins.0.stands;
       events = begins.0.events;
-      bytes = begins.0.bytes;
       base = base ∙ begins.0.base;
       writes = writes ∙ begins.0.writes;
     },
@@ -248,7 +246,7 @@ makes_with_read f g first bits ask made m2 seen after out between given read ask
 pub stands_at_read : (f : ForeValue) (ask : Ask) (seen : RasterValue) → HasAskedNow ask f → is_clx_ask ask ≡ true
     → (first : ℕ) × IsLoggedBefore f first seen → StandsBeforeRead true f seen
 stands_at_read f ask seen now is before =
-    (before.0, before.1, clx_at_ask f.run f.machine.t ask now.asks ∙ is, ap (λ (b : Beam). b.h) now.place)
+    (before.0, before.1, clx_at_ask f.run f.machine.t ask now.asks ∙ is, now.place)
 
 pub asked_after_read : (f g : ForeValue) (first bits : ℕ) (ask : Ask) (seen after : RasterValue) (out between : OutFilesValue)
     → HasReadByAccess f g first bits seen after out between → HasAskedNow ask f → HasAskedOf g.machine (access_state f.run f.machine.t)

@@ -1,25 +1,21 @@
 -- The steps of a clock up to its access, over plain values.
-use Rattle.std.proofs.Common.{◌≡◌, ◌≤◌, ◌<◌, ◌^◌, ℕ, ◌-◌, true, List, [], ◌∷◌, length, drop, take, length-drop, arith, refl, ap, subst, ◌∙◌, sym}
+use Rattle.std.proofs.Common.{◌≡◌, ◌≤◌, ℕ, ◌-◌, true, List, [], ◌∷◌, length, drop, take, length-drop, arith, refl, ap, subst, ◌∙◌, sym}
 use Rattle.std.proofs.Math.Seq.{take-length}
 use Rattle.ocs_base.specs.declared.beam.Beam.{Beam}
 use Rattle.ocs_base.specs.declared.script.At.{At}
-use Rattle.ocs_base.specs.declared.script.System.TheVariants.{Pal}
 use Rattle.mem_versions.specs.Chip.{ChipValue}
 use Rattle.out_files.specs.OutFiles.{OutFilesValue}
-use Rattle.serial_model.specs.declared.picture.Denise.{Denise}
 use Rattle.serial_model.specs.declared.picture.Touch.{Touch}
 use Rattle.serial_model.specs.Beam.{IsOnScreen}
 use Rattle.serial_model.specs.Events.{due_events, do_events, touches_of}
-use Rattle.serial_model.specs.Picture.{pixels, step_of}
 use Rattle.serial_model.specs.State.{State}
 use Rattle.serial_model.specs.Tick.{start_clock, run_script, count_timers}
 use Rattle.serial_bands.specs.Run.{RunValue, state_of, beam_at}
-use Rattle.serial_bands.specs.Clock.{due_at, sets_at, bytes_at, picture_at}
+use Rattle.serial_bands.specs.Clock.{due_at, sets_at}
 use Rattle.serial_bands.specs.Bands.{has_clx_read}
-use Rattle.serial_bands.proofs.NextClock.{bytes_are_of_step}
 use Rattle.band_log.specs.Raster.{RasterValue}
 use Rattle.foreground.specs.Machine.{MachineValue, IsMachineOf, Start, Stands, MakesQuietly, KeepsPlace, IsSamePlace}
-use Rattle.foreground.specs.Log.{IsStarted, IsShown, with_script_touch, with_script_touches, with_bytes}
+use Rattle.foreground.specs.Log.{IsShown, with_script_touch, with_script_touches}
 use Rattle.foreground.specs.Script.{MakesEvents, IsMachine}
 use Rattle.foreground.specs.Gathered.{Fits}
 use Rattle.foreground.specs.Clock.{HasBegun, IsBeforeAccess, Tells, access_state}
@@ -27,8 +23,8 @@ use Rattle.foreground.specs.Fore.{ForeValue, HasScript}
 use Rattle.foreground.specs.Steps.{HasScriptBehind, ReachesAccess}
 use Rattle.foreground.specs.declared.log.Log.{Log}
 use Rattle.foreground.proofs.ToldLaws.{told_none}
-use Rattle.foreground.proofs.RunLaws.{stands_shown, place_at_clock}
-use Rattle.foreground.proofs.Logging.{log_shown, touches_keep_bytes}
+use Rattle.foreground.proofs.RunLaws.{stands_shown}
+use Rattle.foreground.proofs.Logging.{log_shown}
 
 -- from the state in which a clock begins to that in which its access is made
 pub stands_at_access : (run : RunValue) (c bits : ℕ) (m0 m1 m2 m3 : MachineValue) (out given : OutFilesValue) → IsMachineOf m0 (state_of run c)
@@ -62,54 +58,39 @@ unfolding with_script_touches
 touches_keep_from c [] log = refl
 touches_keep_from c (touch ∷ touches) log = touches_keep_from c touches (with_script_touch c touch log)
 
--- so many bytes are those of the clock
-bytes_of_clock : (run : RunValue) (c : ℕ) → length (bytes_at run c) ≡ length (pixels Pal (beam_at run c).v (beam_at run c).h (picture_at run c))
-unfolding step_of
-bytes_of_clock run c = ap length (bytes_are_of_step run c)
-
 -- the log behind the picture step
-pub logged_at_access : (run : RunValue) (c : ℕ) (log noted shown : Log) (b now : Beam) (chip : ChipValue) → IsStarted run c log chip → beam_at run c ≡ b
-    → IsSamePlace (beam_at run c) now → noted ≡ with_script_touches c (touches_of (due_events b run.script.events)) log
-    → ((p : Denise) → shown ≡ with_bytes (length (pixels Pal now.v now.h p)) noted)
-    → shown ≡ with_bytes (length (bytes_at run c)) (with_script_touches c (sets_at run c) log)
-logged_at_access run c log noted shown b now chip is here place notes shows =
-    let sets : noted ≡ with_script_touches c (sets_at run c) log =
-    notes ∙ sym (ap (λ x. with_script_touches c (touches_of (due_events x run.script.events)) log) here) in
-    let same : length (pixels Pal now.v now.h (picture_at run c)) ≡ length (bytes_at run c) =
-    ap (λ (x : Beam). length (pixels Pal x.v x.h (picture_at run c))) place ∙ sym (bytes_of_clock run c) in
-    shows (picture_at run c) ∙ ap (λ n. with_bytes n noted) same ∙ ap (λ l. with_bytes (length (bytes_at run c)) l) sets
+pub logged_at_access : (run : RunValue) (c : ℕ) (log noted : Log) (b : Beam) → beam_at run c ≡ b
+    → noted ≡ with_script_touches c (touches_of (due_events b run.script.events)) log → noted ≡ with_script_touches c (sets_at run c) log
+logged_at_access run c log noted b here notes =
+    notes ∙ sym (ap (λ x. with_script_touches c (touches_of (due_events x run.script.events)) log) here)
 
 -- a log that stands behind the picture step fits the raster that fitted before
-fits_logged : (run : RunValue) (c n first : ℕ) (touches : List Touch) (log shown : Log) (seen : RasterValue)
-    → shown ≡ with_bytes n (with_script_touches c touches log) → Fits run log.band.number log.band.from first seen
+fits_logged : (run : RunValue) (c first : ℕ) (touches : List Touch) (log shown : Log) (seen : RasterValue)
+    → shown ≡ with_script_touches c touches log → Fits run log.band.number log.band.from first seen
     → Fits run shown.band.number shown.band.from first seen
-fits_logged run c n first touches log shown seen is fits =
+fits_logged run c first touches log shown seen is fits =
     let number : shown.band.number ≡ log.band.number = ap (λ (l : Log). l.band.number) is ∙ touches_keep_number c touches log in
     let from : shown.band.from ≡ log.band.from = ap (λ (l : Log). l.band.from) is ∙ touches_keep_from c touches log in
     subst (λ k. Fits run k shown.band.from first seen) (sym number) (subst (λ k. Fits run log.band.number k first seen) (sym from) fits)
 
 -- all of it, at one clock of a run
-reaches : (run : RunValue) (c bits first clx : ℕ) (m0 m1 m2 m3 : MachineValue) (log noted shown : Log) (seen : RasterValue) (out given : OutFilesValue)
+reaches : (run : RunValue) (c bits first clx : ℕ) (m0 m1 m2 m3 : MachineValue) (log noted : Log) (seen : RasterValue) (out given : OutFilesValue)
     → HasBegun run c first m0 log clx seen → (has_clx_read (due_at run c) ≡ true → (state_of run c).clx ≡ bits)
     → MakesQuietly start_clock m0 m1 → MakesEvents bits (due_events m1.beam run.script.events) m1 out m2 given
     → MakesQuietly count_timers m2 m3 → m3.chip ≡ m0.chip → m1.beam ≡ m0.beam
     → noted ≡ with_script_touches c (touches_of (due_events m1.beam run.script.events)) log
-    → ((p : Denise) → shown ≡ with_bytes (length (pixels Pal m3.beam.v m3.beam.h p)) noted)
-    → IsBeforeAccess run c first m3 shown clx seen × Tells (state_of run c) (access_state run c) out given
-reaches run c bits first clx m0 m1 m2 m3 log noted shown seen out given is reads start events timers chip beam notes shows =
+    → IsBeforeAccess run c first m3 noted clx seen × Tells (state_of run c) (access_state run c) out given
+reaches run c bits first clx m0 m1 m2 m3 log noted seen out given is reads start events timers chip beam notes =
     let stands : Stands (record { out = out; trace = (state_of run c).trace }) m3 given (access_state run c) =
     stands_at_access run c bits m0 m1 m2 m3 out given is.machine reads start events timers in
-    let place : IsSamePlace (beam_at run c) m3.beam =
-    subst (λ b. IsSamePlace (beam_at run c) b) stands.machine.beam (place_at_clock run c) in
-    let same : shown ≡ with_bytes (length (bytes_at run c)) (with_script_touches c (sets_at run c) log) =
-    logged_at_access run c log noted shown m1.beam m3.beam m0.chip is.logged (is.machine.beam ∙ sym beam) place notes shows in (
+    let same : noted ≡ with_script_touches c (sets_at run c) log =
+    logged_at_access run c log noted m1.beam (is.machine.beam ∙ sym beam) notes in (
       record {
         machine = stands.machine;
         logged = record {
           shown = subst (λ l. IsShown run c l m3.chip) (sym same)
-              (subst (λ x. IsShown run c (with_bytes (length (bytes_at run c)) (with_script_touches c (sets_at run c) log)) x) (sym chip)
-              (log_shown run c log m0.chip is.logged));
-          fits = fits_logged run c (length (bytes_at run c)) first (sets_at run c) log shown seen same is.fits;
+              (subst (λ x. IsShown run c (with_script_touches c (sets_at run c) log) x) (sym chip) (log_shown run c log m0.chip is.logged));
+          fits = fits_logged run c first (sets_at run c) log noted seen same is.fits;
           gathered = is.gathered;
           time = subst (λ (x : ChipValue). x.newest ≤ c) (sym chip) is.time;
         };
@@ -118,16 +99,15 @@ reaches run c bits first clx m0 m1 m2 m3 log noted shown seen out given is reads
     )
 
 -- and of the foreground: `f2` is that behind the script's events
-pub reaches_access : (bits : ℕ) (f0 f2 : ForeValue) (m1 m3 : MachineValue) (shown : Log) (out given : OutFilesValue)
+pub reaches_access : (bits : ℕ) (f0 f2 : ForeValue) (m1 m3 : MachineValue) (out given : OutFilesValue)
     → MakesQuietly start_clock f0.machine m1 → m1 ≡ record f0.machine { chips = m1.chips }
     → MakesEvents bits (due_events m1.beam f0.run.script.events) m1 out f2.machine given → KeepsPlace m1 f2.machine
     → f2.log ≡ with_script_touches m1.t (touches_of (due_events m1.beam f0.run.script.events)) f0.log
     → HasScriptBehind f0.run m1.beam f0.next f2.next
     → f2 ≡ record f0 { machine = f2.machine; log = f2.log; next = f2.next }
     → MakesQuietly count_timers f2.machine m3 → m3 ≡ record f2.machine { chips = m3.chips; side = m3.side }
-    → ((p : Denise) → shown ≡ with_bytes (length (pixels Pal m3.beam.v m3.beam.h p)) f2.log)
-    → ReachesAccess bits f0 (record f2 { machine = m3; log = shown }) out given
-reaches_access bits f0 f2 m1 m3 shown out given start first events place notes script same timers last shows =
+    → ReachesAccess bits f0 (record f2 { machine = m3 }) out given
+reaches_access bits f0 f2 m1 m3 out given start first events place notes script same timers last =
     let beam : m1.beam ≡ f0.machine.beam = ap (λ (m : MachineValue). m.beam) first in
     let t : m1.t ≡ f0.machine.t = ap (λ (m : MachineValue). m.t) first in
     let run : f2.run ≡ f0.run = ap (λ (f : ForeValue). f.run) same in
@@ -145,51 +125,43 @@ reaches_access bits f0 f2 m1 m3 shown out given start first events place notes s
       spent = spent;
       script = λ whole. subst (λ b. HasScriptBehind f0.run b f0.next f2.next) beam script;
       stands = λ first_band seen begun whole reads.
-          let all : IsBeforeAccess f0.run f0.machine.t first_band m3 shown f0.clx seen
+          let all : IsBeforeAccess f0.run f0.machine.t first_band m3 f2.log f0.clx seen
           × Tells (state_of f0.run f0.machine.t) (access_state f0.run f0.machine.t) out given =
-          reaches f0.run f0.machine.t bits first_band f0.clx f0.machine m1 f2.machine m3 f0.log f2.log shown seen out given begun reads start events
-          timers chip beam noted shows in (
-            subst (λ r. IsBeforeAccess r m3.t first_band m3 shown f2.clx seen) (sym run)
-                (subst (λ k. IsBeforeAccess f0.run k first_band m3 shown f2.clx seen) (sym count)
-                (subst (λ k. IsBeforeAccess f0.run f0.machine.t first_band m3 shown k seen) (sym clx) all.0)),
+          reaches f0.run f0.machine.t bits first_band f0.clx f0.machine m1 f2.machine m3 f0.log f2.log seen out given begun reads start events
+          timers chip beam noted in (
+            subst (λ r. IsBeforeAccess r m3.t first_band m3 f2.log f2.clx seen) (sym run)
+                (subst (λ k. IsBeforeAccess f0.run k first_band m3 f2.log f2.clx seen) (sym count)
+                (subst (λ k. IsBeforeAccess f0.run f0.machine.t first_band m3 f2.log k seen) (sym clx) all.0)),
             all.1,
           );
       reads = ap (λ (x : ChipValue). x.reads) chip;
     }
 
 -- the same through the views of a foreground's struct
-pub reaches_fore : (bits : ℕ) (f0 g0 f2 g2 : ForeValue) (m1 m3 : MachineValue) (shown : Log) (out given : OutFilesValue) → g0 ≡ f0 → g2 ≡ f2
+pub reaches_fore : (bits : ℕ) (f0 g0 f2 g2 : ForeValue) (m1 m3 : MachineValue) (out given : OutFilesValue) → g0 ≡ f0 → g2 ≡ f2
     → MakesQuietly start_clock g0.machine m1 → m1 ≡ record g0.machine { chips = m1.chips }
     → MakesEvents bits (due_events m1.beam g0.run.script.events) m1 out f2.machine given → KeepsPlace m1 f2.machine
     → f2.log ≡ with_script_touches m1.t (touches_of (due_events m1.beam g0.run.script.events)) g0.log
     → HasScriptBehind g0.run m1.beam g0.next f2.next
     → f2 ≡ record g0 { machine = f2.machine; log = f2.log; next = f2.next }
     → MakesQuietly count_timers g2.machine m3 → m3 ≡ record g2.machine { chips = m3.chips; side = m3.side }
-    → ((p : Denise) → shown ≡ with_bytes (length (pixels Pal m3.beam.v m3.beam.h p)) g2.log)
-    → ReachesAccess bits f0 (record g2 { machine = m3; log = shown }) out given
-reaches_fore bits f0 g0 f2 g2 m1 m3 shown out given view0 view2 start first events place notes script same timers last shows =
+    → ReachesAccess bits f0 (record g2 { machine = m3 }) out given
+reaches_fore bits f0 g0 f2 g2 m1 m3 out given view0 view2 start first events place notes script same timers last =
     let back : f2 ≡ g2 = sym view2 in
-    subst (λ f. ReachesAccess bits f (record g2 { machine = m3; log = shown }) out given) view0
-    (reaches_access bits g0 g2 m1 m3 shown out given start first
+    subst (λ f. ReachesAccess bits f (record g2 { machine = m3 }) out given) view0
+    (reaches_access bits g0 g2 m1 m3 out given start first
     (subst (λ (f : ForeValue). MakesEvents bits (due_events m1.beam g0.run.script.events) m1 out f.machine given) back events)
     (subst (λ (f : ForeValue). KeepsPlace m1 f.machine) back place)
     (subst (λ (f : ForeValue). f.log ≡ with_script_touches m1.t (touches_of (due_events m1.beam g0.run.script.events)) g0.log) back notes)
     (subst (λ (f : ForeValue). HasScriptBehind g0.run m1.beam g0.next f.next) back script)
     (subst (λ (f : ForeValue). f ≡ record g0 { machine = f.machine; log = f.log; next = f.next }) back same)
-    timers last shows)
+    timers last)
 
 pub machine_started : (m new : MachineValue) (out : OutFilesValue) → IsMachine m → MakesQuietly start_clock m new → IsMachine new
 machine_started m new out is step =
     let stands : Stands (record { out = out; trace = is.0.trace }) new out (start_clock is.0) =
     step out (record { out = out; trace = is.0.trace }) is.0 (record { machine = is.1; told = told_none out is.0 }) in
     (start_clock is.0, stands.machine)
-
-pub room_kept : (f0 g0 f2 g2 : ForeValue) (c : ℕ) (touches : List Touch) → g0 ≡ f0 → g2 ≡ f2 → f2.log ≡ with_script_touches c touches g0.log
-    → f0.log.band.bytes < 2 ^ 32 → g2.log.band.bytes < 2 ^ 32
-room_kept f0 g0 f2 g2 c touches view0 view2 notes room =
-    let same : g2.log.band.bytes ≡ f0.log.band.bytes = ap (λ (f : ForeValue). f.log.band.bytes) view2 ∙ ap (λ (l : Log). l.band.bytes) notes
-    ∙ touches_keep_bytes c touches g0.log ∙ ap (λ (f : ForeValue). f.log.band.bytes) view0 in
-    subst (λ n. n < 2 ^ 32) (sym same) room
 
 -- the events of a clock, through the view of a foreground's struct
 rest_of_list : (n : ℕ) (events : List At) → take (length events - n) (drop n events) ≡ drop n events

@@ -1,6 +1,7 @@
 pub mod Out
 pub mod Machine
 pub mod MachineSteps
+pub mod ShownCount
 pub mod Log
 pub mod LogLaws
 pub mod Script

@@ -1,5 +1,5 @@
 -- What is kept of the picture while the clocks of a run go by: the band that is open, the write that waits, and the shadow.
-use Rattle.std.specs.Prelude.{◌≡◌, ◌≤◌, ◌<◌, ◌⊎◌, ℕ, ◌+◌, ◌*◌, true, List, [], ◌∷◌, ◌++◌, length, Option, Some, None}
+use Rattle.std.specs.Prelude.{◌≡◌, ◌≤◌, ◌<◌, ◌⊎◌, ℕ, ◌+◌, ◌-◌, ◌*◌, true, List, [], ◌∷◌, ◌++◌, length, Option, Some, None}
 use Rattle.mem_versions.specs.Chip.{ChipValue}
 use Rattle.ocs_base.specs.declared.beam.Beam.{Beam}
 use Rattle.serial_model.specs.declared.picture.Denise.{Denise}
@@ -10,8 +10,9 @@ use Rattle.serial_model.specs.Side.{SideValue}
 use Rattle.serial_bands.specs.declared.event.Event.{Event}
 use Rattle.serial_bands.specs.declared.event.Event.TheVariants as E
 use Rattle.serial_bands.specs.Run.{RunValue, beam_at, run_memory}
-use Rattle.serial_bands.specs.Clock.{opening_at, picture_at, bytes_at, fetch_alone}
+use Rattle.serial_bands.specs.Clock.{opening_at, picture_at, fetch_alone}
 use Rattle.serial_bands.specs.Bands.{begins, begun}
+use Rattle.serial_bands.specs.BandShown.{bytes_from}
 use Rattle.serial_bands.specs.RightJob.{clock_of, event_at, bus_events, script_events}
 use Rattle.serial_bands.specs.StandsFor.{StandsFor}
 use Rattle.serial_bands.specs.Stores.{stores_at}
@@ -28,6 +29,10 @@ abbrev pub waiting_list : Option Event → List Event
 waiting_list None = []
 waiting_list (Some event) = event ∷ []
 
+-- how many bytes the run shows from a clock up to another
+abbrev pub size_to : RunValue → ℕ → ℕ → ℕ
+size_to run from to = length (bytes_from run from (to - from))
+
 -- a band that begins with clock c: no clock of it is done. Its opening is not yet cleared, if a line starts
 pub record IsBeginning (run : RunValue) (c : ℕ) (band : OpenBand) (chip : ChipValue) : Type 0 where
   pub from : band.from ≡ c
@@ -35,13 +40,12 @@ pub record IsBeginning (run : RunValue) (c : ℕ) (band : OpenBand) (chip : Chip
   pub begin : begins run c ≡ true
   pub stands : StandsFor (4 * (beam_at run c).h) (clear_line (beam_at run c) band.opening) (opening_at run c)
   pub events : band.events ≡ []
-  pub bytes : band.bytes ≡ 0
   pub base : chip.base ≡ run_memory run c
   pub writes : chip.writes ≡ []
 
 -- a band of which the clocks before c are done, with the write that waits
 pub record IsGrowing (run : RunValue) (c : ℕ) (band : OpenBand) (waiting : Option Event) (chip : ChipValue) : Type 0 where
-  pub kept : IsOpen run band.number band.from c band.beam band.opening band.events band.bytes chip
+  pub kept : IsOpen run band.number band.from c band.beam band.opening band.events (size_to run band.from c) chip
   pub waits : waiting_list waiting ≡ waiting_events run c
 
 abbrev pub IsBandOf : RunValue → ℕ → Log → ChipValue → Type 0
@@ -57,19 +61,20 @@ pub record IsLogOf (run : RunValue) (c : ℕ) (log : Log) (chip : ChipValue) : T
   pub range : IsInRangeOf log.band.from c log.shadow
   pub left : IsLeftBy (log.band.events ++ waiting_list log.waiting) log.shadow
 
--- What clock c makes of a band that is about to have it: with its events, its bytes and the stores of its access
+-- What clock c makes of a band that is about to have it: with its events and the stores of its access
 -- it is open once the clock is done.
 abbrev pub Grows : RunValue → ℕ → OpenBand → ChipValue → Type 0
 Grows run c band chip =
     (grown : OpenBand) (after : ChipValue) →
-    grown ≡ record band { events = band.events ++ clock_events run c; bytes = band.bytes + length (bytes_at run c) } →
+    grown ≡ record band { events = band.events ++ clock_events run c } →
     after.base ≡ chip.base → after.writes ≡ chip.writes ++ stores_at run c →
-    IsOpen run band.number band.from (c + 1) band.beam band.opening grown.events grown.bytes after
+    IsOpen run band.number band.from (c + 1) band.beam band.opening grown.events (size_to run band.from (c + 1)) after
 
 -- the log once the clocks before `to` are done, where another band begins with clock `to`: the write that waits is no event of
 -- the band that ends
 pub record IsEnding (run : RunValue) (to : ℕ) (log : Log) (chip : ChipValue) : Type 0 where
-  pub kept : IsOpen run log.band.number log.band.from to log.band.beam log.band.opening log.band.events log.band.bytes chip
+  pub kept : IsOpen run log.band.number log.band.from to log.band.beam log.band.opening log.band.events
+      (size_to run log.band.from to) chip
   pub begin : begins run to ≡ true
   pub waits : waiting_list log.waiting ≡ waiting_events run to
   pub last : chip.last ≡ log.band.from
@@ -82,7 +87,6 @@ pub record IsCut (run : RunValue) (to : ℕ) (log : Log) (chip : ChipValue) : Ty
   pub begin : begins run to ≡ true
   pub waits : waiting_list log.waiting ≡ waiting_events run to
   pub events : log.band.events ≡ []
-  pub bytes : log.band.bytes ≡ 0
   pub base : chip.base ≡ run_memory run to
   pub writes : chip.writes ≡ []
   pub last : chip.last ≡ to
@@ -103,12 +107,11 @@ pub record IsStarted (run : RunValue) (c : ℕ) (log : Log) (chip : ChipValue) :
   pub range : IsInRangeOf log.band.from c log.shadow
   pub left : IsLeftBy log.band.events log.shadow
 
--- and behind the picture step: the script's events and the bytes of the clock were added
+-- and behind the picture step: the script's events of the clock were added
 pub record IsShown (run : RunValue) (c : ℕ) (log : Log) (chip : ChipValue) : Type 0 where
   pub before : OpenBand
   pub grows : Grows run c before chip
-  pub band : log.band
-      ≡ record before { events = before.events ++ script_events run c; bytes = before.bytes + length (bytes_at run c) }
+  pub band : log.band ≡ record before { events = before.events ++ script_events run c }
   pub waits : log.waiting ≡ None
   pub least : log.band.from ≤ c
   pub last : chip.last ≡ log.band.from
@@ -161,10 +164,6 @@ with_write_at h (Some (E.Set at reg word)) p = set_picture h reg.offset word p
 with_write_at h (Some (E.Plane at plane addr)) p = p
 with_write_at h (Some (E.Sprite at sprite second addr)) p = p
 
--- so many bytes more
-abbrev pub with_bytes : ℕ → Log → Log
-with_bytes count log = record log { band = record log.band { bytes = log.band.bytes + count } }
-
 -- the band that begins at clock `to`, whose opening is not known yet
 abbrev pub blank_after : ℕ → OpenBand → OpenBand
-blank_after to band = record band { number = band.number + 1; from = to; opening = reset_picture; events = []; bytes = 0 }
+blank_after to band = record band { number = band.number + 1; from = to; opening = reset_picture; events = [] }

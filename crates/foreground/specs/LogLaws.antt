@@ -1,22 +1,18 @@
 -- Laws of the log: from clock to clock, and from band to band.
-use Rattle.std.specs.Prelude.{◌≡◌, ◌≤◌, ◌<◌, ℕ, ◌+◌, ◌^◌, true, false, List, [], ◌∷◌, ◌++◌, length}
-use Rattle.ocs_base.specs.Limits.{IsRunnable}
+use Rattle.std.specs.Prelude.{◌≡◌, ◌≤◌, ◌<◌, ℕ, ◌+◌, true, false, List, [], ◌∷◌, ◌++◌}
 use Rattle.ocs_base.specs.declared.beam.Beam.{Beam}
 use Rattle.mem_versions.specs.Chip.{ChipValue, after_cut}
 use Rattle.serial_model.specs.Made.{is_clx_read}
-use Rattle.ocs_base.specs.declared.script.System.TheVariants.{Pal}
-use Rattle.serial_model.specs.declared.picture.Denise.{Denise}
 use Rattle.serial_model.specs.declared.picture.Touch.{Touch}
 use Rattle.serial_model.specs.Beam.{is_line_start}
-use Rattle.serial_model.specs.Picture.{pixels}
 use Rattle.serial_bands.specs.Run.{RunValue, beam_at}
-use Rattle.serial_bands.specs.Clock.{made_at, bytes_at, bus_touch_at, sets_at}
+use Rattle.serial_bands.specs.Clock.{made_at, bus_touch_at, sets_at}
 use Rattle.serial_bands.specs.Bands.{begins, has_read_at}
 use Rattle.serial_bands.specs.BusReads.{latched_words}
 use Rattle.serial_bands.specs.Stores.{stores_at}
 use Rattle.serial_bands.specs.Shadows.{IsInRange}
 use Rattle.serial_bands.specs.Fetches.{fetches_in}
-use Rattle.foreground.specs.Log.{IsLogOf, IsEnding, IsCut, IsStarted, IsShown, with_waiting, with_begin, with_script_touch, with_script_touches, with_access_touch, with_bytes, blank_after}
+use Rattle.foreground.specs.Log.{IsLogOf, IsEnding, IsCut, IsStarted, IsShown, with_waiting, with_begin, with_script_touch, with_script_touches, with_access_touch, blank_after}
 use Rattle.foreground.specs.declared.log.Log.{Log}
 
 -- a clock starts: with no band the write that waited is an event, and with a band its beam and its cleared opening are noted
@@ -28,27 +24,14 @@ abbrev pub LogBegins : Type 0
 LogBegins = (run : RunValue) (c : ℕ) (beam : Beam) (log : Log) (chip : ChipValue) → IsLogOf run c log chip → log.band.from ≡ c →
     (beam_at run c).frame < run.script.frames → beam ≡ beam_at run c → IsStarted run c (with_begin beam log) chip
 
--- so many bytes have room
-abbrev pub BytesAreFew : Type 0
-BytesAreFew = (run : RunValue) (c : ℕ) (log : Log) (chip : ChipValue) → IsRunnable run.script →
-    (beam_at run c).frame < run.script.frames → IsStarted run c log chip → log.band.bytes < 2 ^ 32
-
--- the script's touches of the clock are noted in their order, and its bytes counted
+-- the script's touches of the clock are noted in their order
 abbrev pub OneTouchMore : Type 0
 OneTouchMore = (c : ℕ) (touch : Touch) (touches : List Touch) (log : Log) →
     with_script_touches c (touches ++ touch ∷ []) log ≡ with_script_touch c touch (with_script_touches c touches log)
 
-abbrev pub TouchesKeepBytes : Type 0
-TouchesKeepBytes = (c : ℕ) (touches : List Touch) (log : Log) →
-    (with_script_touches c touches log).band.bytes ≡ log.band.bytes
-
-abbrev pub BytesByPlace : Type 0
-BytesByPlace = (run : RunValue) (c : ℕ) (p : Denise) →
-    length (bytes_at run c) ≡ length (pixels Pal (beam_at run c).v (beam_at run c).h p)
-
 abbrev pub LogShown : Type 0
 LogShown = (run : RunValue) (c : ℕ) (log : Log) (chip : ChipValue) → IsStarted run c log chip →
-    IsShown run c (with_bytes (length (bytes_at run c)) (with_script_touches c (sets_at run c) log)) chip
+    IsShown run c (with_script_touches c (sets_at run c) log) chip
 
 -- the access's touch is noted, and its store is in the memory
 abbrev pub LogAccessed : Type 0

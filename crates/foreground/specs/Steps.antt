@@ -147,14 +147,14 @@ pub record HasReadByAccess (old new : ForeValue) (first clx : ℕ) (seen after :
   pub gives : HasGiven old.run first (old.machine.t + 1) seen after out given []
 
 -- the foreground stands right before a read of CLXDAT: by the script at the start of a clock, where one of its events there reads
--- it, or, `shown`, by the access of the clock, while the beam is at the clock's place in its line
+-- it, or, `shown`, by the access of the clock, while the beam is at the clock's place
 abbrev pub StandsBeforeRead : Bool → ForeValue → RasterValue → Type 0
 StandsBeforeRead false fore seen =
     (first : ℕ) × IsUnderway fore first seen × (has_clx_read (due_at fore.run fore.machine.t) ≡ true)
     × (fore.machine.beam.frame < fore.run.script.frames)
 StandsBeforeRead true fore seen =
     (first : ℕ) × IsLoggedBefore fore first seen × (is_clx_read (made_at fore.run fore.machine.t) ≡ true)
-    × (fore.machine.beam.h ≡ (beam_at fore.run fore.machine.t).h)
+    × IsSamePlace (beam_at fore.run fore.machine.t) fore.machine.beam
 
 abbrev pub ReadsBits : Bool → ForeValue → ForeValue → ℕ → RasterValue → RasterValue → OutFilesValue → OutFilesValue → Type 0
 ReadsBits false old new clx seen after out given =

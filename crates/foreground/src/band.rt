@@ -17,6 +17,4 @@ pub struct OpenBand {
     pub opening: Denise,
     /// What touched the picture state so far, in the order of happening.
     pub events: Events,
-    /// How many bytes its visible pixels have so far, three a pixel.
-    pub bytes: usize,
 }

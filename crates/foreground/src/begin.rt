@@ -10,6 +10,7 @@ ghost use Rattle.foreground.specs.Log.{with_begin};
 ghost use Rattle.foreground.specs.Steps.{StandsBeforeRead, BeginsClock, BeginsPart, KeepsClock};
 
 use crate::fore::Fore;
+use crate::shown_count::shown_before;
 use band_log::Raster;
 use ocs_base::OutOfMemory;
 use out_files::OutFiles;
@@ -95,7 +96,8 @@ impl<S: Side> Fore<S> {
             (latched_words (over S.seen self.old).run self.old.log.band.from self.old.machine.t)
             self.old.machine.chip.reads self.new.machine.chip.reads }
     {
-        self.end_at_line(raster, out)?;
+        let shown = shown_before(&self.machine.beam);
+        self.end_at_line(shown, raster, out)?;
         self.begin_log();
         Ok(0)
     }

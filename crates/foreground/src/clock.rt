@@ -76,7 +76,6 @@ impl<S: Side> Fore<S> {
         requires script { HasScript (over S.seen self.old).run self.old.machine.beam self.old.next }
         requires screen { IsOnScreen self.old.machine.beam }
         requires some { IsMachine (over S.seen self.old).machine }
-        requires room { self.old.log.band.bytes < 2 ^ 32 }
         ensures reaches { OnOk result (ReachesAccess clx (over S.seen self.old)
             (over S.seen self.new) out.old out.new) }
         ensures run { (over S.seen self.new).run ≡ (over S.seen self.old).run }
@@ -86,8 +85,6 @@ impl<S: Side> Fore<S> {
         self.machine.start();
         self.run_events(clx, out)?;
         self.machine.count_timers();
-        let beam = self.machine.beam;
-        self.log.show(&beam);
         Ok(())
     }
 

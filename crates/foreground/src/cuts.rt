@@ -1,8 +1,8 @@
 //! Where a band ends: at a line, and where CLXDAT is read.
 
-ghost use Rattle.std.specs.Prelude.{◌≡◌, ◌<◌, ◌-◌, ℕ, [], true, OnOk, OnErr, IfOk};
+ghost use Rattle.std.specs.Prelude.{◌≡◌, ◌<◌, ◌-◌, ℕ, [], true, OnOk, OnErr, IfOk, length};
 ghost use Rattle.serial_model.specs.Beam.{is_line_start};
-ghost use Rattle.serial_bands.specs.Run.{beam_at};
+ghost use Rattle.serial_bands.specs.Run.{state_of, beam_at};
 ghost use Rattle.serial_bands.specs.Bands.{begins};
 ghost use Rattle.serial_bands.specs.BusReads.{latched_words};
 ghost use Rattle.foreground.specs.Clock.{Rises};
@@ -20,15 +20,18 @@ use serial_model::{Denise, Side};
 impl<S: Side> Fore<S> {
     /// A band begins with the line at the present clock: the one before it ends there, and is
     /// submitted. The next one opens as the shadow says, with the words of the fetches that are left
-    /// looked up.
+    /// looked up. `shown` is how many pixel bytes the run has shown before the clock.
     pub(crate) fn end_at_line<Q: Raster<S>>(
         &mut self,
+        shown: u64,
         raster: &mut Q,
         out: &mut OutFiles,
     ) -> Result<(), OutOfMemory>
         requires stands { (first : ℕ)
             × StandsBefore self.old.machine.t first (over S.seen self.old) (Q.seen raster.old) }
         requires before { self.old.log.band.from < self.old.machine.t }
+        requires count { shown ≡ length
+            (state_of (over S.seen self.old).run self.old.machine.t).shown }
         requires line { is_line_start (beam_at (over S.seen self.old).run self.old.machine.t) ≡
             true }
         requires begins { begins (over S.seen self.old).run self.old.machine.t ≡ true }
@@ -51,20 +54,24 @@ impl<S: Side> Fore<S> {
             ..
         } = self;
         let to = machine.t;
-        let job = log.cut_line(*alloc, run, &mut machine.chip, to)?;
+        let job = log.cut_line(*alloc, run, &mut machine.chip, to, shown)?;
         submit(job, raster, out, clx)?;
         Ok(())
     }
 
-    /// The band that is open ends before clock `to`, and all bands are gathered. The answer is the
-    /// closing picture state of the last; how the next band opens is not known yet.
+    /// The band that is open ends before clock `to`, up to which the run has shown so many pixel bytes,
+    /// and all bands are gathered. The answer is the closing picture state of the last; how the next
+    /// band opens is not known yet.
     pub(crate) fn end_all<Q: Raster<S>>(
         &mut self,
         to: u64,
+        shown: u64,
         raster: &mut Q,
         out: &mut OutFiles,
     ) -> Result<Option<Denise>, OutOfMemory>
-        requires { (first : ℕ) × StandsAtEnd to first (over S.seen self.old) (Q.seen raster.old) }
+        requires stands { (first : ℕ)
+            × StandsAtEnd to first (over S.seen self.old) (Q.seen raster.old) }
+        requires count { shown ≡ length (state_of (over S.seen self.old).run to).shown }
         ensures ends { IfOk result (λ closing. EndsAll to (over S.seen self.old)
             (over S.seen self.new)
             (Q.seen raster.old) (Q.seen raster.new) out.old out.new closing) }
@@ -82,25 +89,27 @@ impl<S: Side> Fore<S> {
             clx,
             ..
         } = self;
-        let job = log.close(*alloc, run, &mut machine.chip, to)?;
+        let job = log.close(*alloc, run, &mut machine.chip, to, shown)?;
         submit(job, raster, out, clx)?;
         let closing = gather_all(raster, out, clx)?;
         Ok(closing)
     }
 
-    /// CLXDAT is read right before the picture step of clock `to`: the band ends there, and all bands
-    /// are gathered. `h` is the clock of the line before it. The next band opens with what the last
-    /// one closed with.
+    /// CLXDAT is read right before the picture step of clock `to`, up to which the run has shown so many
+    /// pixel bytes: the band ends there, and all bands are gathered. `h` is the clock of the line before
+    /// it. The next band opens with what the last one closed with.
     pub(crate) fn end_at_read<Q: Raster<S>>(
         &mut self,
         to: u64,
         h: u16,
+        shown: u64,
         raster: &mut Q,
         out: &mut OutFiles,
     ) -> Result<(), OutOfMemory>
         requires stands { (first : ℕ) × StandsAtEnd to first (over S.seen self.old)
             (Q.seen raster.old) }
         requires clock { h ≡ (beam_at (over S.seen self.old).run (to - 1)).h }
+        requires count { shown ≡ length (state_of (over S.seen self.old).run to).shown }
         ensures ends { OnOk result (EndsAtRead to (over S.seen self.old) (over S.seen self.new)
             (Q.seen raster.old) (Q.seen raster.new) out.old out.new) }
         ensures part { OnErr result (EndsPartAtRead to (over S.seen self.old)
@@ -108,7 +117,7 @@ impl<S: Side> Fore<S> {
         ensures kept { KeepsClock (over S.seen self.old) (over S.seen self.new) }
         ensures reads { self.new.machine.chip.reads ≡ self.old.machine.chip.reads }
     {
-        match self.end_all(to, raster, out)? {
+        match self.end_all(to, shown, raster, out)? {
             Some(closing) => {
                 self.log.open_with(closing, h);
                 Ok(())

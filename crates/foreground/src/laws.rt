@@ -1,17 +1,14 @@
 //! Laws of the definitions, each the contract of a function that does nothing.
 
-ghost use Rattle.foreground.specs.LogLaws.{LogStarts, LogBegins, BytesAreFew, OneTouchMore, TouchesKeepBytes, BytesByPlace, LogShown, LogAccessed, LogRead, ReadBegins, BeginsWithLine, LogEnds, LogCuts, NumberFits, FetchesAreFew};
+ghost use Rattle.foreground.specs.LogLaws.{LogStarts, LogBegins, OneTouchMore, LogShown, LogAccessed, LogRead, ReadBegins, BeginsWithLine, LogEnds, LogCuts, NumberFits, FetchesAreFew};
 
 /// The log goes from clock to clock: a clock starts, within a band or with one, the script's touches
-/// are noted and the bytes of its pixels counted, and then the touch of its access is noted. A read of
+/// are noted, and then the touch of its access is noted. A read of
 /// CLXDAT touches nothing, and a band begins behind it.
 pub fn log_of_clocks()
     ensures starts { LogStarts }
     ensures begins { LogBegins }
-    ensures few { BytesAreFew }
     ensures touch { OneTouchMore }
-    ensures keep { TouchesKeepBytes }
-    ensures bytes { BytesByPlace }
     ensures shown { LogShown }
     ensures accessed { LogAccessed }
     ensures read { LogRead }

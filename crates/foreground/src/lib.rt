@@ -16,6 +16,7 @@ mod reading;
 pub mod script;
 mod settle;
 pub mod shadow;
+pub mod shown_count;
 pub mod touches;
 
 pub use fore::Fore;

@@ -3,23 +3,21 @@
 
 ghost use Rattle.std.specs.Prelude.{◌≡◌, ◌≤◌, ◌<◌, ◌+◌, ◌-◌, ◌*◌, ◌^◌, ℕ, true, length, Some, IfOk, OnOk, OnErr};
 ghost use Rattle.std.specs.Arc.{arc_value};
-ghost use Rattle.ocs_base.specs.declared.script.System.TheVariants.{Pal};
 ghost use Rattle.mem_versions.specs.Chip.{ChipValue, memory_from, after_cut, after_reads};
 ghost use Rattle.mem_versions.specs.MemView.{IsViewOf};
-ghost use Rattle.serial_model.specs.declared.picture.Denise.{Denise as DeniseValue};
-ghost use Rattle.serial_model.specs.Beam.{is_line_start, is_visible as visible};
-ghost use Rattle.serial_model.specs.Picture.{pixels};
-ghost use Rattle.serial_bands.specs.Run.{RunValue, run_over, beam_at};
+ghost use Rattle.serial_model.specs.Beam.{is_line_start};
+ghost use Rattle.serial_bands.specs.Run.{RunValue, run_over, state_of, beam_at};
 ghost use Rattle.serial_bands.specs.Bands.{begins as begins_at};
 ghost use Rattle.serial_bands.specs.RightJob.{event_at as event_of};
 ghost use Rattle.serial_bands.specs.Shadows.{IsInRange};
 ghost use Rattle.serial_bands.specs.Fetches.{fetches_in};
 ghost use Rattle.band_draw.specs.Keeps.{Keeps};
 ghost use Rattle.foreground.specs.Gathered.{IsClosing};
-ghost use Rattle.foreground.specs.Log.{IsLogOf, IsEnding, IsCut, IsJobOf, with_waiting, with_begin, with_script_touch, with_access_touch, with_write_at, with_bytes, blank_after};
+ghost use Rattle.foreground.specs.Log.{IsLogOf, IsEnding, IsCut, IsJobOf, with_waiting, with_begin, with_script_touch, with_access_touch, with_write_at, blank_after};
 
 use crate::band::OpenBand;
 use crate::shadow;
+use crate::shown_count::shown_before;
 use band_draw::set::{clear, set};
 use band_log::{Event, Events, Job, Reset, Room, Run};
 use mem_versions::Chip;
@@ -60,7 +58,6 @@ impl Log {
                 beam,
                 opening,
                 events: Events::new(alloc),
-                bytes: 0,
             },
             waiting: None,
             shadow,
@@ -97,18 +94,6 @@ impl Log {
         Ok(())
     }
 
-    /// The pixels of a clock will be shown, if it is visible: four of three bytes each.
-    #[inline(always)]
-    pub fn show(&mut self, beam: &Beam)
-        requires { self.old.band.bytes < 2 ^ 32 }
-        ensures { (p : DeniseValue) → self.new
-            ≡ with_bytes (length (pixels Pal beam.now.v beam.now.h p)) self.old }
-    {
-        if is_visible(beam.v, beam.h) {
-            self.band.bytes += 12;
-        }
-    }
-
     /// A touch by the access of a clock: a fetch is an event at once, and a write waits.
     #[inline(always)]
     pub fn note_access(&mut self, t: u64, touch: &Option<Touch>) -> Result<(), OutOfMemory>
@@ -135,16 +120,20 @@ impl Log {
     }
 
     /// Ends the band before clock `to`, where the next one begins: its job, with a view of the memory,
-    /// which is cut there. How the next band opens is not known yet. After a refusal all is as before.
+    /// which is cut there. `shown` is how many pixel bytes the run has shown up to there. How the next
+    /// band opens is not known yet. After a refusal all is as before.
     pub fn close<S: Side>(
         &mut self,
         alloc: Global,
         run: &Arc<Run<S>>,
         chip: &mut Chip,
         to: u64,
+        shown: u64,
     ) -> Result<Job<S>, OutOfMemory>
         requires ending { IsEnding (run_over S.seen (arc_value run.now)) to self.old chip.old }
         requires time { chip.old.newest ≤ to }
+        requires count { shown ≡ length
+            (state_of (run_over S.seen (arc_value run.now)) to).shown }
         ensures job { IfOk result (IsJobOf S.seen (run_over S.seen (arc_value run.now))
             self.old.band to) }
         ensures view { IfOk result (λ job. IsViewOf chip.old to job.view) }
@@ -157,7 +146,8 @@ impl Log {
         ensures kept { OnErr result (chip.new ≡ chip.old) }
     {
         let run = Arc::try_clone(run)?;
-        let room = Room::new(alloc, self.band.bytes)?;
+        let bytes = shown - shown_before(&self.band.beam);
+        let room = Room::new(alloc, bytes as usize)?;
         let view = chip.cut(Clock(to))?;
         let next = OpenBand {
             number: self.band.number + 1,
@@ -165,7 +155,6 @@ impl Log {
             beam: self.band.beam,
             opening: Denise::reset(),
             events: Events::new(alloc),
-            bytes: 0,
         };
         let band = mem::replace(&mut self.band, next);
         Ok(Job {
@@ -190,12 +179,15 @@ impl Log {
         run: &Arc<Run<S>>,
         chip: &mut Chip,
         to: u64,
+        shown: u64,
     ) -> Result<Job<S>, OutOfMemory>
         requires log { IsLogOf (run_over S.seen (arc_value run.now)) to self.old chip.old }
         requires before { self.old.band.from < to }
         requires line { is_line_start (beam_at (run_over S.seen (arc_value run.now)) to) ≡ true }
         requires begins { begins_at (run_over S.seen (arc_value run.now)) to ≡ true }
         requires time { chip.old.newest ≤ to }
+        requires count { shown ≡ length
+            (state_of (run_over S.seen (arc_value run.now)) to).shown }
         ensures job { IfOk result (IsJobOf S.seen (run_over S.seen (arc_value run.now))
             self.old.band to) }
         ensures log { OnOk result (IsLogOf (run_over S.seen (arc_value run.now)) to self.new
@@ -207,7 +199,7 @@ impl Log {
         ensures refused { OnErr result (self.new ≡ self.old) }
         ensures kept { OnErr result (chip.new ≡ chip.old) }
     {
-        let job = self.close(alloc, run, chip, to)?;
+        let job = self.close(alloc, run, chip, to, shown)?;
         shadow::find_words(&mut self.shadow, &job.view, chip);
         self.band.opening = shadow::opening(&self.shadow);
         self.waiting = None;
@@ -238,14 +230,6 @@ fn make_write(d: &mut Denise, h: u16, waiting: &Option<Event>)
     if let Some(Event::Set { reg, word, .. }) = waiting {
         set(d, h, reg.offset, *word);
     }
-}
-
-/// Whether the clock `h` of line `v` is in the picture of a frame file.
-#[inline(always)]
-fn is_visible(v: u16, h: u16) -> bool
-    ensures { result ≡ visible Pal v h }
-{
-    26 <= v && v <= 311 && 47 <= h && h <= 226
 }
 
 /// A touch at a clock as an event.

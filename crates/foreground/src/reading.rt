@@ -7,6 +7,7 @@ ghost use Rattle.foreground.specs.Steps.{StandsBeforeRead, ReadsBits, ReadsPart,
 
 use crate::fore::Fore;
 use crate::gather::gather_all;
+use crate::shown_count::{shown_before, shown_behind};
 use band_log::Raster;
 use ocs_base::{Beam, OutOfMemory};
 use out_files::OutFiles;
@@ -93,7 +94,8 @@ impl<S: Side> Fore<S> {
         let _height = self.run.height();
         let to = self.machine.t + 1;
         let h = self.machine.beam.h;
-        self.end_at_read(to, h, raster, out)?;
+        let shown = shown_behind(&self.machine.beam);
+        self.end_at_read(to, h, shown, raster, out)?;
         Ok(self.take_bits())
     }
 
@@ -115,7 +117,8 @@ impl<S: Side> Fore<S> {
         let to = self.machine.t;
         if self.log.band.from < to {
             let h = clock_before(self.machine.beam.h);
-            self.end_at_read(to, h, raster, out)?;
+            let shown = shown_before(&self.machine.beam);
+            self.end_at_read(to, h, shown, raster, out)?;
             return Ok(self.take_bits());
         }
         gather_all(raster, out, &mut self.clx)?;

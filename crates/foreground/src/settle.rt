@@ -7,6 +7,7 @@ ghost use Rattle.foreground.specs.Steps.{KeepsClock};
 use crate::fore::Fore;
 use crate::gather::gather_all;
 use crate::machine::Machine;
+use crate::shown_count::shown_before;
 use band_log::Raster;
 use mem_versions::Chip;
 use ocs_base::OutOfMemory;
@@ -64,7 +65,8 @@ impl<S: Side> Fore<S> {
     {
         let to = self.machine.t;
         if self.log.band.from < to {
-            self.end_all(to, raster, out)?;
+            let shown = shown_before(&self.machine.beam);
+            self.end_all(to, shown, raster, out)?;
             return Ok(());
         }
         gather_all(raster, out, &mut self.clx)?;

@@ -1,5 +1,4 @@
-use Rattle.foreground.proofs.Logging.{log_starts, log_begins, one_touch_more, touches_keep_bytes, bytes_by_place, log_shown, log_accessed, log_read, read_begins}
-use Rattle.foreground.proofs.Cutting.{bytes_are_few}
+use Rattle.foreground.proofs.Logging.{log_starts, log_begins, one_touch_more, log_shown, log_accessed, log_read, read_begins}
 use Rattle.foreground.proofs.laws.log_of_clocks.Goals as goal
 
 pub returns-clause-starts : goal.returns-clause-starts
@@ -8,17 +7,8 @@ returns-clause-starts c = log_starts
 pub returns-clause-begins : goal.returns-clause-begins
 returns-clause-begins c = log_begins
 
-pub returns-clause-few : goal.returns-clause-few
-returns-clause-few c = bytes_are_few
-
 pub returns-clause-touch : goal.returns-clause-touch
 returns-clause-touch c = one_touch_more
-
-pub returns-clause-keep : goal.returns-clause-keep
-returns-clause-keep c = touches_keep_bytes
-
-pub returns-clause-bytes : goal.returns-clause-bytes
-returns-clause-bytes c = bytes_by_place
 
 pub returns-clause-shown : goal.returns-clause-shown
 returns-clause-shown c = log_shown

@@ -1,13 +1,10 @@
 use Rattle.std.proofs.lemmas.Result.{on_err_weaker}
 use Rattle.foreground.proofs.MadeLaws.{on_err, on_ok_two}
-use Rattle.foreground.proofs.AdvanceLaws.{advances, part_reaching, part_accessing, part_ending, machine_at_begin, room_at_begin, before_access_of}
+use Rattle.foreground.proofs.AdvanceLaws.{advances, part_reaching, part_accessing, part_ending, machine_at_begin, before_access_of}
 use Rattle.foreground.proofs.fore.Fore.advance_clock.Goals as goal
 
 pub run_to_access-requires-clause-some : goal.run_to_access-requires-clause-some
 run_to_access-requires-clause-some g c = machine_at_begin _ _ _ _ _ _ _ _ c.requires.underway.1 c.in_ok-clx.ensures.begins
-
-pub run_to_access-requires-clause-room : goal.run_to_access-requires-clause-room
-run_to_access-requires-clause-room g c = room_at_begin _ _ _ _ _ _ _ _ c.requires.underway.1 c.requires.running c.in_ok-clx.ensures.begins
 
 pub returns-in_err-run_to_access-clause-part : goal.returns-in_err-run_to_access-clause-part
 returns-in_err-run_to_access-clause-part g c =

@@ -4,13 +4,21 @@ use Rattle.ocs_io.proofs.MapLaws.{on_err}
 use Rattle.foreground.specs.Fore.{ForeValue, over}
 use Rattle.foreground.specs.Steps.{BeginsClock, BeginsPart}
 use Rattle.foreground.proofs.BeginLaws.{begins_at_line, line_part, line_requires}
+use Rattle.foreground.proofs.ShownLaws.{shown_now}
 use Rattle.foreground.proofs.fore.Fore.begin_at_line.Goals as goal
 
 pub end_at_line-requires : goal.end_at_line-requires
 end_at_line-requires g c =
     let found = line_requires (over g.S.Side.seen c.args.self.now) c.requires.underway.0 (g.Q.Raster.seen c.args.raster.now) c.requires.underway.1
     c.requires.place in
-    record { stands = (c.requires.underway.0, found.2); before = c.requires.before; line = found.0; begins = found.1 }
+    record {
+      stands = (c.requires.underway.0, found.2);
+      before = c.requires.before;
+      count = shown_now _ (over g.S.Side.seen c.args.self.now) c.requires.underway.0 c.shown_before-shown.result (g.Q.Raster.seen c.args.raster.now)
+          (ap (over g.S.Side.seen) c.self.view_is) c.requires.underway.1 c.shown_before-shown.ensures;
+      line = found.0;
+      begins = found.1;
+    }
 
 pub returns-clause-begins : goal.returns-clause-begins
 returns-clause-begins g c =

@@ -3,14 +3,19 @@ use Rattle.std.proofs.Common.{arith, ap}
 use Rattle.ocs_io.proofs.MapLaws.{on_err}
 use Rattle.foreground.specs.Fore.{GivesPart, over}
 use Rattle.foreground.proofs.SettleLaws.{settle_ends_now, settles_open_now, settles_closed_now, settle_part_now, settle_gather_part}
+use Rattle.foreground.proofs.ShownLaws.{shown_there}
 use Rattle.foreground.proofs.fore.Fore.gather_rest.Goals as goal
 
 pub end_all-requires : goal.end_all-requires
-end_all-requires g c = (
-  c.requires.underway.0,
-  settle_ends_now _ (over g.S.Side.seen c.args.self.now) c.requires.underway.0 (g.Q.Raster.seen c.args.raster.now) (ap (over g.S.Side.seen) c.self.view_is)
-      c.requires.underway.1 c.requires.done c.if-self-to.true,
-)
+end_all-requires g c = record {
+  stands = (
+    c.requires.underway.0,
+    settle_ends_now _ (over g.S.Side.seen c.args.self.now) c.requires.underway.0 (g.Q.Raster.seen c.args.raster.now) (ap (over g.S.Side.seen) c.self.view_is)
+        c.requires.underway.1 c.requires.done c.if-self-to.true,
+  );
+  count = shown_there _ (over g.S.Side.seen c.args.self.now) c.requires.underway.0 c.shown_before-shown.result (g.Q.Raster.seen c.args.raster.now)
+      (ap (over g.S.Side.seen) c.self.view_is) c.requires.underway.1 c.shown_before-shown.ensures;
+}
 
 pub returns-in_err-end_all-clause-part : goal.returns-in_err-end_all-clause-part
 returns-in_err-end_all-clause-part g c =

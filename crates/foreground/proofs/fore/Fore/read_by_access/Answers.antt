@@ -1,12 +1,14 @@
 -- The band ends behind the clock, and all are gathered.
 use Rattle.std.proofs.Common.{◌≡◌, ◌+◌, ◌-◌, ◌<◌, ◌^◌, subst, sym, arith, ap}
 use Rattle.ocs_io.proofs.MapLaws.{on_err}
+use Rattle.ocs_base.specs.declared.beam.Beam.{Beam}
 use Rattle.serial_bands.specs.Run.{run_over, beam_at}
 use Rattle.foreground.specs.Cuts.{StandsAtEnd}
 use Rattle.foreground.specs.Fore.{ForeValue, over}
 use Rattle.foreground.specs.Steps.{AccessesPart}
 use Rattle.foreground.proofs.ReadingLaws.{access_place, access_ends, access_small_now, access_taken, access_part_now}
 use Rattle.foreground.proofs.NewLaws.{good_over}
+use Rattle.foreground.proofs.ShownLaws.{shown_within}
 use Rattle.foreground.proofs.fore.Fore.read_by_access.Goals as goal
 
 pub overflow_add-to : goal.overflow_add-to
@@ -28,7 +30,8 @@ end_at_read-requires g c =
             (access_ends old first (g.Q.Raster.seen c.args.raster.now) c.requires.1 c.requires.2),
       );
       clock = subst (λ (o : ForeValue). o.machine.beam.h ≡ (beam_at old.run (o.machine.t + 1 - 1)).h) (sym (ap (over g.S.Side.seen) c.self.view_is))
-          (access_place old.run old.machine.t old.machine.beam.h c.requires.3);
+          (access_place old.run old.machine.t old.machine.beam.h (ap (λ (b : Beam). b.h) c.requires.3));
+      count = shown_within _ old c.shown_behind-shown.result (ap (over g.S.Side.seen) c.self.view_is) c.requires.3 c.shown_behind-shown.ensures;
     }
 
 pub returns-clause-bits : goal.returns-clause-bits

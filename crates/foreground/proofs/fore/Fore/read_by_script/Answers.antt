@@ -4,6 +4,7 @@ use Rattle.std.proofs.Common.{refl, arith, ap}
 use Rattle.ocs_io.proofs.MapLaws.{on_err}
 use Rattle.foreground.specs.Steps.{BeginsPart}
 use Rattle.foreground.proofs.ReadingLaws.{script_place_now, script_ends_now, script_taken, script_part_now, all_taken, all_part}
+use Rattle.foreground.proofs.ShownLaws.{shown_there}
 use Rattle.foreground.proofs.fore.Fore.read_by_script.Goals as goal
 
 pub end_at_read-requires : goal.end_at_read-requires
@@ -16,6 +17,8 @@ end_at_read-requires g c =
         script_ends_now _ (over g.S.Side.seen c.args.self.now) first (seen c.args.raster.now) (ap (over g.S.Side.seen) c.self.view_is)
             c.requires.1 c.requires.2 c.if-self-to.true,
       );
+      count = shown_there _ (over g.S.Side.seen c.args.self.now) first c.shown_before-shown.result (seen c.args.raster.now) (ap (over g.S.Side.seen) c.self.view_is)
+          c.requires.1 c.shown_before-shown.ensures;
       clock =
           script_place_now _ (over g.S.Side.seen c.args.self.now) first c.clock_before-h.result (seen c.args.raster.now)
           (ap (over g.S.Side.seen) c.self.view_is) c.requires.1 c.if-self-to.true

@@ -1,10 +1,12 @@
 use Rattle.serial_bands.specs.Run.{run_over}
-use Rattle.std.proofs.Common.{◌≡◌, ◌+◌, ◌≤◌, rules, length, refl, ap, ◌∙◌, sym, subst, arith}
+use Rattle.std.proofs.Common.{◌≡◌, ◌+◌, ◌-◌, ◌≤◌, rules, length, refl, ap, ◌∙◌, sym, subst, arith}
 use Rattle.std.proofs.lemmas.List.{length-replicate}
 use Rattle.std.specs.Arc.{arc_value}
-use Rattle.foreground.specs.Log.{IsCut, blank_after}
+use Rattle.foreground.specs.Log.{IsCut, blank_after, size_to}
+use Rattle.foreground.specs.ShownCount.{shown_before}
 use Rattle.foreground.proofs.Beginning.{ended_job}
 use Rattle.foreground.proofs.Cutting.{log_cuts, number_fits}
+use Rattle.foreground.proofs.ShownLaws.{ended_size}
 use Rattle.foreground.proofs.log.Log.close.Goals as goal
 
 pub overflow_add-next : goal.overflow_add-next
@@ -18,7 +20,20 @@ returns-clause-job g c =
     ended_job (run_over g.S.Side.seen (arc_value c.args.run.now)) c.args.to c.args.self.now c.args.chip.now g.S.Side.seen _ c.replace-band.result
     c.requires.ending
     c.replace-band.ensures.value (ap (run_over g.S.Side.seen) c.in_ok-run.ensures) refl refl refl refl refl refl c.in_ok-view.ensures.view
-    (ap length c.in_ok-room.ensures ∙ length-replicate c.args.self.now.band.bytes 0)
+    (let run = run_over g.S.Side.seen (arc_value c.args.run.now) in
+    let whole : c.args.shown ≡ shown_before c.args.self.now.band.beam + size_to run c.args.self.now.band.from c.args.to =
+    ended_size run c.args.to c.args.shown c.args.self.now c.args.chip.now c.requires.ending c.requires.count in
+    let before : c.shown_before.result ≡ shown_before c.args.self.now.band.beam = c.shown_before.ensures in
+    let rest : c.args.shown - c.shown_before.result ≡ size_to run c.args.self.now.band.from c.args.to = omega (arith, whole, before) in
+    ap length c.in_ok-room.ensures ∙ length-replicate _ 0 ∙ rest)
+
+pub overflow_sub-bytes : goal.overflow_sub-bytes
+overflow_sub-bytes g c =
+    let run = run_over g.S.Side.seen (arc_value c.args.run.now) in
+    let whole : c.args.shown ≡ shown_before c.args.self.now.band.beam + size_to run c.args.self.now.band.from c.args.to =
+    ended_size run c.args.to c.args.shown c.args.self.now c.args.chip.now c.requires.ending c.requires.count in
+    let before : c.shown_before.result ≡ shown_before c.args.self.now.band.beam = c.shown_before.ensures in
+    omega (arith, whole, before)
 
 pub returns-clause-cut : goal.returns-clause-cut
 returns-clause-cut g c =
