@@ -85,10 +85,10 @@ pub page-writes : (writes : List Write) (page start end : ℕ) → IsStart write
     take (end - start) (drop start writes) ≡ filter (λ w. w.place / 256 == page) writes
 page-writes writes page start end begin stop order =
     filter-middle (λ w. w.place / 256 == page) writes start end order
-    (λ k d before within. let low : (get_or writes k d).place < 256 * page = begin.lower k d before in apart page (get_or writes k d).place low)
+    (λ k d before within. let low : (get_or writes k d).place < 256 * page = begin.before.lower k d before in apart page (get_or writes k d).place low)
     (λ k d from upto within.
     let least : 256 * page ≤ (get_or writes k d).place = begin.higher k d from within in
-    let most : (get_or writes k d).place < 256 * (page + 1) = stop.lower k d upto in
+    let most : (get_or writes k d).place < 256 * (page + 1) = stop.before.lower k d upto in
     on page (get_or writes k d).place least most)
     (λ k d from within. let high : 256 * (page + 1) ≤ (get_or writes k d).place = stop.higher k d from within in beyond page (get_or writes k d).place high)
   where
@@ -108,8 +108,8 @@ starts-rise writes page start end begin stop = by_cases (cases_lt end start)
     by_cases : (end < start) ⊎ (start ≤ end) → start ≤ end
     by_cases (inl less) =
         let d : Write = record { clock = 0; place = 0; word = 0 } in
-        let low : (get_or writes end d).place < 256 * page = begin.lower end d less in
-        let high : 256 * (page + 1) ≤ (get_or writes end d).place = stop.higher end d (omega arith) (omega (arith, begin.within)) in
+        let low : (get_or writes end d).place < 256 * page = begin.before.lower end d less in
+        let high : 256 * (page + 1) ≤ (get_or writes end d).place = stop.higher end d (omega arith) (omega (arith, begin.before.within)) in
         omega arith
     by_cases (inr le) = le
 

@@ -14,10 +14,14 @@ IsInOrder writes = (i j : ℕ) (d : Write) → i ≤ j → j < length writes →
     ((slice_index_or writes i d).place ≤ (slice_index_or writes j d).place)
     × ((slice_index_or writes i d).place ≡ (slice_index_or writes j d).place → (slice_index_or writes i d).clock ≤ (slice_index_or writes j d).clock)
 
--- at a start the writes to lower pages end, and those to the page begin
-pub record IsStart (writes : List Write) (page start : ℕ) : Type 0 where
+-- only writes to lower pages stand before a place of the list
+pub record AreLower (writes : List Write) (page start : ℕ) : Type 0 where
   pub within : start ≤ length writes
   pub lower : (k : ℕ) (d : Write) → k < start → (slice_index_or writes k d).place < 256 * page
+
+-- at a start the writes to lower pages end, and those to the page begin
+pub record IsStart (writes : List Write) (page start : ℕ) : Type 0 where
+  pub before : AreLower writes page start
   pub higher : (k : ℕ) (d : Write) → start ≤ k → k < length writes → 256 * page ≤ (slice_index_or writes k d).place
 
 -- where the writes to each page begin, and where the last end

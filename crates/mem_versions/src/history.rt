@@ -4,7 +4,7 @@ ghost use Rattle.std.specs.Prelude.{◌≡◌, ◌==◌, ◌+◌, ◌-◌, ◌*�
 ghost use Rattle.std.specs.List.Sorted.{IsNonDecreasingBy};
 ghost use Rattle.mem_versions.specs.declared.write.Write.{Write as WriteValue};
 ghost use Rattle.mem_versions.specs.MemoryAt.{writes_to, page_writes};
-ghost use Rattle.mem_versions.specs.History.{word_before, IsInOrder, IsStart, AreStarts};
+ghost use Rattle.mem_versions.specs.History.{word_before, IsInOrder, AreLower, IsStart, AreStarts};
 
 use crate::pages::{PAGE, PAGES};
 use crate::steps::Steps;
@@ -96,26 +96,33 @@ fn sorted_writes(alloc: Global, writes: &[Write]) -> Result<Vec<Write>, OutOfMem
     Ok(list)
 }
 
-/// Where the writes to each page begin, and where those to the last one end.
+/// Where the writes to each page begin, and where those to the last one end, by one walk.
 fn page_starts(alloc: Global, writes: &[Write]) -> Result<Vec<usize>, OutOfMemory>
     requires { IsInOrder writes.now }
     ensures { IfOk result (λ starts. AreStarts writes.now starts.items) }
 {
     let mut starts = Vec::with_capacity(alloc, PAGES + 1)?;
+    let mut start = 0;
     for page in 0..PAGES + 1 {
-        starts.push(page_start(writes, page))?;
+        start = page_start(writes, page, start);
+        starts.push(start)?;
     }
     Ok(starts)
 }
 
-/// Where the writes to a page begin.
-fn page_start(writes: &[Write], page: usize) -> usize
+/// Where the writes to a page begin, from a place before which only writes to lower pages stand.
+fn page_start(writes: &[Write], page: usize, from: usize) -> usize
     requires order { IsInOrder writes.now }
     requires page { page < 1025 }
+    requires lower { AreLower writes.now page from }
     ensures { IsStart writes.now page result }
 {
     let first = page * PAGE;
-    writes.partition_point(|write| (write.place as usize) < first)
+    let mut start = from;
+    while start < writes.len() && (writes[start].place as usize) < first {
+        start += 1;
+    }
+    start
 }
 
 /// The word of the last of the writes to a place of a clock below `clock`, or `word` where there is

@@ -22,7 +22,7 @@ part-requires-clause-within c =
     let n = c.args.number in
     let stop : IsStart writes (n + 1) c.index-2.result.now =
     start-at writes c.self.inside.starts.items (n + 1) c.index-2.result.now c.self.invariant.1 (omega arith) c.index-2.ensures in
-    rw c.deref.ensures.value stop.within
+    rw c.deref.ensures.value stop.before.within
 
 pub returns-clause-writes : goal.returns-clause-writes
 returns-clause-writes c =
