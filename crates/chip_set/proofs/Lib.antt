@@ -1,5 +1,7 @@
+pub mod AbleLaws
 pub mod AskLaws
 pub mod BlitLaws
 pub mod ChipsLaws
 pub mod ClxLaws
+pub mod MadeLaws
 pub mod TurnLaws

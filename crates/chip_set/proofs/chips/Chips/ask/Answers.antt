@@ -5,7 +5,8 @@ use Rattle.serial_model.specs.PlaneFetch.{move_planes}
 use Rattle.serial_model.specs.SpriteFetch.{kinds_at, sprite_ask, move_sprites}
 use Rattle.chip_set.specs.Chips.{WorkingChips, IsChipsOf, HasAsked, IsBlitAsk, kept_wish, plain_chips}
 use Rattle.cpu_bus.specs.Bus.{wish_shown}
-use Rattle.chip_set.proofs.AskLaws.{HasFetched, ask_is_at, has_asked, ask_can, ask_is_of_blit}
+use Rattle.chip_set.proofs.AbleLaws.{ask_can}
+use Rattle.chip_set.proofs.AskLaws.{HasFetched, ask_is_at, has_asked, ask_is_of_blit}
 use Rattle.chip_set.proofs.chips.Chips.ask.Goals as goal
 
 -- the chips before, and after the fetches had their steps
