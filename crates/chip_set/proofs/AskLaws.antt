@@ -11,20 +11,16 @@ use Rattle.blitter.specs.StandsFor.{slot_shown}
 use Rattle.blitter.specs.declared.Blit.{Blit}
 use Rattle.ocs_base.specs.declared.addr.Addr.{Addr}
 use Rattle.ocs_base.specs.declared.beam.Beam.{Beam}
-use Rattle.ocs_base.specs.declared.reg.Reg.{Reg}
 use Rattle.serial_model.specs.declared.bus.Ask.{Ask}
 use Rattle.serial_model.specs.declared.bus.Ask.TheVariants as A
 use Rattle.serial_model.specs.declared.bus.Made.{Made}
-use Rattle.serial_model.specs.declared.bus.Made.TheVariants as M
 use Rattle.serial_model.specs.declared.bus.ProcessorAsk.{ProcessorAsk}
 use Rattle.serial_model.specs.declared.bus.ProcessorAsk.TheVariants as P
 use Rattle.serial_model.specs.declared.bus.SideAsk.{SideAsk}
 use Rattle.serial_model.specs.declared.bus.SideAsk.TheVariants as S
 use Rattle.serial_model.specs.declared.copper.CopperAct.{CopperAct}
-use Rattle.serial_model.specs.declared.copper.CopperAct.TheVariants.{None as NoAct, Move}
+use Rattle.serial_model.specs.declared.copper.CopperAct.TheVariants.{None as NoAct}
 use Rattle.serial_model.specs.declared.copper.CopperState.{CopperState}
-use Rattle.serial_model.specs.declared.copper.CopperPhase.{CopperPhase}
-use Rattle.serial_model.specs.declared.copper.CopperPhase.TheVariants.{First, Second, Waiting, Stopped}
 use Rattle.serial_model.specs.declared.fetch.PlaneAsk.{PlaneAsk}
 use Rattle.serial_model.specs.declared.fetch.SpriteAsk.{SpriteAsk}
 use Rattle.serial_model.specs.declared.fetch.SpriteAsk.TheVariants.{Control, Words}
@@ -35,23 +31,22 @@ use Rattle.serial_model.specs.declared.registers.Reading.TheVariants.{Zero, DmaA
 use Rattle.serial_model.specs.declared.slots.Owner.{Owner}
 use Rattle.serial_model.specs.declared.slots.Owner.TheVariants.{Refresh, Disk, Audio, Plane, Sprite, Copper, Blitter, Processor, Free}
 use Rattle.serial_model.specs.declared.slots.SlotState.{SlotState}
-use Rattle.serial_model.specs.declared.trace.Source.TheVariants.{Processor as ByProcessor}
 use Rattle.cpu_bus.specs.Bus.{IsProcessorOf, wish_shown}
 use Rattle.cpu_bus.proofs.BusLaws.{wish_shown-is}
-use Rattle.serial_model.specs.Bus.{Wishes, copper_runs, copper_after, units_now, plane_wish, kinds_now, sprite_wish, is_disk, channel_of, side_ask, sprite_owner_ask, ask_of_blit, blit_wish, wishes_of, slot_state, owner_ask, ask_at, answer_to, answer_owner, answer_chips, end_blit, give_blit, give_chips, missed_after, copper_word, answer_processor, made_by_copper, made_by_processor, made_by_ask}
-use Rattle.serial_model.specs.Copper.{wish_of, copper_act, act_in, step_copper}
+use Rattle.serial_model.specs.Bus.{Wishes, copper_after, units_now, plane_wish, kinds_now, sprite_wish, is_disk, channel_of, side_ask, sprite_owner_ask, ask_of_blit, blit_wish, slot_state, owner_ask, ask_at, answer_to, answer_owner, answer_chips, end_blit, give_blit, give_chips, missed_after, copper_word, answer_processor}
+use Rattle.serial_model.specs.Copper.{wish_of, copper_act, step_copper}
 use Rattle.serial_model.specs.Owner.{owner_of, is_refresh}
 use Rattle.serial_model.specs.PlaneFetch.{units_at, last_unit, IsLastUnit, plane_ask, fetched_plane, ask_for_plane, move_planes, move_plane_pointer, move_if_fetched}
 use Rattle.irq_cia.specs.Bits.{has_bits}
 use Rattle.serial_model.specs.Processor.{processor_wish}
 use Rattle.serial_model.specs.RegisterTable.{reading_at}
-use Rattle.serial_model.specs.Registers.{kept_word, blitter_dma, is_danger, bit_worth, word_in, word_at}
+use Rattle.serial_model.specs.Registers.{kept_word, blitter_dma, bit_worth, word_in, word_at}
 use Rattle.serial_model.specs.Side.{IsInTime}
 use Rattle.serial_model.specs.SpriteFetch.{kinds_at, is_sprite_slot, sprite_ask, asking_sprite, move_sprites, move_sprite_pointer, move_if_asked}
 use Rattle.serial_model.specs.State.{BlitUnderWay, Chips, is_busy, live_words, read_word}
 use Rattle.serial_model.proofs.FetchLaws.{IsFetch, fetched_plane-is, kept_word-move_planes}
-use Rattle.serial_model.proofs.SlotLaws.{SameForSprites, move_planes-same, kinds_at-same, sprite_ask-same, sprite_ask-slot, sprite_ask-taken, sprite_ask-few, kept_word-move_sprites, AsksBefore, owner_by, plane_wins, sprite_wins}
-use Rattle.chip_set.specs.Chips.{WorkingChips, IsBlitOf, IsChipsOf, some_blit, plain_chips, kept_wish, wishes_with, ask_with, IsBlitAsk, AnswersOwner, answering, act_at, made_with, IsAnswer, fetched_registers, fetched_chips, HasAsked, HasAccessed, CanAsk, CanDo}
+use Rattle.serial_model.proofs.SlotLaws.{SameForSprites, move_planes-same, kinds_at-same, sprite_ask-same, sprite_ask-slot, sprite_ask-taken, kept_word-move_sprites, AsksBefore, owner_by, plane_wins, sprite_wins}
+use Rattle.chip_set.specs.Chips.{WorkingChips, IsBlitOf, IsChipsOf, some_blit, plain_chips, kept_wish, wishes_with, ask_with, IsBlitAsk, AnswersOwner, answering, act_at, made_with, IsAnswer, fetched_registers, fetched_chips, HasAsked, HasAccessed}
 use Rattle.chip_set.proofs.MadeLaws.{made-act, Serves, made_by_answer, copper_by_answer}
 
 -- registers that the fetches left alone but for pointers: the words of DMACON and COPCON are the same
