@@ -6,6 +6,7 @@ ghost use Rattle.serial_model.specs.State.{Chips as ChipsOf};
 ghost use Rattle.serial_model.specs.Registers.{is_interlaced as interlaced, is_danger as danger, blitter_first, blitter_dma, dmacon_of, effect_of, word_at};
 ghost use Rattle.serial_model.specs.Bus.{copper_runs as runs, copper_wish as wish_of, copper_word as word_to_copper};
 ghost use Rattle.serial_model.specs.Bus.{copper_after, blit_owner_ask, missed_after, ask_at};
+ghost use Rattle.serial_model.specs.Made.{word_of};
 ghost use Rattle.serial_model.specs.Side.{IsInTime};
 ghost use Rattle.serial_model.specs.declared.bus.SideAsk.{SideAsk};
 ghost use Rattle.serial_bands.specs.BusReads.{reads_of_processor};
@@ -322,6 +323,8 @@ impl Chips {
     /// stored, a word for a plane's latch or a sprite's image, a read of CLXDAT, or nothing. The words for planes and
     /// images and those of samples are not read here. `clx` has the collision bits gathered up to now; only a read of
     /// CLXDAT looks at them.
+    ///
+    /// The owners of most clocks stand apart: what follows is then that of the one owner, and no ask is put in memory.
     #[inline(always)]
     pub fn answer(&mut self, ask: &Ask, beam: &Beam, clx: u16, chip: &mut Chip) -> Made
         requires able { CanAsk ask.now }
@@ -332,19 +335,29 @@ impl Chips {
         ensures able { CanDo result }
         ensures reads { chip.new ≡ read_by (reads_by_chips ask.now) chip.old }
     {
-        if let Ask::Free = ask {
-            return self.answer_with(&Ask::Free, beam, 0);
+        match *ask {
+            Ask::Free => self.answer_with(&Ask::Free, beam, 0),
+            Ask::Plane { plane, at } => self.answer_with(&Ask::Plane { plane, at }, beam, 0),
+            Ask::Copper { at } => {
+                let word = read_memory(at, chip);
+                self.answer_with(&Ask::Copper { at }, beam, word)
+            }
+            Ask::BlitRead { at } => {
+                let word = read_memory(at, chip);
+                self.answer_with(&Ask::BlitRead { at }, beam, word)
+            }
+            Ask::BlitWrite { at, word } => self.answer_with(&Ask::BlitWrite { at, word }, beam, 0),
+            Ask::Processor { ask } => {
+                let word = self.read(&ask, beam, clx, chip);
+                self.answer_with(&Ask::Processor { ask }, beam, word)
+            }
+            other => self.answer_any(other, beam, clx, chip),
         }
-        if let Ask::Plane { plane, at } = *ask {
-            return self.answer_with(&Ask::Plane { plane, at }, beam, 0);
-        }
-        self.answer_owner_of(*ask, beam, clx, chip)
     }
 
-    /// The same, whoever owns the slot. It has a copy of the ask, so that a clock without an access need not put its
-    /// own in memory.
-    #[inline(always)]
-    fn answer_owner_of(&mut self, ask: Ask, beam: &Beam, clx: u16, chip: &mut Chip) -> Made
+    /// The same, whoever owns the slot.
+    #[inline(never)]
+    fn answer_any(&mut self, ask: Ask, beam: &Beam, clx: u16, chip: &mut Chip) -> Made
         requires able { CanAsk ask }
         requires wish { IsBlitAsk ask (kept_wish self.old) }
         ensures access { (side : SideAsk) (c : ChipsOf) → IsInTime beam.now side
@@ -483,6 +496,7 @@ impl Chips {
     }
 
     /// The word that answers the processor.
+    #[inline(always)]
     fn read(&self, ask: &ProcessorAsk, beam: &Beam, clx: u16, chip: &mut Chip) -> u16
         ensures word { IsRead ask.now beam.now clx self.now chip.old.words result }
         ensures reads { chip.new ≡ read_by (reads_of_processor ask.now) chip.old }
@@ -641,4 +655,13 @@ impl Chips {
     {
         self.registers.word(Reg::masked(DMACON)) & BLTPRI == BLTPRI
     }
+}
+
+/// The word at an address of chip memory, read for a chip.
+#[inline(always)]
+fn read_memory(at: Addr, chip: &mut Chip) -> u16
+    ensures word { result ≡ word_of chip.old.words at.value }
+    ensures reads { chip.new ≡ read_by 1 chip.old }
+{
+    chip.read(at)
 }

@@ -1,3 +1,4 @@
+-- Whoever owns the slot: with its word the access is the definition's.
 use Rattle.std.proofs.Common.{refl, sym, ◌∙◌}
 use Rattle.serial_model.specs.declared.bus.Ask.TheVariants as A
 use Rattle.chip_set.proofs.AskLaws.{answer_is}
@@ -11,6 +12,55 @@ returns-in-Free-clause-access c side chips time asked same =
 
 pub returns-in-Plane-clause-access : goal.returns-in-Plane-clause-access
 returns-in-Plane-clause-access c side chips time asked same =
-    answer_is c.args.beam.now c.args.clx c.args.chip.now.words (A.Plane c.in-Plane.plane c.in-Plane.at) c.args.self.now c.answer_with-in-Plane.new.self
-    c.answer_with-in-Plane.result (record { word = 0; answer = tt; owner = c.answer_with-in-Plane.ensures.owner; makes = c.answer_with-in-Plane.ensures.made })
+    answer_is c.args.beam.now c.args.clx c.args.chip.now.words (A.Plane c.in-Plane.plane c.in-Plane.at) c.args.self.now c.answer_with-in-Plane.new.self c.answer_with-in-Plane.result
+    (record {
+      word = 0;
+      answer = tt;
+      owner = c.answer_with-in-Plane.ensures.owner;
+      makes = c.answer_with-in-Plane.ensures.made;
+    })
     side chips time asked (sym c.in-Plane.is ∙ same)
+
+pub returns-in-Copper-clause-access : goal.returns-in-Copper-clause-access
+returns-in-Copper-clause-access c side chips time asked same =
+    answer_is c.args.beam.now c.args.clx c.args.chip.now.words (A.Copper c.in-Copper.at) c.args.self.now c.answer_with-in-Copper.new.self c.answer_with-in-Copper.result
+    (record {
+      word = c.read_memory-word.result;
+      answer = c.read_memory-word.ensures.word;
+      owner = c.answer_with-in-Copper.ensures.owner;
+      makes = c.answer_with-in-Copper.ensures.made;
+    })
+    side chips time asked (sym c.in-Copper.is ∙ same)
+
+pub returns-in-BlitRead-clause-access : goal.returns-in-BlitRead-clause-access
+returns-in-BlitRead-clause-access c side chips time asked same =
+    answer_is c.args.beam.now c.args.clx c.args.chip.now.words (A.BlitRead c.in-BlitRead.at) c.args.self.now c.answer_with-in-BlitRead.new.self c.answer_with-in-BlitRead.result
+    (record {
+      word = c.read_memory-word-in-BlitRead.result;
+      answer = c.read_memory-word-in-BlitRead.ensures.word;
+      owner = c.answer_with-in-BlitRead.ensures.owner;
+      makes = c.answer_with-in-BlitRead.ensures.made;
+    })
+    side chips time asked (sym c.in-BlitRead.is ∙ same)
+
+pub returns-in-BlitWrite-clause-access : goal.returns-in-BlitWrite-clause-access
+returns-in-BlitWrite-clause-access c side chips time asked same =
+    answer_is c.args.beam.now c.args.clx c.args.chip.now.words (A.BlitWrite c.in-BlitWrite.at c.in-BlitWrite.word) c.args.self.now c.answer_with-in-BlitWrite.new.self c.answer_with-in-BlitWrite.result
+    (record {
+      word = 0;
+      answer = refl;
+      owner = c.answer_with-in-BlitWrite.ensures.owner;
+      makes = c.answer_with-in-BlitWrite.ensures.made;
+    })
+    side chips time asked (sym c.in-BlitWrite.is ∙ same)
+
+pub returns-in-Processor-clause-access : goal.returns-in-Processor-clause-access
+returns-in-Processor-clause-access c side chips time asked same =
+    answer_is c.args.beam.now c.args.clx c.args.chip.now.words (A.Processor c.in-Processor.ask) c.args.self.now c.answer_with-in-Processor.new.self c.answer_with-in-Processor.result
+    (record {
+      word = c.read-word.result;
+      answer = c.read-word.ensures.word;
+      owner = c.answer_with-in-Processor.ensures.owner;
+      makes = c.answer_with-in-Processor.ensures.made;
+    })
+    side chips time asked (sym c.in-Processor.is ∙ same)

@@ -2,7 +2,7 @@ use Rattle.std.proofs.Common.{subst, sym}
 use Rattle.chip_set.specs.Chips.{CanDo}
 use Rattle.chip_set.proofs.AbleLaws.{can_make}
 use Rattle.chip_set.proofs.AskLaws.{answer_is}
-use Rattle.chip_set.proofs.chips.Chips.answer_owner_of.Goals as goal
+use Rattle.chip_set.proofs.chips.Chips.answer_any.Goals as goal
 
 pub returns : goal.returns
 returns c = record {
