@@ -20,6 +20,7 @@ use std::alloc::Global;
 use std::sync::Arc;
 use std::test::Fail;
 
+mod reads;
 mod side_runs;
 
 const HEADING: &[u8] = b"P6\n720 286\n255\n";
