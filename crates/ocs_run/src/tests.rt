@@ -1,5 +1,6 @@
 //! Worked runs on a shelf. The expected files and texts are worked by hand.
 
+use self::cases::{Case, first_fault};
 use crate::{Gate, NoGate, ocs_main};
 use ocs_base::OutOfMemory;
 use ocs_io::Shelf;
@@ -94,36 +95,48 @@ const BLACK: [u8; 3] = [0, 0, 0];
 
 const RED: [u8; 3] = [255, 0, 0];
 
+static POKES: [Case; 3] = [
+    // Nothing is written.
+    Case {
+        frames: 1,
+        band: "313",
+        image: &[(4, 0)],
+        pokes: &[],
+        peeks: &[],
+        after: "",
+        memory: &[(4, 0)],
+        ground: BLACK,
+        parts: &[],
+    },
+    // COLOR00 is red from clock 100 of line 100 on, which is seen from its first pixel on.
+    Case {
+        frames: 1,
+        band: "313",
+        image: &[(4, 0)],
+        pokes: &[("0 100 100", "180", "0f00")],
+        peeks: &[],
+        after: "",
+        memory: &[(4, 0)],
+        ground: BLACK,
+        parts: &[(74, 74, 212, 719, RED), (75, 285, 0, 719, RED)],
+    },
+    // Of two writes at one clock the second stands.
+    Case {
+        frames: 1,
+        band: "313",
+        image: &[(4, 0)],
+        pokes: &[("0 5 0", "180", "0001"), ("0 5 0", "180", "0002")],
+        peeks: &[],
+        after: "",
+        memory: &[(4, 0)],
+        ground: [0, 0, 34],
+        parts: &[],
+    },
+];
+
 #[test]
 fn files_of_pokes(rt: HostRuntime) -> Result<(), OutOfMemory> {
-    let alloc = rt.alloc();
-    let black = picture(alloc, &[(205_920, BLACK)])?;
-    let red = picture(alloc, &[(53_492, BLACK), (152_428, RED)])?;
-    let blue = picture(alloc, &[(205_920, [0, 0, 34])])?;
-    let memory = vec![in alloc; 0u8; 524_288]?;
-    for (events, frames, trace) in [
-        ("", &black, ""),
-        (
-            "at 0 100 100 poke 180 0f00\n",
-            &red,
-            "0 100 100 W 180 0f00 S\n",
-        ),
-        (
-            "at 0 5 0 poke 180 0001\nat 0 5 0 poke 180 0002\n",
-            &blue,
-            "0 5 0 W 180 0001 S\n0 5 0 W 180 0002 S\n",
-        ),
-    ] {
-        let mut shelf = shelf(alloc, &IMAGE, script(alloc, events)?.as_bytes())?;
-        assert_eq!(rt; run(&rt, rt.alloc(), &WORDS, &mut shelf)?, 0, "{events}");
-        assert!(rt; holds(&shelf, "frames", frames), "frames of {events}");
-        assert!(rt;
-            holds(&shelf, "trace", trace.as_bytes()),
-            "trace of {events}"
-        );
-        assert!(rt; holds(&shelf, "memory", &memory), "memory of {events}");
-        assert!(rt; shelf.said().is_empty());
-    }
+    assert_eq!(rt; first_fault(&rt, rt.alloc(), &POKES)?, None);
     Ok(())
 }
 
@@ -159,27 +172,57 @@ fn picture_of_bars(alloc: Global) -> Result<Vec<u8>, OutOfMemory> {
     )
 }
 
+/// What of the bars' run in bands of this height by so many workers is not as it should be.
+fn fault_of_bars<R: Threads + Wait + Clone + Drop + Send + Sync + 'static>(
+    rt: &R,
+    alloc: Global,
+    band: &str,
+    workers: &str,
+) -> Result<Option<&'static str>, OutOfMemory> {
+    let words = [
+        "run", "image", "script", "frames", "trace", "memory", band, workers,
+    ];
+    let mut shelf = shelf_of_bars(alloc)?;
+    if run(rt, alloc, &words, &mut shelf)? != 0 {
+        return Ok(Some("status"));
+    }
+    if !holds(&shelf, "trace", BAR_TRACE.as_bytes()) {
+        return Ok(Some("trace"));
+    }
+    fault_of_memory_of_bars(alloc, &shelf)
+}
+
+/// A shelf with the image of the bars and its script.
+fn shelf_of_bars(alloc: Global) -> Result<Shelf, OutOfMemory> {
+    let text = script(alloc, START)?;
+    shelf(alloc, &bars(alloc)?, text.as_bytes())
+}
+
+/// What of the frame and the memory of the bars is not as it should be.
+fn fault_of_memory_of_bars(
+    alloc: Global,
+    shelf: &Shelf,
+) -> Result<Option<&'static str>, OutOfMemory> {
+    if !holds(shelf, "frames", &picture_of_bars(alloc)?) {
+        return Ok(Some("frames"));
+    }
+    let mut memory = bars(alloc)?;
+    memory.resize(524_288, 0)?;
+    Ok(if holds(shelf, "memory", &memory) {
+        None
+    } else {
+        Some("memory")
+    })
+}
+
 #[test]
 fn bars_for_every_band_and_worker(rt: HostRuntime) -> Result<(), OutOfMemory> {
-    let alloc = rt.alloc();
-    let image = bars(alloc)?;
-    let text = script(alloc, START)?;
-    let frames = picture_of_bars(alloc)?;
-    let mut memory = Vec::from_slice(alloc, &image)?;
-    memory.resize(524_288, 0)?;
     for (band, workers) in [("1", "0"), ("3", "4"), ("20", "1"), ("313", "4")] {
-        let words = [
-            "run", "image", "script", "frames", "trace", "memory", band, workers,
-        ];
-        let mut shelf = shelf(alloc, &image, text.as_bytes())?;
         assert_eq!(rt;
-            run(&rt, rt.alloc(), &words, &mut shelf)?,
-            0,
+            fault_of_bars(&rt, rt.alloc(), band, workers)?,
+            None,
             "{band} {workers}"
         );
-        assert!(rt; holds(&shelf, "frames", &frames), "frames");
-        assert!(rt; holds(&shelf, "trace", BAR_TRACE.as_bytes()), "trace");
-        assert!(rt; holds(&shelf, "memory", &memory), "memory");
     }
     Ok(())
 }
@@ -315,33 +358,73 @@ fn scripts_of_the_processor_and_of_inputs(rt: HostRuntime) -> Result<(), OutOfMe
     Ok(())
 }
 
+/// A refused input: the image, the script, the status, and what is said.
+type Refused = (&'static [u8], &'static str, u8, &'static str);
+
+static REFUSED: [Refused; 6] = [
+    (&[0; 7], "ocs 1\ncpu off\nframes 1\nend\n", 3, "bad image\n"),
+    (
+        &IMAGE,
+        "ocs 1\ncpu off\nframes 0\nend\n",
+        4,
+        "bad script: line 3: frames\n",
+    ),
+    (&IMAGE, HEAD, 4, "bad script: line 4: missing\n"),
+    (&IMAGE, "", 4, "bad script: line 1: missing\n"),
+    (
+        &IMAGE,
+        "ocs 1\ncpu off\nframes 1\nat 0 5 0 poke 180 0001\nat 0 4 0 poke 180 0002\nend\n",
+        4,
+        "bad script: line 5: order\n",
+    ),
+    (
+        &IMAGE,
+        "ocs 1\ncpu off\nframes 1\nend\nend\n",
+        4,
+        "bad script: line 5: extra\n",
+    ),
+];
+
+/// Whether a run is refused with this status and text, and no file was made.
+fn is_refused<R: Threads + Wait + Clone + Drop + Send + Sync + 'static>(
+    rt: &R,
+    alloc: Global,
+    image: &[u8],
+    text: &[u8],
+    status: u8,
+    said: &str,
+) -> Result<bool, OutOfMemory> {
+    let mut shelf = shelf(alloc, image, text)?;
+    let ended = run(rt, alloc, &WORDS, &mut shelf)?;
+    Ok(ended == status && shelf.said() == said.as_bytes() && shelf.file("frames").is_none())
+}
+
 #[test]
 fn answers_and_their_texts(rt: HostRuntime) -> Result<(), OutOfMemory> {
+    for (image, text, status, said) in &REFUSED {
+        assert!(rt;
+            is_refused(&rt, rt.alloc(), image, text.as_bytes(), *status, said)?,
+            "{said}"
+        );
+    }
+    Ok(())
+}
+
+#[test]
+fn an_image_of_more_than_the_memory(rt: HostRuntime) -> Result<(), OutOfMemory> {
     let alloc = rt.alloc();
     let long = vec![in alloc; 0u8; 524_290]?;
+    let text = "ocs 1\ncpu off\nframes 1\nend\n".as_bytes();
+    assert!(rt; is_refused(&rt, alloc, &long, text, 3, "bad image\n")?);
+    Ok(())
+}
+
+#[test]
+fn an_image_of_the_whole_memory(rt: HostRuntime) -> Result<(), OutOfMemory> {
+    let alloc = rt.alloc();
     let whole = vec![in alloc; 0u8; 524_288]?;
-    let good = script(alloc, "")?;
-    let falling = script(alloc, "at 0 5 0 poke 180 0001\nat 0 4 0 poke 180 0002\n")?;
-    for (image, text, status, said) in [
-        (&[0u8; 7] as &[u8], good.as_str(), 3, "bad image\n"),
-        (long.as_slice(), good.as_str(), 3, "bad image\n"),
-        (
-            &IMAGE,
-            "ocs 1\ncpu off\nframes 0\nend\n",
-            4,
-            "bad script: line 3: frames\n",
-        ),
-        (&IMAGE, HEAD, 4, "bad script: line 4: missing\n"),
-        (&IMAGE, "", 4, "bad script: line 1: missing\n"),
-        (&IMAGE, falling.as_str(), 4, "bad script: line 5: order\n"),
-    ] {
-        let mut shelf = shelf(alloc, image, text.as_bytes())?;
-        assert_eq!(rt; run(&rt, rt.alloc(), &WORDS, &mut shelf)?, status, "{said}");
-        assert!(rt; shelf.said() == said.as_bytes(), "{said}");
-        assert!(rt; shelf.file("frames").is_none(), "created for {said}");
-    }
-    let mut shelf = shelf(alloc, &whole, good.as_bytes())?;
-    assert_eq!(rt; run(&rt, rt.alloc(), &WORDS, &mut shelf)?, 0);
+    let mut shelf = shelf(alloc, &whole, b"ocs 1\ncpu off\nframes 1\nend\n")?;
+    assert_eq!(rt; run(&rt, alloc, &WORDS, &mut shelf)?, 0);
     assert!(rt; shelf.said().is_empty());
     assert!(rt; holds(&shelf, "memory", &whole), "memory of a whole image");
     Ok(())
@@ -357,22 +440,19 @@ fn long_script(alloc: Global, events: usize) -> Result<String, OutOfMemory> {
 }
 
 #[test]
-fn scripts_that_are_too_long(rt: HostRuntime) -> Result<(), OutOfMemory> {
+fn a_script_of_too_many_lines(rt: HostRuntime) -> Result<(), OutOfMemory> {
     let alloc = rt.alloc();
-    let lines = long_script(alloc, 99_998)?;
-    let bytes = vec![in alloc; b'0'; 4_194_305]?;
-    for (text, said) in [
-        (lines.as_bytes(), "bad script: line 100001: lines\n"),
-        (bytes.as_slice(), "bad script: line 0: long\n"),
-        (
-            b"ocs 1\ncpu off\nframes 1\nend\nend\n".as_slice(),
-            "bad script: line 5: extra\n",
-        ),
-    ] {
-        let mut shelf = shelf(alloc, &IMAGE, text)?;
-        assert_eq!(rt; run(&rt, rt.alloc(), &WORDS, &mut shelf)?, 4, "{said}");
-        assert!(rt; shelf.said() == said.as_bytes(), "{said}");
-    }
+    let text = long_script(alloc, 99_998)?;
+    let said = "bad script: line 100001: lines\n";
+    assert!(rt; is_refused(&rt, alloc, &IMAGE, text.as_bytes(), 4, said)?);
+    Ok(())
+}
+
+#[test]
+fn a_script_of_too_many_bytes(rt: HostRuntime) -> Result<(), OutOfMemory> {
+    let alloc = rt.alloc();
+    let text = vec![in alloc; b'0'; 4_194_305]?;
+    assert!(rt; is_refused(&rt, alloc, &IMAGE, &text, 4, "bad script: line 0: long\n")?);
     Ok(())
 }
 
@@ -411,93 +491,116 @@ fn has_part(shelf: &Shelf, name: &str, text: &[u8], count: Option<usize>) -> boo
     }
 }
 
+/// A call of the place that fails: the height of the bands, the number of the call, the status, what is said, and how many
+/// bytes each file has then, where it is there.
+type Fault = (&'static str, u64, u8, &'static str, [Option<usize>; 3]);
+
 /// The beam passes what is pending on at every 32nd line. The trace line stands there from line 128 on. Of bands
 /// of one line 16 are not collected yet, so that line 64 finds rows 26 to 46 of a frame.
+static FAULTS: [Fault; 11] = [
+    ("313", 0, 5, "cannot read image\n", [None, None, None]),
+    ("313", 1, 5, "cannot read script\n", [None, None, None]),
+    ("313", 2, 6, "cannot write frames\n", [None, None, None]),
+    ("313", 3, 6, "cannot write trace\n", [Some(0), None, None]),
+    (
+        "313",
+        4,
+        6,
+        "cannot write memory\n",
+        [Some(0), Some(0), None],
+    ),
+    (
+        "313",
+        5,
+        6,
+        "cannot write trace\n",
+        [Some(0), Some(11), Some(0)],
+    ),
+    (
+        "313",
+        6,
+        6,
+        "cannot write frames\n",
+        [Some(308_887), Some(23), Some(0)],
+    ),
+    (
+        "313",
+        7,
+        6,
+        "cannot write memory\n",
+        [Some(617_775), Some(23), Some(262_144)],
+    ),
+    (
+        "1",
+        5,
+        6,
+        "cannot write frames\n",
+        [Some(22_687), Some(0), Some(0)],
+    ),
+    (
+        "1",
+        8,
+        6,
+        "cannot write trace\n",
+        [Some(183_615), Some(11), Some(0)],
+    ),
+    (
+        "1",
+        16,
+        6,
+        "cannot write memory\n",
+        [Some(617_775), Some(23), Some(262_144)],
+    ),
+];
+
+/// What of a run with a failing call is not as it should be.
+fn wrong_with_fault<R: Threads + Wait + Clone + Drop + Send + Sync + 'static>(
+    rt: &R,
+    alloc: Global,
+    fault: &Fault,
+) -> Result<Option<&'static str>, OutOfMemory> {
+    let (band, call, status, said, counts) = fault;
+    let text = script(alloc, "at 0 100 100 poke 180 0f00\n")?;
+    let mut shelf = shelf(alloc, &IMAGE, text.as_bytes())?;
+    shelf.fail_at(*call)?;
+    let words = [
+        "run", "image", "script", "frames", "trace", "memory", *band, "2",
+    ];
+    if run(rt, alloc, &words, &mut shelf)? != *status {
+        return Ok(Some("status"));
+    }
+    if shelf.said() != said.as_bytes() {
+        return Ok(Some("said"));
+    }
+    wrong_part(alloc, &shelf, counts)
+}
+
+/// Which file of a run in which COLOR00 becomes red has another part of its text than so many bytes.
+fn wrong_part(
+    alloc: Global,
+    shelf: &Shelf,
+    counts: &[Option<usize>; 3],
+) -> Result<Option<&'static str>, OutOfMemory> {
+    if !has_part(shelf, "trace", b"0 100 100 W 180 0f00 S\n", counts[1]) {
+        return Ok(Some("trace"));
+    }
+    let frames = picture(alloc, &[(53_492, BLACK), (152_428, RED)])?;
+    if !has_part(shelf, "frames", &frames, counts[0]) {
+        return Ok(Some("frames"));
+    }
+    let memory = vec![in alloc; 0u8; 524_288]?;
+    Ok(if has_part(shelf, "memory", &memory, counts[2]) {
+        None
+    } else {
+        Some("memory")
+    })
+}
+
 #[test]
 fn faults_of_the_place(rt: HostRuntime) -> Result<(), OutOfMemory> {
-    let alloc = rt.alloc();
-    let text = script(alloc, "at 0 100 100 poke 180 0f00\n")?;
-    let frames = picture(alloc, &[(53_492, BLACK), (152_428, RED)])?;
-    let trace = b"0 100 100 W 180 0f00 S\n".as_slice();
-    let memory = vec![in alloc; 0u8; 524_288]?;
-    for (band, call, status, said, counts) in [
-        ("313", 0, 5, "cannot read image\n", [None, None, None]),
-        ("313", 1, 5, "cannot read script\n", [None, None, None]),
-        ("313", 2, 6, "cannot write frames\n", [None, None, None]),
-        ("313", 3, 6, "cannot write trace\n", [Some(0), None, None]),
-        (
-            "313",
-            4,
-            6,
-            "cannot write memory\n",
-            [Some(0), Some(0), None],
-        ),
-        (
-            "313",
-            5,
-            6,
-            "cannot write trace\n",
-            [Some(0), Some(11), Some(0)],
-        ),
-        (
-            "313",
-            6,
-            6,
-            "cannot write frames\n",
-            [Some(308_887), Some(23), Some(0)],
-        ),
-        (
-            "313",
-            7,
-            6,
-            "cannot write memory\n",
-            [Some(617_775), Some(23), Some(262_144)],
-        ),
-        (
-            "1",
-            5,
-            6,
-            "cannot write frames\n",
-            [Some(22_687), Some(0), Some(0)],
-        ),
-        (
-            "1",
-            8,
-            6,
-            "cannot write trace\n",
-            [Some(183_615), Some(11), Some(0)],
-        ),
-        (
-            "1",
-            16,
-            6,
-            "cannot write memory\n",
-            [Some(617_775), Some(23), Some(262_144)],
-        ),
-    ] {
-        let words = [
-            "run", "image", "script", "frames", "trace", "memory", band, "2",
-        ];
-        let mut shelf = shelf(alloc, &IMAGE, text.as_bytes())?;
-        shelf.fail_at(call)?;
-        assert_eq!(rt;
-            run(&rt, rt.alloc(), &words, &mut shelf)?,
-            status,
-            "{band} {call}"
-        );
-        assert!(rt; shelf.said() == said.as_bytes(), "{band} {call}");
-        assert!(rt;
-            has_part(&shelf, "frames", &frames, counts[0]),
-            "{band} {call}"
-        );
-        assert!(rt;
-            has_part(&shelf, "trace", trace, counts[1]),
-            "{band} {call}"
-        );
-        assert!(rt;
-            has_part(&shelf, "memory", &memory, counts[2]),
-            "{band} {call}"
-        );
+    for fault in &FAULTS {
+        let wrong = wrong_with_fault(&rt, rt.alloc(), fault)?;
+        assert_eq!(rt; wrong, None, "{} {}", fault.0, fault.1);
     }
     Ok(())
 }

@@ -3,6 +3,7 @@
 
 use super::{HEADING, WORDS, holds, run, shelf};
 use ocs_base::OutOfMemory;
+use ocs_io::Shelf;
 use std::alloc::Global;
 use std::sync::Wait;
 use std::thread::Threads;
@@ -120,24 +121,42 @@ fn fault_of<R: Threads + Wait + Clone + Drop + Send + Sync + 'static>(
     case: &Case,
     band: &str,
 ) -> Result<Option<&'static str>, OutOfMemory> {
-    let image = bytes_of(alloc, case.image)?;
-    let mut shelf = shelf(alloc, &image, script_of(alloc, case)?.as_bytes())?;
-    let mut memory = bytes_of(alloc, case.memory)?;
-    memory.resize(524_288, 0)?;
+    let mut shelf = shelf_of(alloc, case)?;
     let mut words = WORDS;
     words[6] = band;
-    Ok(if run(rt, alloc, &words, &mut shelf)? != 0 {
-        Some("status")
-    } else if !shelf.said().is_empty() {
-        Some("said")
-    } else if !holds(&shelf, "frames", &frames_of(alloc, case)?) {
-        Some("frames")
-    } else if !holds(&shelf, "trace", trace_of(alloc, case)?.as_bytes()) {
-        Some("trace")
-    } else if !holds(&shelf, "memory", &memory) {
-        Some("memory")
-    } else {
+    if run(rt, alloc, &words, &mut shelf)? != 0 {
+        return Ok(Some("status"));
+    }
+    fault_of_files(alloc, case, &shelf)
+}
+
+/// A shelf with the two input files of a case.
+fn shelf_of(alloc: Global, case: &Case) -> Result<Shelf, OutOfMemory> {
+    let image = bytes_of(alloc, case.image)?;
+    shelf(alloc, &image, script_of(alloc, case)?.as_bytes())
+}
+
+/// What of the files of a case's run is not as it should be.
+fn fault_of_files(
+    alloc: Global,
+    case: &Case,
+    shelf: &Shelf,
+) -> Result<Option<&'static str>, OutOfMemory> {
+    if !shelf.said().is_empty() {
+        return Ok(Some("said"));
+    }
+    if !holds(shelf, "frames", &frames_of(alloc, case)?) {
+        return Ok(Some("frames"));
+    }
+    if !holds(shelf, "trace", trace_of(alloc, case)?.as_bytes()) {
+        return Ok(Some("trace"));
+    }
+    let mut memory = bytes_of(alloc, case.memory)?;
+    memory.resize(524_288, 0)?;
+    Ok(if holds(shelf, "memory", &memory) {
         None
+    } else {
+        Some("memory")
     })
 }
 

@@ -7,7 +7,7 @@ ghost use Rattle.crew.specs.Crew.{crew_seen};
 ghost use Rattle.foreground.specs.Fore.{IsNew};
 ghost use Rattle.ocs_run.specs.Underway.{fore_of, run_of, CanRun};
 
-use super::{BAR_TRACE, START, bars, holds, picture_of_bars, run_with_gate, script, shelf};
+use super::{BAR_TRACE, START, bars, holds, picture_of_bars, run_with_gate, script, shelf_of_bars};
 use crate::Gate;
 use crate::inputs::is_image;
 use band_log::{Raster, Run};
@@ -80,6 +80,26 @@ impl Gate for Watch {
     }
 }
 
+/// The status of the bars' run in bands of 20 lines by two workers, and its files.
+fn run_by_two<R: Threads + Wait + Clone + Drop + Send + Sync + 'static>(
+    rt: &R,
+    alloc: Global,
+    gate: Watch,
+) -> Result<(u8, Shelf), OutOfMemory> {
+    let words = [
+        "run", "image", "script", "frames", "trace", "memory", "20", "2",
+    ];
+    let mut shelf = shelf_of_bars(alloc)?;
+    let status = run_with_gate(rt, alloc, &words, &mut shelf, gate)?;
+    Ok((status, shelf))
+}
+
+/// Whether the frame and the trace are those of the bars.
+fn shows_bars(alloc: Global, shelf: &Shelf) -> Result<bool, OutOfMemory> {
+    let frames = picture_of_bars(alloc)?;
+    Ok(holds(shelf, "frames", &frames) && holds(shelf, "trace", BAR_TRACE.as_bytes()))
+}
+
 /// Two workers draw at once: band 0 is held back until another band is begun.
 #[test]
 fn a_band_is_drawn_beside_another(rt: HostRuntime) -> Result<(), OutOfMemory> {
@@ -89,20 +109,12 @@ fn a_band_is_drawn_beside_another(rt: HostRuntime) -> Result<(), OutOfMemory> {
         told: Arc::try_clone(&told)?,
         holds: true,
     };
-    let words = [
-        "run", "image", "script", "frames", "trace", "memory", "20", "2",
-    ];
-    let text = script(alloc, START)?;
-    let mut shelf = shelf(alloc, &bars(alloc)?, text.as_bytes())?;
-    assert_eq!(rt;
-        run_with_gate(&rt, rt.alloc(), &words, &mut shelf, gate)?,
-        0
-    );
+    let (status, shelf) = run_by_two(&rt, alloc, gate)?;
+    assert_eq!(rt; status, 0);
     assert_eq!(rt; told.in_vain.load(Ordering::SeqCst), 0);
     assert_eq!(rt; told.first.load(Ordering::SeqCst), 1);
     assert_eq!(rt; told.others.load(Ordering::SeqCst), BANDS - 1);
-    assert!(rt; holds(&shelf, "frames", &picture_of_bars(alloc)?), "frames");
-    assert!(rt; holds(&shelf, "trace", BAR_TRACE.as_bytes()), "trace");
+    assert!(rt; shows_bars(alloc, &shelf)?);
     Ok(())
 }
 
@@ -169,6 +181,25 @@ fn draw_over_crew<R: Threads + Wait + Clone + Drop + Send + Sync + 'static>(
     Ok(totals)
 }
 
+/// The bars' run in bands of 20 lines.
+fn run_of_bars(alloc: Global) -> Result<Arc<Run<NoSide>>, Fail> {
+    let script = read_script(alloc, script(alloc, START)?.as_bytes())?;
+    let image = bars(alloc)?;
+    if !is_image(&image) {
+        return Err(Fail::from("image"));
+    }
+    Ok(Arc::new(alloc, Run::new(image, script, 20))?)
+}
+
+/// A shelf with the files of a run.
+fn shelf_with(alloc: Global, out: OutFiles) -> Result<Shelf, Fail> {
+    let mut out = out;
+    let mut shelf = Shelf::new(alloc);
+    out.create(&mut shelf)?;
+    out.flush(&mut shelf)?;
+    Ok(shelf)
+}
+
 /// A run over a crew of so many workers: its files, and who drew its bands.
 fn run_over_crew<R: Threads + Wait + Clone + Drop + Send + Sync + 'static>(
     rt: &R,
@@ -179,19 +210,11 @@ fn run_over_crew<R: Threads + Wait + Clone + Drop + Send + Sync + 'static>(
 ) -> Result<(Shelf, Totals), Fail>
     requires { workers ≤ 32 }
 {
-    let script = read_script(alloc, script(alloc, START)?.as_bytes())?;
-    let image = bars(alloc)?;
-    if !is_image(&image) {
-        return Err(Fail::from("image"));
-    }
-    let run = Arc::new(alloc, Run::new(image, script, 20))?;
+    let run = run_of_bars(alloc)?;
     let mut fore = Fore::new(alloc, Arc::try_clone(&run)?)?;
     let mut out = out_files(alloc)?;
     let totals = draw_over_crew(rt, alloc, workers, told, waits, run, &mut fore, &mut out)?;
-    let mut shelf = Shelf::new(alloc);
-    out.create(&mut shelf)?;
-    out.flush(&mut shelf)?;
-    Ok((shelf, totals))
+    Ok((shelf_with(alloc, out)?, totals))
 }
 
 /// The one worker begins with band 0 while the clock loop, which has submitted it, collects nothing yet.
@@ -203,7 +226,7 @@ fn a_worker_does_not_wait_to_be_collected(rt: HostRuntime) -> Result<(), Fail> {
     assert_eq!(rt; told.in_vain.load(Ordering::SeqCst), 0);
     assert!(rt; totals.by_hands > 0);
     assert_eq!(rt; totals.by_hands.saturating_add(totals.by_front), BANDS);
-    assert!(rt; holds(&shelf, "frames", &picture_of_bars(alloc)?), "frames");
+    assert!(rt; shows_bars(alloc, &shelf)?);
     Ok(())
 }
 
@@ -215,7 +238,6 @@ fn a_crew_without_workers_draws_itself(rt: HostRuntime) -> Result<(), Fail> {
     let (shelf, totals) = run_over_crew(&rt, alloc, 0, &told, false)?;
     assert_eq!(rt; totals.by_hands, 0);
     assert_eq!(rt; totals.by_front, BANDS);
-    assert!(rt; holds(&shelf, "frames", &picture_of_bars(alloc)?), "frames");
-    assert!(rt; holds(&shelf, "trace", BAR_TRACE.as_bytes()), "trace");
+    assert!(rt; shows_bars(alloc, &shelf)?);
     Ok(())
 }

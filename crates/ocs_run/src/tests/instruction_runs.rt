@@ -6,7 +6,10 @@ ghost use Rattle.std.specs.Prelude.{◌≤◌};
 
 use super::{WORDS, holds, picture, run, shelf};
 use ocs_base::OutOfMemory;
+use ocs_io::Shelf;
 use std::alloc::Global;
+use std::sync::Wait;
+use std::thread::Threads;
 
 const SCRIPT: &str =
     "ocs 1\ncpu on\nframes 1\nat 0 130 100 poke 09c 8004\nat 0 134 50 poke 09c 8010\nend\n";
@@ -144,13 +147,23 @@ fn memory(alloc: Global) -> Result<Vec<u8>, OutOfMemory> {
     Ok(bytes)
 }
 
-#[test]
-fn a_program_of_all_instructions(rt: HostRuntime) -> Result<(), OutOfMemory> {
-    let alloc = rt.alloc();
+/// The status of the program's run, and its files.
+fn run_program<R: Threads + Wait + Clone + Drop + Send + Sync + 'static>(
+    rt: &R,
+    alloc: Global,
+) -> Result<(u8, Shelf), OutOfMemory> {
     let mut image = Vec::new(alloc);
     append(&mut image, PROGRAM)?;
     let mut shelf = shelf(alloc, &image, SCRIPT.as_bytes())?;
-    assert_eq!(rt; run(&rt, rt.alloc(), &WORDS, &mut shelf)?, 0);
+    let status = run(rt, alloc, &WORDS, &mut shelf)?;
+    Ok((status, shelf))
+}
+
+#[test]
+fn a_program_of_all_instructions(rt: HostRuntime) -> Result<(), OutOfMemory> {
+    let alloc = rt.alloc();
+    let (status, shelf) = run_program(&rt, alloc)?;
+    assert_eq!(rt; status, 0);
     assert!(rt; shelf.said().is_empty());
     assert!(rt; holds(&shelf, "trace", TRACE.as_bytes()), "trace");
     assert!(rt; holds(&shelf, "memory", &memory(alloc)?), "memory");

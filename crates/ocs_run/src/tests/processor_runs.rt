@@ -53,23 +53,44 @@ fn fault_of<R: Threads + Wait + Clone + Drop + Send + Sync + 'static>(
     alloc: Global,
     program: &Program,
 ) -> Result<Option<&'static str>, OutOfMemory> {
-    let image = bytes(alloc, program.image)?;
-    let script = script(alloc, "1", program.events)?;
-    let mut shelf = shelf(alloc, &image, script.as_bytes())?;
-    Ok(if run(rt, alloc, &WORDS, &mut shelf)? != 0 {
-        Some("status")
-    } else if !holds(&shelf, "trace", program.trace.as_bytes()) {
-        Some("trace")
-    } else if !holds(
-        &shelf,
+    let mut shelf = shelf_of(alloc, program.image, "1", program.events)?;
+    if run(rt, alloc, &WORDS, &mut shelf)? != 0 {
+        return Ok(Some("status"));
+    }
+    fault_of_files(alloc, program, &shelf)
+}
+
+/// A shelf with an image of these words, and a script of so many frames with these events.
+fn shelf_of(
+    alloc: Global,
+    image: &[u16],
+    frames: &str,
+    events: &str,
+) -> Result<Shelf, OutOfMemory> {
+    let script = script(alloc, frames, events)?;
+    shelf(alloc, &bytes(alloc, image)?, script.as_bytes())
+}
+
+/// What of the files of a program's run is not as it should be.
+fn fault_of_files(
+    alloc: Global,
+    program: &Program,
+    shelf: &Shelf,
+) -> Result<Option<&'static str>, OutOfMemory> {
+    if !holds(shelf, "trace", program.trace.as_bytes()) {
+        return Ok(Some("trace"));
+    }
+    if !holds(
+        shelf,
         "frames",
         &picture(alloc, &[(205_920, program.colour)])?,
     ) {
-        Some("frames")
-    } else if !has_bytes(&shelf, program.at, &bytes(alloc, program.words)?) {
-        Some("memory")
-    } else {
+        return Ok(Some("frames"));
+    }
+    Ok(if has_bytes(shelf, program.at, &bytes(alloc, program.words)?) {
         None
+    } else {
+        Some("memory")
     })
 }
 
@@ -188,18 +209,35 @@ static COUNTER: [u16; 176] = [
     0x0000, 0x0200, 0x33f9, 0x0000, 0x0200, 0x00df, 0xf180, 0x4e73,
 ];
 
+/// The first lines of its trace.
+const COUNTER_TRACE: &str =
+    "0 0 30 W 09a c020 M\n0 0 38 I 3\n0 0 68 R 00e 0001 M\n0 0 78 W 09c 0020 M\n\
+0 0 102 W 180 0001 M\n1 0 0 I 3\n";
+
+/// The status of its run of 50 frames, and the files.
+fn run_counter<R: Threads + Wait + Clone + Drop + Send + Sync + 'static>(
+    rt: &R,
+    alloc: Global,
+) -> Result<(u8, Shelf), OutOfMemory> {
+    let mut shelf = shelf_of(alloc, &COUNTER, "50", "")?;
+    let status = run(rt, alloc, &WORDS, &mut shelf)?;
+    Ok((status, shelf))
+}
+
+/// How many lines a text has.
+fn lines_in(text: &[u8]) -> usize {
+    text.iter().filter(|byte| **byte == b'\n').count()
+}
+
 #[test]
 fn fifty_interrupts(rt: HostRuntime) -> Result<(), OutOfMemory> {
     let alloc = rt.alloc();
-    let image = bytes(alloc, &COUNTER)?;
-    let mut shelf = shelf(alloc, &image, script(alloc, "50", "")?.as_bytes())?;
-    assert_eq!(rt; run(&rt, rt.alloc(), &WORDS, &mut shelf)?, 0);
+    let (status, shelf) = run_counter(&rt, alloc)?;
+    assert_eq!(rt; status, 0);
     assert!(rt; has_bytes(&shelf, 0x200, &[0x00, 0x32]));
-    let head = "0 0 30 W 09a c020 M\n0 0 38 I 3\n0 0 68 R 00e 0001 M\n0 0 78 W 09c 0020 M\n\
-0 0 102 W 180 0001 M\n1 0 0 I 3\n";
     let trace = shelf.file("trace").unwrap_or(&[]);
-    assert!(rt; trace.starts_with(head.as_bytes()));
-    assert_eq!(rt; trace.iter().filter(|byte| **byte == b'\n').count(), 201);
+    assert!(rt; trace.starts_with(COUNTER_TRACE.as_bytes()));
+    assert_eq!(rt; lines_in(trace), 201);
     assert!(rt; has_grounds(alloc, shelf.file("frames").unwrap_or(&[]))?);
     Ok(())
 }
