@@ -42,6 +42,8 @@ def stop(tool: str, fault: Exception) -> NoReturn:
 
 def run_tool(tool: str, main: Callable[[], None]) -> None:
     """Runs a tool. What stops it is said in one line; after an interrupt nothing is said, and it ends by that signal."""
+    if sys.stdout is None:
+        sys.stdout = open(os.devnull, "w", encoding="utf-8")
     # names of files are bytes: they are said as they are
     sys.stdout.reconfigure(errors="surrogateescape")
     try:
