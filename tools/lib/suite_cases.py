@@ -7,13 +7,15 @@ import os
 import re
 import shlex
 from dataclasses import dataclass, field
+from typing import Iterator
 
 from faults import BadFile, quoted
 
 # the files that a run may write, in the order in which they are told
 KINDS = ("frames", "trace", "memory", "audio")
 USUAL_COMMAND = "OCS run IMAGE SCRIPT FRAMES TRACE MEMORY 20 0"
-PIECE = 1 << 20
+# bytes that are read at once; to compare few enough that they stay near the processor
+PIECE, COMPARED = 1 << 20, 1 << 16
 SUM_LINE = re.compile(r"([0-9a-f]{64})  (\w+)")
 STATUS_LINE = re.compile(r"# status (\d{1,3})")
 SAID = "# said "
@@ -65,6 +67,11 @@ class Golden:
     said: list[str] = field(default_factory=list)
     sums: dict[str, str] = field(default_factory=dict)
 
+    def is_met(self, status: int, said: list[str], sums: dict[str, str]) -> bool:
+        """Whether a run gave that."""
+        same = all(sums.get(kind) == value for kind, value in self.sums.items())
+        return same and (status, said) == (self.status, self.said)
+
     def text(self) -> str:
         lines = [f"# status {self.status}", *(SAID + line for line in self.said)]
         return "\n".join([*lines, *(f"{value}  {kind}" for kind, value in self.sums.items())]) + "\n"
@@ -72,7 +79,7 @@ class Golden:
 
 def read_text(place: str) -> str:
     """A small text file."""
-    with open(place, "rb") as file:
+    with open(place, "rb", buffering=0) as file:
         data = file.read()
     try:
         return data.decode("utf-8")
@@ -100,18 +107,19 @@ def find_cases(folder: str, out: str) -> list[Case]:
     """The cases in a folder, by name. A folder that is a case is not looked into, nor is `out`."""
     if not os.path.isdir(folder):
         raise BadFile(folder, "is not a folder" if os.path.exists(folder) else "is not there")
-    cases = list(cases_in(folder, "", os.path.realpath(out)))
+    inode = os.stat(out).st_ino if os.path.isdir(out) else None
+    cases = list(cases_in(folder, "", inode))
     if not cases:
         raise BadFile(folder, "has no case: a folder with image and script, or with command")
     return sorted(cases, key=lambda case: case.name)
 
 
-def cases_in(folder: str, before: str, out: str):
-    """The cases below a folder whose name so far is `before`."""
+def cases_in(folder: str, before: str, out: int | None) -> Iterator[Case]:
+    """The cases below a folder whose name so far is `before`; the folder whose inode is `out` is passed over."""
     with os.scandir(folder) as entries:
         below = [entry for entry in entries if entry.is_dir() and not entry.name.startswith(".")]
     for entry in below:
-        if os.path.realpath(entry.path) == out:
+        if entry.inode() == out:
             continue
         name = before + entry.name
         files = frozenset(os.listdir(entry.path))
@@ -121,32 +129,35 @@ def cases_in(folder: str, before: str, out: str):
             yield from cases_in(entry.path, name + "/", out)
 
 
-def unpacked(place: str):
-    """A file of a case, opened for reading; what ends in .xz is unpacked on the way."""
-    return lzma.open(place) if place.endswith(".xz") else open(place, "rb")
+def pieces(place: str) -> Iterator[bytes]:
+    """The bytes of a file, piece by piece; what ends in .xz is unpacked on the way."""
+    with lzma.open(place) if place.endswith(".xz") else open(place, "rb") as file:
+        try:
+            while piece := file.read(PIECE):
+                yield piece
+        except (lzma.LZMAError, EOFError) as fault:
+            raise BadFile(place, f"cannot be unpacked: {str(fault).lower()}") from None
 
 
 def unpack(place: str, to: str) -> None:
     """Writes a packed file's bytes to another place."""
-    with lzma.open(place) as packed, open(to + ".new", "wb") as file:
-        while piece := packed.read(PIECE):
-            file.write(piece)
+    with open(to + ".new", "wb") as file:
+        file.writelines(pieces(place))
     os.replace(to + ".new", to)
 
 
 def sum_of(place: str) -> str:
     """The SHA-256 of a file, unpacked where it is packed."""
     total = hashlib.sha256()
-    with unpacked(place) as file:
-        while piece := file.read(PIECE):
-            total.update(piece)
+    for piece in pieces(place):
+        total.update(piece)
     return total.hexdigest()
 
 
 def same_bytes(left: str, right: str) -> bool:
     """Whether two files of one size have the same bytes."""
     with open(left, "rb", buffering=0) as one, open(right, "rb", buffering=0) as other:
-        while piece := one.read(PIECE):
-            if piece != other.read(PIECE):
+        while piece := one.read(COMPARED):
+            if piece != other.read(COMPARED):
                 return False
     return True

@@ -2,16 +2,17 @@
 from __future__ import annotations
 
 import os
-from xml.sax.saxutils import escape, quoteattr
+import re
 
 from compare_page import fill_page
 from faults import BadFile, plural
 from page import escaped, fill, json_text
 from suite_cases import Case
-from suite_differences import Expected, comparison
-from suite_run import DIFFERS, FAILED, GOOD, NEW, Result, Suite, golden_of, stored_file
+from suite_differences import comparison
+from suite_run import DIFFERS, FAILED, GOOD, NEW, Result, Suite, expected, golden_of
 
 PAGE, XML = "report.html", "junit.xml"
+UNWRITABLE = re.compile("[\x00-\x08\x0b\x0c\x0e-\x1f\ud800-\udfff\ufffe\uffff]")
 # cases whose pictures the page holds
 MOST_PICTURES = 100
 # what stands in the page of a comparison until its case is shown
@@ -61,8 +62,7 @@ def shown_of(suite: Suite, case: Case, result: Result) -> dict[str, object] | No
         golden = golden_of(case)
         if golden is None:
             return None
-        wanted = Expected(case, golden, lambda kind: stored_file(suite, case, kind, golden, result.stored))
-        return comparison(wanted, result, suite.place(case))
+        return comparison(expected(suite, case, golden, result), result, suite.place(case))
     except (BadFile, OSError):
         return None
 
@@ -72,12 +72,12 @@ def junit(suite: Suite, results: list[Result]) -> str:
     failures = sum(result.verdict in (DIFFERS, NEW) for result in results)
     errors = sum(result.verdict == FAILED for result in results)
     seconds = sum(result.seconds for result in results)
-    name = quoteattr(clean(os.path.basename(os.path.dirname(suite.out))))
+    name = quoted_value(os.path.basename(os.path.dirname(suite.out)))
     counts = f'tests="{len(results)}" failures="{failures}" errors="{errors}" time="{seconds:.3f}"'
     lines = ['<?xml version="1.0" encoding="UTF-8"?>', f"<testsuites {counts}>", f"<testsuite name={name} {counts}>"]
     for result in results:
         group, _, own = result.name.rpartition("/")
-        words = f'classname={quoteattr(clean(group or "cases"))} name={quoteattr(clean(own))} time="{result.seconds:.3f}"'
+        words = f'classname={quoted_value(group or "cases")} name={quoted_value(own)} time="{result.seconds:.3f}"'
         lines += [f"<testcase {words}/>"] if result.verdict in GOOD else [f"<testcase {words}>", *told(result), "</testcase>"]
     return "\n".join([*lines, "</testsuite>", "</testsuites>"]) + "\n"
 
@@ -85,11 +85,16 @@ def junit(suite: Suite, results: list[Result]) -> str:
 def told(result: Result) -> list[str]:
     """Why a case did not pass."""
     kind = "error" if result.verdict == FAILED else "failure"
-    first = quoteattr(clean(result.said[0] if result.said else result.verdict))
-    text = escape(clean("\n".join(result.said)))
+    first = quoted_value(result.said[0] if result.said else result.verdict)
+    text = escaped(clean("\n".join(result.said)))
     return [f'<{kind} type="{result.verdict}" message={first}>{text}</{kind}>']
+
+
+def quoted_value(text: str) -> str:
+    """A text as the value of an attribute."""
+    return f'"{escaped(clean(text))}"'
 
 
 def clean(text: str) -> str:
     """A text without the characters that XML cannot hold."""
-    return "".join(one if one in "\n\t" or " " <= one and not "\ud800" <= one <= "\udfff" else "\ufffd" for one in text)
+    return UNWRITABLE.sub("\ufffd", text)

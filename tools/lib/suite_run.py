@@ -8,19 +8,17 @@ import select
 import shutil
 import signal
 import subprocess
-import threading
 import time
-from dataclasses import asdict, dataclass, field
+from dataclasses import dataclass, field
 
 from faults import BadFile
 from suite_cases import KINDS, Case, Golden, read_golden, same_bytes, sum_of, unpack
-from suite_differences import Expected, differences
 
 PASSED, ACCEPTED, DIFFERS, NEW, FAILED = "passed", "accepted", "differs", "new", "failed"
 GOOD = (PASSED, ACCEPTED)
 RESULT = "result.json"
-# of a program's text that many lines are kept
-MOST_SAID = 20
+# of a program's text so many bytes are read, and so many lines kept
+MOST_READ, MOST_SAID = 1 << 16, 20
 # where each name of a command stands for a file of the run
 NAMES = {kind.upper(): kind for kind in KINDS}
 
@@ -49,10 +47,6 @@ class Result:
     stored: dict[str, Stored] = field(default_factory=dict)
 
 
-class Stopped(Exception):
-    """The user ended the suite."""
-
-
 @dataclass
 class Suite:
     """How cases are run: the program, the folder of what comes out, seconds a case may take, bytes it may leave; and
@@ -65,63 +59,72 @@ class Suite:
     most_stored: int
     accepts: bool = False
     keeps: bool = False
-    running: set[int] = field(default_factory=set)
-    lock: threading.Lock = field(default_factory=threading.Lock)
-    stopped: bool = False
 
     def place(self, case: Case, *names: str) -> str:
         """A file or folder of what comes out of a case."""
-        return os.path.join(self.out, case.name, *names)
-
-    def stop(self) -> None:
-        """Ends what runs."""
-        with self.lock:
-            self.stopped = True
-            for process in self.running:
-                os.killpg(process, signal.SIGKILL)
+        return "/".join((self.out, case.name, *names))
 
 
 def read_result(suite: Suite, case: Case) -> Result | None:
     """The case's last result; None where there is none that can be read."""
     try:
-        with open(suite.place(case, RESULT), encoding="ascii") as file:
-            data = json.load(file)
+        with open(suite.place(case, RESULT), "rb", buffering=0) as file:
+            data = json.loads(file.read())
         data["stored"] = {kind: Stored(**one) for kind, one in data["stored"].items()}
         return Result(**data)
     except (OSError, ValueError, TypeError, KeyError, AttributeError):
         return None
 
 
+def same_but_for_time(before: Result, after: Result) -> bool:
+    """Whether two results are one but for the seconds that they took; those of the older one then stay."""
+    times = {"seconds": after.seconds, "program": after.program}
+    return {**vars(before), **times} == vars(after)
+
+
 def write_result(suite: Suite, case: Case, result: Result) -> None:
+    """Writes the case's result, beside and renamed, so that it is never a part of one."""
     place = suite.place(case, RESULT)
-    with open(place + ".new", "w", encoding="ascii") as file:
-        json.dump(asdict(result), file)
+    data = {**vars(result), "stored": {kind: vars(one) for kind, one in result.stored.items()}}
+    with open(place + ".new", "wb", buffering=0) as file:
+        file.write(json.dumps(data).encode("ascii"))
     os.replace(place + ".new", place)
 
 
 def run_case(suite: Suite, case: Case) -> Result:
     """Runs a case and compares it; whatever is wrong with it is in the result, which is written too."""
     before = read_result(suite, case)
-    result = Result(case.name, stored=before.stored if before else {})
+    result = Result(case.name, stored=dict(before.stored) if before else {})
     try:
-        os.makedirs(suite.place(case, "now"), exist_ok=True)
+        make_folders(suite, case)
         run_program(suite, case, result)
         if result.verdict != FAILED:
             judge(suite, case, result)
-    except (BadFile, OSError, lzma.LZMAError, EOFError) as fault:
-        result.verdict, result.said = FAILED, [fault_text(case, fault)]
+    except (BadFile, OSError) as fault:
+        result.verdict, result.said = FAILED, [fault_text(fault)]
     try:
-        write_result(suite, case, result)
+        if before is None or not same_but_for_time(before, result):
+            write_result(suite, case, result)
+        else:
+            os.utime(suite.place(case, RESULT))
     except OSError as fault:
-        result.verdict, result.said = FAILED, [fault_text(case, fault)]
+        result.verdict, result.said = FAILED, [fault_text(fault)]
     return result
 
 
-def fault_text(case: Case, fault: Exception) -> str:
+def make_folders(suite: Suite, case: Case) -> None:
+    """The folders of what comes out."""
+    for name in ("now", "passed"):
+        place = suite.place(case, name)
+        if not os.path.isdir(place):
+            os.makedirs(place)
+
+
+def fault_text(fault: Exception) -> str:
     """What is wrong, with the file's name."""
     if isinstance(fault, OSError) and fault.filename:
         return f"{fault.filename}: {(fault.strerror or str(fault)).lower()}"
-    return str(fault) if isinstance(fault, BadFile) else f"{case.folder}: a packed file is broken ({fault})"
+    return str(fault)
 
 
 def ready(suite: Suite, case: Case, name: str) -> str:
@@ -130,7 +133,7 @@ def ready(suite: Suite, case: Case, name: str) -> str:
     if place is None:
         raise BadFile(case.folder, f"has no {name}")
     if not place.endswith(".xz"):
-        return place
+        return os.path.abspath(place)
     made = suite.place(case, name)
     if not os.path.exists(made) or os.stat(made).st_mtime_ns != os.stat(place).st_mtime_ns:
         unpack(place, made)
@@ -157,13 +160,13 @@ def run_program(suite: Suite, case: Case, result: Result) -> None:
     words = words_of(suite, case)
     for kind in KINDS:
         remove(suite.place(case, "now", kind))
-    said = suite.place(case, "now", "said")
-    with open(said, "wb") as spoken:
-        process = start(suite, case, words, spoken)
+    spoken = os.memfd_create("said")
+    try:
+        process = start(case, words, spoken)
         in_time = wait(suite, process, result)
-    with open(said, "rb") as file:
-        lines = file.read(1 << 16).decode("utf-8", "backslashreplace").splitlines()
-    os.remove(said)
+        lines = os.pread(spoken, MOST_READ, 0).decode("utf-8", "backslashreplace").splitlines()
+    finally:
+        os.close(spoken)
     result.spoken = lines[:MOST_SAID]
     if not in_time:
         result.said = [f"took more than {suite.limit:g} seconds, and was ended"]
@@ -173,37 +176,30 @@ def run_program(suite: Suite, case: Case, result: Result) -> None:
         result.verdict = DIFFERS
 
 
-def start(suite: Suite, case: Case, words: list[str], said) -> subprocess.Popen:
+def start(case: Case, words: list[str], said: int) -> subprocess.Popen:
     """Starts a command, in a group of its own, so that all of it can be ended."""
-    with suite.lock:
-        if suite.stopped:
-            raise Stopped
-        quiet, both = subprocess.DEVNULL, subprocess.STDOUT
-        try:
-            process = subprocess.Popen(
-                words, cwd=case.folder, stdin=quiet, stdout=said, stderr=both, start_new_session=True
-            )
-        except OSError as fault:
-            raise BadFile(words[0], f"cannot be run: {(fault.strerror or str(fault)).lower()}") from None
-        suite.running.add(process.pid)
-        return process
+    quiet, both = subprocess.DEVNULL, subprocess.STDOUT
+    try:
+        return subprocess.Popen(words, cwd=case.folder, stdin=quiet, stdout=said, stderr=both, start_new_session=True)
+    except OSError as fault:
+        raise BadFile(words[0], f"cannot be run: {(fault.strerror or str(fault)).lower()}") from None
 
 
 def wait(suite: Suite, process: subprocess.Popen, result: Result) -> bool:
-    """Waits until a command ends, and notes its status and times; False where its time was over before."""
+    """Waits until a command ends, and notes its status and times; False where its time was over before. Whatever ends
+    this, nothing of the command runs on.
+    """
     begun = time.monotonic()
-    handle = os.pidfd_open(process.pid)
+    handle, in_time = os.pidfd_open(process.pid), False
     try:
         in_time = bool(select.select([handle], [], [], suite.limit)[0])
     finally:
         os.close(handle)
-    with suite.lock:
         if not in_time:
             os.killpg(process.pid, signal.SIGKILL)
         _, status, used = os.wait4(process.pid, 0)
-        suite.running.discard(process.pid)
-    process.returncode = result.status = os.waitstatus_to_exitcode(status)
-    result.seconds = time.monotonic() - begun
+        process.returncode = os.waitstatus_to_exitcode(status)
+    result.status, result.seconds = process.returncode, time.monotonic() - begun
     result.program = used.ru_utime + used.ru_stime
     return in_time
 
@@ -217,10 +213,12 @@ def judge(suite: Suite, case: Case, result: Result) -> None:
     golden = golden_of(case)
     if golden is None:
         result.verdict, result.said = NEW, ["has no golden"]
+    elif golden.is_met(result.status, result.spoken, result.sums):
+        result.verdict = PASSED
     else:
-        wanted = Expected(case, golden, lambda kind: stored_file(suite, case, kind, golden, result.stored))
-        result.said = differences(wanted, result, suite.place(case))
-        result.verdict = DIFFERS if result.said else PASSED
+        from suite_differences import differences
+
+        result.said = differences(expected(suite, case, golden, result), result, suite.place(case))
     if suite.accepts and (suite.keeps or result.verdict != PASSED):
         accept(suite, case, result, golden)
     if result.verdict in GOOD:
@@ -237,6 +235,13 @@ def golden_of(case: Case) -> Golden | None:
         if kind not in golden.sums:
             golden.sums[kind] = sum_of(place)
     return golden
+
+
+def expected(suite: Suite, case: Case, golden: Golden, result: Result):
+    """What a case must give, and where its files are."""
+    from suite_differences import Expected
+
+    return Expected(case, golden, lambda kind: stored_file(suite, case, kind, golden, result.stored))
 
 
 def is_as_stored(place: str, stored: Stored) -> bool:
@@ -266,7 +271,6 @@ def store(suite: Suite, case: Case, result: Result) -> None:
     """Moves the files of a passing run to where the next run is compared with them, where they are not too long."""
     now = {kind: suite.place(case, "now", kind) for kind in result.sums}
     keeps = sum(map(os.path.getsize, now.values())) <= suite.most_stored
-    os.makedirs(suite.place(case, "passed"), exist_ok=True)
     for kind in KINDS:
         old, kept = result.stored.get(kind), suite.place(case, "passed", kind)
         if keeps and kind in now and old and old.sum == result.sums[kind] and is_as_stored(kept, old):
