@@ -58,6 +58,8 @@ class CopperText:
     start: int | None = None
     made: list[Instruction] = field(default_factory=list)
     labels: dict[str, int] = field(default_factory=dict)
+    # the files that it puts into memory
+    files: list[str] = field(default_factory=list)
     # the last line was an instruction that the Copper goes on from, and a SKIP
     open: Line | None = None
     skipped: bool = False
@@ -238,6 +240,7 @@ class CopperText:
     def take_file(self, line: Line, words: list[str]) -> None:
         self.close()
         place = os.path.join(os.path.dirname(self.path), words[0])
+        self.files.append(place)
         try:
             with open(place, "rb") as file:
                 data = file.read(MEMORY + 1)
@@ -304,3 +307,16 @@ WAYS = {
     "file": (1, 1, "file NAME", CopperText.take_file),
     "frames": (1, 1, "frames N", CopperText.take_frames),
 }
+
+
+def read_copper(path: str) -> CopperText:
+    """The text of a file."""
+    with open(path, "rb") as file:
+        data = file.read()
+    try:
+        text = data.decode("utf-8")
+    except UnicodeDecodeError:
+        raise BadFile(path, "is not a text in UTF-8") from None
+    made = CopperText(path)
+    made.read(text)
+    return made
