@@ -211,18 +211,22 @@ def colour_text(colour: bytes) -> str:
     return f"{colour_word(*colour):03x}" if all(part % 17 == 0 for part in colour) else colour.hex()
 
 
+def pixel_text(pixel: Pixel, system: System) -> str:
+    """A pixel's place, and its two colours."""
+    clock = FIRST_CLOCK + pixel.column // PIXELS_A_CLOCK
+    place = f"frame {pixel.frame}, line {system.first_line + pixel.row}, clock {clock}"
+    colours = " and ".join(colour_text(colour) for colour in pixel.colours)
+    return f"{place} (column {pixel.column}, row {pixel.row}): {colours}"
+
+
 def frames_text(found: FramesDifference) -> str:
     """Where the frames differ, in words."""
     if found.systems[0] != found.systems[1]:
         return f"frames: {found.systems[0].name} and {found.systems[1].name}"
     said = []
     if found.first:
-        pixel, system = found.first, found.systems[0]
-        clock = FIRST_CLOCK + pixel.column // PIXELS_A_CLOCK
-        place = f"frame {pixel.frame}, line {system.first_line + pixel.row}, clock {clock}"
-        colours = " and ".join(colour_text(colour) for colour in pixel.colours)
         both = min(found.counts)
-        said.append(f"first at {place} (column {pixel.column}, row {pixel.row}): {colours}")
+        said.append(f"first at {pixel_text(found.first, found.systems[0])}")
         said.append(f"{plural(sum(found.pixels.values()), 'pixel')} in {len(found.pixels)} of {plural(both, 'frame')}")
     if found.counts[0] != found.counts[1]:
         said.append(f"{plural(found.counts[0], 'frame')} and {plural(found.counts[1], 'frame')}")

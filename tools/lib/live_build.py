@@ -1,0 +1,94 @@
+"""Image and script of a source: a text for Copper lists, assembler, C, or an image as it is."""
+from __future__ import annotations
+
+import os
+import shutil
+import subprocess
+from dataclasses import dataclass, field
+
+from copper_text import read_copper
+from faults import BadFile
+from the_program import TOP
+
+CROSS = "m68k-linux-gnu-"
+PACKAGES = {"as": "binutils-m68k-linux-gnu", "gcc": "gcc-m68k-linux-gnu"}
+GCC = """-m68000 -O2 -ffreestanding -fno-pic -fomit-frame-pointer -fno-tree-loop-distribute-patterns -nostdlib -static
+-Wl,--build-id=none""".split()
+COPPER_ENDS, ASSEMBLER_ENDS = (".copper", ".txt"), (".s", ".S", ".asm")
+MOST_TOLD = 20
+
+
+@dataclass
+class Source:
+    """A file that is run, and how: the script that is named for it, and the frames of one that is made."""
+
+    path: str
+    script: str | None
+    frames: int
+    # the other files that the last build read
+    read: list[str] = field(default_factory=list)
+
+    @property
+    def watched(self) -> list[str]:
+        """The files whose change is a change of the run."""
+        return [self.path, *([self.script] if self.script else []), *self.read]
+
+
+def build(source: Source, folder: str) -> tuple[str, str]:
+    """Makes image and script in a folder; gives their places. BadFile says what is wrong with the source."""
+    end = os.path.splitext(source.path)[1]
+    image, made = os.path.join(folder, "image"), os.path.join(folder, "script")
+    text = f"ocs 1\ncpu on\nframes {source.frames}\nend\n"
+    source.read = []
+    if end in COPPER_ENDS:
+        copper = read_copper(source.path)
+        source.read = copper.files
+        write(image, copper.image())
+        text = copper.script()
+    elif end in ASSEMBLER_ENDS:
+        assemble(source, folder, image)
+    elif end == ".c":
+        compile_c(source, folder, image)
+    else:
+        shutil.copyfile(source.path, image)
+    if source.script:
+        return image, source.script
+    write(made, text.encode("ascii"))
+    return image, made
+
+
+def write(place: str, data: bytes) -> None:
+    with open(place, "wb") as file:
+        file.write(data)
+
+
+def assemble(source: Source, folder: str, image: str) -> None:
+    """Assembles a source from address 0 on."""
+    made, linked = os.path.join(folder, "source.o"), os.path.join(folder, "source.elf")
+    call(source, "as", "-m68000", "-o", made, os.path.basename(source.path))
+    call(source, "ld", "-Ttext=0", "-e", "0", "-o", linked, made)
+    call(source, "objcopy", "-O", "binary", linked, image)
+
+
+def compile_c(source: Source, folder: str, image: str) -> None:
+    """Compiles a program, linked by the `image.ld` beside it, else by that of the example."""
+    beside = os.path.join(os.path.dirname(source.path), "image.ld")
+    script = beside if os.path.exists(beside) else os.path.join(TOP, "examples", "solid", "image.ld")
+    source.read = [script]
+    linked = os.path.join(folder, "source.elf")
+    words = [*GCC, f"-Wl,-T,{os.path.abspath(script)}", "-o", linked, os.path.basename(source.path)]
+    call(source, "gcc", *words)
+    call(source, "objcopy", "-O", "binary", linked, image)
+
+
+def call(source: Source, tool: str, *words: str) -> None:
+    """Runs a cross tool in the source's folder; BadFile holds what it says where it fails."""
+    name = CROSS + tool
+    if not shutil.which(name):
+        package = PACKAGES["gcc" if tool == "gcc" else "as"]
+        raise BadFile(source.path, f"{name} is not installed: apt-get install --no-install-recommends {package}")
+    folder = os.path.dirname(os.path.abspath(source.path))
+    done = subprocess.run([name, *words], cwd=folder, capture_output=True, text=True, errors="backslashreplace")
+    if done.returncode:
+        said = "\n".join((done.stderr + done.stdout).strip().splitlines()[:MOST_TOLD])
+        raise BadFile(source.path, f"{name} refuses it\n{said}")

@@ -1,0 +1,322 @@
+"""Runs the cases of a suite, and compares what they give with what they must give."""
+from __future__ import annotations
+
+import json
+import lzma
+import os
+import select
+import shutil
+import signal
+import subprocess
+import time
+from dataclasses import dataclass, field
+
+from faults import BadFile
+from suite_cases import KINDS, Case, Golden, read_golden, same_bytes, sum_of, unpack
+
+PASSED, ACCEPTED, DIFFERS, NEW, FAILED = "passed", "accepted", "differs", "new", "failed"
+GOOD = (PASSED, ACCEPTED)
+RESULT = "result.json"
+# of a program's text so many bytes are read, and so many lines kept
+MOST_READ, MOST_SAID = 1 << 16, 20
+# where each name of a command stands for a file of the run
+NAMES = {kind.upper(): kind for kind in KINDS}
+
+
+@dataclass
+class Stored:
+    """A file that a passing run left: its sum, and by what it is known to be the same file still."""
+
+    sum: str
+    size: int
+    time: int
+
+
+@dataclass
+class Result:
+    """What came out of a case. `seconds` are those of the clock, `program` those of the processor."""
+
+    name: str
+    verdict: str = FAILED
+    said: list[str] = field(default_factory=list)
+    seconds: float = 0.0
+    program: float = 0.0
+    status: int = 0
+    spoken: list[str] = field(default_factory=list)
+    sums: dict[str, str] = field(default_factory=dict)
+    stored: dict[str, Stored] = field(default_factory=dict)
+
+
+@dataclass
+class Suite:
+    """How cases are run: the program, the folder of what comes out, seconds a case may take, bytes it may leave; and
+    whether what comes out is accepted, and kept whole.
+    """
+
+    program: str
+    out: str
+    limit: float
+    most_stored: int
+    accepts: bool = False
+    keeps: bool = False
+
+    def place(self, case: Case, *names: str) -> str:
+        """A file or folder of what comes out of a case."""
+        return "/".join((self.out, case.name, *names))
+
+
+def read_result(suite: Suite, case: Case) -> Result | None:
+    """The case's last result; None where there is none that can be read."""
+    try:
+        with open(suite.place(case, RESULT), "rb", buffering=0) as file:
+            data = json.loads(file.read())
+        data["stored"] = {kind: Stored(**one) for kind, one in data["stored"].items()}
+        return Result(**data)
+    except (OSError, ValueError, TypeError, KeyError, AttributeError):
+        return None
+
+
+def same_but_for_time(before: Result, after: Result) -> bool:
+    """Whether two results are one but for the seconds that they took; those of the older one then stay."""
+    times = {"seconds": after.seconds, "program": after.program}
+    return {**vars(before), **times} == vars(after)
+
+
+def write_result(suite: Suite, case: Case, result: Result) -> None:
+    """Writes the case's result, beside and renamed, so that it is never a part of one."""
+    place = suite.place(case, RESULT)
+    data = {**vars(result), "stored": {kind: vars(one) for kind, one in result.stored.items()}}
+    with open(place + ".new", "wb", buffering=0) as file:
+        file.write(json.dumps(data).encode("ascii"))
+    os.replace(place + ".new", place)
+
+
+def run_case(suite: Suite, case: Case) -> Result:
+    """Runs a case and compares it; whatever is wrong with it is in the result, which is written too."""
+    before = read_result(suite, case)
+    result = Result(case.name, stored=dict(before.stored) if before else {})
+    try:
+        make_folders(suite, case)
+        run_program(suite, case, result)
+        if result.verdict != FAILED:
+            judge(suite, case, result)
+    except (BadFile, OSError) as fault:
+        result.verdict, result.said = FAILED, [fault_text(fault)]
+    try:
+        if before is None or not same_but_for_time(before, result):
+            write_result(suite, case, result)
+        else:
+            os.utime(suite.place(case, RESULT))
+    except OSError as fault:
+        result.verdict, result.said = FAILED, [fault_text(fault)]
+    return result
+
+
+def make_folders(suite: Suite, case: Case) -> None:
+    """The folders of what comes out."""
+    for name in ("now", "passed"):
+        place = suite.place(case, name)
+        if not os.path.isdir(place):
+            os.makedirs(place)
+
+
+def fault_text(fault: Exception) -> str:
+    """What is wrong, with the file's name."""
+    if isinstance(fault, OSError) and fault.filename:
+        return f"{fault.filename}: {(fault.strerror or str(fault)).lower()}"
+    return str(fault)
+
+
+def ready(suite: Suite, case: Case, name: str) -> str:
+    """The place of a case's image or script, unpacked beside the results where it is packed."""
+    place = case.place(name)
+    if place is None:
+        raise BadFile(case.folder, f"has no {name}")
+    if not place.endswith(".xz"):
+        return os.path.abspath(place)
+    made = suite.place(case, name)
+    if not os.path.exists(made) or os.stat(made).st_mtime_ns != os.stat(place).st_mtime_ns:
+        unpack(place, made)
+        shutil.copystat(place, made)
+    return made
+
+
+def words_of(suite: Suite, case: Case) -> list[str]:
+    """The words that run a case, with files in the places of their names."""
+    made = []
+    for word in case.command():
+        if word == "OCS":
+            word = suite.program
+        elif word in ("IMAGE", "SCRIPT"):
+            word = ready(suite, case, word.lower())
+        elif word in NAMES:
+            word = suite.place(case, "now", NAMES[word])
+        made.append(word)
+    return made
+
+
+def run_program(suite: Suite, case: Case, result: Result) -> None:
+    """Runs a case's command in its folder; puts status, times and what was said into the result."""
+    words = words_of(suite, case)
+    for kind in KINDS:
+        remove(suite.place(case, "now", kind))
+    spoken = os.memfd_create("said")
+    try:
+        process = start(case, words, spoken)
+        in_time = wait(suite, process, result)
+        lines = os.pread(spoken, MOST_READ, 0).decode("utf-8", "backslashreplace").splitlines()
+    finally:
+        os.close(spoken)
+    result.spoken = lines[:MOST_SAID]
+    if not in_time:
+        result.said = [f"took more than {suite.limit:g} seconds, and was ended"]
+    elif result.status < 0:
+        result.said = [f"was ended by {signal.Signals(-result.status).name}", *lines[-3:]]
+    else:
+        result.verdict = DIFFERS
+
+
+def start(case: Case, words: list[str], said: int) -> subprocess.Popen:
+    """Starts a command, in a group of its own, so that all of it can be ended."""
+    quiet, both = subprocess.DEVNULL, subprocess.STDOUT
+    try:
+        return subprocess.Popen(words, cwd=case.folder, stdin=quiet, stdout=said, stderr=both, start_new_session=True)
+    except OSError as fault:
+        raise BadFile(words[0], f"cannot be run: {(fault.strerror or str(fault)).lower()}") from None
+
+
+def wait(suite: Suite, process: subprocess.Popen, result: Result) -> bool:
+    """Waits until a command ends, and notes its status and times; False where its time was over before. Whatever ends
+    this, nothing of the command runs on.
+    """
+    begun = time.monotonic()
+    handle, in_time = os.pidfd_open(process.pid), False
+    try:
+        in_time = bool(select.select([handle], [], [], suite.limit)[0])
+    finally:
+        os.close(handle)
+        if not in_time:
+            os.killpg(process.pid, signal.SIGKILL)
+        _, status, used = os.wait4(process.pid, 0)
+        process.returncode = os.waitstatus_to_exitcode(status)
+    result.status, result.seconds = process.returncode, time.monotonic() - begun
+    result.program = used.ru_utime + used.ru_stime
+    return in_time
+
+
+def judge(suite: Suite, case: Case, result: Result) -> None:
+    """Compares what came out with what must come out, and keeps or removes it."""
+    for kind in KINDS:
+        place = suite.place(case, "now", kind)
+        if os.path.exists(place):
+            result.sums[kind] = sum_by_store(suite, case, kind, place, result.stored)
+    golden = golden_of(case)
+    if golden is None:
+        result.verdict, result.said = NEW, ["has no golden"]
+    elif golden.is_met(result.status, result.spoken, result.sums):
+        result.verdict = PASSED
+    else:
+        from suite_differences import differences
+
+        result.said = differences(expected(suite, case, golden, result), result, suite.place(case))
+    if suite.accepts and (suite.keeps or result.verdict != PASSED):
+        accept(suite, case, result, golden)
+    if result.verdict in GOOD:
+        store(suite, case, result)
+
+
+def golden_of(case: Case) -> Golden | None:
+    """What a case must give: its file `golden`, and kept files for what that does not name."""
+    kept = case.kept()
+    if "golden" not in case.files and not kept:
+        return None
+    golden = read_golden(os.path.join(case.folder, "golden")) if "golden" in case.files else Golden()
+    for kind, place in kept.items():
+        if kind not in golden.sums:
+            golden.sums[kind] = sum_of(place)
+    return golden
+
+
+def expected(suite: Suite, case: Case, golden: Golden, result: Result):
+    """What a case must give, and where its files are."""
+    from suite_differences import Expected
+
+    return Expected(case, golden, lambda kind: stored_file(suite, case, kind, golden, result.stored))
+
+
+def is_as_stored(place: str, stored: Stored) -> bool:
+    """Whether a file is the one that was stored."""
+    try:
+        found = os.stat(place)
+    except OSError:
+        return False
+    return (found.st_size, found.st_mtime_ns) == (stored.size, stored.time)
+
+
+def sum_by_store(suite: Suite, case: Case, kind: str, place: str, stored: dict[str, Stored]) -> str:
+    """The SHA-256 of a file: that of the stored one where both have the same bytes, which is quicker to find out."""
+    kept, old = suite.place(case, "passed", kind), stored.get(kind)
+    if old and os.path.getsize(place) == old.size and is_as_stored(kept, old) and same_bytes(place, kept):
+        return old.sum
+    return sum_of(place)
+
+
+def stored_file(suite: Suite, case: Case, kind: str, golden: Golden, stored: dict[str, Stored]) -> str | None:
+    """The stored file that is the golden one."""
+    place, old = suite.place(case, "passed", kind), stored.get(kind)
+    return place if old and old.sum == golden.sums.get(kind) and is_as_stored(place, old) else None
+
+
+def store(suite: Suite, case: Case, result: Result) -> None:
+    """Moves the files of a passing run to where the next run is compared with them, where they are not too long."""
+    now = {kind: suite.place(case, "now", kind) for kind in result.sums}
+    keeps = sum(map(os.path.getsize, now.values())) <= suite.most_stored
+    for kind in KINDS:
+        old, kept = result.stored.get(kind), suite.place(case, "passed", kind)
+        if keeps and kind in now and old and old.sum == result.sums[kind] and is_as_stored(kept, old):
+            os.remove(now[kind])
+            continue
+        result.stored.pop(kind, None)
+        if keeps and kind in now:
+            os.replace(now[kind], kept)
+            found = os.stat(kept)
+            result.stored[kind] = Stored(result.sums[kind], found.st_size, found.st_mtime_ns)
+        else:
+            remove(kept)
+            remove(now.get(kind, kept))
+
+
+def remove(place: str) -> None:
+    """Removes a file if it is there."""
+    try:
+        os.remove(place)
+    except FileNotFoundError:
+        pass
+
+
+def accept(suite: Suite, case: Case, result: Result, old: Golden | None) -> None:
+    """Makes what came out what must come out; of the files that the old golden did not name none is named."""
+    kept = case.kept()
+    wanted = {kind: value for kind, value in result.sums.items() if not old or not old.sums or kind in old.sums}
+    for kind in KINDS if suite.keeps else kept:
+        keep_file(suite, case, kind, result)
+    if suite.keeps or not kept or "golden" in case.files:
+        place = os.path.join(case.folder, "golden")
+        with open(place + ".new", "w", encoding="utf-8") as file:
+            file.write(Golden(result.status, result.spoken, wanted).text())
+        os.replace(place + ".new", place)
+    result.verdict = ACCEPTED
+
+
+def keep_file(suite: Suite, case: Case, kind: str, result: Result) -> None:
+    """Packs a file of the run into the case's folder, in the place of the one that is kept."""
+    folder = os.path.join(case.folder, "kept")
+    for name in (kind, kind + ".xz"):
+        remove(os.path.join(folder, name))
+    if kind not in result.sums:
+        return
+    os.makedirs(folder, exist_ok=True)
+    place = os.path.join(folder, kind + ".xz")
+    with open(suite.place(case, "now", kind), "rb") as file, lzma.open(place + ".new", "wb") as packed:
+        shutil.copyfileobj(file, packed, 1 << 20)
+    os.replace(place + ".new", place)

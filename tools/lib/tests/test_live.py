@@ -1,0 +1,139 @@
+"""A file that is run again whenever it changes."""
+from __future__ import annotations
+
+import os
+import shutil
+import subprocess
+import time
+import unittest
+import urllib.error
+import urllib.request
+
+from browser import Browser, BrowserFault, find_browser
+from runs import TOOLS, Tools
+
+EXAMPLES = os.path.join(os.path.dirname(TOOLS), "examples")
+# a program of the same words as ours: its picture is black, its trace has the image's word at 102
+PROGRAM = """#!/usr/bin/env python3
+import sys
+sys.path[:0] = {folders!r}
+from runs import frame
+image = open(sys.argv[2], "rb").read()
+open(sys.argv[4], "wb").write(frame({{}}))
+open(sys.argv[5], "w").write("0 44 100 W 180 %04x C\\n" % int.from_bytes(image[0x102:0x104], "big"))
+open(sys.argv[6], "wb").write(bytes(524288))
+"""
+SECONDS = 30
+
+
+def browser_is_there() -> bool:
+    try:
+        return bool(find_browser())
+    except BrowserFault:
+        return False
+
+
+class LiveTest(Tools):
+    def setUp(self) -> None:
+        super().setUp()
+        tests = os.path.dirname(os.path.realpath(__file__))
+        self.program = self.write("program", PROGRAM.format(folders=[tests, os.path.dirname(tests)]))
+        os.chmod(self.program, 0o755)
+
+    def start(self, *words: str) -> str:
+        """Starts the tool; gives the page's address."""
+        environment = dict(os.environ, OCS=self.program)
+        tool = [os.path.join(TOOLS, "live"), "--port", "0", *words]
+        pipe = subprocess.PIPE
+        live = subprocess.Popen(tool, cwd=self.folder, env=environment, stdout=pipe, stderr=subprocess.STDOUT, text=True)
+        self.live = live
+
+        def end() -> None:
+            live.terminate()
+            live.communicate()
+
+        self.addCleanup(end)
+        address = live.stdout.readline().strip()
+        self.assertRegex(address, r"^http://127\.0\.0\.1:\d+/$")
+        return address
+
+    def page(self, address: str) -> str:
+        with urllib.request.urlopen(address, timeout=SECONDS) as answer:
+            return answer.read().decode("utf-8")
+
+    def wait_for(self, address: str, text: str) -> str:
+        """Waits until the page holds a text; gives the page."""
+        end = time.monotonic() + SECONDS
+        while text not in self.page(address):
+            self.assertLess(time.monotonic(), end, f"it never came that the page holds {text}")
+            time.sleep(0.05)
+        return self.page(address)
+
+    def test_a_copper_text(self) -> None:
+        self.write("list.copper", "move COLOR00 f00\n")
+        address = self.start("list.copper")
+        self.wait_for(address, "0 44 100 W 180 0f00 C")
+        self.write("list.copper", "move COLOR00 0f0\n")
+        self.wait_for(address, "0 44 100 W 180 00f0 C")
+        self.write("list.copper", "\nmove COLOUR00 0f0\n")
+        self.wait_for(address, "list.copper: line 2: &#x27;COLOUR00&#x27; is no register")
+        self.write("data", b"\x12\x34")
+        self.write("list.copper", "at 102\nfile data\nat 200\nwait 5\n")
+        self.wait_for(address, "0 44 100 W 180 1234 C")
+        self.write("data", b"\x56\x78")
+        self.wait_for(address, "0 44 100 W 180 5678 C")
+
+    def test_an_image_and_its_script(self) -> None:
+        self.write("image", bytes(0x102) + b"\x0a\xbc")
+        self.write("script", "ocs 1\ncpu on\nframes 1\nend\n")
+        address = self.start("image")
+        self.wait_for(address, "0 44 100 W 180 0abc C")
+        self.write("script", "ocs 1\ncpu on\nframes 1\nat 0 0 0 poke 180 f00\nend\n")
+        self.wait_for(address, "script: line 4: event: the word &#x27;f00&#x27; has not four digits, but 3")
+
+    @unittest.skipUnless(shutil.which("m68k-linux-gnu-as"), "m68k-linux-gnu-as: apt-get install binutils-m68k-linux-gnu")
+    def test_assembler(self) -> None:
+        self.write("program.s", ".long 0x80000,8\nstart: bra start\n.org 0x102\n.word 0x777\n")
+        address = self.start("program.s")
+        self.wait_for(address, "0 44 100 W 180 0777 C")
+        self.write("program.s", "what\n")
+        self.wait_for(address, "m68k-linux-gnu-as refuses it")
+
+    @unittest.skipUnless(shutil.which("m68k-linux-gnu-gcc"), "m68k-linux-gnu-gcc: apt-get install gcc-m68k-linux-gnu")
+    def test_c(self) -> None:
+        for name in ("solid.c", "image.ld"):
+            shutil.copy(os.path.join(EXAMPLES, "solid", name), self.folder)
+        with open(os.path.join(EXAMPLES, "solid", "image"), "rb") as file:
+            word = file.read()[0x102:0x104].hex()
+        self.wait_for(self.start("solid.c"), f"0 44 100 W 180 {word} C")
+
+    def test_only_this_machine_asks(self) -> None:
+        self.write("list.copper", "move COLOR00 f00\n")
+        address = self.start("list.copper")
+        with self.assertRaises(urllib.error.HTTPError) as refused:
+            urllib.request.urlopen(urllib.request.Request(address, headers={"Host": "elsewhere.example:80"}))
+        self.assertEqual(refused.exception.code, 403)
+
+    def test_unusable(self) -> None:
+        os.environ["OCS"] = self.program
+        self.addCleanup(os.environ.pop, "OCS")
+        self.assertEqual(self.refused("live", "absent.copper"), "live: absent.copper: is not there")
+        os.environ["OCS"] = self.place("nothing")
+        self.write("list.copper", "move COLOR00 f00\n")
+        self.assertIn("nothing: is not there", self.refused("live", "list.copper"))
+
+    @unittest.skipUnless(browser_is_there(), "chromium: apt-get install --no-install-recommends chromium fonts-dejavu-core")
+    def test_the_page_loads_itself_anew(self) -> None:
+        self.write("list.copper", "move COLOR00 f00\n")
+        address = self.start("list.copper")
+        self.wait_for(address, "0 44 100 W 180 0f00 C")
+        with Browser(1200, 800) as browser:
+            browser.open(address + "#frame=0&line=100&column=212")
+            self.write("list.copper", "move COLOR00 0f0\n")
+            browser.wait_for("document.body && document.body.innerHTML.includes('0 44 100 W 180 00f0 C')")
+            self.assertIn("line=100", browser.value("location.hash"))
+            self.write("list.copper", "what\n")
+            browser.wait_for("document.body && document.body.innerText.includes('is none of wait')")
+            self.write("list.copper", "move COLOR00 00f\n")
+            browser.wait_for("document.body && document.body.innerHTML.includes('0 44 100 W 180 000f C')")
+            self.assertEqual(browser.faults(), [])

@@ -1,0 +1,235 @@
+"""A folder of cases, run and compared."""
+from __future__ import annotations
+
+import hashlib
+import json
+import lzma
+import os
+import shutil
+import signal
+import subprocess
+import time
+import unittest
+import xml.etree.ElementTree as trees
+
+from runs import TOOLS, Tools, frame
+
+# a program of the same words as ours: what it gives is told by its image's first bytes
+PROGRAM = """#!/usr/bin/env python3
+import sys, time
+sys.path[:0] = {folders!r}
+from runs import frame
+image, script = open(sys.argv[2], "rb").read(), open(sys.argv[3]).read()
+open({log!r}, "a").write(sys.argv[2] + "\\n")
+if "slow" in script:
+    time.sleep(60)
+if "bad" in script:
+    sys.exit(print("bad script: line 4: event") or 4)
+if "killed" in script:
+    import os
+    os.kill(os.getpid(), 9)
+open(sys.argv[4], "wb").write(frame({{}}) + frame({{(212, 74): bytes(image[:3])}}))
+open(sys.argv[5], "w").write("0 44 100 W 180 %04x C\\n" % image[3])
+open(sys.argv[6], "wb").write(image + bytes(524288 - len(image)))
+"""
+RED, GREEN = b"\xff\0\0", b"\0\xff\0"
+
+
+def wanted(colour: bytes, word: int) -> dict[str, str]:
+    """The sums of what the program gives for an image."""
+    image = colour + bytes([word]) + bytes(4)
+    second = frame({(212, 74): colour})
+    texts = {
+        "frames": frame({}) + second,
+        "trace": b"0 44 100 W 180 %04x C\n" % word,
+        "memory": image + bytes(524288 - len(image)),
+    }
+    return {kind: hashlib.sha256(text).hexdigest() for kind, text in texts.items()}
+
+
+class SuiteTest(Tools):
+    def setUp(self) -> None:
+        super().setUp()
+        tests = os.path.dirname(os.path.realpath(__file__))
+        self.log = self.place("log")
+        folders = [tests, os.path.dirname(tests)]
+        self.program = self.write("program", PROGRAM.format(folders=folders, log=self.log))
+        os.chmod(self.program, 0o755)
+        os.environ["OCS"] = self.program
+        self.addCleanup(os.environ.pop, "OCS")
+
+    def case(self, name: str, colour: bytes = RED, word: int = 7, script: str = "", **files: str) -> None:
+        self.write(f"cases/{name}/image", colour + bytes([word]) + bytes(4))
+        self.write(f"cases/{name}/script", script)
+        for file, text in files.items():
+            self.write(f"cases/{name}/{file}", text)
+
+    def golden(self, name: str, colour: bytes = RED, word: int = 7, kinds=("frames", "trace", "memory")) -> None:
+        sums = wanted(colour, word)
+        self.write(f"cases/{name}/golden", "".join(f"{sums[kind]}  {kind}\n" for kind in kinds))
+
+    def suite(self, *words: str) -> tuple[int, list[str]]:
+        done = self.run_tool("suite", "cases", *words)
+        self.assertEqual(done.stderr, "")
+        return done.returncode, done.stdout.splitlines()
+
+    def ran(self) -> list[str]:
+        """The cases that ran since this was asked last."""
+        if not os.path.exists(self.log):
+            return []
+        with open(self.log, encoding="utf-8") as file:
+            names = sorted(os.path.basename(os.path.dirname(line.strip())) for line in file)
+        os.remove(self.log)
+        return names
+
+    def read(self, name: str) -> str:
+        with open(self.place(name), encoding="utf-8") as file:
+            return file.read()
+
+    def test_pass_and_differ(self) -> None:
+        self.case("one")
+        self.golden("one")
+        self.case("group/two", GREEN, 9)
+        self.golden("group/two", RED, 9, ("frames", "trace"))
+        status, said = self.suite()
+        self.assertEqual(status, 1)
+        self.assertIn("differs   group/two: frames: other than was to come", said[0])
+        self.assertTrue(said[1].startswith("2 cases: 1 pass, 1 differ; "), said)
+        self.assertEqual(self.suite("one")[0], 0)
+        self.assertIn("suite: cases/three: is no case", self.refused("suite", "cases", "three"))
+
+    def test_first_difference_is_told_and_shown(self) -> None:
+        self.case("one")
+        self.case("two")
+        self.assertEqual(self.suite("--accept")[0], 0)
+        self.case("one", GREEN, 9)
+        status, said = self.suite()
+        self.assertEqual(status, 1)
+        place = "frame 1, line 100, clock 100 (column 212, row 74): f00 and 0f0"
+        self.assertEqual(said[0], f"differs   one: frames: first at {place}; 1 pixel of that frame; 1 of 2 frames")
+        lines = "'0 44 100 W 180 0007 C' and '0 44 100 W 180 0009 C'"
+        self.assertEqual(said[1], f"differs   one: trace: first at line 1: {lines}; 1 and 1 lines")
+        self.assertEqual(said[2], "differs   one: memory: first at byte 00000: ff and 00; 3 bytes")
+        data = json.loads(self.read("cases/out/report.html").split('id="data">')[1].split("</script>")[0])
+        shown = {one["name"]: one["shown"] for one in data["cases"]}
+        self.assertIsNone(shown["two"])
+        self.assertEqual([one["number"] for one in shown["one"]["frames"]], [1])
+        self.assertEqual(shown["one"]["first"], [212, 74])
+        self.assertIn("@@data@@", data["page"])
+        cases = trees.fromstring(self.read("cases/out/junit.xml"))[0]
+        self.assertEqual((cases.get("tests"), cases.get("failures"), cases.get("errors")), ("2", "1", "0"))
+        self.assertIn(place, cases.find("testcase[@name='one']/failure").get("message"))
+        self.assertEqual(len(cases.find("testcase[@name='two']")), 0)
+
+    def test_kept_files(self) -> None:
+        self.case("one")
+        self.assertEqual(self.suite("--accept", "--keep")[0], 0)
+        self.assertEqual(sorted(os.listdir(self.place("cases/one/kept"))), ["frames.xz", "memory.xz", "trace.xz"])
+        shutil.rmtree(self.place("cases/out"))
+        os.remove(self.place("cases/one/golden"))
+        self.assertEqual(self.suite()[0], 0)
+        self.case("one", GREEN)
+        self.assertIn("frames: first at frame 1, line 100, clock 100", self.suite("--store", "0")[1][0])
+        self.write("cases/one/kept/frames", frame({}))
+        os.remove(self.place("cases/one/kept/frames.xz"))
+        self.assertIn("frames: 1 frame and 2 frames", self.suite()[1][0])
+
+    def test_packed_files_commands_and_statuses(self) -> None:
+        self.case("packed")
+        os.remove(self.place("cases/packed/image"))
+        self.write("cases/packed/image.xz", lzma.compress(RED + b"\x07" + bytes(4)))
+        self.golden("packed")
+        self.case("other", command="# only the picture\nOCS run IMAGE SCRIPT FRAMES TRACE MEMORY '1 0'\n")
+        self.golden("other", kinds=("frames",))
+        self.case("bad", script="bad", golden="# status 4\n# said bad script: line 4: event\n")
+        self.assertEqual(self.suite()[0], 0)
+        self.write("cases/bad/golden", "# status 0\n")
+        told = "differs   bad: status: 0 was to come, and 4 (bad script: line 4: event) came"
+        self.assertEqual(self.suite()[1][0], told)
+        self.write("cases/bad/golden", "")
+        self.assertEqual(self.suite("--accept", "bad")[0], 0)
+        self.assertEqual(self.read("cases/bad/golden"), "# status 4\n# said bad script: line 4: event\n")
+
+    def test_nothing_stops_it(self) -> None:
+        self.case("aa killed", script="killed")
+        self.case("bb slow", script="slow")
+        self.case("cc broken", golden="what\n")
+        self.case("dd torn")
+        os.remove(self.place("cases/dd torn/image"))
+        self.write("cases/dd torn/image.xz", lzma.compress(bytes(8))[:-9])
+        self.case("ee no command", command="./absent\n")
+        self.case("ff new")
+        self.case("gg good")
+        self.golden("gg good")
+        status, said = self.suite("--limit", "1", "--jobs", "1")
+        self.assertEqual((status, len(said)), (1, 8), said)
+        self.assertEqual(said[0], "failed    aa killed: was ended by SIGKILL")
+        self.assertEqual(said[1], "failed    bb slow: took more than 1 seconds, and was ended")
+        self.assertIn("cc broken/golden: line 1 is no sum of a file and no comment: 'what'", said[2])
+        self.assertIn("dd torn/image.xz: ", said[3])
+        self.assertIn("./absent: cannot be run: no such file or directory", said[4])
+        self.assertEqual(said[5], "new       ff new: has no golden")
+        self.assertIn("7 cases: 1 pass, 1 have no golden (--accept makes it), 5 failed", said[6])
+
+    def test_shards_are_the_whole(self) -> None:
+        for number in range(5):
+            self.case(f"case {number}")
+        parts = [self.run_tool("suite", "cases", "--list", "--shard", f"{n}/3").stdout.splitlines() for n in (1, 2, 3)]
+        self.assertEqual(parts, [["case 0", "case 3"], ["case 1", "case 4"], ["case 2"]])
+        for number in (1, 2, 3):
+            self.suite("--accept", "--shard", f"{number}/3")
+        self.assertEqual(self.suite("--report")[0], 0)
+        self.assertIn("'4/3' is not I/N", self.refused("suite", "cases", "--shard", "4/3"))
+
+    def test_unusable(self) -> None:
+        self.assertIn("suite: cases: is not there", self.refused("suite", "cases"))
+        os.mkdir(self.place("cases"))
+        self.assertIn("suite: cases: has no case", self.refused("suite", "cases"))
+        self.case("one")
+        os.environ["OCS"] = self.place("nothing")
+        self.assertIn("nothing: is not there", self.refused("suite", "cases"))
+
+    def test_the_keyboard_ends_it(self) -> None:
+        self.case("one", script="slow")
+        words = [os.path.join(TOOLS, "suite"), "cases"]
+        pipe = subprocess.PIPE
+        with subprocess.Popen(words, cwd=self.folder, stdout=pipe, stderr=pipe, text=True) as process:
+            while not os.path.exists(self.log):
+                time.sleep(0.05)
+            process.send_signal(signal.SIGINT)
+            said = process.communicate(timeout=20)
+        self.assertEqual((process.returncode, *said), (130, "", "suite: stopped\n"))
+
+    @unittest.skipUnless(shutil.which("ninja"), "ninja is not installed: apt-get install ninja-build")
+    def test_ninja_runs_what_changed(self) -> None:
+        for name in ("one", "two $x"):
+            self.case(name)
+            self.golden(name)
+        self.assertEqual(self.suite("--plan", "plan.ninja"), (0, []))
+        self.assertEqual(self.ninja(), (0, ["one", "two $x"]))
+        self.assertEqual(self.ninja(), (0, []))
+        self.case("one", GREEN)
+        self.assertEqual(self.ninja(), (1, ["one"]))
+        self.golden("one", GREEN)
+        self.case("three")
+        self.golden("three")
+        self.assertEqual(self.ninja(), (0, ["one", "three"]))
+        os.utime(self.program)
+        self.assertEqual(self.ninja(), (0, ["one", "three", "two $x"]))
+        self.assertIn("3 of 3 cases pass", self.read("cases/out/report.html"))
+
+    def ninja(self) -> tuple[int, list[str]]:
+        """Runs the plan; gives the status, and the cases that ran."""
+        done = subprocess.run(["ninja", "-f", "plan.ninja"], cwd=self.folder, capture_output=True, text=True)
+        return done.returncode, self.ran()
+
+    @unittest.skipUnless(shutil.which("parallel"), "GNU parallel is not installed: apt-get install parallel")
+    def test_parallel_runs_the_list(self) -> None:
+        for name in ("one", "two'x"):
+            self.case(name)
+            self.golden(name)
+        tool = os.path.join(TOOLS, "suite")
+        shell = f"'{tool}' cases --list | parallel --will-cite --sshlogin 2/: '{tool}' cases --only-run -- {{}}"
+        subprocess.run(shell, shell=True, cwd=self.folder, check=True)
+        self.assertEqual(self.ran(), ["one", "two'x"])
+        self.assertEqual(self.suite("--report")[0], 0)
