@@ -64,8 +64,9 @@ def blend(stops, part):
 
 
 def word(colour, row=0):
-    """The colour's word; alternate rows round up and down, so that a step is two rows of a mix."""
-    red, green, blue = (max(0, min(15, math.floor(c + (0.3, 0.7)[row % 2]))) for c in colour)
+    """The colour's word; alternate rows round up and down, green where the others round the other way, so that a step is two rows
+    of a mix."""
+    red, green, blue = (max(0, min(15, math.floor(c + (0.3, 0.7)[(row + n) % 2]))) for n, c in enumerate(colour))
     return red * 256 + green * 16 + blue
 
 
