@@ -1,6 +1,6 @@
 #!/usr/bin/env python3
 """Makes `image` and `script` of this example, beside itself, from program.s and from what is drawn here: a game of a bat, a ball
-and bricks, and the moves of one who played it. It wants GNU binutils for the 68000 beside Python 3 (on Debian the package
+and bricks, and the moves that play it. It wants GNU binutils for the 68000 beside Python 3 (on Debian the package
 binutils-m68k-linux-gnu).
 
 Four planes. Plane 4 is what is solid: bricks, walls, and the score. Where it shows 0, planes 1 and 2 are the hexagons of the
@@ -34,7 +34,7 @@ LEVEL = (
 CLEAN_BYTES = (len(LEVEL) + 1) * BRICK_ROWS * ROW_BYTES
 BAT_START, SCORE_START, SCORE_COLUMN, TEXT_ROW = 96, 4210, 9, 6
 
-# what was played: the frame, and the joystick (-1 left, 0, 1 right) or fire of port 1
+# what is played: the frame, and the joystick (-1 left, 0, 1 right) or fire of port 1
 FRAMES = 86
 PLAY = ((0, -1), (4, "fire 1 1"), (6, 0), (10, "fire 1 0"), (21, 1), (30, 0), (66, -1), (69, 0), (72, -1), (75, 0))
 
@@ -349,7 +349,7 @@ def assembled():
 
 
 def script():
-    """What was played, as a script: the words that JOY1DAT has for left and right, and fire."""
+    """What is played, as a script: the words that JOY1DAT has for left and right, and fire."""
     sticks = {-1: "joy 1 0300", 0: "joy 1 0000", 1: "joy 1 0003"}
     lines = [f"at {frame} 300 0 " + (sticks[what] if what in sticks else what) for frame, what in PLAY]
     return "\n".join(["ocs 1", "cpu on", f"frames {FRAMES}", *lines, "end", ""])
