@@ -19,24 +19,24 @@ ROW_BYTES = WIDTH // 8
 TOP, LEFT = 26, 97  # line and position of the picture's left upper corner
 LIST, SPRITES, FONT, CLEAN, SCREEN = 0x1000, 0x3800, 0x3C00, 0x4000, 0x7000
 WALL, BAR, BAR_ROWS = 16, 18, 14  # the walls' width, the first row of the upper one, and its rows
-BRICK_WIDTH, BRICK_ROWS, BRICK_ROW, COLUMNS = 32, 14, 56, 10
+BRICK_WIDTH, BRICK_ROWS, BRICK_ROW, COLUMNS = 32, 14, 84, 10
 SHADE_X, SHADE_Y = 6, 5  # how far a shadow is from what throws it
 BALL, BAT_ROW, BAT_ROWS, SPRITE_BYTES = 11, 264, 10, 64
 LEVEL = (
-    "..xx..xx..",
+    "..xx..x...",
     ".xxx..xxx.",
-    "xxxx..xxxx",
-    "xxxx..xxxx",
+    "xxxx..x.xx",
+    "xxx...xxxx",
     "xxxx..xxxx",
     ".xxx..xxx.",
     "..xx..xx..",
 )
 CLEAN_BYTES = (len(LEVEL) + 1) * BRICK_ROWS * ROW_BYTES
-BAT_START, SCORE_START, SCORE_COLUMN, TEXT_ROW = 96, 4210, 9, 6
+BAT_START, SCORE_START, SCORE_COLUMN, TEXT_ROW = 218, 4210, 9, 6
 
 # what is played: the frame, and the joystick (-1 left, 0, 1 right) or fire of port 1
-FRAMES = 86
-PLAY = ((0, -1), (4, "fire 1 1"), (6, 0), (10, "fire 1 0"), (21, 1), (30, 0), (66, -1), (69, 0), (72, -1), (75, 0))
+FRAMES = 40
+PLAY = ((0, 1), (2, "fire 1 1"), (3, 0), (8, "fire 1 0"), (15, 1), (21, -1), (24, 0))
 
 # an order of 4 by 4 thresholds, so that a shade between two colours is a mix of their pixels
 MIX = (0, 8, 2, 10, 12, 4, 14, 6, 3, 11, 1, 9, 15, 7, 13, 5)

@@ -27,7 +27,7 @@
         .equ    BALL_MET_BAT, 9
         .equ    BAT_STEP, 5
         .equ    BAT_WIDTH, 32
-        .equ    UP, 16*15/2            | the ball's speed: so much up or down a field
+        .equ    UP, 16*8                | the ball's speed: so much up or down a field
 
         .text
         .long   STACK

@@ -24,7 +24,7 @@ import tempfile
 
 HERE = os.path.dirname(os.path.realpath(__file__))
 
-FRAMES = 12
+FRAMES = 8
 PERIOD, ROWS = 384, 286
 ROW_BYTES = PERIOD // 8
 TOP = 26  # the line of row 0

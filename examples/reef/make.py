@@ -16,7 +16,7 @@ import tempfile
 
 HERE = os.path.dirname(os.path.realpath(__file__))
 
-FRAMES = 8
+FRAMES = 4
 WIDTH, ROWS, PLANES = 336, 286, 4  # of the bitplanes, which begin at position 129 of the window of 94 to 453
 ROW_BYTES = WIDTH // 8
 TOP, LEFT = 26, 129
