@@ -162,6 +162,3 @@ fn advance(cpu: &mut Cpu, word: u16, level: u8) -> Option<u8>
     }
     cpu.answer(word, level)
 }
-
-#[cfg(test)]
-mod tests;

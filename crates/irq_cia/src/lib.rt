@@ -11,6 +11,3 @@ mod tod;
 
 pub use cia::Cia;
 pub use interrupts::Irq;
-
-#[cfg(test)]
-mod tests;

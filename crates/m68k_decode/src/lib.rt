@@ -14,6 +14,3 @@ pub use place::Place68;
 pub use regs::CpuRegs;
 pub use trap::Trap;
 pub use under::Under;
-
-#[cfg(test)]
-mod tests;

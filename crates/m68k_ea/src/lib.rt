@@ -9,9 +9,6 @@ ghost use Rattle.m68k_opcodes.specs.declared.operand.Mode.TheVariants as M;
 
 pub use m68k_decode::{CpuRegs, Mode, Place68, Size};
 
-#[cfg(test)]
-mod tests;
-
 /// How many extension words follow the opcode for an operand.
 pub fn extension_words(mode: &Mode, size: Size) -> u8
     ensures { result ≡ extensions mode.now size }

@@ -7,9 +7,6 @@ ghost use Rattle.m68k_decode.specs.Frames.{vector_of, frame_of, access_word, fun
 use arrayvec::ArrayVec;
 pub use m68k_decode::{CpuRegs, Trap};
 
-#[cfg(test)]
-mod tests;
-
 /// The number of an exception's vector; its address is 4 times that (M68000 User's Manual, exception vectors).
 pub fn vector(kind: &Trap) -> u32
     ensures { result ≡ vector_of kind.now }

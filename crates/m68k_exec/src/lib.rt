@@ -22,6 +22,3 @@ mod status;
 pub use ask::Ask;
 pub use m68k_decode::CpuRegs;
 pub use state::Cpu;
-
-#[cfg(test)]
-mod tests;

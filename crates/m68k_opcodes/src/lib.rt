@@ -12,6 +12,3 @@ pub use instr::Instr;
 pub use opcode::decode;
 pub use operand::{Mode, Size};
 pub use timing::{clocks, ea};
-
-#[cfg(test)]
-mod tests;

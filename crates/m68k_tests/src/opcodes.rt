@@ -1,6 +1,6 @@
 //! Opcodes and clocks by the table of instructions, worked by hand.
 
-use crate::*;
+use m68k_opcodes::{Instr, Mode, Size, clocks, decode, ea};
 
 /// The row of an instruction.
 fn row(i: &Instr) -> &'static str {

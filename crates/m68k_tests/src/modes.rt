@@ -1,6 +1,6 @@
 //! The place of each mode, worked by hand.
 
-use crate::*;
+use m68k_ea::{CpuRegs, Mode, Place68, Size, extension_words, resolve};
 
 fn registers() -> CpuRegs {
     CpuRegs {

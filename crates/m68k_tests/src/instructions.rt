@@ -3,7 +3,7 @@
 
 ghost use Rattle.std.specs.Prelude.{◌<◌};
 
-use crate::{Ask, Cpu, CpuRegs};
+use m68k_exec::{Ask, Cpu, CpuRegs};
 
 mod arithmetic;
 mod bits;

@@ -1,7 +1,7 @@
 //! The processor on the bus, clock by clock, worked by hand.
 
-use crate::BusCpu;
-use serial_model::{CiaName, Half, ProcessorAsk, Turn, Wait};
+use cpu_bus::BusCpu;
+use serial_model::{CiaName, Half, ProcessorAsk, Turn};
 
 /// The clocks that pass until the processor goes on, where its slots are given at once with this word. The last is the
 /// one in which it goes on; 99 where it does not.
@@ -85,18 +85,21 @@ fn clocks_of_accesses_and_idle_clocks(rt: HostRuntime) {
 #[test]
 fn where_accesses_go(rt: HostRuntime) {
     // MOVE.B #$12 to a register, to CIA B's register 13, and to the odd byte of a word.
-    let register = after(&[0x13fc, 0x0012, 0x00df, 0xf181]);
+    let mut register = after(&[0x13fc, 0x0012, 0x00df, 0xf181]);
+    register.wait(1);
     assert!(rt;
-        matches!(register.wait, Wait::Slot { ask: ProcessorAsk::WriteRegister { reg, word: 0x1212 } }
+        matches!(register.wish(), Some(ProcessorAsk::WriteRegister { reg, word: 0x1212 })
         if reg.raw() == 0x180)
     );
-    let cia = after(&[0x13fc, 0x0012, 0x00bf, 0xdd00]);
+    let mut cia = after(&[0x13fc, 0x0012, 0x00bf, 0xdd00]);
+    cia.wait(4);
     assert!(rt;
-        matches!(cia.wait, Wait::Cia { cia: CiaName::B, reg, byte: Some(0x12) } if reg.number == 13)
+        matches!(cia.turn(), Turn::Cia { cia: CiaName::B, reg, byte: Some(0x12) } if reg.number == 13)
     );
-    let memory = after(&[0x13fc, 0x0012, 0xff00, 0x2001]);
+    let mut memory = after(&[0x13fc, 0x0012, 0xff00, 0x2001]);
+    memory.wait(1);
     assert!(rt;
-        matches!(memory.wait, Wait::Slot { ask: ProcessorAsk::Write { at, half: Half::Low, .. } }
+        matches!(memory.wish(), Some(ProcessorAsk::Write { at, half: Half::Low, .. })
         if at.raw() == 0x2000)
     );
 }

@@ -1,7 +1,10 @@
 //! Shifts, rotations, multiplication and division.
 
 use super::{expect, flags};
-use crate::*;
+use m68k_alu::{
+    op_asl, op_asr, op_divs, op_divu, op_lsl, op_lsr, op_muls, op_mulu, op_rol, op_ror, op_roxl,
+    op_roxr,
+};
 use m68k_decode::Size::{Byte, Long, Word};
 
 #[test]

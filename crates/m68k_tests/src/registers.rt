@@ -1,6 +1,6 @@
 //! Registers by number.
 
-use crate::*;
+use m68k_decode::CpuRegs;
 
 #[test]
 fn registers(rt: HostRuntime) {

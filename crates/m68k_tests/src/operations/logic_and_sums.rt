@@ -1,7 +1,11 @@
 //! Moves, logic, sums, decimal and bit operations.
 
 use super::{expect, flags};
-use crate::*;
+use m68k_alu::{
+    op_abcd, op_add, op_addx, op_and, op_bchg, op_bclr, op_bset, op_btst, op_chk, op_clr, op_cmp,
+    op_eor, op_ext, op_move, op_nbcd, op_neg, op_negx, op_not, op_or, op_sbcd, op_sub, op_subx,
+    op_swap, op_tas, op_tst,
+};
 use m68k_decode::Size::{Byte, Long, Word};
 
 #[test]

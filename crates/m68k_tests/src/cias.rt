@@ -1,6 +1,6 @@
 //! Words, bytes and ticks worked by hand from the manual's registers.
 
-use crate::{Cia, Irq};
+use irq_cia::{Cia, Irq};
 
 /// Writes bytes to registers, each after its number.
 fn write_all(cia: &mut Cia, bytes: &[(u8, u8)]) {

@@ -1,6 +1,6 @@
 //! Vectors and frames, worked by hand.
 
-use crate::*;
+use m68k_except::{CpuRegs, Trap, frame, vector};
 
 fn registers(sr: u16) -> CpuRegs {
     CpuRegs {
