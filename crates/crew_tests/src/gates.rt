@@ -69,8 +69,8 @@ fn two_workers_draw_beside_the_caller(rt: HostRuntime) -> Result<(), OutOfMemory
     Ok(())
 }
 
-/// So it is where a scene is run. Its band 0 ends where the processor reads CLXDAT, which waits for it; then the bands 1 and 2
-/// are held.
+/// So it is where a scene is run. Its band 0 ends where the processor reads CLXDAT, which waits for it; then
+/// the bands 1 and 2 are held.
 #[test]
 fn workers_draw_a_scene(rt: HostRuntime) -> Result<(), OutOfMemory> {
     let alloc = rt.alloc();

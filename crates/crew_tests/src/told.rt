@@ -39,7 +39,8 @@ impl Told {
     }
 }
 
-/// A gate that holds the bands from a number up to, not including, another, until a later one is about to be drawn.
+/// A gate that holds the bands from a number up to, not including, another, until a later one is about to be
+/// drawn.
 #[derive(Drop)]
 pub struct Watch {
     pub told: Arc<Told>,

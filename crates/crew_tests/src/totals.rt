@@ -58,7 +58,8 @@ fn out_files(alloc: Global) -> Result<OutFiles, OutOfMemory> {
     Ok(OutFiles::new(alloc, frames, trace, memory))
 }
 
-/// Runs all clocks of a foreground at reset over a crew of so many workers. The answer says who drew its bands.
+/// Runs all clocks of a foreground at reset over a crew of so many workers. The answer says who drew its
+/// bands.
 fn draw_over_crew<R: Threads + Wait + Clone + Drop + Send + Sync + 'static>(
     rt: &R,
     alloc: Global,

@@ -17,9 +17,9 @@ at 0 100 100: 180=0f00
 part 74 74 212 719 ff0000
 part 75 285 0 719 ff0000";
 
-/// The number of the call that fails, the status, how many bytes the files frames, trace and memory have then (`-` where
-/// the file is not there), and what is said. The beam passes what is pending on at every 32nd line. The line of the trace
-/// stands there from line 128 on, and the frame at the end.
+/// The number of the call that fails, the status, how many bytes the files frames, trace and memory have
+/// then (`-` where the file is not there), and what is said. The beam passes what is pending on at every
+/// 32nd line. The line of the trace stands there from line 128 on, and the frame at the end.
 const BAND_OF_313: &str = "
 0 5 - - - cannot read image
 1 5 - - - cannot read script
@@ -31,8 +31,9 @@ const BAND_OF_313: &str = "
 7 6 617775 23 262144 cannot write memory
 8 0 617775 23 524288 ";
 
-/// Of bands of one line 16 are not collected yet, so that line 64 finds the heading and the rows of the lines 26 to 46,
-/// and each 32nd line then 32 rows more; the frame's end finds the rows up to line 295, and the last flush the others.
+/// Of bands of one line 16 are not collected yet, so that line 64 finds the heading and the rows of the
+/// lines 26 to 46, and each 32nd line then 32 rows more; the frame's end finds the rows up to line 295, and
+/// the last flush the others.
 const BAND_OF_1: &str = "
 0 5 - - - cannot read image
 1 5 - - - cannot read script

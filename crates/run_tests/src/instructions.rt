@@ -1,16 +1,16 @@
 //! A program of 140 instructions of all groups, with the exceptions that they begin, which is that of
-//! `examples/instructions`. What it leaves was worked out by `tools/instructions-check`, a processor that shares nothing
-//! with this one.
+//! `examples/instructions`. What it leaves was worked out by `tools/instructions-check`, a processor that
+//! shares nothing with this one.
 
 use crate::case::check;
 use std::test::Fail;
 
-/// The program lies from address 0 on. From 1e00 on it leaves the words that it works on, the user's stack below 1f00,
-/// the supervisor's below 2000, and from there on what the handlers of its exceptions append, after each instruction
-/// while the trace bit is set: a word that tells which handler it was, the low word of the stacked PC, the stacked SR and
-/// D0; before an address error four words of its frame; at the end of each group D1 to D6 and A0 to A2. A write of COLOR00
-/// at the end of each group has the sum of all results so far. The script requests the interrupts that end STOP and that
-/// come when the mask falls.
+/// The program lies from address 0 on. From 1e00 on it leaves the words that it works on, the user's stack
+/// below 1f00, the supervisor's below 2000, and from there on what the handlers of its exceptions append,
+/// after each instruction while the trace bit is set: a word that tells which handler it was, the low word
+/// of the stacked PC, the stacked SR and D0; before an address error four words of its frame; at the end of
+/// each group D1 to D6 and A0 to A2. A write of COLOR00 at the end of each group has the sum of all results
+/// so far. The script requests the interrupts that end STOP and that come when the mask falls.
 const PROGRAM: &str = "run All instructions.
 cpu on
 image 0000 2000 0000 013c 3*0000 00c0 0000 00ea 0000 00cc 0000 00ce 0000 00d0 0000 00ec 0000 00d2 0000 00ee

@@ -1,4 +1,5 @@
-//! Programs of the processor that go on for long: one that waits for interrupts, and one that reads CLXDAT again and again.
+//! Programs of the processor that go on for long: one that waits for interrupts, and one that reads CLXDAT
+//! again and again.
 
 use crate::case::{image, script};
 use crate::place::{holds, run_words, shelf, status};
@@ -9,8 +10,8 @@ use std::sync::Wait;
 use std::test::Fail;
 use std::thread::Threads;
 
-/// A program at 100 that waits for each vertical blanking with STOP; its handler at 140 reads CLXDAT, clears the
-/// interrupt, counts at 200 and writes the count to COLOR00.
+/// A program at 100 that waits for each vertical blanking with STOP; its handler at 140 reads CLXDAT, clears
+/// the interrupt, counts at 200 and writes the count to COLOR00.
 const COUNTER: &str = "run A counter of interrupts.
 cpu on
 frames 50

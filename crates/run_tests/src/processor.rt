@@ -59,8 +59,8 @@ fn programs(rt: HostRuntime) -> Result<(), Fail> {
     check(&rt, rt.alloc(), &PROGRAMS)
 }
 
-/// Instructions that begin an exception whose handler is at 0: a shift of a register by an immediate count, which runs
-/// on, and an illegal one.
+/// Instructions that begin an exception whose handler is at 0: a shift of a register by an immediate count,
+/// which runs on, and an illegal one.
 #[test]
 fn exceptions_end_no_run(rt: HostRuntime) -> Result<(), Fail> {
     for opcode in ["e348", "4afc"] {

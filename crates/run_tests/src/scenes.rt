@@ -70,7 +70,8 @@ fn every_scene_has_a_trace_of_546_lines(rt: HostRuntime) -> Result<(), Fail> {
     Ok(())
 }
 
-/// The place keeps the first half of a piece that it refuses, here of 53 bytes, and nothing is said behind it.
+/// The place keeps the first half of a piece that it refuses, here of 53 bytes, and nothing is said behind
+/// it.
 #[test]
 fn a_refused_summary(rt: HostRuntime) -> Result<(), Fail> {
     let alloc = rt.alloc();

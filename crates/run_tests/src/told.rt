@@ -1,14 +1,19 @@
-//! How a run is told as a text, a line for each thing that is told; each line begins with a word that says what.
+//! How a run is told as a text, a line for each thing that is told; each line begins with a word that says
+//! what.
 //!
 //! - `run`: what the run shows.
-//! - `bands`, `workers`: the heights of bands and the numbers of workers, each with each; 313 and 2 where they are not told.
+//! - `bands`, `workers`: the heights of bands and the numbers of workers, each with each; 313 and 2 where
+//!   they are not told.
 //! - `cpu`, `frames`: as in the script; `off` and 1 where they are not told.
-//! - `image`: words of memory from address 0 on, going on from line to line; `200*ffff` is a word that stands so often.
-//! - `at TIME: 180=0f00 002?2240`: pokes, and peeks with the word that is read, all at one time, which stand in the trace.
+//! - `image`: words of memory from address 0 on, going on from line to line; `200*ffff` is a word that
+//!   stands so often.
+//! - `at TIME: 180=0f00 002?2240`: pokes, and peeks with the word that is read, all at one time, which stand
+//!   in the trace.
 //! - `input`: an event that is in no trace. `then`: a line of the trace that no event of the script makes.
 //! - `left ADDRESS`: words of memory at the end; all else is as in the image.
-//! - `ground`: the colour of the frames, black where it is not told. `part`: first and last row, first and last column, and
-//!   the colour of what lies there. `pixels`: so many pixels of one colour, in place of ground and parts.
+//! - `ground`: the colour of the frames, black where it is not told. `part`: first and last row, first and
+//!   last column, and the colour of what lies there. `pixels`: so many pixels of one colour, in place of
+//!   ground and parts.
 
 use ocs_io::{dec, hex};
 use std::alloc::Global;

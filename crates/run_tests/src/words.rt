@@ -12,8 +12,8 @@ const USAGE: &[u8] = b"usage: ocs run IMAGE SCRIPT FRAMES TRACE MEMORY BAND WORK
 
 const USAGE_OF_GEN: &[u8] = b"usage: ocs gen N BAND WORKERS\n";
 
-/// Words that are no run: 33 workers; bands of no line, a leading zero, too many lines; six words; equal names; an empty
-/// name; another command; no word.
+/// Words that are no run: 33 workers; bands of no line, a leading zero, too many lines; six words; equal
+/// names; an empty name; another command; no word.
 const NO_RUN: [&str; 10] = [
     "run image script frames trace memory 313 33",
     "run image script frames trace memory 0 2",
@@ -53,7 +53,8 @@ fn status_of<R: Threads + Wait + Abort + Clone + Drop + Send + Sync + 'static>(
     status(rt, alloc, &words, shelf)
 }
 
-/// Words of no form answer status 2 and say this text; where that fails they answer 2, and half of it is said.
+/// Words of no form answer status 2 and say this text; where that fails they answer 2, and half of it is
+/// said.
 fn check_usage<R: Threads + Wait + Abort + Clone + Drop + Send + Sync + 'static>(
     rt: &R,
     alloc: Global,
