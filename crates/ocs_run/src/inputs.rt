@@ -41,7 +41,7 @@ pub fn read_image<P: Place>(alloc: Global, name: &str, place: &mut P) -> Result<
 }
 
 /// Whether bytes are an image.
-pub(crate) fn is_image(image: &[u8]) -> bool
+fn is_image(image: &[u8]) -> bool
     ensures { result ≡ good_image image.now }
 {
     image.len() % 2 == 0 && 8 <= image.len() && image.len() <= IMAGE_BYTES

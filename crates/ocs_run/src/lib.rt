@@ -13,6 +13,3 @@ mod words;
 
 pub use crew::{Gate, NoGate};
 pub use top::ocs_main;
-
-#[cfg(test)]
-mod tests;

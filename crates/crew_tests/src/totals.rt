@@ -1,0 +1,157 @@
+//! Who draws the bands of a run over a crew: a worker that does not wait to be collected, or the crew itself.
+
+ghost use Rattle.std.specs.Prelude.{◌≡◌, ◌≤◌, OnOk};
+ghost use Rattle.std.specs.Arc.{arc_value};
+ghost use Rattle.ocs_base.specs.Image.{is_image as good_image};
+ghost use Rattle.crew.specs.Crew.{crew_seen};
+ghost use Rattle.foreground.specs.Fore.{IsNew};
+ghost use Rattle.ocs_run.specs.Underway.{fore_of, run_of, CanRun};
+
+use crate::bars::{BANDS, SCRIPT, image, shows_bars};
+use crate::told::{Told, Watch};
+use band_log::{Raster, Run};
+use crew::{Crew, Totals, with_crew};
+use foreground::Fore;
+use ocs_base::OutOfMemory;
+use ocs_io::Shelf;
+use out_files::OutFiles;
+use script_read::read_script;
+use serial_model::NoSide;
+use std::alloc::Global;
+use std::sync::atomic::Ordering;
+use std::sync::{Arc, Wait};
+use std::test::Fail;
+use std::thread::Threads;
+
+/// Where a band is outstanding it may wait until band 0 is about to be drawn.
+fn wait_if_outstanding<Q: Raster<NoSide>>(raster: &Q, told: &Told, waits: bool) {
+    if waits && raster.outstanding() == 1 {
+        told.wait_for(&told.first);
+    }
+}
+
+/// Does all clocks of a run, and gathers the bands that are left. After each clock it may wait.
+fn run_clocks<Q: Raster<NoSide>>(
+    fore: &mut Fore<NoSide>,
+    raster: &mut Q,
+    out: &mut OutFiles,
+    told: &Told,
+    waits: bool,
+) -> Result<(), OutOfMemory>
+    requires able { CanRun (fore_of fore.old) (Q.seen raster.old) }
+    ensures mark { (Q.seen raster.new).mark ≡ (Q.seen raster.old).mark }
+    ensures run { OnOk result ((fore_of fore.new).run ≡ (fore_of fore.old).run) }
+{
+    while !fore.done() {
+        fore.advance(raster, out)?;
+        wait_if_outstanding(raster, told, waits);
+    }
+    fore.settle(raster, out)?;
+    Ok(())
+}
+
+/// Files named frames, trace and memory.
+fn out_files(alloc: Global) -> Result<OutFiles, OutOfMemory> {
+    let frames = String::from_str(alloc, "frames")?;
+    let trace = String::from_str(alloc, "trace")?;
+    let memory = String::from_str(alloc, "memory")?;
+    Ok(OutFiles::new(alloc, frames, trace, memory))
+}
+
+/// Runs all clocks of a foreground at reset over a crew of so many workers. The answer says who drew its
+/// bands.
+fn draw_over_crew<R: Threads + Wait + Clone + Drop + Send + Sync + 'static>(
+    rt: &R,
+    alloc: Global,
+    workers: u8,
+    told: &Arc<Told>,
+    waits: bool,
+    run: Arc<Run<NoSide>>,
+    fore: &mut Fore<NoSide>,
+    out: &mut OutFiles,
+) -> Result<Totals, OutOfMemory>
+    requires workers { workers ≤ 32 }
+    requires new { IsNew (run_of (arc_value run)) (fore_of fore.old) }
+{
+    let gate = Watch {
+        told: Arc::try_clone(told)?,
+        from: 0,
+        to: 0,
+    };
+    let mut body = |crew: &mut Crew<R, Watch>| -> Result<(), OutOfMemory>
+        requires able { CanRun (fore_of fore.now) (crew_seen crew.old) }
+        ensures mark { (crew_seen crew.new).mark ≡ (crew_seen crew.old).mark }
+        ensures run { OnOk result ((fore_of fore.exit.now).run ≡ (fore_of fore.entry.now).run) }
+    { run_clocks(fore, crew, out, told, waits) };
+    let (answer, totals) = with_crew(rt, alloc, run, workers, gate, &mut body)?;
+    answer?;
+    Ok(totals)
+}
+
+/// Whether bytes are an image.
+fn is_image(image: &[u8]) -> bool
+    ensures { result ≡ good_image image.now }
+{
+    image.len() % 2 == 0 && 8 <= image.len() && image.len() <= 524_288
+}
+
+/// The bars' run in bands of 20 lines.
+fn run_of_bars(alloc: Global) -> Result<Arc<Run<NoSide>>, Fail> {
+    let script = read_script(alloc, SCRIPT.as_bytes())?;
+    let image = image(alloc)?;
+    if !is_image(&image) {
+        return Err(Fail::from("image"));
+    }
+    Ok(Arc::new(alloc, Run::new(image, script, 20))?)
+}
+
+/// A shelf with the files of a run.
+fn shelf_with(alloc: Global, out: OutFiles) -> Result<Shelf, Fail> {
+    let mut out = out;
+    let mut shelf = Shelf::new(alloc);
+    out.create(&mut shelf)?;
+    out.flush(&mut shelf)?;
+    Ok(shelf)
+}
+
+/// A run over a crew of so many workers: its files, and who drew its bands.
+fn run_over_crew<R: Threads + Wait + Clone + Drop + Send + Sync + 'static>(
+    rt: &R,
+    alloc: Global,
+    workers: u8,
+    told: &Arc<Told>,
+    waits: bool,
+) -> Result<(Shelf, Totals), Fail>
+    requires { workers ≤ 32 }
+{
+    let run = run_of_bars(alloc)?;
+    let mut fore = Fore::new(alloc, Arc::try_clone(&run)?)?;
+    let mut out = out_files(alloc)?;
+    let totals = draw_over_crew(rt, alloc, workers, told, waits, run, &mut fore, &mut out)?;
+    Ok((shelf_with(alloc, out)?, totals))
+}
+
+/// The one worker begins with band 0 while the clock loop, which has submitted it, collects nothing yet.
+#[test]
+fn a_worker_does_not_wait_to_be_collected(rt: HostRuntime) -> Result<(), Fail> {
+    let alloc = rt.alloc();
+    let told = Arc::new(alloc, Told::new())?;
+    let (shelf, totals) = run_over_crew(&rt, alloc, 1, &told, true)?;
+    assert_eq!(rt; told.in_vain.load(Ordering::SeqCst), 0);
+    assert!(rt; totals.by_hands > 0);
+    assert_eq!(rt; totals.by_hands.saturating_add(totals.by_front), BANDS);
+    assert!(rt; shows_bars(alloc, &shelf)?);
+    Ok(())
+}
+
+/// Without a worker the crew draws every band itself.
+#[test]
+fn a_crew_without_workers_draws_itself(rt: HostRuntime) -> Result<(), Fail> {
+    let alloc = rt.alloc();
+    let told = Arc::new(alloc, Told::new())?;
+    let (shelf, totals) = run_over_crew(&rt, alloc, 0, &told, false)?;
+    assert_eq!(rt; totals.by_hands, 0);
+    assert_eq!(rt; totals.by_front, BANDS);
+    assert!(rt; shows_bars(alloc, &shelf)?);
+    Ok(())
+}
