@@ -88,6 +88,14 @@ impl<S: Side> Fore<S> {
         self.machine.beam.frame == self.run.script().frames()
     }
 
+    /// How many colour clocks were done since reset.
+    #[inline(always)]
+    pub fn clocks(&self) -> u64
+        ensures { result ≡ self.now.machine.t }
+    {
+        self.machine.t
+    }
+
     /// The present place of the beam.
     #[inline(always)]
     pub fn beam(&self) -> Beam

@@ -1,6 +1,6 @@
 //! A run: the clocks from reset to the last of the script's frames, and the files.
 
-ghost use Rattle.std.specs.Prelude.{◌≡◌, ◌≤◌, ◌%◌, [], true, OnOk, OnErr, IfOk, IfErr};
+ghost use Rattle.std.specs.Prelude.{◌≡◌, ◌≤◌, ◌<◌, ◌+◌, ◌^◌, ◌%◌, [], true, OnOk, OnErr, IfOk, IfErr};
 ghost use Rattle.std.specs.Arc.{arc_value};
 ghost use Rattle.ocs_run.specs.declared.fault.RunFault.TheVariants as RunFault;
 ghost use Rattle.ocs_io.specs.Place.{Rose, OnlyWrites, KeepsNames};
@@ -177,6 +177,9 @@ pub fn run_whole<P: Place, Q: Raster<NoSide>>(
     Ok(())
 }
 
+/// How many colour clocks a line has.
+const LINE_CLOCKS: u16 = 227;
+
 /// Runs the clocks up to the first state whose frame is the script's number of frames.
 fn run_clocks<P: Place, Q: Raster<NoSide>>(
     fore: &mut Fore<NoSide>,
@@ -203,10 +206,21 @@ fn run_clocks<P: Place, Q: Raster<NoSide>>(
         (P.growable place.new) }
 {
     while !fore.done() {
-        fore.advance(raster, out)?;
+        let limit = line_end(fore.clocks(), &fore.beam());
+        fore.run_to(limit, raster, out)?;
         flush_lines(&fore.beam(), out, place)?;
     }
     Ok(())
+}
+
+/// The clock with which the next line begins. For a place behind the line's end, which no beam has, it is the
+/// next clock.
+fn line_end(clocks: u64, beam: &Beam) -> u64
+    requires { clocks + 227 < 2 ^ 64 }
+    ensures { clocks < result }
+{
+    let left = LINE_CLOCKS.saturating_sub(beam.h);
+    clocks + u64::from(left.max(1))
 }
 
 /// Appends what is pending at the first clock of every 32nd line.
