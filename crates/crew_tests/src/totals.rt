@@ -30,7 +30,7 @@ fn wait_if_outstanding<Q: Raster<NoSide>>(raster: &Q, told: &Told, waits: bool) 
     }
 }
 
-/// Does all clocks of a run, and gathers the bands that are left. After each clock it may wait.
+/// Does all clocks of a run, and gathers the bands that are left. After each line it may wait.
 fn run_clocks<Q: Raster<NoSide>>(
     fore: &mut Fore<NoSide>,
     raster: &mut Q,
@@ -43,7 +43,8 @@ fn run_clocks<Q: Raster<NoSide>>(
     ensures run { OnOk result ((fore_of fore.new).run ≡ (fore_of fore.old).run) }
 {
     while !fore.done() {
-        fore.advance(raster, out)?;
+        let limit = fore.next_line();
+        fore.run_to(limit, raster, out)?;
         wait_if_outstanding(raster, told, waits);
     }
     fore.settle(raster, out)?;

@@ -132,7 +132,7 @@ underway_next old new first until seen after lace here is not run t at script sa
     }
 
 -- what was given in two parts
-given_then : (run : RunValue) (first mid until : ℕ) (seen between after : RasterValue) (old out new : OutFilesValue) (lines more : List TraceLine)
+pub given_then : (run : RunValue) (first mid until : ℕ) (seen between after : RasterValue) (old out new : OutFilesValue) (lines more : List TraceLine)
     → HasGiven run first mid seen between old out lines → HasGiven run mid until between after out new more
     → HasGiven run first until seen after old new (lines ++ more)
 given_then run first mid until seen between after old out new lines more one two =
@@ -151,7 +151,7 @@ given_then run first mid until seen between after old out new lines more one two
     }
 
 -- and where memory was wanted in the second
-given_part : (run : RunValue) (first mid : ℕ) (seen between after : RasterValue) (old out new : OutFilesValue) (lines : List TraceLine)
+pub given_part : (run : RunValue) (first mid : ℕ) (seen between after : RasterValue) (old out new : OutFilesValue) (lines : List TraceLine)
     → HasGiven run first mid seen between old out lines → HasGivenPart run mid between after out new → HasGivenPart run first seen after old new
 given_part run first mid seen between after old out new lines one two =
     let tinted : tinted_range run between.tint mid two.until ≡ tinted_range run seen.tint mid two.until =

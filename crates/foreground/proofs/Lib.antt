@@ -9,6 +9,7 @@ pub mod ScriptLaws
 pub mod ReachLaws
 pub mod MadeLaws
 pub mod AdvanceLaws
+pub mod RunToLaws
 pub mod Cutting
 pub mod Beginning
 pub mod AccessLaws

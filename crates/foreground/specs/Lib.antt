@@ -10,5 +10,6 @@ pub mod Clock
 pub mod Fore
 pub mod Cuts
 pub mod Steps
+pub mod RunTo
 pub mod Recorder
 pub mod TestRasters

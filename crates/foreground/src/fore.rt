@@ -1,6 +1,6 @@
 //! The foreground of a run.
 
-ghost use Rattle.std.specs.Prelude.{◌≡◌, IfOk};
+ghost use Rattle.std.specs.Prelude.{◌≡◌, ◌<◌, ◌+◌, ◌-◌, ◌^◌, IfOk};
 ghost use Rattle.std.specs.Arc.{arc_value};
 ghost use Rattle.serial_bands.specs.Run.{run_over};
 ghost use Rattle.foreground.specs.Fore.{over, IsNew, is_done};
@@ -14,6 +14,9 @@ use serial_model::{NoSide, Side};
 use std::alloc::Global;
 use std::marker::Model;
 use std::sync::Arc;
+
+/// How many colour clocks a line has.
+const LINE_CLOCKS: u16 = 227;
 
 /// The foreground of a run: the machine clock by clock, without its picture, of which it logs what bands are drawn from later. A
 /// raster, which draws them, and the output files are lent to each call. After a refusal for want of memory each later call
@@ -86,6 +89,23 @@ impl<S: Side> Fore<S> {
         ensures { result ≡ is_done (over S.seen self.now) }
     {
         self.machine.beam.frame == self.run.script().frames()
+    }
+
+    /// How many colour clocks were done since reset.
+    #[inline(always)]
+    pub fn clocks(&self) -> u64
+        ensures { result ≡ self.now.machine.t }
+    {
+        self.machine.t
+    }
+
+    /// The clock with which the beam's next line begins, as a number of colour clocks since reset.
+    pub fn next_line(&self) -> u64
+        requires room { self.now.machine.t + 227 < 2 ^ 64 }
+        requires screen { self.now.machine.beam.h < 227 }
+        ensures { result ≡ self.now.machine.t + (227 - self.now.machine.beam.h) }
+    {
+        self.machine.t + (LINE_CLOCKS - self.machine.beam.h) as u64
     }
 
     /// The present place of the beam.

@@ -13,6 +13,7 @@ pub mod laws;
 pub mod log;
 pub mod machine;
 mod reading;
+mod run_to;
 pub mod script;
 mod settle;
 pub mod shadow;

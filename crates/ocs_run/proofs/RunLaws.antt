@@ -1,5 +1,5 @@
 -- The run over plain values: its start, its turns, its end and its stops.
-use Rattle.std.proofs.Common.{◌≡◌, ℕ, ◌+◌, ◌-◌, ◌*◌, ◌<◌, ◌≤◌, Bool, false, ◌==◌, List, [], ◌++◌, length, Option, Some, None, Result, Ok, Err, OnErr, IfErr, IsErrAnd, arith, refl, ap, ◌∙◌, sym, subst, append_assoc, append-nil, inl}
+use Rattle.std.proofs.Common.{◌≡◌, ℕ, ◌+◌, ◌-◌, ◌*◌, ◌^◌, ◌<◌, ◌≤◌, Bool, true, false, nat_lt, ◌==◌, List, [], ◌++◌, length, Option, Some, None, Result, Ok, Err, OnErr, IfErr, IsErrAnd, arith, refl, ap, ◌∙◌, sym, subst, append_assoc, append-nil, inl}
 use Rattle.ocs_base.specs.Script.{ScriptValue}
 use Rattle.ocs_io.specs.Place.{Files, Outside, OnlyWrites, Rose}
 use Rattle.out_files.specs.Answers.{CreateAnswers, NamesFile}
@@ -16,7 +16,8 @@ use Rattle.serial_model.specs.State.{State, reset}
 use Rattle.serial_model.specs.TraceText.{trace_text}
 use Rattle.serial_model.proofs.EndLaws.{frames_are_whole}
 use Rattle.serial_model.proofs.HeadingLaws.{with_headings-append}
-use Rattle.serial_bands.specs.Run.{RunValue, state_of}
+use Rattle.serial_bands.specs.Run.{RunValue, state_of, beam_at}
+use Rattle.ocs_base.specs.declared.beam.Beam.{Beam}
 use Rattle.serial_bands.specs.BandShown.{bytes_from}
 use Rattle.serial_bands.proofs.Ranges.{shown_in_range, bytes_of_two}
 use Rattle.serial_bands.proofs.Counts.{no_tint}
@@ -24,7 +25,8 @@ use Rattle.serial_bands.proofs.BandRanges.{bands_rise}
 use Rattle.band_log.specs.Raster.{RasterValue, Takes}
 use Rattle.foreground.specs.Clock.{HasGivenPart}
 use Rattle.std.proofs.lemmas.Bool.Decides.{nat_tests}
-use Rattle.foreground.specs.Fore.{ForeValue, IsNew, is_done, Advances, HasAdvanced, HasSettled, Settles, GivesPart, IsUnderway as IsForeUnderway}
+use Rattle.foreground.specs.Fore.{ForeValue, IsNew, is_done, HasSettled, Settles, GivesPart, IsUnderway as IsForeUnderway}
+use Rattle.foreground.specs.RunTo.{HasRunOn, RunsOn, HasCome}
 use Rattle.foreground.specs.Gathered.{tinted_range}
 use Rattle.ocs_run.specs.Prefix.{LeavesPrefixesOver}
 use Rattle.ocs_run.specs.Run.{HasFilesOver, HasRun, HasParts, HasEndParts}
@@ -60,32 +62,31 @@ gathered_before fore first seen is =
     is.at.fits.bands in
     omega (arith, rise, is.at.logged.least)
 
--- one clock more
-pub IsUnderway-advanced : (base files : Option Files) (old new : ForeValue) (seen after : RasterValue) (out given : OutFilesValue)
-    → Advances old new seen after out given → new.run ≡ old.run → new.machine.t ≡ old.machine.t + 1 → new.spent ≡ false
-    → IsUnderway base files old seen out → IsUnderway base files new after given
-IsUnderway-advanced base files old new seen after out given advances run count fresh is =
-    let so : HasAdvanced old new is.first seen after out given = advances is.first is.stands in
+-- some clocks more
+pub IsUnderway-ran : (base files : Option Files) (old new : ForeValue) (seen after : RasterValue) (out given : OutFilesValue)
+    → RunsOn old new seen after out given → new.run ≡ old.run → new.spent ≡ false → IsUnderway base files old seen out
+    → IsUnderway base files new after given
+IsUnderway-ran base files old new seen after out given runs run fresh is =
+    let so : HasRunOn old new is.first seen after out given = runs is.first is.stands in
     let text : AreTogether given base files (bytes_from old.run 0 is.first ++ tinted_range old.run seen.tint is.first so.until)
     ((state_of old.run old.machine.t).trace ++ so.lines) = so.gives.text.text base files _ _ is.text in
     let pixels : AreTogether given base files (bytes_from old.run 0 so.until) ((state_of old.run old.machine.t).trace ++ so.lines) =
     subst (λ bytes. AreTogether given base files bytes ((state_of old.run old.machine.t).trace ++ so.lines))
     (joined old.run seen.tint is.first so.until so.gives.least is.plain) text in
-    let lines : AreTogether given base files (bytes_from old.run 0 so.until) (state_of old.run (old.machine.t + 1)).trace =
+    let lines : AreTogether given base files (bytes_from old.run 0 so.until) (state_of old.run new.machine.t).trace =
     subst (λ traced. AreTogether given base files (bytes_from old.run 0 so.until) traced) (sym so.trace) pixels in
     record {
       first = so.until;
       stands = so.stands;
       plain = so.gives.mark.tint ∙ is.plain;
       fresh = fresh;
-      text = subst (λ r. AreTogether given base files (bytes_from r 0 so.until) (state_of r new.machine.t).trace) (sym run)
-          (subst (λ t. AreTogether given base files (bytes_from old.run 0 so.until) (state_of old.run t).trace) (sym count) lines);
+      text = subst (λ r. AreTogether given base files (bytes_from r 0 so.until) (state_of r new.machine.t).trace) (sym run) lines;
     }
 
-pub CanRun-advanced : (old new : ForeValue) (seen after : RasterValue) (out given : OutFilesValue) → Advances old new seen after out given
+pub CanRun-ran : (old new : ForeValue) (seen after : RasterValue) (out given : OutFilesValue) → RunsOn old new seen after out given
     → new.spent ≡ false → CanRun old seen → CanRun new after
-CanRun-advanced old new seen after out given advances fresh can =
-    let so : HasAdvanced old new can.first seen after out given = advances can.first can.stands in
+CanRun-ran old new seen after out given runs fresh can =
+    let so : HasRunOn old new can.first seen after out given = runs can.first can.stands in
     record { first = so.until; stands = so.stands; plain = so.gives.mark.tint ∙ can.plain; fresh = fresh }
 
 -- a flush
@@ -327,10 +328,10 @@ Ends-flushed old new seen last out settled given before mid after so stays empty
     }
 
 -- the mark of a raster stays
-pub mark_advanced : (old new : ForeValue) (seen after : RasterValue) (out given : OutFilesValue) → Advances old new seen after out given
+pub mark_ran : (old new : ForeValue) (seen after : RasterValue) (out given : OutFilesValue) → RunsOn old new seen after out given
     → CanRun old seen → after.mark ≡ seen.mark
-mark_advanced old new seen after out given advances can =
-    let so : HasAdvanced old new can.first seen after out given = advances can.first can.stands in
+mark_ran old new seen after out given runs can =
+    let so : HasRunOn old new can.first seen after out given = runs can.first can.stands in
     so.gives.mark.mark
 
 pub mark_part : (old : ForeValue) (seen after : RasterValue) (out given : OutFilesValue) → GivesPart old seen after out given → CanRun old seen
@@ -416,10 +417,10 @@ LeavesPrefixes-memory base mid now after run fore last out created given fresh s
     (subst (λ r. CutParts r given.names base after) (kept ∙ new.run_of) cut)
 
 -- the names of the files stay
-pub names_advanced : (old new : ForeValue) (seen after : RasterValue) (out given : OutFilesValue) → Advances old new seen after out given
+pub names_ran : (old new : ForeValue) (seen after : RasterValue) (out given : OutFilesValue) → RunsOn old new seen after out given
     → CanRun old seen → given.names ≡ out.names
-names_advanced old new seen after out given advances can =
-    let so : HasAdvanced old new can.first seen after out given = advances can.first can.stands in
+names_ran old new seen after out given runs can =
+    let so : HasRunOn old new can.first seen after out given = runs can.first can.stands in
     so.gives.text.names
 
 pub names_settled : (old new : ForeValue) (seen after : RasterValue) (out given : OutFilesValue) → Settles old new seen after out given → CanRun old seen
@@ -436,14 +437,53 @@ clock_below fore first seen is going = omega (arith, is.count, is.screen.line, i
 not_done : (frame frames : ℕ) → frame ≤ frames → (frame == frames) ≡ false → frame < frames
 not_done frame frames le not = grind (arith, nat_tests)
 
-pub fewer_clocks : (old new : ForeValue) (seen : RasterValue) (done : Bool) → CanRun old seen → done ≡ is_done old → done ≡ false → new.run ≡ old.run
-    → new.machine.t ≡ old.machine.t + 1
+-- the clocks that are done, where the run is not
+few_clocks : (fore : ForeValue) (seen : RasterValue) (done : Bool) → CanRun fore seen → done ≡ is_done fore → done ≡ false
+    → fore.machine.t < fore.run.script.frames * 71364
+few_clocks fore seen done can is not =
+    clock_below fore can.first seen can.stands (not_done _ _ can.stands.frame (sym is ∙ not))
+
+pub room_for_clocks : (fore : ForeValue) (seen : RasterValue) (done : Bool) → CanRun fore seen → done ≡ is_done fore → done ≡ false
+    → fore.machine.t + 227 < 2 ^ 64
+room_for_clocks fore seen done can is not =
+    omega (arith, few_clocks fore seen done can is not, can.stands.good.script.most)
+
+-- the next line is later
+pub line_is_later : (fore : ForeValue) (seen : RasterValue) (next : ℕ) → CanRun fore seen → next ≡ fore.machine.t + (227 - fore.machine.beam.h)
+    → fore.machine.t < next
+line_is_later fore seen next can is = omega (arith, can.stands.screen.clock, is)
+
+same_clock : (old new : ForeValue) (first until : ℕ) (seen after : RasterValue) → IsForeUnderway old first seen → IsForeUnderway new until after
+    → new.run ≡ old.run → new.machine.t ≡ old.machine.t → is_done new ≡ is_done old
+same_clock old new first until seen after was is run t =
+    let beam : new.machine.beam ≡ old.machine.beam =
+    sym is.at.machine.beam ∙ ap (λ r. beam_at r new.machine.t) run ∙ ap (λ c. beam_at old.run c) t ∙ was.at.machine.beam in
+    ap (λ (b : Beam). b.frame == new.run.script.frames) beam ∙ ap (λ (r : RunValue). old.machine.beam.frame == r.script.frames) run
+
+true_is_false : true ≡ false → ⊥
+true_is_false e = cc
+
+later_by : (rises : Bool) (a b : ℕ) → nat_lt a b ≡ rises → a ≤ b → (b ≡ a → ⊥) → a < b
+later_by true a b is le not_same = grind (arith, nat_tests)
+later_by false a b is le not_same = absurd (not_same (grind (arith, nat_tests)))
+
+rise_by : (done : Bool) (old new : ForeValue) (limit : ℕ) → HasCome limit old new → old.machine.t < limit → is_done new ≡ done
+    → (new.machine.t ≡ old.machine.t → is_done new ≡ false) → old.machine.t < new.machine.t
+rise_by false old new limit come before is same = omega (arith, come.all is, before)
+rise_by true old new limit come before is same =
+    later_by _ old.machine.t new.machine.t refl come.on (λ t. absurd (true_is_false (sym is ∙ same t)))
+
+pub fewer_clocks : (old new : ForeValue) (seen after : RasterValue) (out given : OutFilesValue) (done : Bool) (limit : ℕ) → CanRun old seen
+    → done ≡ is_done old → done ≡ false → RunsOn old new seen after out given → HasCome limit old new → old.machine.t < limit → new.run ≡ old.run
     → new.run.script.frames * 71364 - new.machine.t < old.run.script.frames * 71364 - old.machine.t
-fewer_clocks old new seen done can is not run count =
-    let going : old.machine.beam.frame < old.run.script.frames = not_done _ _ can.stands.frame (sym is ∙ not) in
-    let below : old.machine.t < old.run.script.frames * 71364 = clock_below old can.first seen can.stands going in
+fewer_clocks old new seen after out given done limit can is not runs come before run =
+    let so : HasRunOn old new can.first seen after out given = runs can.first can.stands in
+    let below : old.machine.t < old.run.script.frames * 71364 = few_clocks old seen done can is not in
     let same : new.run.script.frames ≡ old.run.script.frames = ap (λ (r : RunValue). r.script.frames) run in
-    omega (arith, below, same, count)
+    let later : old.machine.t < new.machine.t =
+    rise_by _ old new limit come before refl
+    (λ t. same_clock old new can.first so.until seen after can.stands so.stands run t ∙ sym is ∙ not) in
+    omega (arith, below, same, later)
 
 -- a count that has risen since later has risen since before
 rose_later : (a b c : ℕ) → a ≤ b → Rose b c → Rose a c

@@ -201,7 +201,8 @@ fn run_clocks<P: Place, Q: Raster<NoSide>>(
         (P.growable place.new) }
 {
     while !fore.done() {
-        fore.advance(raster, out)?;
+        let limit = fore.next_line();
+        fore.run_to(limit, raster, out)?;
         flush_lines(&fore.beam(), out, place)?;
     }
     Ok(())

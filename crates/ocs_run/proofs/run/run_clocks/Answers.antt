@@ -1,47 +1,50 @@
 use Rattle.std.proofs.Common.{◌≡◌, ◌∙◌}
 use Rattle.ocs_run.specs.Underway.{fore_of}
 use Rattle.ocs_run.proofs.KeptLaws.{OnlyWrites-more, KeepsNames-more, AreGrowable-kept}
-use Rattle.ocs_run.proofs.RunLaws.{on_err, cause_err, fewer_clocks, stop-advance, stop-flush, IsUnderway-advanced, IsUnderway-flushed, CanRun-advanced, mark_advanced, names_advanced}
+use Rattle.ocs_run.proofs.RunLaws.{on_err, cause_err, fewer_clocks, room_for_clocks, line_is_later, stop-advance, stop-flush, IsUnderway-ran, IsUnderway-flushed, CanRun-ran, mark_ran, names_ran}
 use Rattle.ocs_run.proofs.run.run_clocks.Goals as goal
 
-pub returns-in_err-advance-clause-stopped : goal.returns-in_err-advance-clause-stopped
-returns-in_err-advance-clause-stopped g c =
+pub returns-in_err-run_to-clause-stopped : goal.returns-in_err-run_to-clause-stopped
+returns-in_err-run_to-clause-stopped g c =
     on_err _ _ (stop-advance _ _ (fore_of c.args.fore.now) (fore_of c.loop-fore.fore) _ _ _ c.loop-fore.out c.loop-fore.invariant.run c.loop-fore.invariant.out
     c.loop-fore.invariant.runs)
 
 pub loop-fore-smaller : goal.loop-fore-smaller
 loop-fore-smaller g c =
-    fewer_clocks (fore_of c.loop-fore.fore) (fore_of c.advance.new.self) _ _ c.loop-fore.invariant.able c.done.ensures c.loop-fore-test.true
-    c.advance.ensures.run
-    c.in_ok-advance.ensures.count
+    fewer_clocks (fore_of c.loop-fore.fore) (fore_of c.run_to.new.self) _ _ _ _ _ _ c.loop-fore.invariant.able c.done.ensures c.loop-fore-test.true
+    c.in_ok-run_to.ensures.clocks c.in_ok-run_to.ensures.come
+    (line_is_later (fore_of c.loop-fore.fore) _ _ c.loop-fore.invariant.able c.limit.ensures) c.run_to.ensures.run
+
+pub limit-requires-clause-room : goal.limit-requires-clause-room
+limit-requires-clause-room g c = room_for_clocks (fore_of c.loop-fore.fore) _ _ c.loop-fore.invariant.able c.done.ensures c.loop-fore-test.true
 
 pub loop-fore-preserved : goal.loop-fore-preserved
 loop-fore-preserved g c =
-    let names : c.advance.new.out.names ≡ c.loop-fore.out.names =
-    names_advanced _ _ _ _ _ _ c.in_ok-advance.ensures.clock c.loop-fore.invariant.able in
+    let names : c.run_to.new.out.names ≡ c.loop-fore.out.names =
+    names_ran _ _ _ _ _ _ c.in_ok-run_to.ensures.clocks c.loop-fore.invariant.able in
     record {
       growable = AreGrowable-kept _ _ _ _ c.loop-fore.invariant.growable c.in_ok-flush_lines.ensures.names.grow
           (c.in_ok-flush_lines.ensures.out ∙ names);
-      able = CanRun-advanced _ _ _ _ _ _ c.in_ok-advance.ensures.clock c.in_ok-advance.ensures.fresh c.loop-fore.invariant.able;
+      able = CanRun-ran _ _ _ _ _ _ c.in_ok-run_to.ensures.clocks c.in_ok-run_to.ensures.fresh c.loop-fore.invariant.able;
       runs = λ base is. IsUnderway-flushed base _ _ _ _ _ _ c.in_ok-flush_lines.ensures.together
-          (IsUnderway-advanced base _ _ _ _ _ _ _ c.in_ok-advance.ensures.clock c.advance.ensures.run c.in_ok-advance.ensures.count
-          c.in_ok-advance.ensures.fresh (c.loop-fore.invariant.runs base is));
-      run = c.advance.ensures.run ∙ c.loop-fore.invariant.run;
+          (IsUnderway-ran base _ _ _ _ _ _ _ c.in_ok-run_to.ensures.clocks c.run_to.ensures.run c.in_ok-run_to.ensures.fresh
+          (c.loop-fore.invariant.runs base is));
+      run = c.run_to.ensures.run ∙ c.loop-fore.invariant.run;
       out = c.in_ok-flush_lines.ensures.out ∙ (names ∙ c.loop-fore.invariant.out);
-      mark = mark_advanced _ _ _ _ _ _ c.in_ok-advance.ensures.clock c.loop-fore.invariant.able ∙ c.loop-fore.invariant.mark;
+      mark = mark_ran _ _ _ _ _ _ c.in_ok-run_to.ensures.clocks c.loop-fore.invariant.able ∙ c.loop-fore.invariant.mark;
       kept = OnlyWrites-more _ _ _ c.loop-fore.invariant.kept c.flush_lines.ensures.kept;
       names = KeepsNames-more _ _ _ _ _ _ c.loop-fore.invariant.names c.flush_lines.ensures.names;
     }
 
 pub returns-in_err-flush_lines-clause-stopped : goal.returns-in_err-flush_lines-clause-stopped
 returns-in_err-flush_lines-clause-stopped g c =
-    let names : c.advance.new.out.names ≡ c.loop-fore.out.names =
-    names_advanced _ _ _ _ _ _ c.in_ok-advance.ensures.clock c.loop-fore.invariant.able in
-    on_err _ _ (stop-flush _ _ _ (fore_of c.args.fore.now) (fore_of c.advance.new.self) _ _ _ c.advance.new.out
-    (c.advance.ensures.run ∙ c.loop-fore.invariant.run)
+    let names : c.run_to.new.out.names ≡ c.loop-fore.out.names =
+    names_ran _ _ _ _ _ _ c.in_ok-run_to.ensures.clocks c.loop-fore.invariant.able in
+    on_err _ _ (stop-flush _ _ _ (fore_of c.args.fore.now) (fore_of c.run_to.new.self) _ _ _ c.run_to.new.out
+    (c.run_to.ensures.run ∙ c.loop-fore.invariant.run)
     (names ∙ c.loop-fore.invariant.out)
-    (λ base is. IsUnderway-advanced base _ _ _ _ _ _ _ c.in_ok-advance.ensures.clock c.advance.ensures.run c.in_ok-advance.ensures.count
-    c.in_ok-advance.ensures.fresh (c.loop-fore.invariant.runs base is))
+    (λ base is. IsUnderway-ran base _ _ _ _ _ _ _ c.in_ok-run_to.ensures.clocks c.run_to.ensures.run c.in_ok-run_to.ensures.fresh
+    (c.loop-fore.invariant.runs base is))
     c.in_err-flush_lines.ensures.parts)
 
 pub returns-in_err-flush_lines-clause-cause : goal.returns-in_err-flush_lines-clause-cause
