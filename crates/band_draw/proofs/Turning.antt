@@ -6,7 +6,9 @@ use Rattle.std.proofs.lemmas.List.{drop-drop, take_all}
 use Rattle.std.proofs.lemmas.List.{length-map}
 use Rattle.std.proofs.lemmas.List.{length-take}
 use Rattle.ocs_base.specs.declared.addr.Addr.{Addr}
+use Rattle.ocs_base.specs.Limits.{AreFrom, AreInLimits, time_of}
 use Rattle.ocs_base.specs.declared.beam.Beam.{Beam}
+use Rattle.ocs_base.specs.declared.script.At.{At}
 use Rattle.ocs_base.specs.declared.script.System.TheVariants.{Pal}
 use Rattle.mem_versions.specs.MemView.{ViewValue, word_then}
 use Rattle.serial_model.specs.Beam.{IsOnScreen, place_of, is_visible}
@@ -237,18 +239,43 @@ screen_next run events view room p beam source at more next =
     (on_screen run.side run.image run.script (p.clock + 1))
 
 one_place_on : (frame v h line clock : ℕ) → h < 227 → line ≡ (if nat_le 226 h then v + 1 else v) → clock ≡ (if nat_le 226 h then 0 else h + 1)
-    → (frame * 313 + v) * 227 + h + 1 ≡ (frame * 313 + line) * 227 + clock
+    → (frame * 313 + v) * 228 + h + 1 ≤ (frame * 313 + line) * 228 + clock
 one_place_on frame v h line clock within one two = grind (arith, nat_tests)
 
-place_on : (b beam : Beam) → b.h < 227 → IsNextInField b beam → place_of b + 1 ≡ place_of beam
+one_time_on : (frame v h line clock f w k : ℕ) → h < 227 → k ≤ 226 → line ≡ (if nat_le 226 h then v + 1 else v) → clock ≡ (if nat_le 226 h then 0 else h + 1)
+    → (frame * 313 + v) * 228 + h + 1 ≤ (f * 313 + w) * 228 + k → (frame * 313 + line) * 228 + clock ≤ (f * 313 + w) * 228 + k
+one_time_on frame v h line clock f w k within early one two later = grind (arith, nat_tests)
+
+place_on : (b beam : Beam) → b.h < 227 → IsNextInField b beam → place_of b + 1 ≤ place_of beam
 place_on b beam within next =
-    one_place_on b.frame b.v b.h beam.v beam.h within next.line next.clock ∙ ap (λ k. (k * 313 + beam.v) * 227 + beam.h) (sym next.frame)
+    subst (λ k. place_of b + 1 ≤ (k * 313 + beam.v) * 228 + beam.h) (sym next.frame)
+    (one_place_on b.frame b.v b.h beam.v beam.h within next.line next.clock)
+
+-- events are at clocks up to 226, so none is between a line's last clock and the next line
+from_next : (frames : ℕ) (b beam : Beam) (events : List At) → b.h < 227 → IsNextInField b beam → AreInLimits frames events
+    → AreFrom (place_of b + 1) events → AreFrom (place_of beam) events
+from_next frames b beam [] within next limits from = tt
+from_next frames b beam (e ∷ events) within next limits from = (
+  subst (λ k. (k * 313 + beam.v) * 228 + beam.h ≤ time_of e) (sym next.frame)
+      (one_time_on b.frame b.v b.h beam.v beam.h e.frame e.v e.h within limits.0.clock next.line next.clock from.0),
+  from_next frames b beam events within next limits.1 from.1,
+)
+
+left_on : (script left : List At) (b beam : Beam) → b.h < 227 → IsNextInField b beam → IsLeft (place_of b + 1) script left
+    → IsLeft (place_of beam) script left
+left_on script left b beam within next so =
+    let on : place_of b + 1 ≤ place_of beam = place_on b beam within next in
+    record {
+      frames = so.frames;
+      from = from_next so.frames b beam left within next so.limits so.from;
+      order = so.order;
+      limits = so.limits;
+      same = λ later screen from. so.same later screen (omega (arith, on, from));
+    }
 
 pub left_there : (run : RunValue) (events : List Event) (room : List ℕ) (p : Progress) (beam : Beam) → IsAt run events room p
     → IsNextInField p.beam beam → IsLeft (place_of beam) run.script.events (drop p.due run.script.events)
-left_there run events room p beam at next =
-    subst (λ k. IsLeft k run.script.events (drop p.due run.script.events))
-    (place_on p.beam beam (screen_there run events room p at).clock next) at.left
+left_there run events room p beam at next = left_on run.script.events _ p.beam beam (screen_there run events room p at).clock next at.left
 
 -- the clearing
 same_clear : (b other : Beam) (p : Denise) → b.h ≡ other.h → clear_line b p ≡ clear_line other p

@@ -49,8 +49,22 @@ impl<S: Side> Direct<S> {
           tint = 0;
         }) }
     {
+        Direct::starting(alloc, 0)
+    }
+
+    /// As `new`, where the first band is the one of this number: a foreground that goes on from a state in the midst of a run
+    /// does not begin with band 0.
+    pub fn starting(alloc: Global, number: u64) -> Result<Direct<S>, OutOfMemory>
+        ensures { IfOk result (λ direct. seen_of S.seen direct ≡ record {
+          outstanding = [];
+          next = number;
+          bound = None;
+          mark = 0;
+          tint = 0;
+        }) }
+    {
         let jobs = Vec::with_capacity(alloc, PLACES)?;
-        Ok(Direct { jobs, next: 0 })
+        Ok(Direct { jobs, next: number })
     }
 }
 

@@ -7,7 +7,7 @@ ghost use Rattle.serial_model.specs.Registers.{is_picture_register};
 ghost use Rattle.ocs_base.specs.Limits.{time_of, order_of};
 ghost use Rattle.band_draw.specs.Due.{IsLeft, is_set as sets, before_if, due_if, sets_if};
 
-use ocs_base::{Act, At, Beam, Reg};
+use ocs_base::{Act, At, Beam, Reg, time_order};
 
 /// The place of the first event of a script that is not before the beam's place.
 pub fn first_from(script: &[At], beam: &Beam) -> usize
@@ -38,7 +38,7 @@ fn is_before(script: &[At], at: usize, place: u64) -> bool
 fn order(frame: u32, v: u16, h: u16) -> u64
     ensures { result ≡ order_of frame v h }
 {
-    (frame as u64 * 313 + v as u64) * 227 + h as u64
+    time_order(frame, v, h)
 }
 
 /// What of a script is due at a place.

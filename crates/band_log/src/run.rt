@@ -1,9 +1,10 @@
 //! A run: what it takes, and how high its bands are.
 
 ghost use Rattle.std.specs.Prelude.{◌≡◌, ◌≤◌, true};
+ghost use Rattle.ocs_base.specs.Addr.{chip_span};
 ghost use Rattle.ocs_base.specs.Image.{is_image};
 ghost use Rattle.ocs_base.specs.Limits.{IsRunnable};
-ghost use Rattle.serial_model.specs.Side.{no_side};
+ghost use Rattle.serial_model.specs.Side.{no_side, FitsSide};
 ghost use Rattle.serial_bands.specs.Run.{IsGoodRun, run_over};
 
 use ocs_base::Script;
@@ -60,15 +61,16 @@ impl Run<NoSide> {
     }
 }
 
-impl<S> Run<S> {
-    /// A run over a side as it is at reset, of an image, a script and bands as `new` takes them. A
-    /// caller makes the side twice: one is kept here as what the run is over, the other goes to the
-    /// foreground.
+impl<S: Side> Run<S> {
+    /// A run over a side as it is at reset, which fits the script's chip memory, of an image, a script
+    /// and bands as `new` takes them. A caller makes the side twice: one is kept here as what the run
+    /// is over, the other goes to the foreground.
     pub fn over(image: Vec<u8>, script: Script, height: u16, side: S) -> Run<S>
         requires image { is_image image.items ≡ true }
         requires script { IsRunnable script }
         requires least { 1 ≤ height }
         requires most { height ≤ 313 }
+        requires fits { FitsSide chip_span (S.seen side) }
         ensures { result ≡ record {
           image = image.items;
           script = script;
@@ -83,7 +85,9 @@ impl<S> Run<S> {
             side,
         }
     }
+}
 
+impl<S> Run<S> {
     /// The bytes from which chip memory is made: an even number of 8 to 524,288.
     pub fn image(&self) -> &[u8]
         ensures bytes { result.now ≡ self.now.image }

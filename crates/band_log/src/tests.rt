@@ -170,6 +170,7 @@ impl Side for Steady {
     ghost seen = { λ side. record {
       bits = λ later b dmacon. side.bits;
       ask = λ later b dmacon. Nothing;
+      shows = λ later. [];
     } };
 
     fn poke(&mut self, _reg: Reg, _word: u16) {}

@@ -64,6 +64,13 @@ impl Fetcher {
         Fetcher { last: None }
     }
 
+    /// The same state once more.
+    pub fn copied(&self) -> Fetcher
+        ensures { result ≡ self.now }
+    {
+        Fetcher { last: self.last }
+    }
+
     /// One colour clock, called at each; the units of a line are forgotten at the next one's first clock.
     ///
     /// The answer is Some exactly where a plane is fetched at this clock: the word at its pointer is for its

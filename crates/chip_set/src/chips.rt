@@ -141,6 +141,26 @@ impl Chips {
         }
     }
 
+    /// The same state once more.
+    pub fn copied(&self) -> Chips
+        ensures { result ≡ self.now }
+    {
+        Chips {
+            registers: self.registers.copied(),
+            fetcher: self.fetcher.copied(),
+            sprites: self.sprites.copied(),
+            copper: self.copper.copied(),
+            blit: self.blit,
+            zero: self.zero,
+            irq: self.irq.copied(),
+            processor: self.processor.copied(),
+            missed: self.missed,
+            cia_a: self.cia_a.copied(),
+            cia_b: self.cia_b.copied(),
+            inputs: self.inputs,
+        }
+    }
+
     /// The kept words of the custom registers.
     pub fn registers(&self) -> &Regs
         ensures { result.now ≡ self.now.registers }

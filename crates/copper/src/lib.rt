@@ -39,6 +39,13 @@ impl Copper {
         }
     }
 
+    /// The same state once more.
+    pub fn copied(&self) -> Copper
+        ensures { result ≡ self.now }
+    {
+        Copper { state: self.state }
+    }
+
     /// The Copper fetches from another address: from COP1LC at the start of a field and after a write to
     /// COPJMP1, from COP2LC after one to COPJMP2 (Hardware Reference Manual, COPJMP1). It ends a wait and
     /// starts a Copper that was stopped, and what was read of an instruction is dropped.

@@ -45,6 +45,19 @@ impl BusCpu {
         }
     }
 
+    /// The same state once more.
+    pub fn copied(&self) -> BusCpu
+        ensures { result ≡ self.now }
+    {
+        BusCpu {
+            on: self.on,
+            cpu: self.cpu.copied(),
+            wait: self.wait,
+            spent: self.spent,
+            given: self.given,
+        }
+    }
+
     /// What it asks for in the slot of this clock: an access to memory or to a register asks at each clock but its
     /// first, until it is given.
     #[tactic(auto, unfolding(serial_model::specs::Processor::processor_wish))]

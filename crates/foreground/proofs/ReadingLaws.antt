@@ -31,10 +31,10 @@ use Rattle.foreground.proofs.Logging.{log_read, read_begins, log_ends}
 use Rattle.foreground.proofs.CutLaws.{gives_gathered, gives_part}
 
 -- clocks of a run are few
-place_small : (b : Beam) (frames : ℕ) → IsOnScreen b → b.frame < frames → frames ≤ 1000 → place_of b < 71051000
+place_small : (b : Beam) (frames : ℕ) → IsOnScreen b → b.frame < frames → frames ≤ 1000 → place_of b < 71364000
 place_small b frames on going most = grind (arith, on.line, on.clock)
 
-pub clock_small : (run : RunValue) (c : ℕ) → IsRunnable run.script → (beam_at run c).frame < run.script.frames → c < 71051000
+pub clock_small : (run : RunValue) (c : ℕ) → IsRunnable run.script → (beam_at run c).frame < run.script.frames → c < 71364000
 clock_small run c good going =
     omega (arith, place_rises run c, place_small (beam_at run c) run.script.frames (on_screen run.side run.image run.script c) going good.most)
 
@@ -95,7 +95,7 @@ pub access_small : (fore : ForeValue) (seen : RasterValue) → IsGoodRun fore.ru
 access_small fore seen good stands =
     let ending : IsEnding fore.run (fore.machine.t + 1) fore.log fore.machine.chip =
     (access_ends fore stands.0 seen stands.1 stands.2).ending in
-    let few : fore.machine.t < 71051000 =
+    let few : fore.machine.t < 71364000 =
     clock_small fore.run fore.machine.t good.script (ending.kept.running fore.machine.t (omega arith)) in
     omega (arith, few)
 

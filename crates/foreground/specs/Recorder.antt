@@ -32,4 +32,5 @@ abbrev pub recorder : ℕ → ℕ → SideValue
 recorder written given = record {
   bits = λ later b dmacon. recorder_bits b (given_then later given);
   ask = λ later b dmacon. recorder_ask b (written_then later written);
+  shows = λ later. given_then later given ∷ [];
 }

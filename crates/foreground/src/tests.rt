@@ -20,6 +20,7 @@ use std::alloc::Global;
 use std::sync::Arc;
 use std::test::Fail;
 
+mod copies;
 mod reads;
 mod side_runs;
 

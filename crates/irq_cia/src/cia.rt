@@ -39,6 +39,23 @@ pub struct CiaState {
     pub icr: Icr,
 }
 
+impl CiaState {
+    /// The same state once more.
+    pub fn copied(&self) -> CiaState
+        ensures { result ≡ self.now }
+    {
+        CiaState {
+            port_a: self.port_a.copied(),
+            port_b: self.port_b.copied(),
+            timer_a: self.timer_a.copied(),
+            timer_b: self.timer_b.copied(),
+            tod: self.tod.copied(),
+            serial: self.serial,
+            icr: self.icr.copied(),
+        }
+    }
+}
+
 /// The registers of a CIA.
 #[derive(Clone, Copy)]
 pub enum Register {
@@ -92,6 +109,15 @@ impl Cia {
                 serial: 0,
                 icr: Icr::reset(),
             },
+        }
+    }
+
+    /// The same state once more.
+    pub fn copied(&self) -> Cia
+        ensures { result ≡ self.now }
+    {
+        Cia {
+            state: self.state.copied(),
         }
     }
 

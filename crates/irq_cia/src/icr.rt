@@ -20,6 +20,16 @@ impl Icr {
         Icr { flags: 0, mask: 0 }
     }
 
+    /// The same state once more.
+    pub fn copied(&self) -> Icr
+        ensures { result ≡ self.now }
+    {
+        Icr {
+            flags: self.flags,
+            mask: self.mask,
+        }
+    }
+
     /// Sets a flag where its event happened: 0 timer A, 1 timer B, 2 alarm, 3 serial.
     pub fn raise(&mut self, happened: bool, bit: u8)
         requires { bit < 5 }

@@ -43,6 +43,16 @@ impl Irq {
         Irq { req: 0, ena: 0 }
     }
 
+    /// The same state once more.
+    pub fn copied(&self) -> Irq
+        ensures { result ≡ self.now }
+    {
+        Irq {
+            req: self.req,
+            ena: self.ena,
+        }
+    }
+
     /// The chips request interrupts: each set bit of 13 to 0 is set in INTREQ. Bits 15 and 14 do not count.
     pub fn request(&mut self, bits: u16)
         ensures { self.new ≡ after_request bits self.old }

@@ -21,6 +21,16 @@ impl Port {
         }
     }
 
+    /// The same state once more.
+    pub fn copied(&self) -> Port
+        ensures { result ≡ self.now }
+    {
+        Port {
+            output: self.output,
+            direction: self.direction,
+        }
+    }
+
     /// What the data register reads as: itself where the direction is 1, and the pins where it is 0
     /// (Hardware Reference Manual, 8520 CIA, I/O ports).
     pub fn read(&self, pins: u8) -> u8

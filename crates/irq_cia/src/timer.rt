@@ -43,6 +43,17 @@ impl Timer {
         }
     }
 
+    /// The same state once more.
+    pub fn copied(&self) -> Timer
+        ensures { result ≡ self.now }
+    {
+        Timer {
+            latch: self.latch,
+            counter: self.counter,
+            control: self.control,
+        }
+    }
+
     /// Whether these bits of the control register are all set.
     fn has(&self, bits: u8) -> bool
         ensures { result ≡ has_bits self.now.control bits }

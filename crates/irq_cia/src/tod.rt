@@ -30,6 +30,18 @@ impl Tod {
         }
     }
 
+    /// The same state once more.
+    pub fn copied(&self) -> Tod
+        ensures { result ≡ self.now }
+    {
+        Tod {
+            time: self.time,
+            alarm: self.alarm,
+            counting: self.counting,
+            held: self.held,
+        }
+    }
+
     /// One count. The answer is whether it made the time the alarm.
     pub fn count(&mut self) -> bool
         ensures tod { self.new ≡ after_tod_count self.old }

@@ -43,6 +43,16 @@ impl Fetched {
         }
     }
 
+    /// The same once more.
+    pub fn copied(&self) -> Fetched
+        ensures { result ≡ self.now }
+    {
+        Fetched {
+            opcode: self.opcode,
+            instr: self.instr,
+        }
+    }
+
     /// The clocks of the row.
     pub fn clocks(&self, extra: u32) -> u32
         requires { extra ≤ 63 }

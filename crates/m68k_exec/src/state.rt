@@ -1,5 +1,7 @@
 //! What the processor keeps between two accesses.
 
+ghost use Rattle.std.specs.Prelude.{◌≡◌};
+
 use crate::fetched::Fetched;
 use m68k_decode::{CpuRegs, Place68, Trap, Under};
 
@@ -169,4 +171,44 @@ pub struct Cpu {
     pub(crate) done: u32,
     /// Whether a trace follows it.
     pub(crate) traced: bool,
+}
+
+impl Context {
+    /// The same once more.
+    pub fn copied(&self) -> Context
+        ensures { result ≡ self.now }
+    {
+        Context {
+            start: self.start,
+            fetched: self.fetched.copied(),
+            taking: self.taking,
+            instruction: self.instruction,
+        }
+    }
+}
+
+impl Machine {
+    /// The same state once more.
+    pub fn copied(&self) -> Machine
+        ensures { result ≡ self.now }
+    {
+        Machine {
+            regs: self.regs,
+            step: self.step,
+        }
+    }
+}
+
+impl Cpu {
+    /// The same state once more.
+    pub fn copied(&self) -> Cpu
+        ensures { result ≡ self.now }
+    {
+        Cpu {
+            context: self.context.copied(),
+            machine: self.machine.copied(),
+            done: self.done,
+            traced: self.traced,
+        }
+    }
 }

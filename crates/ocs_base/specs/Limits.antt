@@ -5,9 +5,10 @@ use Rattle.ocs_base.specs.declared.script.At.{At}
 use Rattle.ocs_base.specs.declared.script.Act.{Act}
 use Rattle.ocs_base.specs.declared.script.Act.TheVariants.{Poke, Peek, Joy, Fire, Key}
 
--- places in the order of the beam, as one number: 313 lines a frame and 227 clocks a line leave room for each
+-- places in the order of the beam, as one number: 313 lines a frame and 228 clocks a line leave room for each; PAL uses 227 of
+-- them in each line, NTSC all in every other
 abbrev pub order_of : ℕ → ℕ → ℕ → ℕ
-order_of frame v h = (frame * 313 + v) * 227 + h
+order_of frame v h = (frame * 313 + v) * 228 + h
 
 -- when an event happens
 abbrev pub time_of : At → ℕ

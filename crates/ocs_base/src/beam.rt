@@ -1,5 +1,8 @@
 //! Times and colours: plain numbers with a name.
 
+ghost use Rattle.std.specs.Prelude.{◌≡◌};
+ghost use Rattle.ocs_base.specs.Limits.{order_of};
+
 /// A number of colour clocks since reset, from 0. One colour clock is two low-resolution pixels.
 #[derive(Clone, Copy, PartialEq, Eq, PartialOrd, Ord, Debug)]
 pub struct Clock(pub u64);
@@ -16,4 +19,11 @@ pub struct Beam {
     pub v: u16,
     pub h: u16,
     pub lof: bool,
+}
+
+/// The clock `h` of line `v` of a frame in the order of time, as one number.
+pub fn time_order(frame: u32, v: u16, h: u16) -> u64
+    ensures { result ≡ order_of frame v h }
+{
+    (frame as u64 * 313 + v as u64) * 228 + h as u64
 }

@@ -8,7 +8,7 @@ pub mod reg;
 pub mod script;
 
 pub use addr::Addr;
-pub use beam::{Beam, Clock, Colour};
+pub use beam::{Beam, Clock, Colour, time_order};
 pub use memory::OutOfMemory;
 pub use reg::Reg;
 pub use script::{Act, At, Script, System};

@@ -1,7 +1,9 @@
 //! A script: whether the processor runs, how many frames, and the timed inputs.
 
 ghost use Rattle.std.specs.Prelude.{◌≡◌, ◌++◌, ◌∷◌, [], OnOk, OnErr};
+ghost use Rattle.ocs_base.specs.Limits.{time_of};
 
+use crate::beam::time_order;
 use crate::memory::OutOfMemory;
 use crate::reg::Reg;
 use std::alloc::Global;
@@ -26,6 +28,15 @@ pub struct At {
     pub v: u16,
     pub h: u16,
     pub act: Act,
+}
+
+impl At {
+    /// When it happens in the order of time, as one number.
+    pub fn time(&self) -> u64
+        ensures { result ≡ time_of self.now }
+    {
+        time_order(self.frame, self.v, self.h)
+    }
 }
 
 /// Whose beam the machine has.

@@ -432,7 +432,7 @@ names_settled old new seen after out given settles can =
 
 -- the clocks that are left grow fewer
 clock_below : (fore : ForeValue) (first : ℕ) (seen : RasterValue) → IsForeUnderway fore first seen → fore.machine.beam.frame < fore.run.script.frames
-    → fore.machine.t < fore.run.script.frames * 71051
+    → fore.machine.t < fore.run.script.frames * 71364
 clock_below fore first seen is going = omega (arith, is.count, is.screen.line, is.screen.clock)
 
 not_done : (frame frames : ℕ) → frame ≤ frames → (frame == frames) ≡ false → frame < frames
@@ -440,10 +440,10 @@ not_done frame frames le not = grind (arith, nat_tests)
 
 pub fewer_clocks : (old new : ForeValue) (seen : RasterValue) (done : Bool) → CanRun old seen → done ≡ is_done old → done ≡ false → new.run ≡ old.run
     → new.machine.t ≡ old.machine.t + 1
-    → new.run.script.frames * 71051 - new.machine.t < old.run.script.frames * 71051 - old.machine.t
+    → new.run.script.frames * 71364 - new.machine.t < old.run.script.frames * 71364 - old.machine.t
 fewer_clocks old new seen done can is not run count =
     let going : old.machine.beam.frame < old.run.script.frames = not_done _ _ can.stands.frame (sym is ∙ not) in
-    let below : old.machine.t < old.run.script.frames * 71051 = clock_below old can.first seen can.stands going in
+    let below : old.machine.t < old.run.script.frames * 71364 = clock_below old can.first seen can.stands going in
     let same : new.run.script.frames ≡ old.run.script.frames = ap (λ (r : RunValue). r.script.frames) run in
     omega (arith, below, same, count)
 

@@ -38,6 +38,13 @@ impl Regs {
         Regs { words: [0; 256] }
     }
 
+    /// The same words once more.
+    pub fn copied(&self) -> Regs
+        ensures { result ≡ self.now }
+    {
+        Regs { words: self.words }
+    }
+
     /// A write of a word to a register by the script, the Copper or the processor. The register keeps those
     /// bits of the word that it has. At DMACON bit 15 says whether the word's other 1 bits are set or cleared
     /// in the kept word (Hardware Reference Manual, DMACON). The words of INTENA and INTREQ are not kept here,

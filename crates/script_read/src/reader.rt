@@ -1,7 +1,6 @@
 //! Reading a script, line by line.
 
 ghost use Rattle.std.specs.Prelude.{◌≡◌, ◌<◌, ◌≤◌, [], OnOk, IfOk, IfSome};
-ghost use Rattle.ocs_base.specs.Limits.{time_of};
 ghost use Rattle.script_read.specs.Split.{lines_of, words_of};
 ghost use Rattle.script_read.specs.Grammar.{script_of, from_header, from_cpu, from_frames, frames_in, kept_frames, cpu_in, body_of, body_line, after_end};
 ghost use Rattle.ocs_io.specs.Numbers.{dec_of};
@@ -140,7 +139,7 @@ fn read_body(alloc: Global, cpu: bool, frames: u32, text: &[u8]) -> Result<Scrip
         let Some(at) = event else {
             return read_end(script, number + 1, line.rest);
         };
-        before = time(&at);
+        before = at.time();
         if script.push(at).is_err() {
             return Err(ScriptFault::OutOfMemory);
         }
@@ -165,17 +164,10 @@ fn read_line(frames: u32, number: u32, before: u64, line: &[u8]) -> Result<Optio
     let Some(at) = read_event(frames, line) else {
         return Err(BadKind::Event);
     };
-    if time(&at) < before {
+    if at.time() < before {
         return Err(BadKind::Order);
     }
     Ok(Some(at))
-}
-
-/// When an event happens, as one number.
-fn time(at: &At) -> u64
-    ensures { result ≡ time_of at.now }
-{
-    (at.frame as u64 * 313 + at.v as u64) * 227 + at.h as u64
 }
 
 /// The script, where nothing follows its end line.

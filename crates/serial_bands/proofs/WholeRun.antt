@@ -178,10 +178,10 @@ place_rises run (suc c) =
     tick-IsNext Pal run.script.events s (on_screen run.side run.image run.script c) in
     omega (arith, next.later, place_rises run c)
 
-place_below : (b : Beam) (frames : ℕ) → IsOnScreen b → b.frame < frames → frames ≤ 1000 → place_of b < 71051000
+place_below : (b : Beam) (frames : ℕ) → IsOnScreen b → b.frame < frames → frames ≤ 1000 → place_of b < 71364000
 place_below b frames on going most = grind (arith, on.line, on.clock)
 
-clock_below : (run : RunValue) (c : ℕ) → IsRunnable run.script → (beam_at run c).frame < run.script.frames → c < 71051000
+clock_below : (run : RunValue) (c : ℕ) → IsRunnable run.script → (beam_at run c).frame < run.script.frames → c < 71364000
 clock_below run c good going =
     omega (arith, place_rises run c, place_below (beam_at run c) run.script.frames (on_screen run.side run.image run.script c) going good.most)
 

@@ -38,7 +38,7 @@ on_screen side image script zero = record { line = lit< {m = 0} {n = 313} tt; cl
 on_screen side image script (suc n) = (tick-IsNext Pal script.events (state_over side image script n) (on_screen side image script n)).screen
 
 -- while no end was found the place rises with each clock, which the places before the last frame's end bound
-unfinished : (b : Beam) (frames : ℕ) → IsOnScreen b → b.frame < frames → place_of b + 0 < frames * 71051
+unfinished : (b : Beam) (frames : ℕ) → IsOnScreen b → b.frame < frames → place_of b + 0 < frames * 71364
 unfinished b frames on going = grind (arith, on.line, on.clock)
 
 below_more : (n t : ℕ) (P : ℕ → Type 0) → ((m : ℕ) → m < t → P m) → P t → n < suc t → P n
@@ -51,7 +51,7 @@ below_more n t P below here lt =
 find_end : (side : SideValue) (image : List ℕ) (script : ScriptValue) (fuel n : ℕ)
     → ((m : ℕ) → m < n → (state_over side image script m).beam.frame < script.frames)
     → (state_over side image script n).beam.frame ≤ script.frames
-    → script.frames * 71051 ≤ place_of (state_over side image script n).beam + fuel
+    → script.frames * 71364 ≤ place_of (state_over side image script n).beam + fuel
     → (clocks : ℕ) × IsEndOver side image script clocks
 unfolding state_over
 find_end side image script zero n running most enough =
@@ -60,7 +60,7 @@ find_end side image script zero n running most enough =
       | inr other ↦ (
           let o : (state_over side image script n).beam.frame ≡ script.frames → ⊥ = other in
           let going : (state_over side image script n).beam.frame < script.frames = omega arith in
-          let low : place_of (state_over side image script n).beam + 0 < script.frames * 71051 =
+          let low : place_of (state_over side image script n).beam + 0 < script.frames * 71364 =
           unfinished (state_over side image script n).beam script.frames (on_screen side image script n) going in
           absurd (omega arith))
     ]
@@ -79,7 +79,7 @@ find_end side image script (suc fuel) n running most enough =
 
 pub has_end : HasEnd
 unfolding state_over reset
-has_end side image script good = find_end side image script (script.frames * 71051) 0 (λ m below. absurd (omega arith)) (omega arith) (omega arith)
+has_end side image script good = find_end side image script (script.frames * 71364) 0 (λ m below. absurd (omega arith)) (omega arith) (omega arith)
 
 -- how many bytes of its frame were shown before a place: 2160 in each visible line, 12 in each visible clock
 abbrev bytes_before : ℕ → ℕ → ℕ

@@ -2,6 +2,7 @@
 use Rattle.std.specs.Prelude.{◌≡◌, ℕ, ◌*◌, ◌≤◌, false, List, ◌++◌, length, bit_or}
 use Rattle.ocs_base.specs.Limits.{IsRunnable}
 use Rattle.ocs_base.specs.Script.{ScriptValue}
+use Rattle.ocs_base.specs.declared.beam.Beam.{Beam}
 use Rattle.ocs_base.specs.declared.script.At.{At}
 use Rattle.ocs_base.specs.declared.script.System.{System}
 use Rattle.serial_model.specs.declared.bus.Made.{Made}
@@ -13,7 +14,7 @@ use Rattle.serial_model.specs.Outputs.{frame_bytes}
 use Rattle.serial_model.specs.Picture.{touch_if_any, touch_in_order, clear_line, PictureStep, step_of, after_step}
 use Rattle.serial_model.specs.Registers.{is_interlaced}
 use Rattle.serial_model.specs.Serial.{state_over, IsEndOver}
-use Rattle.serial_model.specs.Side.{SideValue, FitsSide}
+use Rattle.serial_model.specs.Side.{Happening, SideValue, side_after, ask_of_side, no_side, IsBelow, FitsSide}
 use Rattle.serial_model.specs.State.{State}
 use Rattle.serial_model.specs.Turns.{interrupt_of, taken_lines}
 use Rattle.serial_model.specs.Tick.{start_clock, run_script, before_access, made_of, answer_state, make_access, tick}
@@ -68,6 +69,20 @@ BeamNext = (system : System) (events : List At) (s : State) →
     (tick system events s).beam
     ≡ (let b = make_access (before_access system events s) in
     next_place (is_interlaced b.chips.registers) (record s.beam { lof = b.beam.lof }))
+
+-- a side that fits a size of chip memory goes on fitting it, whatever happens to it
+abbrev pub FitIsKept : Type 0
+FitIsKept = (size : ℕ) (happening : Happening) (side : SideValue) → FitsSide size side →
+    FitsSide size (side_after happening side)
+
+-- the address of what it asks for is below that size
+abbrev pub AskOfFitIsBelow : Type 0
+AskOfFitIsBelow = (size : ℕ) (b : Beam) (dmacon : ℕ) (side : SideValue) → FitsSide size side →
+    IsBelow size (ask_of_side b dmacon side)
+
+-- a machine without a side fits every size
+abbrev pub NoneFitsEach : Type 0
+NoneFitsEach = (size : ℕ) → FitsSide size no_side
 
 -- each side fits chip memory of 512 KiB, since addresses are below it
 abbrev pub EachSideFits : Type 0

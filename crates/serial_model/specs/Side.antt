@@ -18,17 +18,20 @@ pub data Happening : Type 0 where
   -- it got the slot for which it asked, with this word
   Given : ℕ → Happening
 
--- A side at some moment is what it does from then on: which bits of INTREQ it requests at a clock, and what it asks for there,
--- once these happenings came, the first of them first. So two states that always do the same are one.
+-- A side at some moment is what it does from then on: which bits of INTREQ it requests at a clock, what it asks for there, and
+-- what it shows to the outside as a list of numbers, as a sound channel its level, once these happenings came, the first of
+-- them first. So two states that always do the same are one.
 pub record SideValue : Type 0 where
   pub bits : List Happening → Beam → ℕ → ℕ
   pub ask : List Happening → Beam → ℕ → SideAsk
+  pub shows : List Happening → List ℕ
 
 -- the side after one happening
 abbrev pub side_after : Happening → SideValue → SideValue
 side_after happening side = record {
   bits = λ later b dmacon. side.bits (happening ∷ later) b dmacon;
   ask = λ later b dmacon. side.ask (happening ∷ later) b dmacon;
+  shows = λ later. side.shows (happening ∷ later);
 }
 
 -- the four calls: after the write of a register; after a tick, with the bits that it gives; what it asks for; and after a word
@@ -48,6 +51,28 @@ ask_of_side b dmacon side = side.ask [] b dmacon
 abbrev pub give_side : ℕ → SideValue → SideValue
 give_side word side = side_after (Given word) side
 
+-- what it shows now
+abbrev pub shown_by_side : SideValue → List ℕ
+shown_by_side side = side.shows []
+
+-- A side whose state is one of some type: what a happening makes of the state, and what the side does in it.
+pub record SideRules (S : Type 0) : Type 0 where
+  pub after : Happening → S → S
+  pub bits : Beam → ℕ → S → ℕ
+  pub ask : Beam → ℕ → S → SideAsk
+  pub shows : S → List ℕ
+
+abbrev pub after_all : {S : Type 0} → (Happening → S → S) → List Happening → S → S
+after_all after [] s = s
+after_all after (happening ∷ later) s = after_all after later (after happening s)
+
+abbrev pub side_over : {S : Type 0} → SideRules S → S → SideValue
+side_over rules s = record {
+  bits = λ later b dmacon. rules.bits b dmacon (after_all rules.after later s);
+  ask = λ later b dmacon. rules.ask b dmacon (after_all rules.after later s);
+  shows = λ later. rules.shows (after_all rules.after later s);
+}
+
 -- a disk asks at clocks 7, 9 and 11 of a line alone, and audio's channel c, of four, at clock 13 + 2c alone
 abbrev pub IsInTime : Beam → SideAsk → Type 0
 IsInTime b S.Nothing = Unit {0}
@@ -63,11 +88,12 @@ IsBelow size (S.Audio channel at) = at.value < size
 abbrev pub FitsSide : ℕ → SideValue → Type 0
 FitsSide size side = (later : List Happening) (b : Beam) (dmacon : ℕ) → IsBelow size (side.ask later b dmacon)
 
--- no side: it requests nothing and asks for nothing, whatever happens
+-- no side: it requests nothing, asks for nothing and shows nothing, whatever happens
 abbrev pub no_side : SideValue
 no_side = record {
   bits = λ later b dmacon. 0;
   ask = λ later b dmacon. S.Nothing;
+  shows = λ later. [];
 }
 
 -- a side once the owner of the slot has this answer: its own ask gives it the word, that which the disk stored or audio read

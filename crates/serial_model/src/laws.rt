@@ -1,6 +1,7 @@
 //! Laws of the definitions, each the contract of a function that does nothing.
 
-ghost use Rattle.serial_model.specs.Laws.{MemoryNext, PictureNext, ShownNext, ClxNext, TraceNext, BeamNext, FramesAreWhole, HasEnd, EachSideFits};
+ghost use Rattle.serial_model.specs.Laws.{MemoryNext, PictureNext, ShownNext, ClxNext, TraceNext, BeamNext, FramesAreWhole, HasEnd};
+ghost use Rattle.serial_model.specs.Laws.{FitIsKept, AskOfFitIsBelow, NoneFitsEach, EachSideFits};
 
 /// What one colour clock makes of a state, part by part, by the script's touches, the picture step and what the
 /// access makes. Drawing a part of the picture later, from the writes that were noted and the memory of that
@@ -14,9 +15,13 @@ pub fn next_state()
     ensures beam { BeamNext }
 {}
 
-/// What a side asks for is in chip memory.
+/// A side that fits a size of chip memory fits it after each call, and what it then asks for is below that size. With
+/// addresses of 512 KiB alone each side fits those.
 pub fn sides_fit()
-    ensures { EachSideFits }
+    ensures kept { FitIsKept }
+    ensures below { AskOfFitIsBelow }
+    ensures none { NoneFitsEach }
+    ensures each { EachSideFits }
 {}
 
 /// A run has an end, and has then shown all the bytes of its frames.

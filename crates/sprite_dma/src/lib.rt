@@ -45,6 +45,13 @@ impl SpriteDma {
         }
     }
 
+    /// The same state once more.
+    pub fn copied(&self) -> SpriteDma
+        ensures { result ≡ self.now }
+    {
+        SpriteDma { kinds: self.kinds }
+    }
+
     /// One colour clock, called at each. What a sprite reads on a line is decided at its first slot, by the
     /// registers as they are then.
     ///

@@ -13,4 +13,4 @@ invariant-loop-fore g l =
     }
 
 abbrev pub decreases-loop-fore : goal.decreases-loop-fore
-decreases-loop-fore g l = l.fore.run.script.frames * 71051 - l.fore.machine.t
+decreases-loop-fore g l = l.fore.run.script.frames * 71364 - l.fore.machine.t

@@ -1,0 +1,45 @@
+//! The state of the chips once more, and a raster that begins in the midst of a run.
+
+use band_draw::Direct;
+use band_log::Raster;
+use chip_set::Chips;
+use ocs_base::{Act, Beam, OutOfMemory, Reg};
+use serial_model::NoSide;
+
+/// JOY0DAT.
+const JOY0DAT: u16 = 0x00a;
+
+/// DMACON.
+const DMACON: u16 = 0x096;
+
+fn mouse(word: u16) -> Act {
+    Act::Joy { port: 0, word }
+}
+
+/// What happens to the chips afterwards does not happen to the copy.
+#[test]
+fn chips_are_copied(rt: HostRuntime) {
+    let beam = Beam {
+        frame: 0,
+        v: 0,
+        h: 0,
+        lof: true,
+    };
+    let mut chips = Chips::reset(true);
+    chips.tell(&mouse(0x1234));
+    chips.poke(Reg::masked(DMACON), 0x8240);
+    let copy = chips.copied();
+    chips.tell(&mouse(0x5678));
+    chips.poke(Reg::masked(DMACON), 0x0040);
+    assert_eq!(rt; copy.peek(Reg::masked(JOY0DAT), &beam, 0), 0x1234);
+    assert_eq!(rt; copy.dmacon(), 0x0240);
+    assert_eq!(rt; chips.peek(Reg::masked(JOY0DAT), &beam, 0), 0x5678);
+    assert_eq!(rt; chips.dmacon(), 0x0200);
+}
+
+#[test]
+fn a_raster_begins_with_a_later_band(rt: HostRuntime) -> Result<(), OutOfMemory> {
+    let raster = Direct::<NoSide>::starting(rt.alloc(), 3)?;
+    assert_eq!(rt; raster.outstanding(), 0);
+    Ok(())
+}
