@@ -12,12 +12,10 @@ use crate::band_painter::BandPainter;
 use band_log::Event;
 use mem_versions::MemView;
 use ocs_base::Clock;
+use ocs_base::offset::SPR0DATA;
 
 /// BPL1DAT lies two behind this.
 const LATCHES: u16 = 0x10e;
-
-/// SPR0DATA.
-const SPRITE_DATA: u16 = 0x144;
 
 /// Events at clock `h` of the line in their order. The word of a fetch is that of the colour clock.
 #[inline(always)]
@@ -57,7 +55,7 @@ fn touch(painter: &mut BandPainter, h: u16, event: &Event, clock: Clock, view: &
         } => {
             let word = view.at(clock, *addr);
             let half = if *second { 2 } else { 0 };
-            painter.set(h, SPRITE_DATA + 8 * *sprite as u16 + half, word);
+            painter.set(h, SPR0DATA + 8 * *sprite as u16 + half, word);
         }
     }
 }

@@ -14,27 +14,11 @@ ghost use Rattle.serial_model.specs.PlaneFetch.{slot_plane as plane_of_slot, add
 ghost use Rattle.serial_model.specs.Registers.{kept_word};
 ghost use Rattle.serial_model.specs.Window.{is_window_line as in_window};
 
+use ocs_base::offset::{BPL1MOD, BPL2MOD, BPLCON0, DDFSTOP, DDFSTRT, DIWSTOP, DIWSTRT, DMACON};
 use ocs_base::{Addr, Beam, Reg};
 use reg_file::Regs;
 pub use serial_model::PlaneAsk;
 use std::marker::Model;
-
-// The offsets of the registers that plane fetch reads.
-const DIWSTRT: u16 = 0x08e;
-
-const DIWSTOP: u16 = 0x090;
-
-const DDFSTRT: u16 = 0x092;
-
-const DDFSTOP: u16 = 0x094;
-
-const DMACON: u16 = 0x096;
-
-const BPLCON0: u16 = 0x100;
-
-const BPL1MOD: u16 = 0x108;
-
-const BPL2MOD: u16 = 0x10a;
 
 /// The planes of the slots of a unit; 0 where a slot has none.
 const LOW_RESOLUTION: [u8; 8] = [0, 4, 6, 2, 0, 3, 5, 1];

@@ -10,14 +10,9 @@ ghost use Rattle.chip_set.specs.Chips.{made_with};
 
 use bitplane_dma::PlaneAsk;
 use blitter::SlotAsk;
+use ocs_base::offset::{CLXDAT, SPR0POS};
 use ocs_base::{Addr, Reg};
 use serial_model::{Ask, CopperAct, Half, Made, ProcessorAsk, Source, SpriteAsk};
-
-/// The collision bits.
-const CLXDAT: u16 = 0xe;
-
-/// SPRxPOS of sprite 0; each sprite has eight bytes of registers.
-const SPR0POS: u16 = 0x140;
 
 /// Whether the owner of the slot, the processor then, asks to read CLXDAT.
 pub fn is_clx_ask(ask: &Ask) -> bool

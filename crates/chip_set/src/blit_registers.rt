@@ -5,42 +5,11 @@ ghost use Rattle.serial_model.specs.BlitRegisters.{blit_start, with_blit};
 
 use blitter::BlitRegs;
 use ocs_base::Reg;
+use ocs_base::offset::{
+    BLTADAT, BLTAFWM, BLTALWM, BLTAMOD, BLTAPTH, BLTAPTL, BLTBDAT, BLTBMOD, BLTBPTH, BLTCDAT,
+    BLTCMOD, BLTCON0, BLTCON1, BLTCPTH, BLTDMOD, BLTDPTH, BLTSIZE,
+};
 use reg_file::Regs;
-
-// The offsets of the blitter's registers: control, masks, size, data, modulos, and the pointers' high words.
-const BLTCON0: u16 = 0x040;
-
-const BLTCON1: u16 = 0x042;
-
-const BLTAFWM: u16 = 0x044;
-
-const BLTALWM: u16 = 0x046;
-
-const BLTSIZE: u16 = 0x058;
-
-const BLTADAT: u16 = 0x074;
-
-const BLTBDAT: u16 = 0x072;
-
-const BLTCDAT: u16 = 0x070;
-
-const BLTAMOD: u16 = 0x064;
-
-const BLTBMOD: u16 = 0x062;
-
-const BLTCMOD: u16 = 0x060;
-
-const BLTDMOD: u16 = 0x066;
-
-const BLTAPTH: u16 = 0x050;
-
-const BLTAPTL: u16 = 0x052;
-
-const BLTBPTH: u16 = 0x04c;
-
-const BLTCPTH: u16 = 0x048;
-
-const BLTDPTH: u16 = 0x054;
 
 /// The registers with which a blit starts now.
 #[tactic(auto, using(crate::proofs::ChipsLaws::pointer_a, crate::proofs::ChipsLaws::pointer_b, crate::proofs::ChipsLaws::pointer_c, crate::proofs::ChipsLaws::pointer_d), unfolding(serial_model::specs::BlitRegisters::blit_start))]

@@ -28,49 +28,31 @@ use copper::Copper;
 use cpu_bus::BusCpu;
 use irq_cia::{Cia, Irq};
 use mem_versions::Chip;
+use ocs_base::offset::{
+    BPLCON0, CLXDAT, COP1LCH, COP2LCH, COPCON, DMACON, INTENA, INTENAR, INTREQR,
+};
 use ocs_base::{Act, Addr, Beam, Reg};
 use reg_file::{Effect, Live, Regs};
 use serial_model::{Ask, CopperAct, Inputs, Made, ProcessorAsk, SideAsk, SpriteAsk};
 use sprite_dma::SpriteDma;
 use std::marker::Model;
 
-/// The collision bits.
-const CLXDAT: u16 = 0xe;
-
-/// The interrupt words for reading, and INTENA.
-const INTENAR: u16 = 0x1c;
-
-const INTREQR: u16 = 0x1e;
-
-const INTENA: u16 = 0x9a;
-
 /// The interrupts of vertical blanking and of a blit's end, as bits of INTREQ.
 const VERTB: u16 = 0x20;
 
 const BLIT: u16 = 0x40;
 
-/// COPCON and its bit CDANG.
-const COPCON: u16 = 0x2e;
-
+/// A bit of COPCON.
 const CDANG: u16 = 0x2;
 
-/// The high words of the pointers to the two Copper lists.
-const COP1LCH: u16 = 0x80;
-
-const COP2LCH: u16 = 0x84;
-
-/// DMACON, its bits DMAEN and COPEN, DMAEN and BLTEN, and its bit BLTPRI.
-const DMACON: u16 = 0x96;
-
+/// Bits of DMACON: DMAEN and COPEN, DMAEN and BLTEN, and BLTPRI.
 const COPPER_DMA: u16 = 0x280;
 
 const BLITTER_DMA: u16 = 0x240;
 
 const BLTPRI: u16 = 0x400;
 
-/// BPLCON0 and its bit LACE.
-const BPLCON0: u16 = 0x100;
-
+/// A bit of BPLCON0.
 const LACE: u16 = 0x4;
 
 /// The custom registers, the fetches of bitplanes and sprites, the Copper, the blit under way with BZERO as the

@@ -14,12 +14,10 @@ ghost use Rattle.foreground.specs.Script.{IsLeft, IsRest, HasLater, IsMachine, M
 use crate::log::Log;
 use crate::machine::Machine;
 use band_draw::due::is_picture;
+use ocs_base::offset::CLXDAT;
 use ocs_base::{Act, At, Beam, OutOfMemory, Reg};
 use out_files::OutFiles;
 use serial_model::{Side, Touch};
-
-/// The collision bits.
-const CLXDAT: u16 = 0xe;
 
 /// The events of this clock happen in their order: machine and trace have them, and the log what
 /// touches the picture. `events` are those that are left, and the answer is what is left after this

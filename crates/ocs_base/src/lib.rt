@@ -4,6 +4,7 @@
 pub mod addr;
 pub mod beam;
 pub mod memory;
+pub mod offset;
 pub mod reg;
 pub mod script;
 

@@ -7,12 +7,12 @@ ghost use Rattle.serial_model.specs.Registers.{effect_in, word_at, is_closed as 
 ghost use Rattle.serial_model.specs.RegisterTable.{is_pointer_high};
 
 use crate::table::{kept_bits, reading, writing};
-use ocs_base::{Addr, Reg};
+use ocs_base::{Addr, Reg, offset};
 use serial_model::{Effect, Live, Reading, Writing};
 use std::marker::Model;
 
 /// The offset of DMACON.
-const DMACON: usize = 0x96;
+const DMACON: usize = offset::DMACON as usize;
 
 /// The kept words of the custom registers (Hardware Reference Manual, register summary), by half their
 /// offset from DFF000. An offset without a register keeps 0 (profile).

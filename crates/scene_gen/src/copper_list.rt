@@ -4,8 +4,8 @@ ghost use Rattle.std.specs.Prelude.{◌≡◌, ◌+◌, ◌*◌, ◌%◌, ◌++�
 ghost use Rattle.std.specs.List.{range_with_len};
 ghost use Rattle.scene_gen.specs.Scene.{move_to, wait_for, sprite_address, sprite_pointer, plane_pointer, colour_change, copper_list};
 
-use crate::registers::{BPL1PTH, COLOR01, SPR0PTH};
 use ocs_base::OutOfMemory;
+use ocs_base::offset::{BPL1PTH, COLOR01, SPR0PTH};
 use std::alloc::Global;
 
 /// The words of the Copper list: the pointers of the sprites and of the bitplanes, then a colour each eight lines.

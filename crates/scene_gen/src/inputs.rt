@@ -3,7 +3,7 @@
 ghost use Rattle.std.specs.Prelude.{◌≡◌, ◌+◌, ◌*◌, ◌%◌, ◌++◌, ◌<◌, ◌∷◌, [], OnOk, IfOk};
 ghost use Rattle.scene_gen.specs.Scene.{event, poke, peek, pokes_at, frame_pokes, blit_pokes, frame_events, scene_script};
 
-use crate::registers::{
+use ocs_base::offset::{
     BLTAFWM, BLTALWM, BLTAPTH, BLTAPTL, BLTCON0, BLTDPTH, BLTDPTL, BLTSIZE, BPLCON0, BPLCON2,
     CLXCON, CLXDAT, COLOR00, COLOR17, COLOR18, COLOR19, COP1LCL, COPJMP1, DDFSTOP, DDFSTRT,
     DIWSTOP, DIWSTRT, DMACON,

@@ -7,7 +7,6 @@ mod copper_list;
 mod image;
 mod inputs;
 mod program;
-mod registers;
 
 ghost use Rattle.std.specs.Prelude.{◌≡◌, true, length, IfOk};
 ghost use Rattle.ocs_base.specs.Image.{is_image};

@@ -9,13 +9,11 @@ ghost use Rattle.std.specs.Prelude.{◌≡◌, ◌<◌, true};
 ghost use Rattle.serial_model.specs.SpriteFetch.{no_kinds, kinds_at, sprite_ask, move_sprites, kind_of, kind_by};
 ghost use Rattle.serial_model.specs.SpriteFetch.{sprite_dma as dma_of, ask_by_kind, move_if_asked, is_sprite_slot};
 
+use ocs_base::offset::DMACON;
 use ocs_base::{Addr, Beam, Reg};
 use reg_file::Regs;
 pub use serial_model::{SpriteAsk, SpriteKind};
 use std::marker::Model;
-
-/// The offset of DMACON.
-const DMACON: u16 = 0x096;
 
 /// The line on which every sprite reads its control words.
 const FIRST_LINE: u16 = 25;

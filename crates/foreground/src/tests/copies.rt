@@ -3,14 +3,9 @@
 use band_draw::Direct;
 use band_log::Raster;
 use chip_set::Chips;
+use ocs_base::offset::{DMACON, JOY0DAT};
 use ocs_base::{Act, Beam, OutOfMemory, Reg};
 use serial_model::NoSide;
-
-/// JOY0DAT.
-const JOY0DAT: u16 = 0x00a;
-
-/// DMACON.
-const DMACON: u16 = 0x096;
 
 fn mouse(word: u16) -> Act {
     Act::Joy { port: 0, word }
