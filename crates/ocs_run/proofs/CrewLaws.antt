@@ -6,7 +6,7 @@ use Rattle.serial_bands.specs.Run.{RunValue}
 use Rattle.crew.specs.declared.crew.Crew.{Crew}
 use Rattle.crew.specs.Crew.{crew_seen, IsNewCrew}
 use Rattle.foreground.specs.Fore.{ForeValue, IsNew}
-use Rattle.ocs_run.specs.declared.fault.RunFault.{RunFault}
+use Rattle.out_files.specs.declared.fault.WriteFault.{WriteFault}
 use Rattle.ocs_run.specs.Underway.{IsEmpty, Ends, IsCut, EndsFromStart, IsCutFromStart}
 use Rattle.ocs_run.proofs.RunLaws.{IsEmpty-new, EndsFromStart-ends, IsCutFromStart-cut}
 use Rattle.band_log.specs.Raster.{RasterValue}
@@ -23,7 +23,7 @@ module _ {R G : Type 0} where
       ap (λ k. (crew_seen k).mark) (sym leaves) ∙ same ∙ ap (λ k. (crew_seen k).mark) is
 
 abbrev RunResult : Type 0
-RunResult = Result (Unit {0}) RunFault
+RunResult = Result (Unit {0}) WriteFault
 
 module _ {P : Type 0} (outside : P → Outside) (run : RunValue) (old : ForeValue) (seen : RasterValue) (out : OutFilesValue) (before after now : P) where
   -- the run came to its end, and the borrows ended with what it left

@@ -23,8 +23,6 @@ use Rattle.serial_bands.proofs.Counts.{no_tint}
 use Rattle.serial_bands.proofs.BandRanges.{bands_rise}
 use Rattle.band_log.specs.Raster.{RasterValue, Takes}
 use Rattle.foreground.specs.Clock.{HasGivenPart}
-use Rattle.ocs_run.specs.Fault.{IsWrite, of_write}
-use Rattle.ocs_run.specs.declared.fault.RunFault.{RunFault}
 use Rattle.std.proofs.lemmas.Bool.Decides.{nat_tests}
 use Rattle.foreground.specs.Fore.{ForeValue, IsNew, is_done, Advances, HasAdvanced, HasSettled, Settles, GivesPart, IsUnderway as IsForeUnderway}
 use Rattle.foreground.specs.Gathered.{tinted_range}
@@ -452,15 +450,11 @@ rose_later : (a b c : ℕ) → a ≤ b → Rose b c → Rose a c
 rose_later a b c le rose = omega arith
 
 -- a fault of the last call is one of all of them
-pub cause_later : (a b c : Outside) (f : WriteFault) → OnlyWrites a b → OnlyWrites b c → (NamesFile f → Rose b.write_faults c.write_faults)
-    → IsWrite (of_write f) → Rose a.write_faults c.write_faults
-cause_later a b c (Failed file) first second cause is = rose_later a.write_faults b.write_faults c.write_faults first.write_faults (cause tt)
-cause_later a b c NoRoomToWrite first second cause is = absurd is
-
-pub cause_err : {T : Type 0} (r : Result T RunFault) (a b c : Outside) (f : WriteFault) → IsErrAnd r (λ x. x ≡ of_write f) → OnlyWrites a b
-    → OnlyWrites b c → (NamesFile f → Rose b.write_faults c.write_faults) → IfErr r (λ fault. IsWrite fault → Rose a.write_faults c.write_faults)
+pub cause_err : {T : Type 0} (r : Result T WriteFault) (a b c : Outside) (f : WriteFault) → IsErrAnd r (λ x. x ≡ f) → OnlyWrites a b
+    → OnlyWrites b c → (NamesFile f → Rose b.write_faults c.write_faults) → IfErr r (λ fault. NamesFile fault → Rose a.write_faults c.write_faults)
 cause_err (Ok v) a b c f is first second cause = tt
-cause_err (Err x) a b c f is first second cause = λ write. cause_later a b c f first second cause (subst IsWrite is write)
+cause_err (Err x) a b c f is first second cause =
+    λ names. rose_later a.write_faults b.write_faults c.write_faults first.write_faults (cause (subst NamesFile is names))
 
 -- a new crew is a raster without bands
 pub IsEmpty-new : (run : RunValue) (seen : RasterValue)

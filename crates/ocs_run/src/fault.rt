@@ -4,38 +4,6 @@ use ocs_base::OutOfMemory;
 use out_files::{OutFile, WriteFault};
 use script_read::BadKind;
 
-/// Why a run stopped: a file could not be written, or memory was wanting.
-#[derive(Clone, Copy, PartialEq, Eq, Debug)]
-pub enum RunFault {
-    Write { file: OutFile },
-    OutOfMemory,
-}
-
-impl From<WriteFault> for RunFault {
-    ghost use Rattle.std.specs.Prelude.{◌≡◌};
-    ghost use Rattle.ocs_run.specs.Fault.{of_write};
-
-    ghost from_gives = { λ from fault. fault ≡ of_write from };
-
-    fn from(fault: WriteFault) -> RunFault {
-        match fault {
-            WriteFault::Failed { file } => RunFault::Write { file },
-            WriteFault::OutOfMemory => RunFault::OutOfMemory,
-        }
-    }
-}
-
-impl From<OutOfMemory> for RunFault {
-    ghost use Rattle.std.specs.Prelude.{◌≡◌};
-    ghost use Rattle.ocs_run.specs.declared.fault.RunFault.{RunFault};
-
-    ghost from_gives = { λ refused fault. fault ≡ RunFault.OutOfMemory };
-
-    fn from(_refused: OutOfMemory) -> RunFault {
-        RunFault::OutOfMemory
-    }
-}
-
 /// One of the two files that a run reads.
 #[derive(Clone, Copy, PartialEq, Eq, Debug)]
 pub enum Input {
@@ -68,16 +36,16 @@ impl From<OutOfMemory> for Fault {
     }
 }
 
-impl From<RunFault> for Fault {
+impl From<WriteFault> for Fault {
     ghost use Rattle.std.specs.Prelude.{◌≡◌};
-    ghost use Rattle.ocs_run.specs.Fault.{of_run};
+    ghost use Rattle.ocs_run.specs.Fault.{of_write};
 
-    ghost from_gives = { λ from fault. fault ≡ of_run from };
+    ghost from_gives = { λ from fault. fault ≡ of_write from };
 
-    fn from(fault: RunFault) -> Fault {
+    fn from(fault: WriteFault) -> Fault {
         match fault {
-            RunFault::Write { file } => Fault::Unwritten { file },
-            RunFault::OutOfMemory => Fault::OutOfMemory,
+            WriteFault::Failed { file } => Fault::Unwritten { file },
+            WriteFault::OutOfMemory => Fault::OutOfMemory,
         }
     }
 }

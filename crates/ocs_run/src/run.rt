@@ -2,7 +2,7 @@
 
 ghost use Rattle.std.specs.Prelude.{◌≡◌, ◌≤◌, ◌%◌, [], true, OnOk, OnErr, IfOk, IfErr};
 ghost use Rattle.std.specs.Arc.{arc_value};
-ghost use Rattle.ocs_run.specs.declared.fault.RunFault.TheVariants as RunFault;
+ghost use Rattle.out_files.specs.declared.fault.WriteFault.TheVariants as WriteFault;
 ghost use Rattle.ocs_io.specs.Place.{Rose, OnlyWrites, KeepsNames};
 ghost use Rattle.out_files.specs.Answers.{AreGrowable, NamesFile};
 ghost use Rattle.out_files.specs.OutFiles.{all_given};
@@ -10,12 +10,10 @@ ghost use Rattle.out_files.specs.Together.{Completes, LeavesParts, StayTogether}
 ghost use Rattle.serial_model.specs.MemoryText.{memory_text};
 ghost use Rattle.crew.specs.Crew.{crew_seen};
 ghost use Rattle.foreground.specs.Fore.{is_done, IsNew};
-ghost use Rattle.ocs_run.specs.Fault.{IsWrite};
 ghost use Rattle.ocs_run.specs.Prefix.{LeavesPrefixes};
 ghost use Rattle.ocs_run.specs.Run.{HasFiles};
 ghost use Rattle.ocs_run.specs.Underway.{fore_of, run_of, CanRun, Runs, IsStopped, IsFresh, Ends, IsCut, EndsFromStart, IsCutFromStart};
 
-use crate::fault::RunFault;
 use band_log::{Raster, Run};
 use crew::{Crew, Gate, with_crew};
 use foreground::Fore;
@@ -49,7 +47,7 @@ pub fn run_files<
     run: Run<NoSide>,
     out: OutFiles,
     place: &mut P,
-) -> Result<(), RunFault>
+) -> Result<(), WriteFault>
     requires workers { drawing.workers ≤ 32 }
     requires fresh { IsFresh out }
     ensures done { OnOk result (HasFiles run.image run.script out.names (P.outside place.old).files
@@ -57,7 +55,7 @@ pub fn run_files<
     ensures stopped { OnErr result (LeavesPrefixes run.image run.script out.names
         (P.outside place.old).files (P.outside place.new).files) }
     ensures kept { OnlyWrites (P.outside place.old) (P.outside place.new) }
-    ensures cause { IfErr result (λ fault. IsWrite fault
+    ensures cause { IfErr result (λ fault. NamesFile fault
         → Rose (P.outside place.old).write_faults (P.outside place.new).write_faults) }
 {
     let _good = run.script();
@@ -83,7 +81,7 @@ fn draw_with_crew<
     fore: &mut Fore<NoSide>,
     out: &mut OutFiles,
     place: &mut P,
-) -> Result<(), RunFault>
+) -> Result<(), WriteFault>
     requires workers { drawing.workers ≤ 32 }
     requires growable { AreGrowable (P.growable place.old) out.old.names }
     requires new { IsNew (run_of (arc_value run)) (fore_of fore.old) }
@@ -96,13 +94,13 @@ fn draw_with_crew<
     ensures run { OnOk result ((fore_of fore.new).run ≡ (fore_of fore.old).run) }
     ensures out { OnOk result (out.new.names ≡ out.old.names) }
     ensures kept { OnlyWrites (P.outside place.old) (P.outside place.new) }
-    ensures cause { IfErr result (λ fault. IsWrite fault
+    ensures cause { IfErr result (λ fault. NamesFile fault
         → Rose (P.outside place.old).write_faults (P.outside place.new).write_faults) }
     ensures names { KeepsNames (P.readable place.old) (P.growable place.old) (P.readable place.new)
         (P.growable place.new) }
 {
     let Drawing { workers, gate } = drawing;
-    let mut body = |crew: &mut Crew<R, G>| -> Result<(), RunFault>
+    let mut body = |crew: &mut Crew<R, G>| -> Result<(), WriteFault>
         requires growable { AreGrowable (P.growable place.now) out.now.names }
         requires able { CanRun (fore_of fore.now) (crew_seen crew.old) }
         ensures done { OnOk result (Ends (fore_of fore.entry.now) (fore_of fore.exit.now)
@@ -116,7 +114,7 @@ fn draw_with_crew<
         ensures out { OnOk result (out.exit.now.names ≡ out.entry.now.names) }
         ensures mark { (crew_seen crew.new).mark ≡ (crew_seen crew.old).mark }
         ensures kept { OnlyWrites (P.outside place.entry.now) (P.outside place.exit.now) }
-        ensures cause { IfErr result (λ fault. IsWrite fault
+        ensures cause { IfErr result (λ fault. NamesFile fault
             → Rose (P.outside place.entry.now).write_faults
             (P.outside place.exit.now).write_faults) }
         ensures names { KeepsNames (P.readable place.entry.now) (P.growable place.entry.now)
@@ -127,24 +125,24 @@ fn draw_with_crew<
 }
 
 /// The run in an `Arc`, which its jobs share.
-fn share(alloc: Global, run: Run<NoSide>) -> Result<Arc<Run<NoSide>>, RunFault>
+fn share(alloc: Global, run: Run<NoSide>) -> Result<Arc<Run<NoSide>>, WriteFault>
     ensures run { IfOk result (λ shared. arc_value shared ≡ run) }
-    ensures memory { IfErr result (λ fault. fault ≡ RunFault.OutOfMemory) }
+    ensures memory { IfErr result (λ fault. fault ≡ WriteFault.OutOfMemory) }
 {
     match Arc::new(alloc, run) {
         Ok(shared) => Ok(shared),
-        Err(_) => Err(RunFault::OutOfMemory),
+        Err(_) => Err(WriteFault::OutOfMemory),
     }
 }
 
 /// One share more of the run.
-fn shared(run: &Arc<Run<NoSide>>) -> Result<Arc<Run<NoSide>>, RunFault>
+fn shared(run: &Arc<Run<NoSide>>) -> Result<Arc<Run<NoSide>>, WriteFault>
     ensures run { IfOk result (λ shared. arc_value shared ≡ arc_value run.now) }
-    ensures memory { IfErr result (λ fault. fault ≡ RunFault.OutOfMemory) }
+    ensures memory { IfErr result (λ fault. fault ≡ WriteFault.OutOfMemory) }
 {
     match Arc::try_clone(run) {
         Ok(shared) => Ok(shared),
-        Err(_) => Err(RunFault::OutOfMemory),
+        Err(_) => Err(WriteFault::OutOfMemory),
     }
 }
 
@@ -154,7 +152,7 @@ pub fn run_whole<P: Place, Q: Raster<NoSide>>(
     raster: &mut Q,
     out: &mut OutFiles,
     place: &mut P,
-) -> Result<(), RunFault>
+) -> Result<(), WriteFault>
     requires growable { AreGrowable (P.growable place.old) out.old.names }
     requires able { CanRun (fore_of fore.old) (Q.seen raster.old) }
     ensures done { OnOk result (Ends (fore_of fore.old) (fore_of fore.new) (Q.seen raster.old)
@@ -166,7 +164,7 @@ pub fn run_whole<P: Place, Q: Raster<NoSide>>(
     ensures out { OnOk result (out.new.names ≡ out.old.names) }
     ensures mark { (Q.seen raster.new).mark ≡ (Q.seen raster.old).mark }
     ensures kept { OnlyWrites (P.outside place.old) (P.outside place.new) }
-    ensures cause { IfErr result (λ fault. IsWrite fault
+    ensures cause { IfErr result (λ fault. NamesFile fault
         → Rose (P.outside place.old).write_faults (P.outside place.new).write_faults) }
     ensures names { KeepsNames (P.readable place.old) (P.growable place.old) (P.readable place.new)
         (P.growable place.new) }
@@ -183,7 +181,7 @@ fn run_clocks<P: Place, Q: Raster<NoSide>>(
     raster: &mut Q,
     out: &mut OutFiles,
     place: &mut P,
-) -> Result<(), RunFault>
+) -> Result<(), WriteFault>
     requires growable { AreGrowable (P.growable place.old) out.old.names }
     requires able { CanRun (fore_of fore.old) (Q.seen raster.old) }
     ensures runs { OnOk result (Runs (fore_of fore.old) (fore_of fore.new) (Q.seen raster.old)
@@ -197,7 +195,7 @@ fn run_clocks<P: Place, Q: Raster<NoSide>>(
     ensures stopped { OnErr result (IsStopped (fore_of fore.old) (Q.seen raster.old) out.old
         (P.outside place.old).files (P.outside place.new).files) }
     ensures kept { OnlyWrites (P.outside place.old) (P.outside place.new) }
-    ensures cause { IfErr result (λ fault. IsWrite fault
+    ensures cause { IfErr result (λ fault. NamesFile fault
         → Rose (P.outside place.old).write_faults (P.outside place.new).write_faults) }
     ensures names { KeepsNames (P.readable place.old) (P.growable place.old) (P.readable place.new)
         (P.growable place.new) }
