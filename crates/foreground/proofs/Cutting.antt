@@ -8,15 +8,15 @@ use Rattle.serial_model.specs.declared.bus.Made.{Made}
 use Rattle.serial_model.specs.declared.bus.Made.TheVariants as M
 use Rattle.serial_bands.specs.declared.event.Event.{Event}
 use Rattle.serial_bands.specs.Run.{RunValue, run_memory}
-use Rattle.serial_bands.specs.Clock.{made_at, bus_touch_at}
+use Rattle.serial_bands.specs.Clock.{made_at}
 use Rattle.serial_bands.specs.Bands.{begun, IsBand}
 use Rattle.serial_bands.specs.BusReads.{fetched_count, latched_words}
 use Rattle.serial_bands.specs.Stores.{stores_of, stores_at, stores_from}
-use Rattle.serial_bands.specs.OpenBand.{IsOpen}
+use Rattle.serial_bands.specs.OpenBand.{IsOpen, waiting_events}
 use Rattle.serial_bands.specs.Fetches.{fetches_in}
 use Rattle.serial_bands.proofs.BandOrder.{begun_in_band, counted}
 use Rattle.serial_bands.proofs.BandRanges.{open_is_band}
-use Rattle.serial_bands.proofs.Fetches.{fewer_with_write, fetches_are_latched}
+use Rattle.serial_bands.proofs.Fetches.{fetches_are_latched}
 use Rattle.serial_bands.proofs.Storing.{memory_by_stores}
 use Rattle.foreground.specs.Log.{waiting_list, IsGrowing, size_to}
 use Rattle.foreground.proofs.Logging.{growing_of}
@@ -88,8 +88,6 @@ fetches_are_few run to log chip is before =
     let events : List Event = log.band.events in
     let first : fetches_in log.shadow ≤ fetched_count (events ++ waiting_list log.waiting) =
     fetches_are_latched (events ++ waiting_list log.waiting) log.shadow is.left in
-    let second : fetched_count (events ++ waiting_list log.waiting) ≤ fetched_count events =
-    subst (λ l. fetched_count (events ++ l) ≤ fetched_count events) (sym growing.waits)
-    (fewer_with_write (to - 1) (bus_touch_at run (to - 1)) events) in
-    let third : fetched_count events ≡ latched_words run log.band.from to = ap fetched_count growing.kept.log in
-    omega (arith, first, second, third)
+    let same : fetched_count (events ++ waiting_list log.waiting) ≡ latched_words run log.band.from to =
+    ap (λ l. fetched_count (events ++ l)) growing.waits ∙ ap (λ l. fetched_count (l ++ waiting_events run to)) growing.kept.log in
+    omega (arith, first, same)

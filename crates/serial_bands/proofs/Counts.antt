@@ -1,11 +1,12 @@
 -- Tints, and counts of reads.
-use Rattle.std.proofs.Common.{◌≤◌, ◌-◌, false, [], ◌∷◌, refl, ap, ◌∙◌, arith}
+use Rattle.std.proofs.Common.{◌≤◌, ◌-◌, false, [], ◌∷◌, ◌++◌, refl, ap, ◌∙◌, arith}
 use Rattle.std.specs.Int.Bits.{xor_zero_r}
 use Rattle.std.proofs.lemmas.List.Sums.{count_by-le-length}
 use Rattle.serial_model.specs.declared.bus.Ask.{Ask}
 use Rattle.serial_model.specs.declared.bus.Ask.TheVariants as A
 use Rattle.serial_model.specs.declared.bus.ProcessorAsk.TheVariants as P
 use Rattle.serial_bands.specs.Clock.{access_at}
+use Rattle.serial_bands.specs.OpenBand.{waiting_events}
 use Rattle.serial_bands.specs.RightJob.{events_from}
 use Rattle.serial_bands.specs.BandShown.{tinted_bytes}
 use Rattle.serial_bands.specs.BusReads.{reads_of_ask, is_fetched, word_registers}
@@ -42,4 +43,4 @@ access_reads_few run c = few (access_at run c)
 
 pub latched_are_few : LatchedAreFew
 latched_are_few run from to =
-    count_by-le-length (λ register. is_fetched register false (events_from run from (to - from - 1))) word_registers
+    count_by-le-length (λ register. is_fetched register false (events_from run from (to - from - 1) ++ waiting_events run to)) word_registers

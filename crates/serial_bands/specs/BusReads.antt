@@ -9,6 +9,7 @@ use Rattle.serial_bands.specs.declared.event.Event.{Event}
 use Rattle.serial_bands.specs.declared.event.Event.TheVariants.{Set, Plane, Sprite}
 use Rattle.serial_bands.specs.Run.{RunValue}
 use Rattle.serial_bands.specs.Clock.{access_at}
+use Rattle.serial_bands.specs.OpenBand.{waiting_events}
 use Rattle.serial_bands.specs.RightJob.{events_from}
 
 -- how many words of chip memory the processor reads with an ask
@@ -66,6 +67,7 @@ is_fetched register last (event ∷ events) =
 abbrev pub fetched_count : List Event → ℕ
 fetched_count events = count_by (λ register. is_fetched register false events) word_registers
 
--- and by those of the clocks from one up to another
+-- and in the clocks from one up to another, of which a write of the last clock's access is a filling too
 abbrev pub latched_words : RunValue → ℕ → ℕ → ℕ
-latched_words run from to = fetched_count (events_from run from (to - from - 1))
+latched_words run from to =
+    fetched_count (events_from run from (to - from - 1) ++ waiting_events run to)
