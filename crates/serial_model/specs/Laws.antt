@@ -68,7 +68,7 @@ abbrev pub BeamNext : Type 0
 BeamNext = (system : System) (events : List At) (s : State) →
     (tick system events s).beam
     ≡ (let b = make_access (before_access system events s) in
-    next_place (is_interlaced b.chips.registers) (record s.beam { lof = b.beam.lof }))
+    next_place system (is_interlaced b.chips.registers) (record s.beam { lof = b.beam.lof }))
 
 -- a side that fits a size of chip memory goes on fitting it, whatever happens to it
 abbrev pub FitIsKept : Type 0
