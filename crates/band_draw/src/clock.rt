@@ -16,6 +16,7 @@ use crate::band_painter::BandPainter;
 use crate::room::put;
 use crate::touch::{bus_count, touch_all};
 use band_log::Event;
+use beam::last_clock;
 use mem_versions::MemView;
 use ocs_base::{Beam, Clock, System};
 
@@ -107,7 +108,7 @@ pub fn next_place(beam: &mut Beam)
     requires { beam.old.v < 313 }
     ensures { IsNextInField beam.old beam.new }
 {
-    if beam.h < 226 {
+    if beam.h < last_clock(System::Pal, beam.v) {
         beam.h += 1;
     } else {
         beam.h = 0;

@@ -5,9 +5,10 @@
 #![tactic(auto)]
 
 ghost use Rattle.std.specs.Prelude.{◌≡◌, ◌+◌, ◌<◌, ◌^◌};
-ghost use Rattle.serial_model.specs.Beam.{first_place, next_place, lines, is_line_start, is_field_start};
+ghost use Rattle.serial_model.specs.Beam.{first_place, next_place, lines, last_clock as last_clock_of, is_line_start, is_field_start};
+ghost use Rattle.ocs_base.specs.declared.script.System.TheVariants.{Pal};
 
-use ocs_base::Beam;
+use ocs_base::{Beam, System};
 
 /// Where a run begins: frame 0, line 0, clock 0 of a long field. That it begins there is this project's
 /// profile.
@@ -22,6 +23,14 @@ pub fn start() -> Beam
     }
 }
 
+/// The beam of a PAL machine comes to its next place, as by `advance_in`.
+pub fn advance(b: &mut Beam, lace: bool)
+    requires { b.old.frame + 1 < 2 ^ 32 }
+    ensures { b.new ≡ next_place Pal lace b.old }
+{
+    advance_in(b, lace, System::Pal);
+}
+
 /// The beam comes to its next place, after one colour clock.
 ///
 /// A line has 227 clocks, a field 313 lines while LOF is set and 312 while it is clear (Hardware Reference
@@ -29,13 +38,13 @@ pub fn start() -> Beam
 /// BPLCON0, is set. A field whose LOF is cleared while its line 312 runs ends with that line.
 ///
 /// The greatest frame has no next place, so the caller stops before it.
-pub fn advance(b: &mut Beam, lace: bool)
+pub fn advance_in(b: &mut Beam, lace: bool, system: System)
     requires { b.old.frame + 1 < 2 ^ 32 }
-    ensures { b.new ≡ next_place lace b.old }
+    ensures { b.new ≡ next_place system lace b.old }
 {
-    if b.h < 226 {
+    if b.h < last_clock(system, b.v) {
         b.h += 1;
-    } else if b.v < last_line(b.lof) {
+    } else if b.v < last_line(system, b.lof) {
         b.v += 1;
         b.h = 0;
     } else {
@@ -62,10 +71,22 @@ pub fn at_field_start(b: &Beam) -> bool
 }
 
 /// The number of the last line of a field, long or short.
-fn last_line(lof: bool) -> u16
-    ensures { result + 1 ≡ lines lof }
+fn last_line(system: System, lof: bool) -> u16
+    ensures { result + 1 ≡ lines system lof }
 {
-    if lof { 312 } else { 311 }
+    match system {
+        System::Pal => { if lof { 312 } else { 311 } }
+    }
+}
+
+/// The last clock of line `v`.
+#[inline(always)]
+pub fn last_clock(system: System, v: u16) -> u16
+    ensures { result ≡ last_clock_of system v }
+{
+    match (system, v) {
+        (System::Pal, _) => 226,
+    }
 }
 
 #[cfg(test)]

@@ -4,6 +4,7 @@ use Rattle.std.proofs.lemmas.Bool.Decides.{nat_tests}
 use Rattle.ocs_base.specs.declared.beam.Beam.{Beam}
 use Rattle.mem_versions.specs.Chip.{ChipValue}
 use Rattle.out_files.specs.OutFiles.{OutFilesValue}
+use Rattle.ocs_base.specs.declared.script.System.TheVariants.{Pal}
 use Rattle.serial_model.specs.declared.trace.TraceLine.{TraceLine}
 use Rattle.serial_model.specs.Beam.{IsOnScreen, place_of, next_place}
 use Rattle.serial_model.specs.Tick.{run_processor, advance_beam}
@@ -31,7 +32,7 @@ use Rattle.foreground.proofs.MadeLaws.{given_more, part_of_given}
 
 -- the steps behind the access, at one clock of a run
 ends : (run : RunValue) (c first clx : ℕ) (m0 m1 m2 : MachineValue) (log : Log) (seen : RasterValue) (out given : OutFilesValue)
-    → Makes run_processor m0 out m1 given → MakesQuietly advance_beam m1 m2 → m2.chip ≡ m0.chip → IsBehindAccess run c first m0 log clx seen
+    → Makes run_processor m0 out m1 given → MakesQuietly (advance_beam Pal) m1 m2 → m2.chip ≡ m0.chip → IsBehindAccess run c first m0 log clx seen
     → IsAt run (c + 1) first m2 log clx seen × Tells (accessed_state run c) (state_of run (c + 1)) out given
 ends run c first clx m0 m1 m2 log seen out given turns advances chip is =
     let start : Start = record { out = out; trace = (accessed_state run c).trace } in
@@ -49,7 +50,7 @@ ends run c first clx m0 m1 m2 log seen out given turns advances chip is =
     )
 
 ends_at : (g : ForeValue) (m1 m2 : MachineValue) (out given : OutFilesValue) → Makes run_processor g.machine out m1 given
-    → m1 ≡ record g.machine { chips = m1.chips } → MakesQuietly advance_beam m1 m2 → m2.t ≡ m1.t + 1 → m2.chip ≡ m1.chip
+    → m1 ≡ record g.machine { chips = m1.chips } → MakesQuietly (advance_beam Pal) m1 m2 → m2.t ≡ m1.t + 1 → m2.chip ≡ m1.chip
     → EndsClock g (record g { machine = m2 }) out given
 ends_at g m1 m2 out given turns same advances count chip =
     let kept : m2.chip ≡ g.machine.chip = chip ∙ ap (λ (m : MachineValue). m.chip) same in
@@ -65,20 +66,20 @@ ends_at g m1 m2 out given turns same advances count chip =
     }
 
 pub ends_clock : (f g : ForeValue) (m1 m2 : MachineValue) (out given : OutFilesValue) → g ≡ f → Makes run_processor g.machine out m1 given
-    → m1 ≡ record g.machine { chips = m1.chips } → MakesQuietly advance_beam m1 m2 → m2.t ≡ m1.t + 1 → m2.chip ≡ m1.chip
+    → m1 ≡ record g.machine { chips = m1.chips } → MakesQuietly (advance_beam Pal) m1 m2 → m2.t ≡ m1.t + 1 → m2.chip ≡ m1.chip
     → EndsClock f (record g { machine = m2 }) out given
 ends_clock f g m1 m2 out given view turns same advances count chip =
     subst (λ x. EndsClock x (record g { machine = m2 }) out given) view (ends_at g m1 m2 out given turns same advances count chip)
 
 -- the next place of the beam
 pub next_of : (f g : ForeValue) (m1 : MachineValue) (b : Beam) (lace : Bool) → g ≡ f → m1 ≡ record g.machine { chips = m1.chips }
-    → b ≡ next_place lace m1.beam → b ≡ next_place lace f.machine.beam
+    → b ≡ next_place Pal lace m1.beam → b ≡ next_place Pal lace f.machine.beam
 next_of f g m1 b lace view same next =
-    next ∙ ap (λ (m : MachineValue). next_place lace m.beam) same ∙ ap (λ (x : ForeValue). next_place lace x.machine.beam) view
+    next ∙ ap (λ (m : MachineValue). next_place Pal lace m.beam) same ∙ ap (λ (x : ForeValue). next_place Pal lace x.machine.beam) view
 
 -- the script's events that are left at the next place
 script_next : (run : RunValue) (b here next : Beam) (lace : Bool) (was left : ℕ) → HasScript run b was → HasScriptBehind run b was left → IsOnScreen b
-    → IsSamePlace b here → next ≡ next_place lace here → place_of b < place_of next → HasScript run next left
+    → IsSamePlace b here → next ≡ next_place Pal lace here → place_of b < place_of next → HasScript run next left
 script_next run b here next lace was left script behind on same is later =
     let at_place : place_of here ≡ place_of b = ap place_of same in
     let queue : IsLeft (place_of here + 1) (drop left run.script.events) =
@@ -109,7 +110,7 @@ going f first seen is not =
 underway_next : (old new : ForeValue) (first until : ℕ) (seen after : RasterValue) (lace : Bool) (here : Beam) → IsUnderway old first seen
     → is_done old ≡ false → new.run ≡ old.run → new.machine.t ≡ old.machine.t + 1
     → IsAt old.run (old.machine.t + 1) until new.machine new.log new.clx after → HasScriptBehind old.run old.machine.beam old.next new.next
-    → IsSamePlace old.machine.beam here → new.machine.beam ≡ next_place lace here → IsUnderway new until after
+    → IsSamePlace old.machine.beam here → new.machine.beam ≡ next_place Pal lace here → IsUnderway new until after
 underway_next old new first until seen after lace here is not run t at script same next =
     let on : IsOnScreen here = IsOnScreen-same old.machine.beam here same is.screen in
     let step : IsNext here new.machine.beam = subst (λ b. IsNext here b) (sym next) (next_place-IsNext lace here on) in
@@ -235,7 +236,7 @@ same_place_then a b c first second = second ∙ ap (λ (x : Beam). record x { lo
 -- the end of a clock, once its access was made
 advanced : (f0 f1 f2 f3 f4 : ForeValue) (first clx : ℕ) (lace : Bool) (seen s1 s2 : RasterValue) (o0 o1 o2 o3 o4 : OutFilesValue)
     → (is : IsUnderway f0 first seen) → is_done f0 ≡ false → (begun : HasBegunClock f0 f1 first clx seen s1 o0 o1) → ReachesAccess clx f1 f2 o1 o2
-    → HasMadeAccess f2 f3 begun.until s1 s2 o2 o3 → KeepsClock f2 f3 → EndsClock f3 f4 o3 o4 → f4.machine.beam ≡ next_place lace f3.machine.beam
+    → HasMadeAccess f2 f3 begun.until s1 s2 o2 o3 → KeepsClock f2 f3 → EndsClock f3 f4 o3 o4 → f4.machine.beam ≡ next_place Pal lace f3.machine.beam
     → HasAdvanced f0 f4 first seen s2 o0 o4
 advanced f0 f1 f2 f3 f4 first clx lace seen s1 s2 o0 o1 o2 o3 o4 is not begun reaches made kept end next =
     let r : RunValue = f0.run in
@@ -281,7 +282,7 @@ advanced f0 f1 f2 f3 f4 first clx lace seen s1 s2 o0 o1 o2 o3 o4 is not begun re
 
 pub advances : (f0 f1 f2 f3 f4 : ForeValue) (clx : ℕ) (lace : Bool) (seen s1 s2 : RasterValue) (o0 o1 o2 o3 o4 : OutFilesValue)
     → is_done f0 ≡ false → BeginsClock f0 f1 clx seen s1 o0 o1 → ReachesAccess clx f1 f2 o1 o2
-    → MakesItsAccess f2 f3 s1 s2 o2 o3 → KeepsClock f2 f3 → EndsClock f3 f4 o3 o4 → f4.machine.beam ≡ next_place lace f3.machine.beam
+    → MakesItsAccess f2 f3 s1 s2 o2 o3 → KeepsClock f2 f3 → EndsClock f3 f4 o3 o4 → f4.machine.beam ≡ next_place Pal lace f3.machine.beam
     → Advances f0 f4 seen s2 o0 o4
 advances f0 f1 f2 f3 f4 clx lace seen s1 s2 o0 o1 o2 o3 o4 not begins reaches makes kept end next first is =
     let begun : HasBegunClock f0 f1 first clx seen s1 o0 o1 = begins first is in

@@ -8,7 +8,6 @@ use Rattle.mem_versions.specs.MemView.{ViewValue, IsViewOf, word_then}
 use Rattle.ocs_base.specs.declared.addr.Addr.{Addr}
 use Rattle.ocs_base.specs.declared.beam.Beam.{Beam}
 use Rattle.ocs_base.specs.declared.script.At.{At}
-use Rattle.ocs_base.specs.declared.script.System.{System}
 use Rattle.ocs_base.specs.declared.script.System.TheVariants.{Pal}
 use Rattle.serial_model.specs.declared.picture.Denise.{Denise}
 use Rattle.serial_model.specs.declared.picture.Touch.{Touch}
@@ -233,13 +232,13 @@ written waiting k h words touch closing opening waits is =
     (is (4 * h) closing (omega arith) (stands_for_itself (4 * h) closing))
 
 -- the next clock's positions follow those of this one, where no line starts with it
-clock_of_tick : (system : System) (events : List At) (s : State)
-    → (tick system events s).beam.h ≡ (if nat_le 226 s.beam.h then 0 else s.beam.h + 1)
-clock_of_tick system events s = ap (λ (b : Beam). b.h) (beam_next system events s)
+clock_of_tick : (events : List At) (s : State)
+    → (tick Pal events s).beam.h ≡ (if nat_le 226 s.beam.h then 0 else s.beam.h + 1)
+clock_of_tick events s = ap (λ (b : Beam). b.h) (beam_next Pal events s)
 
 next_clock : (run : RunValue) (c : ℕ) → (beam_at run (suc c)).h ≡ (if nat_le 226 (beam_at run c).h then 0 else (beam_at run c).h + 1)
 unfolding state_over
-next_clock run c = clock_of_tick Pal run.script.events (state_of run c)
+next_clock run c = clock_of_tick run.script.events (state_of run c)
 
 next_positions : (h next : ℕ) → next ≡ (if nat_le 226 h then 0 else h + 1) → (next == 0) ≡ false → 4 * h ≤ 4 * next
 next_positions h next is inner = grind (arith, nat_tests, is, inner)

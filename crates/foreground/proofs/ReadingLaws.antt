@@ -43,7 +43,7 @@ pub fits_least : (run : RunValue) (number to first : ℕ) (seen : RasterValue) �
 fits_least run number to first seen fits = bands_order run fits.least fits.count first to fits.bands
 
 -- the clock of the line before one
-before_next : (lace : Bool) (b : Beam) → b.h < 227 → clock_before (next_place lace b).h ≡ b.h
+before_next : (lace : Bool) (b : Beam) → b.h < 227 → clock_before (next_place Pal lace b).h ≡ b.h
 before_next lace b on = grind (arith, nat_tests)
 
 before_after : (run : RunValue) (c : ℕ) → clock_before (beam_at run (suc c)).h ≡ (beam_at run c).h

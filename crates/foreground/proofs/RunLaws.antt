@@ -96,7 +96,7 @@ pub range_at_clock : (run : RunValue) (c : ℕ) (made : Made) (touch : Option To
 range_at_clock run c made touch is by range able = subst IsInRange (touch_at_clock run c made touch is by) (range able)
 
 -- the next state
-pub state_next : (run : RunValue) (c : ℕ) → state_of run (c + 1) ≡ advance_beam (run_processor (make_access (state_in run c)))
+pub state_next : (run : RunValue) (c : ℕ) → state_of run (c + 1) ≡ advance_beam Pal (run_processor (make_access (state_in run c)))
 unfolding state_over tick
 state_next run c = ap (λ n. state_of run n) (add-one c)
 
@@ -115,7 +115,7 @@ stands_before_access run c clx m0 m1 m2 m3 out after starts happens counts read 
 
 -- and those behind it
 pub stands_behind_access : (run : RunValue) (c : ℕ) (m0 m1 m2 : MachineValue) (out after : OutFilesValue) → Makes run_processor m0 out m1 after
-    → MakesQuietly advance_beam m1 m2 → (start : Start) → Stands start m0 out (make_access (state_in run c))
+    → MakesQuietly (advance_beam Pal) m1 m2 → (start : Start) → Stands start m0 out (make_access (state_in run c))
     → Stands start m2 after (state_of run (c + 1))
 stands_behind_access run c m0 m1 m2 out after turns advances start is =
     let s : State = make_access (state_in run c) in

@@ -3,6 +3,7 @@
 ghost use Rattle.std.specs.Prelude.{◌≡◌, ◌+◌, ◌<◌, ◌^◌, ◌≤◌, ℕ, true, false, Some, OnOk, OnErr, IfOk};
 ghost use Rattle.ocs_base.specs.Image.{is_image};
 ghost use Rattle.out_files.specs.OutFiles.{OutFilesValue};
+ghost use Rattle.ocs_base.specs.declared.script.System.TheVariants.{Pal};
 ghost use Rattle.serial_model.specs.declared.bus.Made.TheVariants as M;
 ghost use Rattle.serial_model.specs.Beam.{IsOnScreen, next_place};
 ghost use Rattle.serial_model.specs.Made.{is_clx_read};
@@ -303,10 +304,10 @@ impl<S: Side> Machine<S> {
         requires screen { IsOnScreen self.old.beam }
         requires frame { self.old.beam.frame + 1 < 2 ^ 32 }
         requires count { self.old.t + 1 < 2 ^ 64 }
-        ensures step { MakesQuietly advance_beam (machine_over S.seen self.old)
+        ensures step { MakesQuietly (advance_beam Pal) (machine_over S.seen self.old)
             (machine_over S.seen self.new) }
         ensures beam { self.new.beam
-            ≡ next_place (is_interlaced self.old.chips.registers) self.old.beam }
+            ≡ next_place Pal (is_interlaced self.old.chips.registers) self.old.beam }
         ensures count { self.new.t ≡ self.old.t + 1 }
         ensures chip { self.new.chip ≡ self.old.chip }
     {

@@ -85,7 +85,7 @@ unfolding tick
 clx_of_tick system events s = refl
 
 -- the place
-next_in_field : (lace : Bool) (b : Beam) → is_field_start (next_place lace b) ≡ false → IsNextInField b (next_place lace b)
+next_in_field : (lace : Bool) (b : Beam) → is_field_start (next_place Pal lace b) ≡ false → IsNextInField b (next_place Pal lace b)
 next_in_field lace b inner = record {
   frame = grind (arith, nat_tests, inner);
   line = grind (arith, nat_tests, inner);
@@ -93,11 +93,11 @@ next_in_field lace b inner = record {
 }
 
 pub place_of_tick : PlaceOfTick
-place_of_tick system events s inner =
-    let b : State = make_access (before_access system events s) in
+place_of_tick Pal events s inner =
+    let b : State = make_access (before_access Pal events s) in
     let place : Beam = record s.beam { lof = b.beam.lof } in
-    let here : (tick system events s).beam ≡ next_place (is_interlaced b.chips.registers) place = beam_next system events s in
-    let next : IsNextInField place (next_place (is_interlaced b.chips.registers) place) =
+    let here : (tick Pal events s).beam ≡ next_place Pal (is_interlaced b.chips.registers) place = beam_next Pal events s in
+    let next : IsNextInField place (next_place Pal (is_interlaced b.chips.registers) place) =
     next_in_field (is_interlaced b.chips.registers) place (ap (λ (x : Beam). is_field_start x) (sym here) ∙ inner) in
     subst (λ x. IsNextInField s.beam x) (sym here) (record { frame = next.frame; line = next.line; clock = next.clock })
 

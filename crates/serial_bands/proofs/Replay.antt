@@ -3,7 +3,6 @@ use Rattle.std.proofs.Common.{◌≡◌, ◌≤◌, ℕ, List, suc, ◌+◌, ◌
 use Rattle.std.proofs.lemmas.Bool.Decides.{nat_tests}
 use Rattle.ocs_base.specs.declared.beam.Beam.{Beam}
 use Rattle.ocs_base.specs.declared.script.At.{At}
-use Rattle.ocs_base.specs.declared.script.System.{System}
 use Rattle.ocs_base.specs.declared.script.System.TheVariants.{Pal}
 use Rattle.serial_model.specs.declared.picture.Denise.{Denise}
 use Rattle.serial_model.specs.Made.{word_of}
@@ -50,16 +49,16 @@ closing_of_kept run c kept stands =
     subst (λ p. StandsFor from (with_fetch run c (after_kept run c kept)) p) (sym here) fetched
 
 -- the next clock's positions follow those of this one, where no line starts with it
-clock_of_tick : (system : System) (events : List At) (s : State)
-    → (tick system events s).beam.h ≡ (if nat_le 226 s.beam.h then 0 else s.beam.h + 1)
-clock_of_tick system events s = ap (λ (b : Beam). b.h) (beam_next system events s)
+clock_of_tick : (events : List At) (s : State)
+    → (tick Pal events s).beam.h ≡ (if nat_le 226 s.beam.h then 0 else s.beam.h + 1)
+clock_of_tick events s = ap (λ (b : Beam). b.h) (beam_next Pal events s)
 
 next_positions : (h next : ℕ) → next ≡ (if nat_le 226 h then 0 else h + 1) → (next == 0) ≡ false → 4 * h + 4 ≤ 4 * next
 next_positions h next is inner = grind (arith, nat_tests, is, inner)
 
 next_clock : (run : RunValue) (c : ℕ) → (beam_at run (suc c)).h ≡ (if nat_le 226 (beam_at run c).h then 0 else (beam_at run c).h + 1)
 unfolding state_over
-next_clock run c = clock_of_tick Pal run.script.events (state_of run c)
+next_clock run c = clock_of_tick run.script.events (state_of run c)
 
 pub opening_of_kept : OpeningOfKept
 opening_of_kept run c kept stands =

@@ -20,7 +20,7 @@ use Rattle.serial_bands.specs.ClockLaws.{FramesRise}
 use Rattle.serial_bands.proofs.BandOrder.{begun_more, begun_same, grown_to, counted, not_later, one_place, first_begins, begun_in_band}
 
 -- a run ends where a field starts, and so where a band would begin
-next_field : (lace : Bool) (b : Beam) → (next_place lace b).frame ≢ b.frame → is_field_start (next_place lace b) ≡ true
+next_field : (lace : Bool) (b : Beam) → (next_place Pal lace b).frame ≢ b.frame → is_field_start (next_place Pal lace b) ≡ true
 next_field lace b rises = grind (arith, nat_tests)
 
 first_of_three : (a b c : Bool) → a ≡ true → ((a || b) || c) ≡ true
@@ -40,10 +40,10 @@ end_begins run (suc c) end =
     let b : State = make_access (before_access Pal run.script.events s) in
     let lace : Bool = is_interlaced b.chips.registers in
     let place : Beam = record s.beam { lof = b.beam.lof } in
-    let here : (tick Pal run.script.events s).beam ≡ next_place lace place = beam_next Pal run.script.events s in
+    let here : (tick Pal run.script.events s).beam ≡ next_place Pal lace place = beam_next Pal run.script.events s in
     let before : s.beam.frame < run.script.frames = end.running c (omega arith) in
-    let frame : (next_place lace place).frame ≡ run.script.frames = ap (λ (x : Beam). x.frame) (sym here) ∙ end.ended in
-    let start : is_field_start (next_place lace place) ≡ true =
+    let frame : (next_place Pal lace place).frame ≡ run.script.frames = ap (λ (x : Beam). x.frame) (sym here) ∙ end.ended in
+    let start : is_field_start (next_place Pal lace place) ≡ true =
     next_field lace place (λ same. absurd (omega (arith, same, frame, before))) in
     field_begins run (suc c) (ap (λ (x : Beam). is_field_start x) here ∙ start)
 

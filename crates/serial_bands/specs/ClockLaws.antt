@@ -59,8 +59,8 @@ ClxOfTick = (system : System) (events : List At) (s : State) →
 -- the next place in a field: the next clock of the line, or the first of the next line
 pub record IsNextInField (b next : Beam) : Type 0 where
   pub frame : next.frame ≡ b.frame
-  pub line : next.v ≡ (if is_line_end b then b.v + 1 else b.v)
-  pub clock : next.h ≡ (if is_line_end b then 0 else b.h + 1)
+  pub line : next.v ≡ (if is_line_end Pal b then b.v + 1 else b.v)
+  pub clock : next.h ≡ (if is_line_end Pal b then 0 else b.h + 1)
 
 abbrev pub PlaceOfTick : Type 0
 PlaceOfTick = (system : System) (events : List At) (s : State) → is_field_start (tick system events s).beam ≡ false →

@@ -23,14 +23,14 @@ use Rattle.serial_model.proofs.NextLaws.{beam_next, shown_next}
 
 -- the beam moves on at each clock
 pub tick-IsNext : (system : System) (events : List At) (s : State) → IsOnScreen s.beam → IsNext s.beam (tick system events s).beam
-tick-IsNext system events s on =
-    let b : State = make_access (before_access system events s) in
+tick-IsNext Pal events s on =
+    let b : State = make_access (before_access Pal events s) in
     let place : Beam = record s.beam { lof = b.beam.lof } in
-    let next : IsNext place (next_place (is_interlaced b.chips.registers) place) =
+    let next : IsNext place (next_place Pal (is_interlaced b.chips.registers) place) =
     next_place-IsNext (is_interlaced b.chips.registers) place (record { line = on.line; clock = on.clock }) in
-    let here : IsNext s.beam (next_place (is_interlaced b.chips.registers) place) =
+    let here : IsNext s.beam (next_place Pal (is_interlaced b.chips.registers) place) =
     record { later = next.later; frame = next.frame; one = next.one; screen = next.screen } in
-    subst (λ x. IsNext s.beam x) (sym (beam_next system events s)) here
+    subst (λ x. IsNext s.beam x) (sym (beam_next Pal events s)) here
 
 pub on_screen : (side : SideValue) (image : List ℕ) (script : ScriptValue) (n : ℕ) → IsOnScreen (state_over side image script n).beam
 unfolding state_over reset
@@ -96,7 +96,7 @@ pixels-length v h p =
 
 bytes-next : (lace : Bool) (b : Beam) → IsOnScreen b
     → b.frame * frame_bytes + bytes_before b.v b.h + bytes_at b.v b.h
-    ≡ (next_place lace b).frame * frame_bytes + bytes_before (next_place lace b).v (next_place lace b).h
+    ≡ (next_place Pal lace b).frame * frame_bytes + bytes_before (next_place Pal lace b).v (next_place Pal lace b).h
 bytes-next lace b on = grind (arith, nat_tests, on.line, on.clock)
 
 step-length : (events : List At) (s : State) → length (picture_step Pal events s).bytes ≡ bytes_at s.beam.v s.beam.h
@@ -118,14 +118,14 @@ shown_count side image script (suc n) =
     ap (λ l. length l) (shown_next Pal script.events s) ∙ length-append s.shown (picture_step Pal script.events s).bytes
     ∙ ap (λ k. length s.shown + k) (step-length script.events s) in
     let next : place.frame * frame_bytes + bytes_before place.v place.h + bytes_at place.v place.h
-    ≡ (next_place lace place).frame * frame_bytes + bytes_before (next_place lace place).v (next_place lace place).h =
+    ≡ (next_place Pal lace place).frame * frame_bytes + bytes_before (next_place Pal lace place).v (next_place Pal lace place).h =
     bytes-next lace place (record { line = on.line; clock = on.clock }) in
     more ∙ ap (λ k. k + bytes_at s.beam.v s.beam.h) (shown_count side image script n) ∙ next
     ∙ ap (λ (x : Beam). x.frame * frame_bytes + bytes_before x.v x.h) (sym (beam_next Pal script.events s))
 
 -- a clock that ends a frame ends at the first place of the next
-frame_starts : (lace : Bool) (b : Beam) → (next_place lace b).frame ≢ b.frame
-    → bytes_before (next_place lace b).v (next_place lace b).h ≡ 0
+frame_starts : (lace : Bool) (b : Beam) → (next_place Pal lace b).frame ≢ b.frame
+    → bytes_before (next_place Pal lace b).v (next_place Pal lace b).h ≡ 0
 frame_starts lace b rises = grind (arith, nat_tests)
 
 pub frames_are_whole : FramesAreWhole
@@ -136,10 +136,10 @@ frames_are_whole side image script (suc n) some end =
     let b : State = make_access (before_access Pal script.events s) in
     let lace : Bool = is_interlaced b.chips.registers in
     let place : Beam = record s.beam { lof = b.beam.lof } in
-    let here : (tick Pal script.events s).beam ≡ next_place lace place = beam_next Pal script.events s in
+    let here : (tick Pal script.events s).beam ≡ next_place Pal lace place = beam_next Pal script.events s in
     let before : s.beam.frame < script.frames = end.running n (omega arith) in
-    let frame : (next_place lace place).frame ≡ script.frames = ap (λ (x : Beam). x.frame) (sym here) ∙ end.ended in
-    let none : bytes_before (next_place lace place).v (next_place lace place).h ≡ 0 =
+    let frame : (next_place Pal lace place).frame ≡ script.frames = ap (λ (x : Beam). x.frame) (sym here) ∙ end.ended in
+    let none : bytes_before (next_place Pal lace place).v (next_place Pal lace place).h ≡ 0 =
     frame_starts lace place (λ same. absurd (omega (arith, same, frame, before))) in
     let zero_bytes : bytes_before (tick Pal script.events s).beam.v (tick Pal script.events s).beam.h ≡ 0 =
     ap (λ (x : Beam). bytes_before x.v x.h) here ∙ none in

@@ -4,6 +4,7 @@ use Rattle.std.proofs.lemmas.Bool.Decides.{nat_tests}
 use Rattle.ocs_base.specs.Limits.{AreFrom, AreInOrder, AreInLimits, time_of}
 use Rattle.ocs_base.specs.declared.beam.Beam.{Beam}
 use Rattle.ocs_base.specs.declared.script.At.{At}
+use Rattle.ocs_base.specs.declared.script.System.TheVariants.{Pal}
 use Rattle.serial_model.specs.Beam.{place_of, next_place, IsOnScreen}
 use Rattle.serial_model.specs.Events.{is_due, due_events}
 
@@ -68,12 +69,12 @@ IsQueue-end frames b e events q on not =
 pub IsQueue-empty : (frames place : ℕ) → IsQueue frames place []
 IsQueue-empty frames place = record { from = tt; order = tt; limits = tt }
 
-next_time : (lace : Bool) (b : Beam) (e : At) → IsOnScreen b → e.v ≤ 311 → e.h ≤ 226 → place_of b + 1 ≤ time_of e → place_of (next_place lace b) ≤ time_of e
+next_time : (lace : Bool) (b : Beam) (e : At) → IsOnScreen b → e.v ≤ 311 → e.h ≤ 226 → place_of b + 1 ≤ time_of e → place_of (next_place Pal lace b) ≤ time_of e
 next_time lace b e on v h from = grind (arith, nat_tests, on.line, on.clock)
 
 -- what is after a place is not before the next place: no event stands in the line that a short field lacks
 pub AreFrom-next : (frames : ℕ) (lace : Bool) (b : Beam) (events : List At) → IsOnScreen b → AreInLimits frames events → AreFrom (place_of b + 1) events
-    → AreFrom (place_of (next_place lace b)) events
+    → AreFrom (place_of (next_place Pal lace b)) events
 AreFrom-next frames lace b [] on limits from = tt
 AreFrom-next frames lace b (e ∷ events) on limits from =
     (next_time lace b e on limits.0.line limits.0.clock from.0, AreFrom-next frames lace b events on limits.1 from.1)

@@ -155,5 +155,5 @@ pub beam_next : BeamNext
 unfolding tick
 beam_next system events s =
     let b : State = make_access (before_access system events s) in
-    ap (λ registers. next_place (is_interlaced registers) b.beam) (run_keeps b.chips) ∙
-    ap (λ (p : Beam). next_place (is_interlaced b.chips.registers) (record p { lof = b.beam.lof })) (at_place events s)
+    ap (λ registers. next_place system (is_interlaced registers) b.beam) (run_keeps b.chips) ∙
+    ap (λ (p : Beam). next_place system (is_interlaced b.chips.registers) (record p { lof = b.beam.lof })) (at_place events s)

@@ -5,29 +5,33 @@ use Rattle.ocs_base.specs.Limits.{order_of}
 use Rattle.ocs_base.specs.declared.script.System.{System}
 use Rattle.ocs_base.specs.declared.script.System.TheVariants.{Pal}
 
--- how many lines a field has: a long one 313, a short one 312
-abbrev pub lines : Bool → ℕ
-lines lof = if lof then 313 else 312
+-- how many lines a field has: with PAL a long one 313, a short one 312
+abbrev pub lines : System → Bool → ℕ
+lines Pal lof = if lof then 313 else 312
+
+-- the last clock of a line
+abbrev pub last_clock : System → ℕ → ℕ
+last_clock Pal v = 226
 
 -- the first place: frame 0, line 0, clock 0 of a long field
 abbrev pub first_place : Beam
 first_place = record { frame = 0; v = 0; h = 0; lof = true }
 
 -- whether this is the last clock of a line, and of a field
-abbrev pub is_line_end : Beam → Bool
-is_line_end b = nat_le 226 b.h
+abbrev pub is_line_end : System → Beam → Bool
+is_line_end system b = nat_le (last_clock system b.v) b.h
 
-abbrev pub is_field_end : Beam → Bool
-is_field_end b = is_line_end b && nat_le (lines b.lof) (b.v + 1)
+abbrev pub is_field_end : System → Beam → Bool
+is_field_end system b = is_line_end system b && nat_le (lines system b.lof) (b.v + 1)
 
--- the next place. After a line's last clock, 226, comes the next line of the field, or the first of the next frame, whose
--- field is of the other kind where LACE is set
-abbrev pub next_place : Bool → Beam → Beam
-next_place lace b = record {
-  frame = if is_field_end b then b.frame + 1 else b.frame;
-  v = if is_field_end b then 0 else if is_line_end b then b.v + 1 else b.v;
-  h = if is_line_end b then 0 else b.h + 1;
-  lof = if is_field_end b && lace then not b.lof else b.lof;
+-- the next place. After a line's last clock comes the next line of the field, or the first of the next frame, whose field is of
+-- the other kind where LACE is set
+abbrev pub next_place : System → Bool → Beam → Beam
+next_place system lace b = record {
+  frame = if is_field_end system b then b.frame + 1 else b.frame;
+  v = if is_field_end system b then 0 else if is_line_end system b then b.v + 1 else b.v;
+  h = if is_line_end system b then 0 else b.h + 1;
+  lof = if is_field_end system b && lace then not b.lof else b.lof;
 }
 
 -- the first clock of a line, and of a field

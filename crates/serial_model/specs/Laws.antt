@@ -68,7 +68,21 @@ abbrev pub BeamNext : Type 0
 BeamNext = (system : System) (events : List At) (s : State) →
     (tick system events s).beam
     ≡ (let b = make_access (before_access system events s) in
-    next_place (is_interlaced b.chips.registers) (record s.beam { lof = b.beam.lof }))
+    next_place system (is_interlaced b.chips.registers) (record s.beam { lof = b.beam.lof }))
+
+-- a side that fits a size of chip memory goes on fitting it, whatever happens to it
+abbrev pub FitIsKept : Type 0
+FitIsKept = (size : ℕ) (happening : Happening) (side : SideValue) → FitsSide size side →
+    FitsSide size (side_after happening side)
+
+-- the address of what it asks for is below that size
+abbrev pub AskOfFitIsBelow : Type 0
+AskOfFitIsBelow = (size : ℕ) (b : Beam) (dmacon : ℕ) (side : SideValue) → FitsSide size side →
+    IsBelow size (ask_of_side b dmacon side)
+
+-- a machine without a side fits every size
+abbrev pub NoneFitsEach : Type 0
+NoneFitsEach = (size : ℕ) → FitsSide size no_side
 
 -- a side that fits a size of chip memory goes on fitting it, whatever happens to it
 abbrev pub FitIsKept : Type 0

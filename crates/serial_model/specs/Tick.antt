@@ -88,8 +88,8 @@ abbrev pub run_processor : State → State
 run_processor s = record s { chips = run_chips s.chips; trace = s.trace ++ taken_lines s.beam (interrupt_of s.chips) }
 
 -- seventh: the beam advances
-abbrev pub advance_beam : State → State
-advance_beam s = record s { t = s.t + 1; beam = next_place (is_interlaced s.chips.registers) s.beam }
+abbrev pub advance_beam : System → State → State
+advance_beam system s = record s { t = s.t + 1; beam = next_place system (is_interlaced s.chips.registers) s.beam }
 
 -- the state in which the access of this clock is made
 abbrev pub before_access : System → List At → State → State
@@ -97,4 +97,4 @@ before_access system events s = show_pixels system (count_timers (run_script eve
 
 -- the state after one colour clock
 unfoldable pub tick : System → List At → State → State
-tick system events s = advance_beam (run_processor (make_access (before_access system events s)))
+tick system events s = advance_beam system (run_processor (make_access (before_access system events s)))
