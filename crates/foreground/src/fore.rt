@@ -1,6 +1,8 @@
 //! The foreground of a run.
 
-ghost use Rattle.std.specs.Prelude.{◌≡◌, ◌<◌, ◌+◌, ◌-◌, ◌^◌, IfOk};
+ghost use Rattle.std.specs.Prelude.{◌≡◌, ◌≤◌, ◌<◌, ◌+◌, ◌-◌, ◌^◌, IfOk};
+ghost use Rattle.ocs_base.specs.declared.script.System.TheVariants.{Pal};
+ghost use Rattle.serial_model.specs.Beam.{last_clock as last_clock_of};
 ghost use Rattle.std.specs.Arc.{arc_value};
 ghost use Rattle.serial_bands.specs.Run.{run_over};
 ghost use Rattle.foreground.specs.Fore.{over, IsNew, is_done};
@@ -8,15 +10,13 @@ ghost use Rattle.foreground.specs.Fore.{over, IsNew, is_done};
 use crate::log::Log;
 use crate::machine::Machine;
 use band_log::Run;
-use ocs_base::{Beam, OutOfMemory};
+use beam::last_clock;
+use ocs_base::{Beam, OutOfMemory, System};
 use reg_file::Regs;
 use serial_model::{NoSide, Side};
 use std::alloc::Global;
 use std::marker::Model;
 use std::sync::Arc;
-
-/// How many colour clocks a line has.
-const LINE_CLOCKS: u16 = 227;
 
 /// The foreground of a run: the machine clock by clock, without its picture, of which it logs what bands are drawn from later. A
 /// raster, which draws them, and the output files are lent to each call. After a refusal for want of memory each later call
@@ -102,10 +102,12 @@ impl<S: Side> Fore<S> {
     /// The clock with which the beam's next line begins, as a number of colour clocks since reset.
     pub fn next_line(&self) -> u64
         requires room { self.now.machine.t + 227 < 2 ^ 64 }
-        requires screen { self.now.machine.beam.h < 227 }
-        ensures { result ≡ self.now.machine.t + (227 - self.now.machine.beam.h) }
+        requires screen { self.now.machine.beam.h ≤ last_clock_of Pal self.now.machine.beam.v }
+        ensures { result ≡ self.now.machine.t
+            + (last_clock_of Pal self.now.machine.beam.v - self.now.machine.beam.h) + 1 }
     {
-        self.machine.t + (LINE_CLOCKS - self.machine.beam.h) as u64
+        let here = self.machine.beam;
+        self.machine.t + (last_clock(System::Pal, here.v) - here.h) as u64 + 1
     }
 
     /// The present place of the beam.

@@ -449,7 +449,7 @@ room_for_clocks fore seen done can is not =
     omega (arith, few_clocks fore seen done can is not, can.stands.good.script.most)
 
 -- the next line is later
-pub line_is_later : (fore : ForeValue) (seen : RasterValue) (next : ℕ) → CanRun fore seen → next ≡ fore.machine.t + (227 - fore.machine.beam.h)
+pub line_is_later : (fore : ForeValue) (seen : RasterValue) (next : ℕ) → CanRun fore seen → next ≡ fore.machine.t + (226 - fore.machine.beam.h) + 1
     → fore.machine.t < next
 line_is_later fore seen next can is = omega (arith, can.stands.screen.clock, is)
 
