@@ -6,7 +6,8 @@ cd "$(dirname "$(readlink -f "${BASH_SOURCE[0]}")")"
 made=$(mktemp -d)
 trap 'rm -rf "$made"' EXIT
 m68k-linux-gnu-gcc -m68000 -O2 -Wall -Wextra -ffreestanding -fno-pic -fomit-frame-pointer \
-  -fno-tree-loop-distribute-patterns -nostdlib -static -Wl,-T,image.ld -Wl,--build-id=none -Wl,--no-warn-rwx-segments \
+  -fno-tree-loop-distribute-patterns -nostdlib -static -Wl,-T,image.ld -Wl,--build-id=none \
+  -Wl,--orphan-handling=error -Wl,--no-warn-rwx-segments \
   -o "$made/solid.elf" solid.c
 m68k-linux-gnu-objcopy -O binary "$made/solid.elf" "$made/image"
 cp --no-preserve=mode "$made/image" image

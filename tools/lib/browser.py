@@ -57,6 +57,10 @@ class Browser:
         self.session = self.call("Target.attachToTarget", targetId=target, flatten=True)["sessionId"]
         self.call("Page.enable")
         self.call("Runtime.enable")
+        self.resize(width, height)
+
+    def resize(self, width: int, height: int) -> None:
+        """Gives the window another size."""
         self.call("Emulation.setDeviceMetricsOverride", width=width, height=height, deviceScaleFactor=1, mobile=False)
 
     def __enter__(self) -> Browser:
@@ -147,6 +151,16 @@ class Browser:
         self.call("Input.dispatchKeyEvent", type="keyDown", **words)
         self.call("Input.dispatchKeyEvent", type="keyUp", key=key, windowsVirtualKeyCode=code)
         self.settle()
+
+    def type(self, text: str) -> None:
+        """Types a text where the keys go."""
+        for letter in text:
+            self.press(letter, ord(letter.upper()), letter)
+
+    def click_on(self, id: str) -> None:
+        """Clicks the middle of an element."""
+        box = f"document.getElementById('{id}').getBoundingClientRect()"
+        self.click(*self.value(f"[{box}.left + {box}.width / 2, {box}.top + {box}.height / 2]"))
 
     def faults(self) -> list[str]:
         """The uncaught errors of the page so far."""

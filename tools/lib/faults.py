@@ -1,8 +1,11 @@
 """What a tool says: what is wrong with a file, in words that name the file."""
 from __future__ import annotations
 
+import os
+import signal
+import subprocess
 import sys
-from typing import NoReturn
+from typing import Callable, NoReturn
 
 UNUSABLE = 2
 QUOTED = 32
@@ -29,8 +32,35 @@ def quoted(raw: bytes) -> str:
 def stop(tool: str, fault: Exception) -> NoReturn:
     """Ends the tool with the status of unusable files and one line that says why."""
     if isinstance(fault, OSError):
-        said = f"{fault.filename}: {(fault.strerror or str(fault)).lower()}"
+        wrong = (fault.strerror or str(fault)).lower()
+        said = wrong if fault.filename is None else f"{os.fsdecode(fault.filename)}: {wrong}"
     else:
         said = str(fault)
     print(f"{tool}: {said}", file=sys.stderr)
     sys.exit(UNUSABLE)
+
+
+def run_tool(tool: str, main: Callable[[], None]) -> None:
+    """Runs a tool. What stops it is said in one line; after an interrupt nothing is said, and it ends by that signal."""
+    if sys.stdout is None:
+        sys.stdout = open(os.devnull, "w", encoding="utf-8")
+    # names of files are bytes: they are said as they are
+    sys.stdout.reconfigure(errors="surrogateescape")
+    try:
+        main()
+        sys.stdout.flush()
+    except KeyboardInterrupt:
+        end_by(signal.SIGINT)
+    except BrokenPipeError:
+        end_by(signal.SIGPIPE)
+    except subprocess.CalledProcessError as fault:
+        stop(tool, BadFile(fault.cmd[0], f"ended with status {fault.returncode}"))
+    except (BadFile, OSError) as fault:
+        stop(tool, fault)
+
+
+def end_by(number: signal.Signals) -> NoReturn:
+    """Ends as a signal ends a program that does nothing about it, so that who started the tool knows."""
+    signal.signal(number, signal.SIG_DFL)
+    os.kill(os.getpid(), number)
+    os._exit(128 + number)

@@ -2,6 +2,7 @@
 from __future__ import annotations
 
 import os
+import stat
 from dataclasses import dataclass
 
 from faults import BadFile, plural, quoted
@@ -55,6 +56,9 @@ class FramesFile:
 
     def __init__(self, path: str) -> None:
         self.path = path
+        mode = os.stat(path).st_mode
+        if not stat.S_ISREG(mode) and not stat.S_ISDIR(mode):
+            raise BadFile(path, "is no regular file, and frames are read more than once: copy it into one first")
         with open(path, "rb") as file:
             start = file.read(64)
         self.system = system_of(path, start)

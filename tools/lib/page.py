@@ -9,6 +9,7 @@ import re
 from typing import Iterable
 
 from faults import BadFile
+from files import write_whole
 from frames import Frame, FramesFile, System
 from png import png
 
@@ -25,7 +26,8 @@ def parts(names: Iterable[str]) -> str:
 
 
 def escaped(text: str) -> str:
-    return html.escape(text)
+    """Text as it may stand in a page; bytes of a file's name that are no text show as such."""
+    return html.escape(text.encode("utf-8", "surrogateescape").decode("utf-8", "replace"))
 
 
 def json_text(data: object) -> str:
@@ -69,6 +71,5 @@ def write_page(wanted: str | None, usual: str, inputs: Iterable[str], text: str)
             raise BadFile(place, "is one of the files of the run")
     if wanted is None and os.path.lexists(place):
         raise BadFile(place, "is there already; -o names the page that may be overwritten")
-    with open(place, "w", encoding="utf-8") as file:
-        file.write(text)
+    write_whole(place, text.encode("utf-8"))
     return place

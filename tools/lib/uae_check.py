@@ -12,11 +12,10 @@ import tempfile
 from dataclasses import dataclass, field
 
 from faults import BadFile, plural
+from program import program
 from uae_setup import CIA_ADDRESS, LINE, SET_UP, Event, SetUp, after_fetches, counts_ticks, line_starts, poke, script
 from uae_state import MEMORY_BYTES, Cia, State
 
-TOP = os.path.dirname(os.path.dirname(os.path.dirname(os.path.realpath(__file__))))
-PROGRAM = os.path.join(TOP, "crates", "ocs", "out", "ocs")
 PLACES = (0x3000, 0x4000, 0x5000, 0x6000)
 REPORT_BYTES = 0x200
 CONDITION_CODES = 0x1F
@@ -27,14 +26,6 @@ NAMES = (*(f"D{n}" for n in range(8)), *(f"A{n}" for n in range(7)))
 CIA_REGISTERS = (0, 1, 2, 3, 4, 5, 6, 7, 10, 9, 8, 14, 15)
 CIA_NAMES = ("PRA", "PRB", "DDRA", "DDRB", "TALO", "TAHI", "TBLO", "TBHI", "TODHI", "TODMID", "TODLO", "CRA", "CRB")
 READ_WORDS = {0x002: "DMACONR", 0x004: "VPOSR", 0x00A: "JOY0DAT", 0x00C: "JOY1DAT", 0x01C: "INTENAR", 0x01E: "INTREQR"}
-
-
-def program() -> str:
-    """The program that checks: what the environment's OCS names, else the one that is built here."""
-    place = os.environ.get("OCS", PROGRAM)
-    if not os.access(place, os.X_OK):
-        raise BadFile(place, "is not there: tools/build builds the program that --check runs")
-    return place
 
 
 @dataclass
@@ -74,8 +65,8 @@ def halves(value: int) -> tuple[int, int]:
     return value >> 16 & 0xFFFF, value & 0xFFFF
 
 
-def run(state: State, base: int) -> tuple[Report, bytes, dict[int, int]]:
-    """Runs the set-up with a report at `base`; gives memory at the end, and the words that the script read."""
+def run(runner: str, state: State, base: int) -> tuple[Report, bytes, dict[int, int]]:
+    """Runs the set-up by the program `runner` with a report at `base`; gives memory at the end, and the words that the script read."""
     made = SetUp(state, (base, QUIET | state.sr & CONDITION_CODES))
     report = Report(base, made.clock - 1)
     report.put(made.image)
@@ -88,9 +79,9 @@ def run(state: State, base: int) -> tuple[Report, bytes, dict[int, int]]:
             file.write(made.image)
         with open(names[1], "w", encoding="ascii") as file:
             file.write(script(2 if state.line < 300 else 3, events))
-        done = subprocess.run([program(), "run", *names, "20", "0"], capture_output=True, text=True)
+        done = subprocess.run([runner, "run", *names, "20", "0"], capture_output=True, text=True)
         if done.returncode != 0:
-            raise BadFile(program(), f"ended with status {done.returncode}: {(done.stderr + done.stdout).strip()}")
+            raise BadFile(runner, f"ended with status {done.returncode}: {(done.stderr + done.stdout).strip()}")
         with open(names[3], encoding="ascii") as file:
             read = {int(parts[4], 16): int(parts[5], 16) for parts in map(str.split, file) if parts[3] == "R"}
         with open(names[4], "rb") as file:
@@ -108,8 +99,9 @@ def check(state: State) -> list[str]:
     """What differs at the state's clock, in sentences; none where all is the state's."""
     found: list[str] = []
     differing: set[int] | None = None
+    runner = program()
     for base in places(state):
-        report, memory, read = run(state, base)
+        report, memory, read = run(runner, state, base)
         left_out = {*report.span, *range(state.ssp - 6, state.ssp)}
         here = {at for at in differing_bytes(memory, state.memory) if at not in left_out}
         differing = here if differing is None else differing | here

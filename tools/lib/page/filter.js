@@ -1,9 +1,10 @@
 // The filter of the list and of the marks: by what a line counts as, by register, by line of the picture and by frame.
 
 class Filter {
-  /** `registers` is the table of registers; `whenChanged` is called after each change by the user. */
-  constructor(registers, whenChanged) {
+  /** `registers` is the table of registers, `lines` how many a field has; `whenChanged` is called after each change by the user. */
+  constructor(registers, lines, whenChanged) {
     this.registers = registers;
+    this.lines = lines;
     this.whenChanged = whenChanged;
     this.chips = GROUPS.map((group, at) => this.buildChip(at));
     byId("sources").append(...this.chips.map((chip) => chip.box.parentElement));
@@ -44,18 +45,31 @@ class Filter {
     return new Set(Object.entries(this.registers).filter(named).map(([offset]) => parseInt(offset, 16)));
   }
 
-  /** The first and the last line of the picture that the text names; null for all. */
+  /** The first and the last line of the picture that the text names; null for all, and where it names none. */
   linesWanted() {
     const match = /^\s*(\d+)\s*(?:-\s*(\d+)\s*)?$/.exec(byId("filter-line").value);
-    return match ? [Number(match[1]), Number(match[2] ?? match[1])] : null;
+    const [first, last] = match ? [Number(match[1]), Number(match[2] ?? match[1])] : [0, -1];
+    return first <= last && last < this.lines ? [first, last] : null;
+  }
+
+  /** Marks the texts that name nothing, and says which do and why. */
+  showWrong(registers, lines) {
+    const [register, line] = ["filter-register", "filter-line"].map((id) => byId(id).value.trim());
+    const wrong = [
+      registers?.size === 0 && `No register is '${register}'.`,
+      !lines && line && `'${line}' is no line from 0 to ${this.lines - 1}, as 44, or range of them, as 44-60: it filters nothing.`,
+    ];
+    byId("filter-register").setAttribute("aria-invalid", String(Boolean(wrong[0])));
+    byId("filter-line").setAttribute("aria-invalid", String(Boolean(wrong[1])));
+    byId("filter-wrong").textContent = wrong.filter(Boolean).join(" ");
+    byId("filter-wrong").hidden = !wrong.some(Boolean);
   }
 
   /** A test of a trace line's index by the filter as it stands; a text that names nothing is marked. */
   test(trace) {
     const groups = this.chips.map((chip) => chip.box.checked);
     const registers = this.registersWanted(), lines = this.linesWanted();
-    byId("filter-register").setAttribute("aria-invalid", String(registers?.size === 0));
-    byId("filter-line").setAttribute("aria-invalid", String(!lines && byId("filter-line").value.trim() !== ""));
+    this.showWrong(registers, lines);
     return (at) =>
       groups[trace.group(at)] &&
       (!registers || registers.has(trace.register[at])) &&

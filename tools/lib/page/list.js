@@ -107,7 +107,7 @@ class List {
   }
 
   click(event) {
-    const row = event.target.closest(".row");
+    const row = event.target.closest(".row:not([hidden])");
     if (row) this.whenChosen(this.items[Number(row.dataset.at)]);
   }
 }

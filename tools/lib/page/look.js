@@ -18,7 +18,7 @@ class Look {
     const choose = (at) => this.choose(at, true);
     this.list = new List(byId("list"), byId("list-space"), (row, at) => this.drawRow(row, at), choose);
     this.reading = new Reading(trace, data.system, choose);
-    this.filter = new Filter(data.registers, () => this.applyFilter());
+    this.filter = new Filter(data.registers, data.system.lines, () => this.applyFilter());
     this.tip = element("div", "tip");
     this.tip.hidden = true;
     document.body.append(this.tip);
@@ -33,7 +33,10 @@ class Look {
     this.picture = new Picture(parts, this.system, this.trace, colours);
     this.picture.whenPointed = (place, mark, event) => this.point(mark, event);
     this.picture.whenClicked = (place, mark) => this.clickAt(place, mark);
-    this.picture.whenZoomed = (zoom) => (byId("zoom-label").textContent = zoom + "\u00d7");
+    this.picture.whenZoomed = (zoom, fitted) => {
+      byId("zoom-label").textContent = (fitted ? zoom.toFixed(2).replace(/\.?0+$/, "") : zoom) + "\u00d7";
+      byId("fit").setAttribute("aria-pressed", String(fitted));
+    };
   }
 
   begin() {
@@ -122,6 +125,7 @@ class Look {
     byId("shown-count").textContent = `${counted(items.length)}${part} lines${where}`;
     byId("trace-panel").classList.toggle("one-frame", one);
     this.list.setItems(items, whole ? "No line passes the filter." : `No line${where}.`);
+    this.picture.pointAgain();
     this.picture.redraw();
   }
 
@@ -218,7 +222,7 @@ class Look {
     this.tip.hidden = mark < 0;
     if (mark < 0) return;
     this.tip.textContent = this.trace.sentence(mark);
-    this.tip.style.left = Math.min(event.clientX + 14, innerWidth - this.tip.offsetWidth - 8) + "px";
+    this.tip.style.left = Math.max(8, Math.min(event.clientX + 14, innerWidth - this.tip.offsetWidth - 8)) + "px";
     this.tip.style.top = event.clientY + 18 + "px";
   }
 
@@ -230,8 +234,9 @@ class Look {
     click("previous", () => this.goToFrame(this.index - 1));
     click("next", () => this.goToFrame(this.index + 1));
     click("play", () => this.setPlaying(!this.playing));
-    click("zoom-in", () => this.picture.zoomTo(this.picture.zoom + 1));
-    click("zoom-out", () => this.picture.zoomTo(this.picture.zoom - 1));
+    click("fit", () => this.picture.fit());
+    click("zoom-in", () => this.picture.zoomBy(1));
+    click("zoom-out", () => this.picture.zoomBy(-1));
     click("help-button", () => byId("help").showModal());
     change("this-frame", () => this.changeReach());
     change("marks", (shown) => this.picture.show({ marksShown: shown }));
@@ -253,13 +258,16 @@ class Look {
   press(event) {
     if (event.ctrlKey || event.metaKey || event.altKey || byId("help").open) return;
     const typing = event.target.matches("input[type=search], select");
-    if (event.key === "Escape") this.escape();
+    if (event.key === "Escape") this.escape(event.target);
+    else if (event.key === "Enter" && event.target.matches("input[type=search]")) this.list.box.focus();
     else if (typing) return;
     else if (!this.pressInPart(event) && !this.pressAnywhere(event.target, event.key)) return;
     event.preventDefault();
   }
 
-  escape() {
+  /** Clears filter and cursor; a field that had the keys gives them back. */
+  escape(target) {
+    if (target.matches("input, select, button")) target.blur();
     this.filter.clear();
     this.picture.cursor = null;
     this.markedLine = -1;
@@ -302,7 +310,7 @@ class Look {
       line: within(from.line + down, system.lines),
     };
     this.picture.cursor = place;
-    this.picture.hover = null;
+    this.picture.leave();
     this.picture.reveal(place.x, place.line);
     this.picture.redraw();
     this.showReading();
@@ -334,8 +342,9 @@ class Look {
       Home: () => this.goToFrame(0),
       End: () => this.goToFrame(this.data.frames.length - 1),
       " ": () => this.setPlaying(!this.playing),
-      "+": () => this.picture.zoomTo(this.picture.zoom + 1),
-      "-": () => this.picture.zoomTo(this.picture.zoom - 1),
+      "+": () => this.picture.zoomBy(1),
+      "-": () => this.picture.zoomBy(-1),
+      0: () => this.picture.fit(),
       m: () => byId("marks").click(),
       b: () => byId("blanking").click(),
       "/": () => byId("filter-register").focus(),

@@ -1,7 +1,7 @@
 // The picture of a frame in its field, with rulers of lines and clocks and the marks of the trace.
 
 const RULER_LEFT = 34, RULER_TOP = 20;
-const LEAST_ZOOM = 1, MOST_ZOOM = 12;
+const LEAST_ZOOM = 0.1, MOST_ZOOM = 12;
 // a high-resolution pixel is half as wide as high
 const TALL = 2;
 const MARK_REACH = 5;
@@ -20,6 +20,10 @@ class Picture {
     this.trace = trace;
     this.colours = colours;
     this.zoom = 1;
+    // whether the zoom is that at which all is in view, and goes with the viewport's size
+    this.fitted = true;
+    // where the mouse stands on the canvas, as its last event told
+    this.pointer = null;
     this.blanking = true;
     this.marksShown = true;
     this.image = null;
@@ -31,7 +35,10 @@ class Picture {
     this.sheet = new OffscreenCanvas(WIDTH, system.height);
     this.redraw = onceBeforeDrawing(() => this.draw());
     new ResizeObserver(() => this.resize()).observe(this.viewport);
-    this.viewport.addEventListener("scroll", () => this.redraw());
+    this.viewport.addEventListener("scroll", () => {
+      this.pointAgain();
+      this.redraw();
+    });
     this.listen();
   }
 
@@ -42,21 +49,32 @@ class Picture {
     return { x: FIRST_CLOCK * PIXELS_A_CLOCK, line: s.firstLine, width: WIDTH, height: s.height };
   }
 
-  /** The greatest zoom at which all of the region is in view, or the least. */
+  /** The greatest zoom at which all of the region is in view, or the whole number that is little less. */
+  fittingZoom() {
+    const region = this.region(), box = this.viewport;
+    // without the bars of the viewport, which are not there once it fits
+    const across = (box.offsetWidth - 2 * box.clientLeft - RULER_LEFT) / region.width;
+    const down = (box.offsetHeight - 2 * box.clientTop - RULER_TOP) / (TALL * region.height);
+    const zoom = Math.min(MOST_ZOOM, Math.max(LEAST_ZOOM, Math.min(across, down))), whole = Math.floor(zoom);
+    return zoom < whole * 1.05 ? whole : zoom;
+  }
+
+  /** Shows all of the region, as large as it goes, also after the viewport has got another size. */
   fit() {
-    const region = this.region();
-    const across = (this.viewport.clientWidth - RULER_LEFT) / region.width;
-    const down = (this.viewport.clientHeight - RULER_TOP) / (TALL * region.height);
-    this.zoom = Math.min(MOST_ZOOM, Math.max(LEAST_ZOOM, Math.floor(Math.min(across, down))));
-    this.whenZoomed(this.zoom);
+    this.fitted = true;
     this.resize();
   }
 
   resize() {
+    if (this.fitted) {
+      this.zoom = this.fittingZoom();
+      this.whenZoomed(this.zoom, true);
+    }
     const { clientWidth, clientHeight } = this.viewport;
     const region = this.region();
-    const width = RULER_LEFT + region.width * this.zoom;
-    const height = RULER_TOP + region.height * TALL * this.zoom;
+    // a rest of a pixel brings no bar
+    const width = Math.floor(RULER_LEFT + region.width * this.zoom);
+    const height = Math.floor(RULER_TOP + region.height * TALL * this.zoom);
     this.spacer.style.width = Math.max(width, clientWidth) + "px";
     this.spacer.style.height = Math.max(height, clientHeight) + "px";
     const scale = window.devicePixelRatio || 1;
@@ -67,6 +85,7 @@ class Picture {
     this.canvas.style.height = shown.height + "px";
     this.canvas.width = Math.round(shown.width * scale);
     this.canvas.height = Math.round(shown.height * scale);
+    this.pointAgain();
     this.redraw();
   }
 
@@ -92,14 +111,23 @@ class Picture {
   /** Zooms so that what is under a place of the canvas stays there; the middle where none is given. */
   zoomTo(zoom, left = this.viewport.clientWidth / 2, top = this.viewport.clientHeight / 2) {
     const wanted = Math.min(MOST_ZOOM, Math.max(LEAST_ZOOM, zoom));
-    if (wanted === this.zoom) return;
+    if (wanted === this.zoom && !this.fitted) return;
     const across = (left - RULER_LEFT - this.pad + this.viewport.scrollLeft) / this.zoom;
     const down = (top - RULER_TOP + this.viewport.scrollTop) / this.zoom;
+    this.fitted = false;
     this.zoom = wanted;
     this.resize();
     this.viewport.scrollLeft = across * wanted - (left - RULER_LEFT - this.pad);
     this.viewport.scrollTop = down * wanted - (top - RULER_TOP);
-    this.whenZoomed(wanted);
+    this.whenZoomed(wanted, false);
+    this.pointAgain();
+  }
+
+  /** Zooms by a step, in or out: the steps are the whole numbers, and before them the zoom at which all is in view. */
+  zoomBy(step, left, top) {
+    const next = step > 0 ? Math.floor(this.zoom) + 1 : Math.ceil(this.zoom) - 1;
+    if (step < 0 && next <= this.fittingZoom()) this.fit();
+    else this.zoomTo(next, left, top);
   }
 
   /** Scrolls as little as shows a pixel away from the edges. */
@@ -144,8 +172,10 @@ class Picture {
     const width = WIDTH * this.zoom, height = this.system.height * TALL * this.zoom;
     if (this.rows < this.system.height) this.drawMissing(pen, x, y, width, height);
     if (this.image) {
-      pen.imageSmoothingEnabled = false;
+      // below a zoom of 1 pixels are left out: the ones that are drawn have the colours of their neighbours in them
+      pen.imageSmoothingEnabled = this.zoom < 1;
       pen.drawImage(this.sheet, 0, 0, WIDTH, this.rows, x, y, width, this.rows * TALL * this.zoom);
+      pen.imageSmoothingEnabled = false;
     }
     if (this.blanking) {
       pen.strokeStyle = "#4a5160";
@@ -356,6 +386,7 @@ class Picture {
   }
 
   move(event) {
+    this.pointer = { left: event.offsetX, top: event.offsetY, clientX: event.clientX, clientY: event.clientY };
     if (this.pressed) {
       const across = event.clientX - this.pressed.x, down = event.clientY - this.pressed.y;
       if (!this.dragged && Math.hypot(across, down) < DRAG_BEGINS) return;
@@ -365,9 +396,16 @@ class Picture {
       this.viewport.scrollTop = this.pressed.top - down;
       return;
     }
-    this.hover = this.fromCanvas(event.offsetX, event.offsetY);
-    this.whenPointed(this.hover, this.markAt(event.offsetX, event.offsetY), event);
+    this.pointAgain();
     this.redraw();
+  }
+
+  /** Tells what stands under the mouse, which has not moved where the picture has. */
+  pointAgain() {
+    if (!this.pointer) return;
+    const { left, top } = this.pointer;
+    this.hover = this.fromCanvas(left, top);
+    this.whenPointed(this.hover, this.markAt(left, top), this.pointer);
   }
 
   release(event) {
@@ -380,7 +418,7 @@ class Picture {
   }
 
   leave() {
-    this.hover = null;
+    this.hover = this.pointer = null;
     this.whenPointed(null, -1, null);
     this.redraw();
   }
@@ -388,6 +426,6 @@ class Picture {
   wheel(event) {
     if (!event.ctrlKey && !event.metaKey) return;
     event.preventDefault();
-    this.zoomTo(this.zoom + (event.deltaY < 0 ? 1 : -1), event.offsetX, event.offsetY);
+    this.zoomBy(event.deltaY < 0 ? 1 : -1, event.offsetX, event.offsetY);
   }
 }

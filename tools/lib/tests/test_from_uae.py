@@ -344,7 +344,7 @@ class CheckTest(Tools):
                 self.assertEqual(self.checked(self.wrong(change)), (1, said))
 
     def test_program_that_cannot_check(self) -> None:
-        said = f"from-uae: {self.place('absent')}: is not there: tools/build builds the program that --check runs"
+        said = f"from-uae: {self.place('absent')}: is no program, and the environment's OCS names it"
         self.assertEqual(self.checked(self.place("absent")), (2, said))
         refusing = self.write("refusing", "#!/bin/sh\necho not built >&2\nexit 8\n")
         os.chmod(refusing, 0o755)

@@ -1,0 +1,35 @@
+"""Files that are written whole: beside their place first, and renamed once they are, so that no part of one is left."""
+from __future__ import annotations
+
+import contextlib
+import os
+
+
+def named(fault: OSError, place: str) -> OSError:
+    """The fault with the place of the file that it is about."""
+    return OSError(fault.errno, fault.strerror, place)
+
+
+def write_whole(place: str, data: bytes) -> None:
+    """Writes a file, in place of one that is there. An OSError names it, and then what was there still is."""
+    try:
+        if os.path.exists(place) and not os.path.isfile(place):
+            # a device, or a pipe as /dev/stdout can be
+            with open(place, "wb") as file:
+                file.write(data)
+        else:
+            replace(os.path.realpath(place), data)
+    except OSError as fault:
+        raise named(fault, place) from fault
+
+
+def replace(target: str, data: bytes) -> None:
+    beside = f"{target}.{os.getpid()}.part"
+    try:
+        with open(beside, "xb") as file:
+            file.write(data)
+        os.replace(beside, target)
+    except BaseException:
+        with contextlib.suppress(OSError):
+            os.remove(beside)
+        raise

@@ -1,0 +1,48 @@
+"""The program that tools, examples and benches run: the one that the environment's OCS names, else the built one, which is
+always that of these sources. In a release, which has no sources, the built one is the `ocs` at its top."""
+from __future__ import annotations
+
+import os
+import shutil
+import subprocess
+
+from faults import BadFile
+
+TOP = os.path.dirname(os.path.dirname(os.path.dirname(os.path.realpath(__file__))))
+BUILD = os.path.join(TOP, "tools", "build")
+BUILT = os.path.join(TOP, "crates", "ocs", "out", "ocs")
+RELEASED = os.path.join(TOP, "ocs")
+
+
+def named_program() -> str | None:
+    """The program that OCS names, by its whole place; None where it names none."""
+    name = os.environ.get("OCS")
+    if not name:
+        return None
+    place = shutil.which(name)
+    if place is None:
+        raise BadFile(name, "is no program, and the environment's OCS names it")
+    return os.path.abspath(place)
+
+
+def built_program() -> str | None:
+    """The built program; None where none stands that is of these sources."""
+    if not os.path.exists(BUILD):
+        return RELEASED if os.access(RELEASED, os.X_OK) else None
+    return BUILT if subprocess.run([BUILD, "--ask"]).returncode == 0 else None
+
+
+def program() -> str:
+    """The program to run; BadFile where there is none."""
+    place = named_program() or built_program()
+    if place is None:
+        raise BadFile(BUILT, "is not built from these sources: tools/build proves and builds it, or let OCS name a program")
+    return place
+
+
+def program_once_built() -> str:
+    """The program to run; where OCS names none it is proved and built first if need be."""
+    place = named_program()
+    if place is None and os.path.exists(BUILD) and subprocess.run([BUILD]).returncode != 0:
+        raise BadFile(BUILT, "could not be built")
+    return place or program()
