@@ -16,7 +16,7 @@ from suite_cases import KINDS, Case, Golden, read_golden, same_bytes, sum_of, un
 
 PASSED, ACCEPTED, DIFFERS, NEW, FAILED = "passed", "accepted", "differs", "new", "failed"
 GOOD = (PASSED, ACCEPTED)
-RESULT = "result.json"
+RESULT, STORED = "result.json", "stored.json"
 # of a program's text so many bytes are read, and so many lines kept
 MOST_READ, MOST_SAID = 1 << 16, 20
 # where each name of a command stands for a file of the run
@@ -76,6 +76,15 @@ def read_result(suite: Suite, case: Case) -> Result | None:
         return None
 
 
+def read_stored(suite: Suite, case: Case) -> dict[str, Stored]:
+    """What is known of the stored files where the result is gone: who plans by files removes it before a run."""
+    try:
+        with open(suite.place(case, "passed", STORED), "rb") as file:
+            return {kind: Stored(**one) for kind, one in json.loads(file.read()).items()}
+    except (OSError, ValueError, TypeError, AttributeError):
+        return {}
+
+
 def same_but_for_time(before: Result, after: Result) -> bool:
     """Whether two results are one but for the seconds that they took; those of the older one then stay."""
     times = {"seconds": after.seconds, "program": after.program}
@@ -84,8 +93,11 @@ def same_but_for_time(before: Result, after: Result) -> bool:
 
 def write_result(suite: Suite, case: Case, result: Result) -> None:
     """Writes the case's result, beside and renamed, so that it is never a part of one."""
-    place = suite.place(case, RESULT)
     data = {**vars(result), "stored": {kind: vars(one) for kind, one in result.stored.items()}}
+    write_json(suite.place(case, RESULT), data)
+
+
+def write_json(place: str, data: object) -> None:
     with open(place + ".new", "wb", buffering=0) as file:
         file.write(json.dumps(data).encode("ascii"))
     os.replace(place + ".new", place)
@@ -94,7 +106,7 @@ def write_result(suite: Suite, case: Case, result: Result) -> None:
 def run_case(suite: Suite, case: Case) -> Result:
     """Runs a case and compares it; whatever is wrong with it is in the result, which is written too."""
     before = read_result(suite, case)
-    result = Result(case.name, stored=dict(before.stored) if before else {})
+    result = Result(case.name, stored=dict(before.stored) if before else read_stored(suite, case))
     try:
         make_folders(suite, case)
         run_program(suite, case, result)
@@ -271,6 +283,7 @@ def store(suite: Suite, case: Case, result: Result) -> None:
     """Moves the files of a passing run to where the next run is compared with them, where they are not too long."""
     now = {kind: suite.place(case, "now", kind) for kind in result.sums}
     keeps = sum(map(os.path.getsize, now.values())) <= suite.most_stored
+    before = dict(result.stored)
     for kind in KINDS:
         old, kept = result.stored.get(kind), suite.place(case, "passed", kind)
         if keeps and kind in now and old and old.sum == result.sums[kind] and is_as_stored(kept, old):
@@ -284,6 +297,8 @@ def store(suite: Suite, case: Case, result: Result) -> None:
         else:
             remove(kept)
             remove(now.get(kind, kept))
+    if result.stored != before:
+        write_json(suite.place(case, "passed", STORED), {kind: vars(one) for kind, one in result.stored.items()})
 
 
 def remove(place: str) -> None:

@@ -121,6 +121,13 @@ class SuiteTest(Tools):
         self.assertIn(place, cases.find("testcase[@name='one']/failure").get("message"))
         self.assertEqual(len(cases.find("testcase[@name='two']")), 0)
 
+    def test_what_passed_is_known_without_the_result(self) -> None:
+        self.case("one")
+        self.assertEqual(self.suite("--accept")[0], 0)
+        os.remove(self.place("cases/out/one/result.json"))
+        self.case("one", GREEN)
+        self.assertIn("frames: first at frame 1, line 100, clock 100", self.suite()[1][0])
+
     def test_kept_files(self) -> None:
         self.case("one")
         self.assertEqual(self.suite("--accept", "--keep")[0], 0)
