@@ -1,6 +1,6 @@
 //! What the processor keeps between two accesses.
 
-use crate::fetched::Fetched;
+use crate::fetched::{Fetched, Rows};
 use m68k_decode::{CpuRegs, Place68, Trap, Under};
 
 /// Whose place extension words name.
@@ -147,6 +147,8 @@ pub struct Context {
     pub start: CpuRegs,
     /// The opcode and its instruction, once the opcode is there.
     pub fetched: Fetched,
+    /// The opcodes that were met, ready to be taken again.
+    pub rows: Rows,
     /// An address error is being taken.
     pub taking: bool,
     /// An access counts as one of an instruction.
