@@ -10,6 +10,9 @@ pub mod ResultsProducts
 pub mod Status
 pub mod Access
 pub mod Run
+pub mod RowWords
+pub mod Rows
+pub mod RowResults
 pub mod RowData
 pub mod General
 pub mod Lists

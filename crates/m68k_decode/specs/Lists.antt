@@ -12,7 +12,7 @@ use Rattle.m68k_decode.specs.declared.regs.CpuRegs.{CpuRegs}
 use Rattle.m68k_decode.specs.Registers.{word32, extended_word, data_of, address_of, with_data, with_address}
 use Rattle.m68k_decode.specs.Access.{Prog}
 use Rattle.m68k_decode.specs.Run.{Run, with_regs, address_after, address_before, finish, place, read, write, merged}
-use Rattle.m68k_decode.specs.RowData.{ones, extended}
+use Rattle.m68k_decode.specs.RowWords.{ones, extended}
 use Rattle.m68k_decode.specs.General.{is_program}
 
 -- ---- MOVEM

@@ -5,6 +5,7 @@
 pub mod outcome;
 pub mod place;
 pub mod regs;
+pub mod row;
 pub mod trap;
 pub mod under;
 
@@ -12,5 +13,6 @@ pub use m68k_opcodes::{Instr, Mode, Size, clocks, decode, ea};
 pub use outcome::{Flags, Outcome};
 pub use place::Place68;
 pub use regs::CpuRegs;
+pub use row::{Count, Dest, GeneralRow, Op, Source, Traps, extended_byte, general_row};
 pub use trap::Trap;
 pub use under::Under;

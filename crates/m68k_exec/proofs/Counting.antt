@@ -4,7 +4,7 @@ use Rattle.m68k_opcodes.specs.declared.operand.Size.TheVariants as S
 use Rattle.m68k_opcodes.specs.declared.instr.Instr.{Instr}
 use Rattle.m68k_decode.specs.Registers.{word32}
 use Rattle.m68k_decode.specs.Run.{Run, finish, read, write}
-use Rattle.m68k_decode.specs.RowData.{ones, turns}
+use Rattle.m68k_decode.specs.RowWords.{ones, turns}
 use Rattle.m68k_decode.specs.Lists.{numbers, scatter, gather, gathered}
 
 pub ones_none : (n : ℕ) → ones 0 n ≡ 0

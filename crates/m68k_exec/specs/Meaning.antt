@@ -10,7 +10,8 @@ use Rattle.m68k_decode.specs.Registers.{word32}
 use Rattle.m68k_decode.specs.Frames.{frame_of}
 use Rattle.m68k_decode.specs.Access.{Prog, Ask, End, Enter, Halt, Read, Write}
 use Rattle.m68k_decode.specs.Run.{Run, with_regs, moved, jumped, half_at, address_after, ended, finish, fetch, read_word, write_word, at_place}
-use Rattle.m68k_decode.specs.RowData.{dest_size, source_size, source_mode, dest_mode, extended}
+use Rattle.m68k_decode.specs.RowWords.{extended}
+use Rattle.m68k_decode.specs.RowData.{dest_size, source_size, source_mode, dest_mode}
 use Rattle.m68k_decode.specs.General.{with_source, dest, with_dest, compute}
 use Rattle.m68k_decode.specs.Lists.{list_mode, list_size, unstepped, numbers, with_register, stores, loads, listing, scatter, gather}
 use Rattle.m68k_decode.specs.Flow.{control_mode, addressed, own, returned, resuming, resumed, unlinked}

@@ -1,6 +1,6 @@
 //! The processor.
 
-ghost use Rattle.std.specs.Prelude.{◌≡◌, ◌≤◌, ◌<◌, ℕ, true, false, List, [], ◌∷◌, ◌++◌, length, min};
+ghost use Rattle.std.specs.Prelude.{◌≡◌, ◌≤◌, ◌<◌, ℕ, true, false, List, [], ◌∷◌, ◌++◌, length, min, None, ◌%◌};
 ghost use Rattle.m68k_decode.specs.declared.regs.CpuRegs.{CpuRegs};
 ghost use Rattle.m68k_decode.specs.declared.under.Under.{Under};
 ghost use Rattle.m68k_decode.specs.declared.under.Under.TheVariants as U;
@@ -14,7 +14,7 @@ use crate::access::fetch;
 use crate::ask::Ask;
 use crate::dispatch::resume;
 use crate::entries::{enter, is_instruction, reset};
-use crate::fetched::Fetched;
+use crate::fetched::{Fetched, Rows};
 use crate::state::{Context, Cpu, Machine, Part, Step};
 use crate::status::{entered_status, has_trace, mask};
 use m68k_decode::{CpuRegs, Trap, Under};
@@ -88,6 +88,7 @@ impl Cpu {
         let mut context = Context {
             start: regs,
             fetched: Fetched::none(),
+            rows: Rows::new(),
             taking: false,
             instruction: true,
         };
@@ -199,12 +200,35 @@ impl Cpu {
         }
     }
 
+    /// The next instruction begins, and nothing comes between: as a begin does it, in fewer steps.
+    #[tactic(auto, unfolding(m68k_decode::specs::Walk::begin, m68k_decode::specs::Walk::program, m68k_decode::specs::Walk::instruction, m68k_decode::specs::Walk::is_traced, m68k_decode::specs::Run::fetch, m68k_decode::specs::Run::read_word))]
+    fn begin_next(&mut self)
+        requires { self.old.machine.regs.pc % 2 ≡ 0 }
+        ensures { Reaches self.new None (begin self.old.machine.regs (U.Instruction false)) }
+    {
+        self.context.start = self.machine.regs;
+        self.context.fetched = Fetched::none();
+        self.context.taking = false;
+        self.context.instruction = true;
+        self.machine.step = Step::Fetch { part: Part::Opcode };
+        self.traced = has_trace(self.machine.regs.sr);
+        self.done = 0;
+    }
+
     /// An end: a trace, an interrupt, or what is under way next.
     #[tactic(auto, unfolding(m68k_decode::specs::Walk::boundary))]
+    #[inline(always)]
     fn end(&mut self, under: Under, level: u8) -> Option<u8>
         ensures { Reaches self.new result
             (boundary self.old.traced self.old.machine.regs under level) }
     {
+        if let Under::Instruction { taking: false } = under {
+            let regs = &self.machine.regs;
+            if !self.traced && level <= mask(regs.sr) && regs.pc & 1 == 0 {
+                self.begin_next();
+                return None;
+            }
+        }
         let taking = is_taking(&under);
         if self.traced {
             self.begin(Under::Entry {
@@ -227,6 +251,7 @@ impl Cpu {
     }
 
     /// Begins with the registers as they are; an access to an odd address may take its place.
+    #[inline(never)]
     fn begin(&mut self, under: Under)
         ensures { Reaches self.new None (begin self.old.machine.regs under) }
     {

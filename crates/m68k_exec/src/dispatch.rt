@@ -8,7 +8,6 @@ ghost use Rattle.m68k_exec.specs.Meaning.{meaning, run_of, rest, fetched, valued
 
 use crate::access::{end, fetch, finish, read_low, write_word};
 use crate::entries::{end_reset, handle, push, take_stack};
-use crate::fetched::Fetched;
 use crate::flow::{
     branch, control, exchange, finish_unlink, jump, move_usp, own_word, read_resume_pc,
     resolve_control, resume_at, return_to, start_return, system, trap, unlink, use_own_word,
@@ -81,7 +80,7 @@ fn begin_row(context: &mut Context, machine: &mut Machine, opcode: u16)
     ensures walk { meaning context.new machine.new
         ≡ opcode_read opcode (run_of context.old machine.old) }
 {
-    context.fetched = Fetched::new(opcode);
+    context.fetched = context.rows.row(opcode);
     context.taking = false;
     execute(context, machine);
 }

@@ -13,10 +13,10 @@ ghost use Rattle.m68k_exec.specs.Meaning.{meaning, run_of, written};
 
 use crate::access::{address_after, address_before, fetch, finish, merge, read, write};
 use crate::lists::{spread, start_list};
-use crate::row_data::{extended_byte, extended_word};
+use crate::row_data::extended_word;
 use crate::state::{Context, Machine, Part, Role, Step, Then, Use};
 use crate::status::{condition, flags, kept_status, with_code};
-use m68k_decode::{CpuRegs, Instr, Mode, Place68, Size, Trap, Under};
+use m68k_decode::{CpuRegs, Instr, Mode, Place68, Size, Trap, Under, extended_byte};
 use m68k_ea::{extension_words, resolve};
 
 /// Makes room for a long on the stack.

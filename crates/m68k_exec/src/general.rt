@@ -8,12 +8,9 @@ ghost use Rattle.m68k_exec.specs.Meaning.{meaning, run_of};
 
 use crate::access::{fetch, held_value, read, store};
 use crate::operation::{operation, status_after, trap, trap_ea};
-use crate::row_data::{
-    constant, count, dest_mode, dest_size, has_dest, has_source, is_program, source_mode,
-    source_size, takes_old, target,
-};
+use crate::row_data::{count, dest_mode, is_program, source_mode};
 use crate::state::{Context, Machine, Part, Role, Step, Use};
-use m68k_decode::{Place68, Trap, Under};
+use m68k_decode::{Dest, Place68, Source, Trap, Under};
 use m68k_ea::{extension_words, resolve};
 
 /// The result is known: it is stored, or an exception begins.
@@ -30,25 +27,23 @@ fn complete(
         ≡ completed trap context.now.fetched.instr place value clocks
         (run_of context.now machine.old) }
 {
-    let instr = context.fetched.instr;
+    let row = &context.fetched.row;
     if let Some(kind) = trap {
         machine.step = Step::Broken {
             under: Under::Entry {
                 kind,
-                ea: trap_ea(&instr),
+                ea: trap_ea(row.traps, source_mode(row.source)),
                 taking: false,
             },
         };
         return;
     }
-    store(
-        context,
-        machine,
-        dest_size(&instr),
-        target(&instr, place),
-        value,
-        clocks,
-    );
+    let target = if row.writes {
+        place
+    } else {
+        Place68::Value { value: 0 }
+    };
+    store(context, machine, row.size, target, value, clocks);
 }
 
 /// Source and old value are known.
@@ -57,15 +52,15 @@ pub fn compute(context: &Context, machine: &mut Machine, value: u32, place: Plac
     ensures { meaning context.now machine.new
         ≡ compute context.now.fetched.instr value place old (run_of context.now machine.old) }
 {
-    let instr = context.fetched.instr;
+    let row = &context.fetched.row;
     let sr = machine.regs.sr;
-    let outcome = operation(&instr, value, old, sr);
-    let clocks = context.fetched.clocks(count(&instr, value, sr));
-    machine.regs.sr = status_after(&instr, value, outcome.flags, sr);
+    let outcome = operation(row, value, old, sr);
+    let clocks = context.fetched.clocks(count(row.count, value, sr));
+    machine.regs.sr = status_after(row.op, value, outcome.flags, sr);
     complete(
         context,
         machine,
-        trap(&instr, value, old),
+        trap(row.traps, value, old),
         place,
         outcome.value,
         clocks,
@@ -80,7 +75,7 @@ fn load_old(context: &Context, machine: &mut Machine, value: u32, place: Place68
         (λ old. compute context.now.fetched.instr value place old
         (run_of context.now machine.old)) }
 {
-    let size = dest_size(&context.fetched.instr);
+    let size = context.fetched.row.size;
     match place {
         Place68::Memory { at } => read(
             context,
@@ -103,7 +98,7 @@ pub fn with_dest(context: &Context, machine: &mut Machine, value: u32, place: Pl
     ensures { meaning context.now machine.new
         ≡ with_dest context.now.fetched.instr value place (run_of context.now machine.old) }
 {
-    if takes_old(&context.fetched.instr) {
+    if context.fetched.row.reads_old {
         load_old(context, machine, value, place);
     } else {
         compute(context, machine, value, place, 0);
@@ -125,8 +120,8 @@ pub fn resolve_dest(
         (dest_size context.now.fetched.instr) pc high low
         (λ p t. with_dest context.now.fetched.instr value p t) }
 {
-    let mode = dest_mode(&context.fetched.instr);
-    let size = dest_size(&context.fetched.instr);
+    let mode = dest_mode(context.fetched.row.dest);
+    let size = context.fetched.row.size;
     let place = resolve(&mode, &mut machine.regs, &[high, low], pc, size);
     with_dest(context, machine, value, place);
 }
@@ -137,12 +132,11 @@ pub fn dest(context: &Context, machine: &mut Machine, value: u32)
     ensures { meaning context.now machine.new
         ≡ dest context.now.fetched.instr value (run_of context.now machine.old) }
 {
-    let instr = context.fetched.instr;
-    if !has_dest(&instr) {
+    let Dest::Operand { mode } = context.fetched.row.dest else {
         compute(context, machine, value, Place68::Value { value: 0 }, 0);
         return;
-    }
-    match extension_words(&dest_mode(&instr), dest_size(&instr)) {
+    };
+    match extension_words(&mode, context.fetched.row.size) {
         0 => {
             let pc = machine.regs.pc;
             resolve_dest(context, machine, value, pc, 0, 0);
@@ -170,11 +164,10 @@ pub fn with_source(context: &Context, machine: &mut Machine, place: Place68)
     ensures { meaning context.now machine.new
         ≡ with_source context.now.fetched.instr place (run_of context.now machine.old) }
 {
-    let instr = context.fetched.instr;
-    let size = source_size(&instr);
+    let size = context.fetched.row.source_size;
     match place {
         Place68::Memory { at } => {
-            let program = is_program(source_mode(&instr));
+            let program = is_program(source_mode(context.fetched.row.source));
             read(context, machine, size, program, at, Use::Source);
         }
         _ => {
@@ -192,8 +185,8 @@ pub fn resolve_source(context: &Context, machine: &mut Machine, pc: u32, high: u
         (source_size context.now.fetched.instr) pc high low
         (λ p t. with_source context.now.fetched.instr p t) }
 {
-    let mode = source_mode(&context.fetched.instr);
-    let size = source_size(&context.fetched.instr);
+    let mode = source_mode(context.fetched.row.source);
+    let size = context.fetched.row.source_size;
     let place = resolve(&mode, &mut machine.regs, &[high, low], pc, size);
     with_source(context, machine, place);
 }
@@ -204,12 +197,14 @@ pub fn start_general(context: &Context, machine: &mut Machine)
     ensures { meaning context.now machine.new
         ≡ general context.now.fetched.instr (run_of context.now machine.old) }
 {
-    let instr = context.fetched.instr;
-    if !has_source(&instr) {
-        dest(context, machine, constant(&instr));
-        return;
-    }
-    match extension_words(&source_mode(&instr), source_size(&instr)) {
+    let mode = match context.fetched.row.source {
+        Source::Operand { mode } => mode,
+        Source::Number { value } => {
+            dest(context, machine, value);
+            return;
+        }
+    };
+    match extension_words(&mode, context.fetched.row.source_size) {
         0 => {
             let pc = machine.regs.pc;
             resolve_source(context, machine, pc, 0, 0);

@@ -2,7 +2,7 @@
 
 ghost use Rattle.std.specs.Prelude.{◌≡◌};
 
-use crate::fetched::Fetched;
+use crate::fetched::{Fetched, Rows};
 use m68k_decode::{CpuRegs, Place68, Trap, Under};
 
 /// Whose place extension words name.
@@ -149,6 +149,8 @@ pub struct Context {
     pub start: CpuRegs,
     /// The opcode and its instruction, once the opcode is there.
     pub fetched: Fetched,
+    /// The opcodes that were met, ready to be taken again.
+    pub rows: Rows,
     /// An address error is being taken.
     pub taking: bool,
     /// An access counts as one of an instruction.
@@ -180,7 +182,8 @@ impl Context {
     {
         Context {
             start: self.start,
-            fetched: self.fetched.copied(),
+            fetched: self.fetched,
+            rows: self.rows,
             taking: self.taking,
             instruction: self.instruction,
         }

@@ -10,6 +10,7 @@ mod bits;
 mod exceptions;
 mod flow;
 mod moves;
+mod rows;
 
 /// What a row of a test wants: a read of a word (R) or of a byte (B), a write of a word (W) or of a byte (C), idle
 /// clocks (I), or the halt (H).

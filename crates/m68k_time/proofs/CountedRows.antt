@@ -19,8 +19,13 @@ use Rattle.m68k_decode.specs.Results.{low, one_if}
 use Rattle.m68k_decode.specs.Status.{flags_of, condition}
 use Rattle.m68k_decode.specs.Access.{Prog}
 use Rattle.m68k_decode.specs.Run.{Run, with_regs, moved, read, at_place, place, load, store}
-use Rattle.m68k_decode.specs.RowData.{dest_size, source_size, has_source, source_mode, constant, has_dest, dest_mode}
-use Rattle.m68k_decode.specs.RowData.{takes_old, writes, count_of, eight_if_zero, trap_of, trap_ea}
+use Rattle.m68k_decode.specs.declared.row.Source.{Source}
+use Rattle.m68k_decode.specs.declared.row.Source.TheVariants as F
+use Rattle.m68k_decode.specs.declared.row.Count.TheVariants as C
+use Rattle.m68k_decode.specs.RowWords.{eight_if_zero, ones, turns}
+use Rattle.m68k_decode.specs.Rows.{general_row}
+use Rattle.m68k_decode.specs.RowResults.{count_by, trap_by, trap_ea_by}
+use Rattle.m68k_decode.specs.RowData.{is_operand, source_mode_of, constant_of}
 use Rattle.m68k_decode.specs.General as G
 use Rattle.m68k_time.specs.Time.{Takes, source_word, last_word, multiply_count}
 use Rattle.m68k_time.proofs.Fits.{more, loads, counted_serves, fits}
@@ -46,14 +51,15 @@ cut_count n = omega arith
 
 pub shift_row : (c d : ℕ) (z : Size) (i t r : ℕ) (s : Run) → clocks_at s.opcode ≡ timing (I.ShiftRegister c d z i t r)
     → Lawful (I.ShiftRegister c d z i t r) s (G.general (I.ShiftRegister c d z i t r) s)
-unfolding G.general G.with_source G.dest G.with_dest G.compute G.completed place at_place place_of stepped load store
-    dest_size source_size has_source source_mode constant has_dest dest_mode takes_old writes count_of trap_of trap_ea
+unfolding G.general G.with_source G.dest G.with_dest G.compute G.completed place at_place place_of stepped load
+    store general_row count_by trap_by trap_ea_by
 shift_row c d z i t r s row =
     let serves_it : counted_serves 1 0 (clocks_at s.opcode) ≡ true = subst (λ k. counted_serves 1 0 k ≡ true) (sym row) (shift_serves z) in
     let X : Bool → ℕ = λ b. (if b then data_of s.regs c else eight_if_zero c) % 64 in
     let row : Instr = I.ShiftRegister c d z i t r in
+    let source : Bool → Source = λ b. if b then F.Operand (M.Dn c) else F.Number (eight_if_zero c) in
     let M : Bool → Type 0 = λ b. Holds (With s (X b)) 0 1 0
-    (if b then place s S.Long (M.Dn c) (λ p t. G.with_source row p t) else G.dest row (eight_if_zero c) s) in
+    (if is_operand (source b) then place s S.Long (source_mode_of (source b)) (λ p t. G.with_source row p t) else G.dest row (constant_of (source b)) s) in
     let split : (b : Bool) → M b = (λ b. elim b as M [
       | true ↦ subst (λ y. Takes (number (clocks_at s.opcode) y) 1 (number (clocks_at s.opcode) (data_of s.regs c % 64))) (sym (cut_count (data_of s.regs c)))
           (counted_at 1 (clocks_at s.opcode) serves_it (data_of s.regs c % 64))
@@ -68,8 +74,8 @@ scc_takes true = serves_takes 1 6 refl
 scc_takes false = serves_takes 1 4 refl
 
 pub scc_row : (c r : ℕ) (s : Run) → clocks_at s.opcode ≡ timing (I.Scc c (M.Dn r)) → Lawful (I.Scc c (M.Dn r)) s (G.general (I.Scc c (M.Dn r)) s)
-unfolding G.general G.with_source G.dest G.with_dest G.compute G.completed place at_place place_of stepped load store
-    dest_size source_size has_source source_mode constant has_dest dest_mode takes_old writes count_of trap_of trap_ea
+unfolding G.general G.with_source G.dest G.with_dest G.compute G.completed place at_place place_of stepped load
+    store general_row count_by trap_by trap_ea_by
 scc_row c r s row =
     let x : ℕ = one_if (condition c (flags_of s.regs.sr)) in
     lawful_with (I.Scc c (M.Dn r)) s (G.general (I.Scc c (M.Dn r)) s) x (λ ws. refl)
@@ -77,11 +83,17 @@ scc_row c r s row =
 
 -- ---- MULU and MULS
 
+-- the count of the row is that of its operation
+counted : (b : Bool) (v sr : ℕ) → (if b then ones 16 v else turns 16 (2 * v)) ≡ count_by (if b then C.Ones else C.Turns) v sr
+unfolding count_by
+counted true v sr = refl
+counted false v sr = refl
+
 -- the source is known
 multiplied : (P : ℕ → ℕ → ℕ → Type 0) (k l : ℕ) (w r : ℕ) (m : Mode) (value : ℕ) (s : Run) → P k l (number (clocks_at s.opcode) (multiply_count w value))
     → Holds P 0 k l (G.dest (I.MuluMuls w r m) value s)
-unfolding G.dest G.with_dest G.compute G.completed place at_place place_of stepped load store dest_size has_dest dest_mode takes_old writes count_of trap_of
-multiplied P k l w r m value s h = h
+unfolding G.dest G.with_dest G.compute G.completed place at_place place_of stepped load store general_row count_by trap_by
+multiplied P k l w r m value s h = subst (λ x. P k l (number (clocks_at s.opcode) x)) (counted (w == 0) value s.regs.sr) h
 
 -- the source is the last word that was read
 abbrev pub ByLast : Run → ℕ → ℕ → ℕ → ℕ → Type 0
@@ -99,7 +111,7 @@ by_last_end s w (v ∷ ws) t h =
 
 lawful_by_last : (w r : ℕ) (m : Mode) (s : Run) (p : Prog) → ((ws : List ℕ) → source_word m s.regs ws ≡ last_word ws)
     → Holds (ByLast s w) 0 1 0 p → Lawful (I.MuluMuls w r m) s p
-unfolding trap_ea
+unfolding general_row trap_ea_by
 lawful_by_last w r m s p is_last h =
     record {
       ends = λ ws t q u words here. subst (λ x. Takes t (more (length ws) 1) (number (clocks_at s.opcode) (multiply_count w x))) (sym (is_last ws))
@@ -122,7 +134,7 @@ at_least n = let e : more n 1 ≡ n + 1 = more_sum n 1 in omega (arith, e)
 memory_product : (w r : ℕ) (m : Mode) (s : Run) → loads m S.Word ≡ 1
     → counted_serves (more (loads m S.Word) (more (extensions m S.Word) 1)) 0 (clocks_at s.opcode) ≡ true
     → Holds (ByLast s w) 0 1 0 (G.general (I.MuluMuls w r m) s)
-unfolding G.general G.with_source source_size has_source source_mode
+unfolding G.general G.with_source general_row
 memory_product w r m s one fits =
     let enough : counted_serves (suc (more (extensions m S.Word) 1)) 0 (clocks_at s.opcode) ≡ true =
     subst (λ n. counted_serves (more n (more (extensions m S.Word) 1)) 0 (clocks_at s.opcode) ≡ true) one fits in
@@ -132,7 +144,7 @@ memory_product w r m s one fits =
     (counted_at (suc (more (extensions m S.Word) 1)) (clocks_at s.opcode) enough (multiply_count w value), at_least (extensions m S.Word))))
 
 immediate_product : (w r : ℕ) (s : Run) → counted_serves 2 0 (clocks_at s.opcode) ≡ true → Holds (ByLast s w) 0 1 0 (G.general (I.MuluMuls w r M.Imm) s)
-unfolding G.general G.with_source source_size has_source source_mode place at_place place_of stepped load
+unfolding G.general G.with_source place at_place place_of stepped load general_row
 immediate_product w r s fits =
     fetch_holds (ByLast s w) 0 1 0 s _ (λ value below.
     multiplied (ByLast s w) 2 value w r M.Imm (value % 65536) (moved s) (
@@ -144,7 +156,7 @@ immediate_product w r s fits =
 
 register_product : (w r n : ℕ) (s : Run) → counted_serves 1 0 (clocks_at s.opcode) ≡ true
     → Lawful (I.MuluMuls w r (M.Dn n)) s (G.general (I.MuluMuls w r (M.Dn n)) s)
-unfolding G.general G.with_source source_size has_source source_mode place at_place place_of stepped load trap_ea
+unfolding G.general G.with_source place at_place place_of stepped load general_row trap_ea_by
 register_product w r n s fits =
     lawful_with (I.MuluMuls w r (M.Dn n)) s (G.general (I.MuluMuls w r (M.Dn n)) s) (multiply_count w (low S.Word (data_of s.regs n))) (λ ws. refl)
     (multiplied (With s (multiply_count w (low S.Word (data_of s.regs n)))) 1 0 w r (M.Dn n) (low S.Word (data_of s.regs n)) s

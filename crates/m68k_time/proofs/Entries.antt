@@ -12,6 +12,8 @@ use Rattle.m68k_decode.specs.declared.trap.Trap.TheVariants as T
 use Rattle.m68k_decode.specs.declared.under.Under.{Under}
 use Rattle.m68k_decode.specs.declared.under.Under.TheVariants as U
 use Rattle.m68k_decode.specs.Frames.{frame_of}
+use Rattle.m68k_decode.specs.Rows.{general_row}
+use Rattle.m68k_decode.specs.RowResults.{trap_ea_by}
 use Rattle.m68k_decode.specs.RowData.{trap_ea}
 use Rattle.m68k_decode.specs.Access.{End}
 use Rattle.m68k_decode.specs.Run.{Run, address_before}
@@ -101,7 +103,7 @@ even_ea M.PcIndex = refl
 even_ea M.Imm = refl
 
 even_trap_ea : (i : Instr) → trap_ea i % 2 ≡ 0
-unfolding trap_ea
+unfolding general_row trap_ea_by
 even_trap_ea (I.DivuDivs w r m) = even_ea m
 even_trap_ea (I.Chk r m) = even_ea m
 even_trap_ea i = refl

@@ -9,6 +9,7 @@ use Rattle.m68k_opcodes.specs.declared.instr.Instr.TheVariants as I
 use Rattle.m68k_opcodes.specs.Clocks.{Clocks, Always, Counted}
 use Rattle.m68k_opcodes.specs.Timing.{timing}
 use Rattle.m68k_decode.specs.Places.{extensions}
+use Rattle.m68k_decode.specs.Rows.{general_row}
 use Rattle.m68k_decode.specs.RowData.{dest_size, source_size, has_source, source_mode, has_dest, dest_mode, takes_old, writes}
 
 -- n more
@@ -73,7 +74,7 @@ is_dn (M.Dn r) = true
 is_dn _ = false
 
 unfoldable pub fits : Instr → Bool
-unfolding with_source with_dest result_words with_result dest_size source_size has_source source_mode has_dest dest_mode takes_old writes
+unfolding with_source with_dest result_words with_result general_row
 fits (I.Movep r o a) = true
 fits (I.Pea m) = always_serves (more 2 (more (extensions m S.Long) 1)) (timing (I.Pea m))
 fits (I.MovemToMemory z m) = counted_serves (more (extensions m z) 2) (words z) (timing (I.MovemToMemory z m))

@@ -18,6 +18,8 @@ use Rattle.m68k_decode.specs.Places.{extensions}
 use Rattle.m68k_decode.specs.Status.{flags_of, condition}
 use Rattle.m68k_decode.specs.Access.{Enter}
 use Rattle.m68k_decode.specs.Run.{Run, with_regs, moved, finish}
+use Rattle.m68k_decode.specs.Rows.{general_row}
+use Rattle.m68k_decode.specs.RowResults.{trap_ea_by}
 use Rattle.m68k_decode.specs.RowData.{trap_ea}
 use Rattle.m68k_decode.specs.Flow.{call, addressed_at, addressed, control_mode, control, branched, counted, link, unlinked, unlink}
 use Rattle.m68k_decode.specs.Flow.{returned, resumed, resuming, resume, stop, own, own_word, system, returning, branch}
@@ -69,7 +71,7 @@ abbrev serves_now : ℕ → Clocks → Type 0
 serves_now k c = always_serves k c ≡ true
 
 pub pea_row : (m : Mode) (s : Run) → clocks_at s.opcode ≡ timing (I.Pea m) → fits (I.Pea m) ≡ true → Lawful (I.Pea m) s (control (I.Pea m) s)
-unfolding fits control control_mode addressed_at trap_ea
+unfolding fits control control_mode addressed_at general_row trap_ea_by
 pea_row m s row h =
     let k : ℕ = more (extensions m S.Long) 1 in
     let enough : always_serves (suc (suc k)) (clocks_at s.opcode) ≡ true = subst (λ c. always_serves (suc (suc k)) c ≡ true) (sym row) h in
@@ -78,7 +80,7 @@ pea_row m s row h =
     write_holds (Same s) 0 k w _ S.Long _ _ _ (λ v. same_finish 0 (suc (suc k)) v _ enough))))
 
 pub lea_row : (r : ℕ) (m : Mode) (s : Run) → clocks_at s.opcode ≡ timing (I.Lea r m) → fits (I.Lea r m) ≡ true → Lawful (I.Lea r m) s (control (I.Lea r m) s)
-unfolding fits control control_mode addressed_at trap_ea
+unfolding fits control control_mode addressed_at general_row trap_ea_by
 lea_row r m s row h =
     let k : ℕ = more (extensions m S.Long) 1 in
     let enough : always_serves k (clocks_at s.opcode) ≡ true = subst (λ c. always_serves k c ≡ true) (sym row) h in
@@ -97,7 +99,7 @@ jumps_hold false k l at s regs h = same_finish 0 k l _ h
 
 pub jump_row : (which : ℕ) (m : Mode) (s : Run) → clocks_at s.opcode ≡ timing (I.JsrJmp which m) → fits (I.JsrJmp which m) ≡ true
     → Lawful (I.JsrJmp which m) s (control (I.JsrJmp which m) s)
-unfolding fits control control_mode addressed_at trap_ea
+unfolding fits control control_mode addressed_at general_row trap_ea_by
 jump_row which m s row h =
     let k : ℕ = more (extensions m S.Long) 1 in
     let enough : always_serves (if which == 0 then suc (suc k) else k) (clocks_at s.opcode) ≡ true =
@@ -110,7 +112,7 @@ jump_row which m s row h =
 
 pub link_row : (which r : ℕ) (s : Run) → clocks_at s.opcode ≡ timing (I.LinkUnlk which r)
     → Lawful (I.LinkUnlk which r) s (if which == 0 then own_word (I.LinkUnlk which r) s else unlink (I.LinkUnlk which r) r s)
-unfolding own_word own link unlink unlinked trap_ea
+unfolding own_word own link unlink unlinked general_row trap_ea_by
 link_row which r s row =
     let M : Bool → Type 0 = λ b. clocks_at s.opcode ≡ Always (if b then 16 else 12)
     → Holds (Same s) 0 1 0 (if b then own_word (I.LinkUnlk which r) s else unlink (I.LinkUnlk which r) r s) in
@@ -131,7 +133,7 @@ resume_holds i s h = read_holds (Same s) 0 1 0 s S.Word false _ _ (λ word v. re
 -- RESET, NOP, STOP, RTE
 pub system_row : (which : ℕ) (s : Run) → clocks_at s.opcode ≡ timing (I.ResetNopStopRte which) → fits (I.ResetNopStopRte which) ≡ true
     → Lawful (I.ResetNopStopRte which) s (system (I.ResetNopStopRte which) which s)
-unfolding fits system own_word own stop resumed trap_ea
+unfolding fits system own_word own stop resumed general_row trap_ea_by
 system_row zero s row h = lawful_same (I.ResetNopStopRte 0) s _ (same_finish 0 1 0 s (subst (λ c. always_serves 1 c ≡ true) (sym row) refl))
 system_row (suc zero) s row h = lawful_same (I.ResetNopStopRte 1) s _ (same_finish 0 1 0 s (subst (λ c. always_serves 1 c ≡ true) (sym row) refl))
 system_row (suc (suc zero)) s row h =
@@ -145,7 +147,7 @@ system_row (suc (suc (suc (suc n)))) s row h = absurd (grind (arith, nat_tests, 
 -- RTS, TRAPV, RTR
 pub returning_row : (which : ℕ) (s : Run) → clocks_at s.opcode ≡ timing (I.RtsTrapvRtr which) → fits (I.RtsTrapvRtr which) ≡ true
     → Lawful (I.RtsTrapvRtr which) s (returning (I.RtsTrapvRtr which) which s)
-unfolding fits returning returned resumed trap_ea
+unfolding fits returning returned resumed general_row trap_ea_by
 returning_row zero s row h =
     lawful_same (I.RtsTrapvRtr 0) s _ (read_holds (Same s) 0 1 0 s S.Long false _ _ (λ pc w.
     same_finish 0 3 w _ (subst (λ c. always_serves 3 c ≡ true) (sym row) refl)))
@@ -176,7 +178,7 @@ counted_holds false true l s a b c row = with_finish 2 2 l (with_regs s b) dbcc_
 counted_holds false false l s a b c row = with_finish 1 2 l (with_regs s c) dbcc_clocks row 1 (serves_takes 2 10 refl)
 
 pub dbcc_row : (c r : ℕ) (s : Run) → clocks_at s.opcode ≡ timing (I.Dbcc c r) → Lawful (I.Dbcc c r) s (own_word (I.Dbcc c r) s)
-unfolding own_word own counted trap_ea data_of
+unfolding own_word own counted data_of general_row trap_ea_by
 dbcc_row c r s row =
     let holds : Bool = condition c (flags_of s.regs.sr) in
     let over : Bool = data_of s.regs r % 65536 == 0 in
@@ -232,7 +234,7 @@ branched_holds false bra bsr false long l at s regs row h =
 
 pub branch_row : (which c d : ℕ) (s : Run) → clocks_at s.opcode ≡ timing (I.Branch which c d) → fits (I.Branch which c d) ≡ true
     → Lawful (I.Branch which c d) s (branch (I.Branch which c d) which c d s)
-unfolding fits branch own_word own branched trap_ea
+unfolding fits branch own_word own branched general_row trap_ea_by
 branch_row which c d s row h =
     let holds : Bool = condition c (flags_of s.regs.sr) in
     let M : Bool → Type 0 = λ long. Holds (With s (branch_outcome holds long)) 0 1 0

@@ -20,7 +20,10 @@ use Rattle.m68k_decode.specs.Registers.{word32}
 use Rattle.m68k_decode.specs.Places.{extensions}
 use Rattle.m68k_decode.specs.Access.{Prog, End}
 use Rattle.m68k_decode.specs.Run.{Run, with_regs, moved, fetch, address_after}
-use Rattle.m68k_decode.specs.RowData.{ones, extended, trap_ea}
+use Rattle.m68k_decode.specs.RowWords.{ones, extended}
+use Rattle.m68k_decode.specs.Rows.{general_row}
+use Rattle.m68k_decode.specs.RowResults.{trap_ea_by}
+use Rattle.m68k_decode.specs.RowData.{trap_ea}
 use Rattle.m68k_decode.specs.General.{is_program}
 use Rattle.m68k_decode.specs.Lists.{list_mode, list_size, unstepped, numbers, stored_next, with_register, list_ended, stores}
 use Rattle.m68k_decode.specs.Lists.{loads, listing, several, scatter, gathered, gather, bytes_moved, spread}
@@ -185,7 +188,7 @@ masked i s p none counts h =
 
 pub to_memory_row : (z : Size) (m : Mode) (s : Run) → clocks_at s.opcode ≡ timing (I.MovemToMemory z m) → fits (I.MovemToMemory z m) ≡ true
     → Lawful (I.MovemToMemory z m) s (own_word (I.MovemToMemory z m) s)
-unfolding fits own_word own trap_ea
+unfolding fits own_word own general_row trap_ea_by
 to_memory_row z m s row h =
     masked (I.MovemToMemory z m) s _ refl (λ ws mask. refl) (λ P mask closes.
     to_memory_holds P 2 mask z m mask (moved s) (to_memory_mode m z h)
@@ -194,7 +197,7 @@ to_memory_row z m s row h =
 
 pub to_registers_row : (z : Size) (m : Mode) (s : Run) → clocks_at s.opcode ≡ timing (I.MovemToRegisters z m) → fits (I.MovemToRegisters z m) ≡ true
     → Lawful (I.MovemToRegisters z m) s (own_word (I.MovemToRegisters z m) s)
-unfolding fits own_word own trap_ea
+unfolding fits own_word own general_row trap_ea_by
 to_registers_row z m s row h =
     masked (I.MovemToRegisters z m) s _ refl (λ ws mask. refl) (λ P mask closes.
     to_registers_holds P 2 mask z m mask (moved s) (to_registers_mode m z h)
@@ -248,6 +251,6 @@ bytes_hold r o a l at s row =
     scatter_holds (Same s) 2 l 4 at _ s (λ w x. always_takes 6 c (back 6 (four_bytes ((o == 0) || (o == 2)) (long_from o not_0 not_2))) 0 x))))
 
 pub bytes_row : (r o a : ℕ) (s : Run) → clocks_at s.opcode ≡ timing (I.Movep r o a) → Lawful (I.Movep r o a) s (own_word (I.Movep r o a) s)
-unfolding own_word own spread trap_ea
+unfolding own_word own spread general_row trap_ea_by
 bytes_row r o a s row =
     lawful_same (I.Movep r o a) s _ (fetch_holds (Same s) 0 1 0 s _ (λ w below. bytes_hold r o a w _ (moved s) row))

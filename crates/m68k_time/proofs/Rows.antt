@@ -12,7 +12,10 @@ use Rattle.m68k_decode.specs.declared.trap.Trap.TheVariants as T
 use Rattle.m68k_decode.specs.Places.{extensions}
 use Rattle.m68k_decode.specs.Results.{low}
 use Rattle.m68k_decode.specs.Run.{Run}
-use Rattle.m68k_decode.specs.RowData.{dest_size, source_size, has_source, source_mode, has_dest, dest_mode, takes_old, trap_of, trap_ea, is_outside}
+use Rattle.m68k_decode.specs.RowWords.{is_outside}
+use Rattle.m68k_decode.specs.Rows.{general_row}
+use Rattle.m68k_decode.specs.RowResults.{trap_by, trap_ea_by}
+use Rattle.m68k_decode.specs.RowData.{trap_of, trap_ea}
 use Rattle.m68k_decode.specs.General as G
 use Rattle.m68k_time.proofs.Fits.{more, loads, with_source, with_dest, with_result, always_serves}
 use Rattle.m68k_time.proofs.General.{Breaks, general_holds}
@@ -45,7 +48,7 @@ check_breaks m true = (refl, operand_accesses m)
 check_breaks m false = tt
 
 breaks : (i : Instr) (value old : ℕ) → Breaks (trap_ea i) (with_dest i (with_source i 1)) (trap_ea i) (trap_of i value old)
-unfolding trap_ea trap_of with_source with_dest source_size source_mode has_source has_dest takes_old dest_mode dest_size
+unfolding with_source with_dest general_row trap_by trap_ea_by
 breaks (I.DivuDivs w r m) value old = division_breaks m (low S.Word value == 0)
 breaks (I.Chk r m) value old = check_breaks m (is_outside value old)
 breaks i value old = tt

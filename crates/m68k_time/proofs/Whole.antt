@@ -15,6 +15,8 @@ use Rattle.m68k_decode.specs.Registers.{has_supervisor, data_of}
 use Rattle.m68k_decode.specs.Status.{needs_supervisor}
 use Rattle.m68k_decode.specs.Access.{Prog, End, Enter}
 use Rattle.m68k_decode.specs.Run.{Run, moved}
+use Rattle.m68k_decode.specs.Rows.{general_row}
+use Rattle.m68k_decode.specs.RowResults.{trap_ea_by}
 use Rattle.m68k_decode.specs.RowData.{trap_ea}
 use Rattle.m68k_decode.specs.Walk.{refused, permitted, execute, opcode_read, instruction, begun, program}
 use Rattle.m68k_time.specs.Time.{ComesTo, Takes, outcome, InstructionTime, ExceptionTime, ResetTime, StoppedTime, is_address_error}
@@ -32,7 +34,7 @@ use Rattle.m68k_time.proofs.Entries.{exception_takes, reset_takes}
 -- ---- what follows an opcode
 
 permitted_lawful : (i : Instr) (s : Run) → clocks_at s.opcode ≡ timing i → fits i ≡ true → Lawful i s (permitted i s)
-unfolding permitted fits refused trap_ea
+unfolding permitted fits refused general_row trap_ea_by
 permitted_lawful (I.Movep r o a) s row h = bytes_row r o a s row
 permitted_lawful (I.Pea m) s row h = pea_row m s row h
 permitted_lawful (I.MovemToMemory z m) s row h = to_memory_row z m s row h

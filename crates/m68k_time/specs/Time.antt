@@ -18,7 +18,8 @@ use Rattle.m68k_decode.specs.declared.under.Under.TheVariants as U
 use Rattle.m68k_decode.specs.Registers.{data_of}
 use Rattle.m68k_decode.specs.Results.{low, one_if}
 use Rattle.m68k_decode.specs.Status.{flags_of, condition}
-use Rattle.m68k_decode.specs.RowData.{ones, turns, eight_if_zero, trap_ea}
+use Rattle.m68k_decode.specs.RowWords.{ones, turns, eight_if_zero}
+use Rattle.m68k_decode.specs.RowData.{trap_ea}
 use Rattle.m68k_decode.specs.Access.{Prog, Ask, End, Enter, Halt, Ends, idle_clocks}
 use Rattle.m68k_decode.specs.Entries.{exception_clocks}
 use Rattle.m68k_decode.specs.Walk.{Stage, stage, program, next, begin, advance}

@@ -1,4 +1,9 @@
+use Rattle.std.proofs.Common.{sym}
 use Rattle.m68k_exec.proofs.fetched.Fetched.clocks.Goals as goal
+
+-- the number that is kept is the one of the struct's opcode
+pub returns-then-extra-eq0 : goal.returns-then-extra-eq0
+returns-then-extra-eq0 c = rw c.if-extra-eq0.true (sym c.args.self.now.ready)
 
 -- the opcode of the struct is the one of the call's clause
 pub returns : goal.returns

@@ -1,0 +1,60 @@
+//! Opcodes met again, and more of them than are kept ready.
+
+use super::{Ask, Case, Cpu, at_code, memory, registers};
+
+/// A case of no words: the test gives the opcodes itself.
+static NOTHING: Case = Case {
+    set: &[],
+    code: &[],
+    wants: &[],
+    clocks: 0,
+    after: &[],
+};
+
+/// Gives a word to the access that is asked for.
+fn give(cpu: &mut Cpu, word: u16) {
+    if cpu.ask() != Ask::Halted {
+        let _level = cpu.answer(word, 0);
+    }
+}
+
+/// MOVEQ of a byte to a register.
+fn moveq(register: u16, byte: u16) -> u16 {
+    0x7000 + ((register & 7) << 9) + (byte & 0xff)
+}
+
+/// Each MOVEQ, 2048 opcodes, twice.
+#[test]
+fn all_opcodes_of_moveq(rt: HostRuntime) {
+    let mut cpu = at_code(&mut memory(&NOTHING, &registers(&NOTHING)));
+    for _ in 0..2 {
+        for register in 0..8u16 {
+            for byte in 0..256u16 {
+                let long = if byte < 0x80 {
+                    u32::from(byte)
+                } else {
+                    0xffff_ff00 + u32::from(byte)
+                };
+                give(&mut cpu, moveq(register, byte));
+                assert_eq!(rt; cpu.regs().d[(register & 7) as usize], long);
+            }
+        }
+    }
+}
+
+/// MOVEQ #1,D0 and MOVEQ #11h,D2, which are kept at the same place, in turns.
+#[test]
+fn opcodes_that_share_a_place(rt: HostRuntime) {
+    let mut cpu = at_code(&mut memory(&NOTHING, &registers(&NOTHING)));
+    for (opcode, d0, d2) in [
+        (0x7001, 1, 0xffff_fffe),
+        (0x7411, 1, 0x11),
+        (0x7000, 0, 0x11),
+        (0x7410, 0, 0x10),
+        (0x7001, 1, 0x10),
+        (0x7411, 1, 0x11),
+    ] {
+        give(&mut cpu, opcode);
+        assert!(rt; cpu.regs().d[0] == d0 && cpu.regs().d[2] == d2);
+    }
+}
