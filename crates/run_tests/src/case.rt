@@ -219,14 +219,14 @@ fn parts(alloc: Global, run: &str) -> Result<Vec<Part>, Fail> {
     let mut parts = Vec::new(alloc);
     for line in run.lines() {
         if let Some(told_part) = told(line, "part") {
-            parts.push(part(told_part)?)?;
+            parts.push(read_part(told_part)?)?;
         }
     }
     Ok(parts)
 }
 
 /// A part, of four numbers and a colour.
-fn part(text: &str) -> Result<Part, Fail> {
+fn read_part(text: &str) -> Result<Part, Fail> {
     let (top, rest) = text.split_once(' ').ok_or("a row is told")?;
     let (bottom, rest) = rest.split_once(' ').ok_or("a row is told")?;
     let (left, rest) = rest.split_once(' ').ok_or("a column is told")?;

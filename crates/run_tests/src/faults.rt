@@ -64,7 +64,7 @@ struct Fault<'a> {
 }
 
 /// What a line tells.
-fn fault(line: &str) -> Option<Fault<'_>> {
+fn read_fault(line: &str) -> Option<Fault<'_>> {
     let (call, rest) = line.split_once(' ')?;
     let (status, rest) = rest.split_once(' ')?;
     let (frames, rest) = rest.split_once(' ')?;
@@ -141,7 +141,7 @@ fn check_faults<R: Threads + Wait + Abort + Clone + Drop + Send + Sync + 'static
 ) -> Result<(), Fail> {
     let mut calls = 0u64;
     for line in table.lines() {
-        if let Some(fault) = fault(line) {
+        if let Some(fault) = read_fault(line) {
             assert_eq!(rt; number(fault.call)?, calls);
             calls = calls.saturating_add(1);
             assert_eq!(rt;

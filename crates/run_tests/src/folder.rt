@@ -1,7 +1,7 @@
 //! A run on real files, whose frames are read back.
 
 use crate::case::{frames, image, memory, script, trace};
-use crate::copper::BARS;
+use crate::copper_lists::BARS;
 use ocs_io::{Folder, Place};
 use ocs_run::{NoGate, ocs_main};
 use std::test::Fail;

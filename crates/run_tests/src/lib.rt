@@ -9,7 +9,7 @@ mod caps;
 #[cfg(test)]
 mod case;
 #[cfg(test)]
-mod copper;
+mod copper_lists;
 #[cfg(test)]
 mod faults;
 #[cfg(test)]
@@ -31,7 +31,7 @@ mod processor;
 #[cfg(test)]
 mod scenes;
 #[cfg(test)]
-mod sprites;
+mod sprite_pictures;
 #[cfg(test)]
 mod told;
 #[cfg(test)]
