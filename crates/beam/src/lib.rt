@@ -67,6 +67,3 @@ fn last_line(lof: bool) -> u16
 {
     if lof { 312 } else { 311 }
 }
-
-#[cfg(test)]
-mod tests;

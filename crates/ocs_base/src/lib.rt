@@ -12,6 +12,3 @@ pub use beam::{Beam, Clock, Colour};
 pub use memory::OutOfMemory;
 pub use reg::Reg;
 pub use script::{Act, At, Script, System};
-
-#[cfg(test)]
-mod tests;
