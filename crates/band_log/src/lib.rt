@@ -17,6 +17,3 @@ pub use room::Room;
 pub use run::Run;
 pub use serial_bands::Event;
 pub use serial_model::Denise;
-
-#[cfg(test)]
-mod tests;

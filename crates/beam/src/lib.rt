@@ -88,6 +88,3 @@ pub fn last_clock(system: System, v: u16) -> u16
         (System::Pal, _) => 226,
     }
 }
-
-#[cfg(test)]
-mod tests;

@@ -220,6 +220,3 @@ fn modulo_bytes(word: u16) -> u32
     };
     bytes / 2 * 2
 }
-
-#[cfg(test)]
-mod tests;

@@ -81,6 +81,3 @@ impl Blit {
         }
     }
 }
-
-#[cfg(test)]
-mod tests;

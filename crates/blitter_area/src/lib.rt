@@ -9,6 +9,3 @@ mod data_path;
 
 pub use area::AreaBlit;
 pub use blit_words::{BlitRegs, SlotAsk};
-
-#[cfg(test)]
-mod tests;

@@ -7,6 +7,3 @@ mod points;
 
 pub use blit_words::{BlitRegs, SlotAsk};
 pub use line::LineBlit;
-
-#[cfg(test)]
-mod tests;

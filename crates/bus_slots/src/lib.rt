@@ -58,6 +58,3 @@ fn blitter_or_processor(s: &SlotState) -> Owner
         Owner::Free
     }
 }
-
-#[cfg(test)]
-mod tests;

@@ -83,6 +83,3 @@ fn among_pairs(a: bool, b: bool, c: bool, d: bool) -> u16
         + 16 * (b & d) as u16
         + 32 * (c & d) as u16
 }
-
-#[cfg(test)]
-mod tests;

@@ -226,6 +226,3 @@ fn holds(beam: &Beam, busy: bool, first: u16, second: u16) -> bool
     let place = (beam.v as u32 % 256) * 256 + beam.h as u32 / 2 * 2;
     place & mask as u32 >= (first & 0xfffe & mask) as u32 && (second >= 0x8000 || !busy)
 }
-
-#[cfg(test)]
-mod tests;

@@ -13,6 +13,3 @@ pub use chip::Chip;
 pub use steps::Steps;
 pub use view::MemView;
 pub use write::Write;
-
-#[cfg(test)]
-mod tests;

@@ -13,6 +13,3 @@ pub use beam::{Beam, Clock, Colour, time_order};
 pub use memory::OutOfMemory;
 pub use reg::Reg;
 pub use script::{Act, At, Script, System};
-
-#[cfg(test)]
-mod tests;

@@ -17,6 +17,3 @@ pub mod window;
 mod words;
 
 pub use painter::Painter;
-
-#[cfg(test)]
-mod tests;

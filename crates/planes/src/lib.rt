@@ -7,6 +7,3 @@ mod shown;
 
 pub use load::Load;
 pub use loads::{Loads, plane_bits, plane_span};
-
-#[cfg(test)]
-mod tests;

@@ -8,6 +8,3 @@ mod playfield;
 pub use pixel::{Pixel, colour};
 pub use planes::plane_count;
 pub use playfield::is_sprite_hidden;
-
-#[cfg(test)]
-mod tests;

@@ -6,6 +6,3 @@ mod table;
 
 pub use registers::Regs;
 pub use serial_model::{Effect, Live};
-
-#[cfg(test)]
-mod tests;

@@ -152,6 +152,3 @@ fn fetch(kind: SpriteKind, sprite: u8, second: bool, regs: &mut Regs) -> Option<
     regs.set_pointer(high, Addr::at(at.raw() + 2));
     Some(ask)
 }
-
-#[cfg(test)]
-mod tests;

@@ -1,9 +1,8 @@
 -- The pixel in front by the bytes is that by the values.
-use Rattle.std.proofs.Common.{◌≡◌, ℕ, zero, suc, ◌+◌, ◌*◌, ◌/◌, ◌%◌, ◌^◌, ◌≤◌, Bool, true, false, ◌&&◌, nat_eq, bit_or, List, Option, None, Some, slice_index, refl, sym, ◌∙◌, ap, arith}
+use Rattle.std.proofs.Common.{◌≡◌, ℕ, zero, suc, ◌+◌, ◌*◌, ◌/◌, ◌%◌, ◌^◌, ◌≤◌, Bool, true, false, nat_eq, bit_or, List, Option, None, Some, slice_index, refl, sym, ◌∙◌, ap, arith}
 use Rattle.std.specs.Bool.{if◌then◌else◌}
 use Rattle.std.specs.Option.{option_or}
 use Rattle.std.proofs.lemmas.Nat.{le_or_l, le_or_r}
-use Rattle.std.proofs.lemmas.Bool.Decides.{nat_tests}
 use Rattle.sprites.specs.declared.pixel.SpritePixel.{SpritePixel}
 use Rattle.sprites.specs.SpriteFront.{pixel_of, pair_pixel, front_pixel}
 use Rattle.sprite_rows.specs.PairFront.{pixel_of_byte, front_of_bytes}
@@ -101,34 +100,6 @@ are_zero a b c d none =
       third = or-right (bit_or a b) c abc;
       fourth = or-right (bit_or (bit_or a b) c) d none;
     }
-
-pub each_zero : (a b c d : ℕ) → (nat_eq a 0 && nat_eq b 0 && nat_eq c 0 && nat_eq d 0) ≡ true → AreZero a b c d
-each_zero a b c d is = record {
-  first = grind (arith, nat_tests);
-  second = grind (arith, nat_tests);
-  third = grind (arith, nat_tests);
-  fourth = grind (arith, nat_tests);
-}
-
--- whether they are
-all_by : (a b c d : ℕ) (t u : Bool) → nat_eq (bit_or (bit_or (bit_or a b) c) d) 0 ≡ t →
-    (nat_eq a 0 && nat_eq b 0 && nat_eq c 0 && nat_eq d 0) ≡ u → t ≡ u
-all_by a b c d true true together each = refl
-all_by a b c d false false together each = refl
-all_by a b c d true false together each =
-    let none : bit_or (bit_or (bit_or a b) c) d ≡ 0 = grind (arith, nat_tests) in
-    let zeros : AreZero a b c d = are_zero a b c d none in
-    let all : (nat_eq a 0 && nat_eq b 0 && nat_eq c 0 && nat_eq d 0) ≡ true =
-    rw (zeros.first, zeros.second, zeros.third, zeros.fourth) refl in
-    cc
-all_by a b c d false true together each =
-    let zeros : AreZero a b c d = each_zero a b c d each in
-    let none : nat_eq (bit_or (bit_or (bit_or a b) c) d) 0 ≡ true =
-    rw (zeros.first, zeros.second, zeros.third, zeros.fourth) refl in
-    cc
-
-pub all_blank : (a b c d : ℕ) → nat_eq (bit_or (bit_or (bit_or a b) c) d) 0 ≡ (nat_eq a 0 && nat_eq b 0 && nat_eq c 0 && nat_eq d 0)
-all_blank a b c d = all_by a b c d _ _ refl refl
 
 pub none_in_front : (a b c d attached : ℕ) → bit_or (bit_or (bit_or a b) c) d ≡ 0 → None ≡ front_of_bytes a b c d attached
 none_in_front a b c d attached none =

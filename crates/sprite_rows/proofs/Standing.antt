@@ -1,6 +1,6 @@
 -- Rows that stand for the sprites' last starts.
 use Rattle.std.proofs.Common.{◌≡◌, ◌≢◌, ℕ, zero, suc, ◌+◌, ◌-◌, ◌*◌, ◌/◌, ◌%◌, ◌<◌, ◌≤◌, Bool, true, false, nat_eq, nat_lt, List, [], ◌∷◌, Option, None, Some, length, get_or, slice_index, replicate, refl, sym, ◌∙◌, ap, subst, arith}
-use Rattle.std.specs.Prelude.{slice_index_or, IsTrue, ◌↔◌}
+use Rattle.std.specs.Prelude.{slice_index_or}
 use Rattle.std.specs.Bool.{if◌then◌else◌}
 use Rattle.std.proofs.Math.ListN.{set, get_or-eq_default, length-set}
 use Rattle.std.proofs.lemmas.List.{get_or-replicate, length-replicate, get_or-set_same, get_or-set_other}
@@ -10,13 +10,13 @@ use Rattle.sprites.specs.SpriteValue.{value_of}
 use Rattle.sprites.specs.SpriteFront.{front_pixel}
 use Rattle.collisions.specs.Collision.{number_of}
 use Rattle.sprite_rows.specs.declared.rows.SpriteRows.{SpriteRows}
-use Rattle.sprite_rows.specs.Laid.{byte_of, is_blank_at, with_value, laid_byte}
+use Rattle.sprite_rows.specs.Laid.{byte_of, with_value, laid_byte}
 use Rattle.sprite_rows.specs.WordValues.{word_values}
 use Rattle.sprite_rows.specs.PairFront.{front_of_bytes}
 use Rattle.sprite_rows.specs.PairCollision.{is_byte_present, present_pairs}
 use Rattle.sprite_rows.specs.LineValues.{value_at, values_at, pair_byte, IsRowsOf, StartsBy, SpriteStartsBy}
 use Rattle.sprite_rows.proofs.LaidBytes.{is_among}
-use Rattle.sprite_rows.proofs.FrontByBytes.{AreZero, each_zero, front_by_bytes}
+use Rattle.sprite_rows.proofs.FrontByBytes.{front_by_bytes}
 use Rattle.sprite_rows.proofs.Meeting.{present_by_bytes}
 use Rattle.sprite_rows.proofs.Values.{kept-none, sprite_value-le, value_at-none, value_at-past, value_at-other, value_at-new, value_of-within, value_of-past}
 
@@ -91,27 +91,6 @@ present_at x rows runs con are lt =
     present_by_bytes con (values_at x runs) _ _ _ _ (values_at-le x runs)
     (are.bytes 0 x (omega arith) (omega arith) lt) (are.bytes 1 x (omega arith) (omega arith) lt)
     (are.bytes 2 x (omega arith) (omega arith) lt) (are.bytes 3 x (omega arith) (omega arith) lt)
-
--- where the four bytes are 0 no sprite shows
-record PairIsClear (x p : ℕ) (runs : List (Option Start)) : Type 0 where
-  even : value_at x runs (2 * p) ≡ 0
-  odd : value_at x runs (2 * p + 1) ≡ 0
-
-pair_is_clear : (x p : ℕ) (rows : SpriteRows) (runs : List (Option Start)) → IsRowsOf x rows runs → p < 4 → x < 512 →
-    byte_of rows.pairs p x ≡ 0 → PairIsClear x p runs
-pair_is_clear x p rows runs are pair lt none =
-    let sum : byte_of rows.pairs p x ≡ 4 * value_at x runs (2 * p + 1) + value_at x runs (2 * p) = are.bytes p x pair (omega arith) lt in
-    record { even = omega arith; odd = omega arith }
-
-pub clear_at : (x : ℕ) (rows : SpriteRows) (runs : List (Option Start)) → IsRowsOf x rows runs → x < 512 →
-    AreZero (byte_of rows.pairs 0 x) (byte_of rows.pairs 1 x) (byte_of rows.pairs 2 x) (byte_of rows.pairs 3 x) →
-    values_at x runs ≡ replicate 8 0
-clear_at x rows runs are lt zeros =
-    let first : PairIsClear x 0 runs = pair_is_clear x 0 rows runs are (omega arith) lt zeros.first in
-    let second : PairIsClear x 1 runs = pair_is_clear x 1 rows runs are (omega arith) lt zeros.second in
-    let third : PairIsClear x 2 runs = pair_is_clear x 2 rows runs are (omega arith) lt zeros.third in
-    let fourth : PairIsClear x 3 runs = pair_is_clear x 3 rows runs are (omega arith) lt zeros.fourth in
-    rw (first.even, first.odd, second.even, second.odd, third.even, third.odd, fourth.even, fourth.odd) refl
 
 -- rows of zeros
 zeros_by : (n x : ℕ) (b : Bool) → nat_lt x n ≡ b → slice_index (replicate n 0) x ≡ 0
@@ -260,33 +239,3 @@ started pairs runs row values s x a b p y sprite four by are le words is =
     started_by pairs runs row s x a b p y sprite four by are le
     (is ∙ ap (λ (l : List ℕ). laid_byte (with_value (nat_eq (s % 2) 0)) (slice_index_or pairs (s / 2) []) x l 16 y) words)
     (nat_eq p (s / 2)) refl
-
--- no sprite shows from the rows' end on
-pub clear_from : (x y : ℕ) (rows : SpriteRows) (runs : List (Option Start)) → IsRowsOf x rows runs → rows.end ≤ x → x ≤ y → y < 512 →
-    values_at y runs ≡ replicate 8 0
-clear_from x y rows runs are end le lt =
-    let from : rows.end ≤ y = omega arith in
-    clear_at y rows runs (IsRowsOf-later x y rows runs are le) lt
-    (record { first = rows.blank 0 y from; second = rows.blank 1 y from; third = rows.blank 2 y from; fourth = rows.blank 3 y from })
-
--- whether no sprite shows at a position, by whether its four bytes are 0
-pair_is_blank : (x p : ℕ) (rows : SpriteRows) (runs : List (Option Start)) → IsRowsOf x rows runs → p < 4 → x < 512 →
-    value_at x runs (2 * p) ≡ 0 → value_at x runs (2 * p + 1) ≡ 0 → byte_of rows.pairs p x ≡ 0
-pair_is_blank x p rows runs are pair lt even odd = omega (arith, are.bytes p x pair (omega arith) lt, even, odd)
-
-at_blank : (x : ℕ) (rows : SpriteRows) (runs : List (Option Start)) → IsRowsOf x rows runs → x < 512 → values_at x runs ≡ replicate 8 0 →
-    is_blank_at x rows.pairs ≡ true
-at_blank x rows runs are lt none =
-    let value : (k : ℕ) → slice_index (values_at x runs) k ≡ slice_index (replicate 8 0) k = λ (k : ℕ). ap (λ (l : List ℕ). slice_index l k) none in
-    let first : byte_of rows.pairs 0 x ≡ 0 = pair_is_blank x 0 rows runs are (omega arith) lt (value 0) (value 1) in
-    let second : byte_of rows.pairs 1 x ≡ 0 = pair_is_blank x 1 rows runs are (omega arith) lt (value 2) (value 3) in
-    let third : byte_of rows.pairs 2 x ≡ 0 = pair_is_blank x 2 rows runs are (omega arith) lt (value 4) (value 5) in
-    let fourth : byte_of rows.pairs 3 x ≡ 0 = pair_is_blank x 3 rows runs are (omega arith) lt (value 6) (value 7) in
-    rw (first, second, third, fourth) refl
-
-pub blank_is_clear : (x : ℕ) (rows : SpriteRows) (runs : List (Option Start)) (b : Bool) → IsRowsOf x rows runs → x < 512 →
-    b ≡ is_blank_at x rows.pairs → IsTrue b ↔ (values_at x runs ≡ replicate 8 0)
-blank_is_clear x rows runs b are lt is = (
-  λ holds. clear_at x rows runs are lt (each_zero _ _ _ _ (sym is ∙ holds)),
-  λ none. is ∙ at_blank x rows runs are lt none,
-)

@@ -1,13 +1,9 @@
 -- Values laid over the bytes of a pair.
-use Rattle.std.specs.Prelude.{ℕ, ◌+◌, ◌-◌, ◌*◌, ◌/◌, ◌%◌, ◌==◌, ◌&&◌, Bool, nat_le, nat_lt, if◌then◌else◌, List, [], slice_index, slice_index_or}
+use Rattle.std.specs.Prelude.{ℕ, ◌+◌, ◌-◌, ◌*◌, ◌/◌, ◌%◌, ◌&&◌, Bool, nat_le, nat_lt, if◌then◌else◌, List, [], slice_index, slice_index_or}
 
 -- the byte of a pair at a position
 abbrev pub byte_of : List (List ℕ) → ℕ → ℕ → ℕ
 byte_of pairs p x = slice_index (slice_index_or pairs p []) x
-
--- whether all four pairs have a byte of 0 there
-abbrev pub is_blank_at : ℕ → List (List ℕ) → Bool
-is_blank_at x pairs = (byte_of pairs 0 x == 0) && (byte_of pairs 1 x == 0) && (byte_of pairs 2 x == 0) && (byte_of pairs 3 x == 0)
 
 -- a byte with another value of its even or its odd sprite
 abbrev pub with_even : ℕ → ℕ → ℕ

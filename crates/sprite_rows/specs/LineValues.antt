@@ -1,5 +1,5 @@
 -- The rows of a line's sprite pixels, against the last start of each sprite on that line.
-use Rattle.std.specs.Prelude.{◌≡◌, ◌≤◌, ◌<◌, ℕ, ◌+◌, ◌*◌, List, [], ◌∷◌, Option, Some, None, length, replicate, map, slice_index_or}
+use Rattle.std.specs.Prelude.{◌≡◌, ◌≤◌, ◌<◌, ℕ, ◌+◌, ◌*◌, List, [], ◌∷◌, Option, Some, None, length, map, slice_index_or}
 use Rattle.sprites.specs.declared.runs.Start.{Start}
 use Rattle.sprites.specs.SpriteValue.{sprite_value, kept_start}
 use Rattle.sprite_rows.specs.declared.rows.SpriteRows.{SpriteRows}
@@ -30,7 +30,3 @@ pair_byte x runs p = 4 * value_at x runs (2 * p + 1) + value_at x runs (2 * p)
 -- From a position on the rows have the bytes of what runs there. What they have before it says nothing.
 pub record IsRowsOf (from : ℕ) (rows : SpriteRows) (runs : List (Option Start)) : Type 0 where
   pub bytes : (p x : ℕ) → p < 4 → from ≤ x → x < 512 → byte_of rows.pairs p x ≡ pair_byte x runs p
-
--- from a position on no sprite shows
-abbrev pub IsClearFrom : ℕ → List (Option Start) → Type 0
-IsClearFrom from runs = (x : ℕ) → from ≤ x → x < 512 → values_at x runs ≡ replicate 8 0

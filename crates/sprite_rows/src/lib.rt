@@ -11,6 +11,3 @@ pub mod words;
 pub use collision::{collisions, playfield_worth};
 pub use rows::SpriteRows;
 pub use words::bits_as_bytes;
-
-#[cfg(test)]
-mod tests;

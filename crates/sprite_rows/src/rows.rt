@@ -5,22 +5,19 @@ ghost use Rattle.std.specs.Prelude.{
   ◌≤◌,
   ◌<◌,
   ◌+◌,
-  ◌↔◌,
   ℕ,
   List,
   Option,
   Some,
   None,
   IfSome,
-  IsTrue,
   max,
-  nat_le,
   replicate,
   slice_set,
 };
 ghost use Rattle.sprites.specs.declared.runs.Start.{Start};
 ghost use Rattle.sprites.specs.SpriteFront.{front_pixel};
-ghost use Rattle.sprite_rows.specs.Laid.{byte_of, is_blank_at};
+ghost use Rattle.sprite_rows.specs.Laid.{byte_of};
 ghost use Rattle.sprite_rows.specs.PairCollision.{present_pairs};
 
 use crate::collision::present_in;
@@ -52,7 +49,6 @@ impl SpriteRows {
       StartsBy,
       SpriteStartsBy,
       IsRowsOf,
-      IsClearFrom,
     };
 
     /// Rows on which no words run, as at a line's start.
@@ -97,26 +93,6 @@ impl SpriteRows {
         let row = &mut self.pairs[(sprite / 2) as usize];
         lay(row, sprite % 2 == 0, x as usize, values.as_flattened());
         self.end = self.end.max(x as usize + 16);
-    }
-
-    /// Whether no words were laid at position `x` or a later one, and so no sprite shows there.
-    pub fn is_clear_from(&self, x: u16) -> bool
-        ensures known { result ≡ nat_le self.now.end x }
-        ensures clear { IsTrue result → (runs : List (Option Start)) → IsRowsOf x self.now runs →
-            IsClearFrom x runs }
-    {
-        x as usize >= self.end
-    }
-
-    /// Whether no sprite shows at position `x`.
-    pub fn is_clear_at(&self, x: u16) -> bool
-        requires { x ≤ 511 }
-        ensures bytes { result ≡ is_blank_at x self.now.pairs }
-        ensures clear { (runs : List (Option Start)) → IsRowsOf x self.now runs →
-            (IsTrue result ↔ (values_at x runs ≡ replicate 8 0)) }
-    {
-        let at = x as usize;
-        self.pairs[0][at] | self.pairs[1][at] | self.pairs[2][at] | self.pairs[3][at] == 0
     }
 
     /// The pixel of the sprite in front at position `x`, None where no sprite shows: lower-numbered

@@ -6,6 +6,3 @@ pub mod runs;
 
 pub use pixel::{SpritePixel, front};
 pub use runs::{Runs, Start};
-
-#[cfg(test)]
-mod tests;

@@ -1,0 +1,196 @@
+//! Area blits worked by hand.
+
+ghost use Rattle.std.specs.Prelude.{◌≡◌};
+
+use blitter_area::{AreaBlit, BlitRegs, SlotAsk};
+use ocs_base::Addr;
+
+/// Registers of a blit from A to D, of one word, with its pointers at 10, 20, 30 and 40.
+fn registers() -> BlitRegs
+    ensures { result.con1 ≡ 0 }
+{
+    BlitRegs {
+        con0: 0x09f0,
+        con1: 0,
+        afwm: 0xffff,
+        alwm: 0xffff,
+        size: 0x0041,
+        adat: 0,
+        bdat: 0,
+        cdat: 0,
+        amod: 0,
+        bmod: 0,
+        cmod: 0,
+        dmod: 0,
+        apt: Addr::at(0x10),
+        bpt: Addr::at(0x20),
+        cpt: Addr::at(0x30),
+        dpt: Addr::at(0x40),
+        aptl: 0x10,
+    }
+}
+
+/// The last word that the blit writes where reads give the words of a list in order.
+fn written(blit: &mut AreaBlit, reads: &[u16]) -> Option<u16> {
+    let mut given = 0;
+    let mut last = None;
+    for _ in 0..40 {
+        match blit.next() {
+            SlotAsk::Read { .. } => {
+                blit.give(reads.get(given % 8).copied().unwrap_or(0));
+                given = given % 8 + 1;
+            }
+            SlotAsk::Write { word, .. } => {
+                last = Some(word);
+                blit.give(0x5555);
+            }
+            SlotAsk::Rest => blit.give(0x5555),
+            SlotAsk::Done => break,
+        }
+    }
+    last
+}
+
+/// The address of the next ask: 1 for a rest, and None at the end.
+fn place(blit: &AreaBlit) -> Option<u32> {
+    match blit.next() {
+        SlotAsk::Read { at } => Some(at.raw()),
+        SlotAsk::Write { at, .. } => Some(at.raw()),
+        SlotAsk::Rest => Some(1),
+        SlotAsk::Done => None,
+    }
+}
+
+/// Answers one ask, if there is one.
+fn answer(blit: &mut AreaBlit, word: u16) {
+    match blit.next() {
+        SlotAsk::Done => {}
+        _ => blit.give(word),
+    }
+}
+
+#[test]
+fn fill_of_one_word(rt: HostRuntime) {
+    for (con1, filled) in [
+        (0x12, 0x03e0),
+        (0x0a, 0x07e0),
+        (0x0e, 0xfc3f),
+        (0x1a, 0x03e0),
+        (0x18, 0x0420),
+    ] {
+        let mut regs = registers();
+        regs.con1 = con1;
+        let mut blit = AreaBlit::start(&regs);
+        assert_eq!(rt; written(&mut blit, &[0x0420]), Some(filled), "{con1}");
+    }
+}
+
+#[test]
+fn cookie_cut_of_two_words(rt: HostRuntime) {
+    let mut regs = registers();
+    regs.con0 = 0x4fca;
+    regs.con1 = 0x4000;
+    regs.size = 0x0042;
+    regs.alwm = 0;
+    let mut blit = AreaBlit::start(&regs);
+    for (reads, expected) in [
+        ([0x00ff, 0x1234, 0xaaaa], 0xaaa3),
+        ([0xffff, 0x5678, 0xbbbb], 0x4bbb),
+    ] {
+        for word in reads {
+            answer(&mut blit, word);
+        }
+        let word = match blit.next() {
+            SlotAsk::Write { word, .. } => Some(word),
+            _ => None,
+        };
+        assert_eq!(rt; word, Some(expected), "{expected}");
+        answer(&mut blit, 0);
+    }
+    assert_eq!(rt; place(&blit), None);
+}
+
+#[test]
+fn asks_of_each_code(rt: HostRuntime) {
+    for (con0, asks) in [
+        (0x0000, [1, 1, 0, 0]),
+        (0x0100, [1, 0x40, 0, 0]),
+        (0x0200, [1, 0x30, 0, 0]),
+        (0x0300, [1, 0x30, 0x40, 0]),
+        (0x0400, [1, 0x20, 1, 0]),
+        (0x0500, [1, 0x20, 0x40, 0]),
+        (0x0600, [1, 0x20, 0x30, 0]),
+        (0x0700, [1, 0x20, 0x30, 0x40]),
+        (0x0800, [0x10, 1, 0, 0]),
+        (0x0900, [0x10, 0x40, 0, 0]),
+        (0x0a00, [0x10, 0x30, 0, 0]),
+        (0x0b00, [0x10, 0x30, 0x40, 0]),
+        (0x0c00, [0x10, 0x20, 1, 0]),
+        (0x0d00, [0x10, 0x20, 0x40, 0]),
+        (0x0e00, [0x10, 0x20, 0x30, 0]),
+        (0x0f00, [0x10, 0x20, 0x30, 0x40]),
+    ] {
+        let mut regs = registers();
+        regs.con0 = con0;
+        let mut blit = AreaBlit::start(&regs);
+        for at in asks {
+            assert_eq!(rt; place(&blit).unwrap_or(0), at, "{con0}");
+            answer(&mut blit, 0);
+        }
+        assert_eq!(rt; place(&blit), None, "{con0}");
+    }
+}
+
+#[test]
+fn rows_up_and_down(rt: HostRuntime) {
+    for (con1, places) in [(0, [0x10, 0x12, 0x16, 0x18]), (2, [0x10, 0x0e, 0x0a, 0x08])] {
+        let mut regs = registers();
+        regs.con0 = 0x0800;
+        regs.con1 = con1;
+        regs.size = 0x0082;
+        regs.amod = 3;
+        let mut blit = AreaBlit::start(&regs);
+        for at in places {
+            assert_eq!(rt; place(&blit), Some(at), "{con1}");
+            answer(&mut blit, 0);
+            answer(&mut blit, 0);
+        }
+        assert_eq!(rt; place(&blit), None, "{con1}");
+    }
+}
+
+#[test]
+fn registers_at_the_end(rt: HostRuntime) {
+    for (con0, apt, aptl, adat) in [(0x09f0, 0x7fffc, 0xfffc, 7), (0x01f0, 0x10, 0x0011, 0x1234)] {
+        let mut regs = registers();
+        regs.con0 = con0;
+        regs.size = 0x0082;
+        regs.adat = 0x1234;
+        regs.amod = -14;
+        regs.dmod = 4;
+        regs.aptl = 0x0011;
+        let mut blit = AreaBlit::start(&regs);
+        written(&mut blit, &[5, 6, 8, 7]);
+        let end = blit.regs();
+        assert_eq!(rt; end.apt.raw(), apt, "{con0}");
+        assert_eq!(rt; end.aptl, aptl, "{con0}");
+        assert_eq!(rt; end.adat, adat, "{con0}");
+        assert_eq!(rt; end.bpt.raw(), 0x20, "{con0}");
+        assert_eq!(rt; end.dpt.raw(), 0x50, "{con0}");
+        assert_eq!(rt; end.con0, con0, "{con0}");
+    }
+}
+
+#[test]
+fn zero_falls_with_the_last_ask(rt: HostRuntime) {
+    for (con0, falls) in [(0x00ff, true), (0x0000, false), (0x08f0, true)] {
+        let mut regs = registers();
+        regs.con0 = con0;
+        regs.adat = 0;
+        let mut blit = AreaBlit::start(&regs);
+        answer(&mut blit, 1);
+        assert!(rt; blit.zero(), "{con0}");
+        answer(&mut blit, 1);
+        assert_eq!(rt; blit.zero(), !falls, "{con0}");
+    }
+}

@@ -1,0 +1,130 @@
+//! Lines of fetches, worked by hand from the manual's tables of slots.
+
+use bitplane_dma::Fetcher;
+use ocs_base::{Beam, Reg};
+use reg_file::Regs;
+
+/// The registers after these writes.
+fn registers(words: &[(u16, u16)]) -> Regs {
+    let mut regs = Regs::reset();
+    for (offset, word) in words.iter().copied() {
+        let _effect = regs.poke(Reg::masked(offset), word, false);
+    }
+    regs
+}
+
+/// Runs a line from its first clock, with register writes at their clocks. The answer is how many fetches
+/// there were, and the clock and plane of the first and of the last of them.
+fn line(v: u16, regs: &mut Regs, writes: &[(u16, u16, u16)]) -> (u16, (u16, u8), (u16, u8)) {
+    let mut fetcher = Fetcher::new();
+    let mut count = 0u16;
+    let mut first = (0, 0);
+    let mut last = (0, 0);
+    for h in 0..227 {
+        for (at, offset, word) in writes.iter().copied() {
+            if at == h {
+                let _effect = regs.poke(Reg::masked(offset), word, false);
+            }
+        }
+        let beam = Beam {
+            frame: 0,
+            v,
+            h,
+            lof: true,
+        };
+        if let Some(ask) = fetcher.step(&beam, regs) {
+            if count == 0 {
+                first = (h, ask.plane);
+            }
+            last = (h, ask.plane);
+            count = count.saturating_add(1);
+        }
+    }
+    (count, first, last)
+}
+
+#[test]
+fn fetches_of_a_line(rt: HostRuntime) {
+    let none = (0, (0, 0), (0, 0));
+    for (v, start, stop, dma, con0, want) in [
+        // One plane and six in low resolution, four in high.
+        (0x2c, 0x38, 0xd0, 0x300, 0x1000, (20, (63, 1), (215, 1))),
+        (0x2c, 0x38, 0xd0, 0x300, 0x6000, (120, (57, 4), (215, 1))),
+        (0x2c, 0x3c, 0xd4, 0x300, 0xc000, (160, (60, 4), (219, 1))),
+        // Seven planes are six, and in high resolution five are four.
+        (0x2c, 0x38, 0xd0, 0x300, 0x7000, (120, (57, 4), (215, 1))),
+        (0x2c, 0x3c, 0xd4, 0x300, 0xd000, (160, (60, 4), (219, 1))),
+        // Lines at the ends of the window, and missing DMA.
+        (0x2b, 0x38, 0xd0, 0x300, 0x1000, none),
+        (0xf3, 0x38, 0xd0, 0x300, 0x1000, (20, (63, 1), (215, 1))),
+        (0xf4, 0x38, 0xd0, 0x300, 0x1000, none),
+        (0x2c, 0x38, 0xd0, 0x100, 0x1000, none),
+        (0x2c, 0x38, 0xd0, 0x200, 0x1000, none),
+        // The bounds $18 and $D8, and words above them.
+        (0x2c, 0x00, 0x00, 0x300, 0x1000, (1, (31, 1), (31, 1))),
+        (0x2c, 0x3a, 0xffff, 0x300, 0x1000, (21, (63, 1), (223, 1))),
+        (0x2c, 0x3c, 0xd8, 0x300, 0x1000, (20, (67, 1), (219, 1))),
+        (0x2c, 0xd8, 0xd8, 0x300, 0x1000, (1, (223, 1), (223, 1))),
+        (0x2c, 0xdc, 0xd8, 0x300, 0x1000, none),
+    ] {
+        let mut regs = registers(&[
+            (0x08e, 0x2c81),
+            (0x090, 0xf4c1),
+            (0x092, start),
+            (0x094, stop),
+            (0x096, 0x8000 | dma),
+            (0x100, con0),
+        ]);
+        assert_eq!(rt;
+            line(v, &mut regs, &[]),
+            want,
+            "{v} {start} {stop} {dma} {con0}"
+        );
+    }
+}
+
+/// DDFSTOP below the running unit ends the train at once, with the modulo, and a later DDFSTRT begins another.
+#[test]
+fn registers_of_the_moment(rt: HostRuntime) {
+    let mut regs = registers(&[
+        (0x08e, 0x2c81),
+        (0x090, 0x2dc1),
+        (0x092, 0x38),
+        (0x094, 0xd0),
+        (0x096, 0x8300),
+        (0x100, 0x1000),
+        (0x0e2, 0x1000),
+        (0x108, 0x100),
+    ]);
+    let writes = [(70, 0x094, 0x38), (80, 0x092, 0x80)];
+    assert_eq!(rt; line(0x12c, &mut regs, &writes), (3, (63, 1), (135, 1)));
+    assert_eq!(rt; regs.word(Reg::masked(0x0e2)), 0x1206);
+}
+
+/// Each plane's pointer moves by its words and once by its modulo, and wraps.
+#[test]
+fn pointers_after_a_line(rt: HostRuntime) {
+    let mut regs = registers(&[
+        (0x08e, 0x2c81),
+        (0x090, 0xf4c1),
+        (0x092, 0x3c),
+        (0x094, 0xd4),
+        (0x096, 0x8300),
+        (0x0e0, 0x0001),
+        (0x0e4, 0x0007),
+        (0x0e6, 0xfffe),
+        (0x100, 0xa000),
+        (0x108, 0xfffd),
+        (0x10a, 0x0007),
+    ]);
+    assert_eq!(rt; line(0x2c, &mut regs, &[]), (80, (61, 2), (219, 1)));
+    for (offset, want) in [
+        (0x0e0, 1),
+        (0x0e2, 0x004c),
+        (0x0e4, 0),
+        (0x0e6, 0x0054),
+        (0x0ea, 0),
+    ] {
+        assert_eq!(rt; regs.word(Reg::masked(offset)), want, "{offset}");
+    }
+}

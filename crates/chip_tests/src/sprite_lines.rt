@@ -1,0 +1,143 @@
+//! Lines of sprite fetches, worked by hand from the places of the slots.
+
+use ocs_base::{Addr, Beam, Reg};
+use reg_file::Regs;
+use sprite_dma::{SpriteAsk, SpriteDma};
+
+/// The registers after these writes.
+fn registers(words: &[(u16, u16)]) -> Regs {
+    let mut regs = Regs::reset();
+    for (offset, word) in words.iter().copied() {
+        let _effect = regs.poke(Reg::masked(offset), word, false);
+    }
+    regs
+}
+
+/// Steps to clocks `from` to `to` of line `v`, with the slot of clock `taken` taken by a bitplane. The answer is how
+/// many control words and words of images were read, and the last ask.
+fn run(
+    sprites: &mut SpriteDma,
+    v: u16,
+    from: u16,
+    to: u16,
+    taken: u16,
+    regs: &mut Regs,
+) -> (u16, u16, Option<SpriteAsk>) {
+    let mut controls = 0u16;
+    let mut words = 0u16;
+    let mut last = None;
+    for h in from..to {
+        let beam = Beam {
+            frame: 0,
+            v,
+            h,
+            lof: true,
+        };
+        if let Some(ask) = sprites.step(&beam, regs, h == taken) {
+            match ask {
+                SpriteAsk::Control { .. } => controls = controls.saturating_add(1),
+                SpriteAsk::Words { .. } => words = words.saturating_add(1),
+            }
+            last = Some(ask);
+        }
+    }
+    (controls, words, last)
+}
+
+/// What sprite 2 reads, by its start and stop; the other sprites stop at line 0 and read only on line 25.
+#[test]
+fn lines_of_a_sprite(rt: HostRuntime) {
+    for (v, pos, ctl, controls, words) in [
+        (24, 0x0040, 0x1800, 0, 0),
+        (24, 0x0040, 0xff00, 0, 0),
+        (25, 0x0040, 0xff00, 16, 0),
+        (26, 0x1a40, 0x1c00, 0, 2),
+        (27, 0x1a40, 0x1c00, 0, 2),
+        (28, 0x1a40, 0x1c00, 2, 0),
+        (29, 0x1a40, 0x1c00, 0, 0),
+        (44, 0x2d40, 0x2e00, 0, 0),
+        (44, 0x2c40, 0x2c00, 2, 0),
+        (44, 0x2c40, 0x2b00, 0, 0),
+        (44, 0x2c40, 0x2e06, 0, 0),
+        (300, 0x2c40, 0x2e06, 0, 2),
+        (300, 0x2c40, 0x2e04, 0, 0),
+        (302, 0x2c40, 0x2e02, 2, 0),
+    ] {
+        let mut regs = registers(&[(0x096, 0x8220), (0x150, pos), (0x152, ctl)]);
+        let mut sprites = SpriteDma::new();
+        let (found, read, _last) = run(&mut sprites, v, 0, 227, 0, &mut regs);
+        assert_eq!(rt; (found, read), (controls, words), "{v} {pos} {ctl}");
+    }
+}
+
+/// The slots of sprites 0 and 7, and a pointer that wraps.
+#[test]
+fn slots_and_pointers(rt: HostRuntime) {
+    let mut regs = registers(&[
+        (0x096, 0x8220),
+        (0x122, 0x1000),
+        (0x13c, 0x0007),
+        (0x13e, 0xfffe),
+    ]);
+    let mut sprites = SpriteDma::new();
+    let (none, _, _) = run(&mut sprites, 25, 0, 0x15, 0, &mut regs);
+    assert_eq!(rt; none, 0);
+    let (one, _, first) = run(&mut sprites, 25, 0x15, 0x16, 0, &mut regs);
+    assert_eq!(rt; one, 1);
+    assert_eq!(rt;
+        first,
+        Some(SpriteAsk::Control {
+            sprite: 0,
+            second: false,
+            at: Addr::at(0x1000)
+        })
+    );
+    let (rest, _, last) = run(&mut sprites, 25, 0x16, 0x34, 0, &mut regs);
+    assert_eq!(rt; rest, 15);
+    assert_eq!(rt;
+        last,
+        Some(SpriteAsk::Control {
+            sprite: 7,
+            second: true,
+            at: Addr::at(0)
+        })
+    );
+    assert_eq!(rt; regs.word(Reg::masked(0x122)), 0x1004);
+    assert_eq!(rt; regs.word(Reg::masked(0x13e)), 0x0002);
+}
+
+/// A bitplane takes the first slot: the kind is decided there, and the second slot reads the pair's first word.
+#[test]
+fn a_slot_that_a_bitplane_takes(rt: HostRuntime) {
+    let mut regs = registers(&[
+        (0x096, 0x8220),
+        (0x126, 0x2000),
+        (0x148, 0x3040),
+        (0x14a, 0x3200),
+    ]);
+    let mut sprites = SpriteDma::new();
+    let (_, words, last) = run(&mut sprites, 0x30, 0, 227, 0x19, &mut regs);
+    assert_eq!(rt; words, 1);
+    assert_eq!(rt;
+        last,
+        Some(SpriteAsk::Words {
+            sprite: 1,
+            second: true,
+            at: Addr::at(0x2000)
+        })
+    );
+    assert_eq!(rt; regs.word(Reg::masked(0x126)), 0x2002);
+}
+
+/// DMA is on at the first slot alone, and at the second slot alone.
+#[test]
+fn dma_changes_between_the_slots(rt: HostRuntime) {
+    for (before, after, want) in [(0x8220, 0x0020, 1), (0x0200, 0x8220, 14)] {
+        let mut regs = registers(&[(0x096, 0x8200), (0x096, before)]);
+        let mut sprites = SpriteDma::new();
+        let (first, _, _) = run(&mut sprites, 25, 0, 0x16, 0, &mut regs);
+        let _effect = regs.poke(Reg::masked(0x096), after, false);
+        let (rest, _, _) = run(&mut sprites, 25, 0x16, 227, 0, &mut regs);
+        assert_eq!(rt; first.saturating_add(rest), want, "{before}");
+    }
+}

@@ -1,0 +1,187 @@
+//! Each public call once, with ample memory.
+
+ghost use Rattle.std.specs.Prelude.{◌≡◌, length};
+
+use band_log::{Denise, Drawn, Event, Events, Job, Reset, Room, Run};
+use mem_versions::{Chip, MemView};
+use ocs_base::{Addr, Beam, Clock, OutOfMemory, Reg, Script};
+use planes::plane_bits;
+use serial_model::{NoSide, Side, SideAsk};
+use std::alloc::Global;
+use std::sync::Arc;
+
+#[test]
+fn a_run_has_what_it_is_made_of(rt: HostRuntime) -> Result<(), OutOfMemory> {
+    let run = small_run(rt.alloc())?;
+    assert_eq!(rt; run.image(), [7; 8].as_slice());
+    assert_eq!(rt; run.script().frames(), 2);
+    assert!(rt; run.script().cpu());
+    assert_eq!(rt; run.height(), 20);
+    is_shared(&run);
+    Ok(())
+}
+
+#[test]
+fn a_run_over_a_side_has_what_it_is_made_of(rt: HostRuntime) -> Result<(), OutOfMemory> {
+    let alloc = rt.alloc();
+    let mut image = Vec::new(alloc);
+    image.resize(8, 7)?;
+    let run = Run::over(
+        image,
+        Script::new(alloc, false, 3),
+        313,
+        Steady { bits: 0x0080 },
+    );
+    assert_eq!(rt; run.image(), [7; 8].as_slice());
+    assert_eq!(rt; run.script().frames(), 3);
+    assert!(rt; !run.script().cpu());
+    assert_eq!(rt; run.height(), 313);
+    is_shared(&run);
+    Ok(())
+}
+
+#[test]
+fn events_keep_their_order(rt: HostRuntime) -> Result<(), OutOfMemory> {
+    let mut events = Events::new(rt.alloc());
+    assert_eq!(rt; events.list().len(), 0);
+    for at in 3..6 {
+        events.push(fetch(at))?;
+    }
+    let list = events.list();
+    assert_eq!(rt; list.len(), 3);
+    assert!(rt;
+        matches!(
+            &list[0],
+            Event::Plane {
+                at: Clock(3),
+                plane: 6,
+                ..
+            }
+        )
+    );
+    assert!(rt;
+        matches!(
+            &list[2],
+            Event::Plane {
+                at: Clock(5),
+                plane: 6,
+                ..
+            }
+        )
+    );
+    Ok(())
+}
+
+#[test]
+fn a_room_has_what_is_written(rt: HostRuntime) -> Result<(), OutOfMemory> {
+    let mut room = Room::new(rt.alloc(), 6)?;
+    assert_eq!(rt; room.pixels(), [0; 6].as_slice());
+    fill(&mut room, &[17, 34, 51, 68, 85, 102]);
+    assert_eq!(rt; room.pixels(), [17, 34, 51, 68, 85, 102].as_slice());
+    Ok(())
+}
+
+#[test]
+fn the_picture_state_at_reset(rt: HostRuntime) {
+    let denise = Denise::reset();
+    assert_eq!(rt; denise.palette, [0; 32]);
+    assert_eq!(rt; denise.armed, 0);
+    assert_eq!(rt; plane_bits(&denise.loads, 0, 6), 0);
+}
+
+#[test]
+fn a_job_and_what_is_drawn_of_it(rt: HostRuntime) -> Result<(), OutOfMemory> {
+    let drawn = Drawn {
+        job: small_job(rt.alloc())?,
+        closing: Denise::reset(),
+        clx: 1,
+    };
+    is_shared(&drawn.job);
+    is_shared(&drawn);
+    assert_eq!(rt; drawn.job.run.height(), 20);
+    assert_eq!(rt; drawn.job.events.list().len(), 1);
+    assert_eq!(rt; drawn.job.room.pixels().len(), 12);
+    Ok(())
+}
+
+/// A run of two frames with the processor, in bands of 20 lines.
+fn small_run(alloc: Global) -> Result<Run<NoSide>, OutOfMemory> {
+    let mut image = Vec::new(alloc);
+    image.resize(8, 7)?;
+    Ok(Run::new(image, Script::new(alloc, true, 2), 20))
+}
+
+/// The job of a band of one picture step.
+fn small_job(alloc: Global) -> Result<Job<NoSide>, OutOfMemory> {
+    let run = Arc::new(alloc, small_run(alloc)?)?;
+    let mut events = Events::new(alloc);
+    events.push(fetch(0))?;
+    Ok(Job {
+        run,
+        number: 0,
+        from: Clock(0),
+        to: Clock(1),
+        beam: Beam {
+            frame: 0,
+            v: 0,
+            h: 0,
+            lof: true,
+        },
+        opening: Denise::reset(),
+        events,
+        view: small_view(alloc)?,
+        room: Room::new(alloc, 12)?,
+    })
+}
+
+/// A view of the first clock.
+fn small_view(alloc: Global) -> Result<MemView, OutOfMemory> {
+    let mut chip = Chip::new(alloc, &[7; 8])?;
+    chip.cut(Clock(1))
+}
+
+fn fetch(at: u64) -> Event {
+    Event::Plane {
+        at: Clock(at),
+        plane: 6,
+        addr: Addr::at(2),
+    }
+}
+
+/// Writes all bytes of a room.
+fn fill(room: &mut Room, bytes: &[u8])
+    requires { length bytes.now ≡ length room.old }
+    ensures { room.new ≡ bytes.now }
+{
+    room.pixels_mut().copy_from_slice(bytes);
+}
+
+fn is_shared<T: Send + Sync>(_value: &T) {}
+
+/// A side that requests the same bits of INTREQ at each clock and asks for nothing.
+#[derive(Drop)]
+struct Steady {
+    bits: u16,
+}
+
+impl Side for Steady {
+    ghost use Rattle.serial_model.specs.declared.bus.SideAsk.TheVariants.{Nothing};
+
+    ghost seen = { λ side. record {
+      bits = λ later b dmacon. side.bits;
+      ask = λ later b dmacon. Nothing;
+      shows = λ later. [];
+    } };
+
+    fn poke(&mut self, _reg: Reg, _word: u16) {}
+
+    fn tick(&mut self, _beam: &Beam, _dmacon: u16) -> u16 {
+        self.bits
+    }
+
+    fn ask(&self, _beam: &Beam, _dmacon: u16) -> SideAsk {
+        SideAsk::Nothing
+    }
+
+    fn give(&mut self, _word: u16) {}
+}

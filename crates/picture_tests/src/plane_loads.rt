@@ -1,0 +1,76 @@
+//! Single loads; the positions are worked by hand from the clock of the write and the scrolls.
+
+use planes::{Loads, plane_bits, plane_span};
+
+#[test]
+fn a_word_with_and_without_scroll(rt: HostRuntime) {
+    for (con1, at) in [(0x000f, 320), (0x0000, 290), (0x00f0, 290), (0x0001, 292)] {
+        let mut loads = Loads::new();
+        loads.load(63, &[0; 6], con1, false);
+        loads.load(71, &[0x8000, 0, 0, 0, 0, 0], con1, false);
+        for (x, want) in [(at - 1, 0), (at, 1), (at + 1, 1), (at + 2, 0)] {
+            assert_eq!(rt; plane_bits(&loads, x, 1), want, "{con1} {x}");
+        }
+    }
+}
+
+#[test]
+fn planes_of_both_parities(rt: HostRuntime) {
+    let mut loads = Loads::new();
+    loads.load(
+        71,
+        &[0x8000, 0x8000, 0x4000, 0x4000, 0x0001, 0x0001],
+        0x0030,
+        false,
+    );
+    for (x, count, want) in [
+        (290, 6, 0b00_0001),
+        (292, 6, 0b00_0100),
+        (296, 6, 0b00_0010),
+        (298, 6, 0b00_1000),
+        (298, 3, 0b00_0000),
+        (321, 6, 0b01_0000),
+        (327, 6, 0b10_0000),
+        (328, 6, 0b00_0000),
+        (290, 0, 0b00_0000),
+    ] {
+        assert_eq!(rt; plane_bits(&loads, x, count), want, "{x} {count}");
+    }
+}
+
+#[test]
+fn high_resolution(rt: HostRuntime) {
+    let mut loads = Loads::new();
+    loads.load(71, &[0x8001, 0, 0, 0, 0, 0], 0x000f, true);
+    for (x, want) in [(303, 0), (304, 1), (305, 0), (319, 1), (320, 0)] {
+        assert_eq!(rt; plane_bits(&loads, x, 4), want, "{x}");
+    }
+}
+
+/// The word f0f0 from position 290 on, in low resolution: eight positions of ones and zeros by turns.
+#[test]
+fn a_span_of_positions(rt: HostRuntime) {
+    let mut loads = Loads::new();
+    loads.load(71, &[0xf0f0, 0, 0, 0, 0, 0], 0x0000, false);
+    let mut bits = [7; 20];
+    plane_span(&loads, 286, 1, &mut bits);
+    assert_eq!(rt;
+        bits,
+        [0, 0, 0, 0, 1, 1, 1, 1, 1, 1, 1, 1, 0, 0, 0, 0, 0, 0, 0, 0]
+    );
+}
+
+#[test]
+fn a_later_load_hides_an_earlier(rt: HostRuntime) {
+    let mut loads = Loads::new();
+    loads.load(10, &[0xffff; 6], 0x000f, false);
+    loads.load(11, &[0; 6], 0x0000, false);
+    assert_eq!(rt; plane_bits(&loads, 76, 6), 0);
+    let copy = loads.copied();
+    loads.clear();
+    assert_eq!(rt; plane_bits(&loads, 76, 6), 0);
+    assert_eq!(rt; plane_bits(&copy, 49, 6), 0b10_1010);
+    is_shared(&copy);
+}
+
+fn is_shared<T: Send + Sync>(_value: &T) {}
