@@ -245,9 +245,9 @@ place_on b beam within next =
     one_place_on b.frame b.v b.h beam.v beam.h within next.line next.clock ∙ ap (λ k. (k * 313 + beam.v) * 227 + beam.h) (sym next.frame)
 
 pub left_there : (run : RunValue) (events : List Event) (room : List ℕ) (p : Progress) (beam : Beam) → IsAt run events room p
-    → IsNextInField p.beam beam → IsLeft (place_of beam) run.script.events (drop p.due run.script.events)
+    → IsNextInField p.beam beam → IsLeft (place_of beam) run.script.events (drop p.due.next run.script.events)
 left_there run events room p beam at next =
-    subst (λ k. IsLeft k run.script.events (drop p.due run.script.events))
+    subst (λ k. IsLeft k run.script.events (drop p.due.next run.script.events))
     (place_on p.beam beam (screen_there run events room p at).clock next) at.left
 
 -- the clearing
@@ -306,7 +306,7 @@ come_to p cleared filled clx beam sets due count = record {
   beam = beam;
   painter = cleared;
   sets = sets;
-  due = due;
+  due = record { next = due };
   next = p.next + (p.sets + count);
   filled = filled;
   clx = clx;
