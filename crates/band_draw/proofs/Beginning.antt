@@ -108,7 +108,7 @@ pub begun_at : (run : RunValue) (n from to : ℕ) (beam : Beam) (opening : Denis
       beam = beam;
       painter = painter;
       sets = sets;
-      due = due;
+      due = record { next = due };
       next = 0;
       filled = 0;
       clx = 0;

@@ -1,8 +1,9 @@
 -- A cursor goes through a script.
-use Rattle.std.proofs.Common.{◌≡◌, ◌≤◌, ◌<◌, ℕ, zero, suc, ◌+◌, Bool, true, false, nat_lt, List, [], ◌∷◌, length, drop, slice_get, Option, None, Some, refl, sym, ap, ◌∙◌, subst, arith}
+use Rattle.std.proofs.Common.{◌≡◌, ◌≤◌, ◌<◌, ℕ, zero, suc, ◌+◌, Bool, true, false, nat_lt, List, [], ◌∷◌, length, drop, slice_get, slice_index_or, Option, None, Some, refl, sym, ap, ◌∙◌, subst, arith}
 use Rattle.std.specs.Bool.{if◌then◌else◌}
 use Rattle.std.proofs.lemmas.Bool.Decides.{nat_tests}
-use Rattle.ocs_base.specs.Limits.{time_of}
+use Rattle.std.specs.List.Sorted.{IsNonDecreasingBy, IsPartitionPoint}
+use Rattle.ocs_base.specs.Limits.{AreFrom, AreInOrder, AreInLimits, time_of}
 use Rattle.ocs_base.specs.declared.beam.Beam.{Beam}
 use Rattle.ocs_base.specs.declared.script.At.{At}
 use Rattle.ocs_base.specs.declared.script.Act.{Act}
@@ -14,7 +15,7 @@ use Rattle.serial_model.specs.Registers.{is_picture_register}
 use Rattle.serial_model.specs.declared.picture.Touch.{Touch}
 use Rattle.serial_model.specs.declared.picture.Touch.TheVariants.{Set}
 use Rattle.serial_model.proofs.EventLaws.{IsQueue, due_events-more, due_events-later, due_events-none, AreFrom-le, IsQueue-end}
-use Rattle.band_draw.specs.Due.{IsLeft, is_set, before_if, due_if, sets_if, IsSkipped, IsCounted}
+use Rattle.band_draw.specs.Due.{IsLeft, is_set, due_if, sets_if, IsCounted}
 
 first_of : List At → Option At
 first_of [] = None
@@ -50,46 +51,49 @@ before_true e place is = grind (arith, nat_tests)
 before_false : (e : At) (place : ℕ) → nat_lt (time_of e) place ≡ false → place ≤ time_of e
 before_false e place is = grind (arith, nat_tests)
 
-skipped_one : (place : ℕ) (script left : List At) → IsSkipped place script left → before_if place (first_of left) ≡ true
-    → IsSkipped place script (drop 1 left)
-unfolding first_of
-skipped_one place script [] so is = cc
-skipped_one place script (e ∷ left) so is =
-    let before : time_of e < place = before_true e place is in
+rising_from : (time : ℕ) (events : List At) → AreFrom time events → (k : ℕ) (d : At) → k < length events
+    → time ≤ time_of (slice_index_or events k d)
+rising_from time [] from k d less = absurd (omega (arith, less))
+rising_from time (e ∷ events) from zero d less = from.0
+rising_from time (e ∷ events) from (suc k) d less = rising_from time events from.1 k d (omega (arith, less))
+
+-- the times of events in order do not fall
+pub rising : (events : List At) → AreInOrder events → IsNonDecreasingBy time_of events
+rising [] order i j d at less = absurd (omega (arith, less))
+rising (e ∷ events) order zero zero d at less = omega arith
+rising (e ∷ events) order zero (suc j) d at less = rising_from (time_of e) events order.0 j d (omega (arith, less))
+rising (e ∷ events) order (suc i) zero d at less = absurd (omega (arith, at))
+rising (e ∷ events) order (suc i) (suc j) d at less = rising events order.1 i j d (omega (arith, at)) (omega (arith, less))
+
+-- where the first events are before a place and the others are not, those others are left there
+pub left_at : (frames place n : ℕ) (events : List At) → AreInOrder events → AreInLimits frames events
+    → IsPartitionPoint (λ e. nat_lt (time_of e) place ≡ true) (λ e. nat_lt (time_of e) place ≡ false) events n
+    → IsLeft place events (drop n events)
+left_at frames place zero [] order limits point =
+    record { frames = frames; from = tt; order = tt; limits = tt; same = λ b on later. refl }
+left_at frames place (suc n) [] order limits point =
+    record { frames = frames; from = tt; order = tt; limits = tt; same = λ b on later. refl }
+left_at frames place zero (e ∷ events) order limits point =
+    let after : place ≤ time_of e = before_false e place (point.1 0 e (omega arith) (omega arith)) in
     record {
-      frames = so.frames;
-      order = so.order.1;
-      limits = so.limits.1;
-      same = λ b on later. so.same b on later ∙ not_due b e left (omega arith);
+      frames = frames;
+      from = (after, AreFrom-le place (time_of e) events after order.0);
+      order = order;
+      limits = limits;
+      same = λ b on later. refl;
     }
-
-pub skipped_more : (place n : ℕ) (script : List At) → IsSkipped place script (drop n script) → before_if place (slice_get script n) ≡ true
-    → IsSkipped place script (drop (n + 1) script)
-skipped_more place n script so is =
-    subst (λ l. IsSkipped place script l) (next_left script n)
-    (skipped_one place script (drop n script) so (ap (λ o. before_if place o) (sym (first_there script n)) ∙ is))
-
-left_one : (place : ℕ) (script left : List At) → IsSkipped place script left → before_if place (first_of left) ≡ false
-    → IsLeft place script left
-unfolding first_of
-left_one place script [] so is = record { frames = so.frames; from = tt; order = so.order; limits = so.limits; same = so.same }
-left_one place script (e ∷ left) so is =
-    let after : place ≤ time_of e = before_false e place is in
+left_at frames place (suc n) (e ∷ events) order limits point =
+    let before : time_of e < place = before_true e place (point.0 0 e (omega arith) (omega arith)) in
+    let rest : IsLeft place events (drop n events) =
+    left_at frames place n events order.1 limits.1
+    ((λ k d low high. point.0 (suc k) d (omega (arith, low)) (omega (arith, high))), (λ k d low high. point.1 (suc k) d (omega (arith, low)) (omega (arith, high)))) in
     record {
-      frames = so.frames;
-      from = (after, AreFrom-le place (time_of e) left after so.order.0);
-      order = so.order;
-      limits = so.limits;
-      same = so.same;
+      frames = rest.frames;
+      from = rest.from;
+      order = rest.order;
+      limits = rest.limits;
+      same = λ b on later. not_due b e events (omega (arith, before, later)) ∙ rest.same b on later;
     }
-
-pub left_there : (place n : ℕ) (script : List At) → IsSkipped place script (drop n script) → before_if place (slice_get script n) ≡ false
-    → IsLeft place script (drop n script)
-left_there place n script so is =
-    left_one place script (drop n script) so (ap (λ o. before_if place o) (sym (first_there script n)) ∙ is)
-
-pub skipped_none : (place : ℕ) (script : List At) → IsLeft 0 script script → IsSkipped place script script
-skipped_none place script all = record { frames = all.frames; order = all.order; limits = all.limits; same = λ b on later. refl }
 
 -- the writes that are due
 counted_by : (b : Bool) (t : Touch) (touches : List Touch)

@@ -274,7 +274,7 @@ left_on script left b beam within next so =
     }
 
 pub left_there : (run : RunValue) (events : List Event) (room : List ℕ) (p : Progress) (beam : Beam) → IsAt run events room p
-    → IsNextInField p.beam beam → IsLeft (place_of beam) run.script.events (drop p.due run.script.events)
+    → IsNextInField p.beam beam → IsLeft (place_of beam) run.script.events (drop p.due.next run.script.events)
 left_there run events room p beam at next = left_on run.script.events _ p.beam beam (screen_there run events room p at).clock next at.left
 
 -- the clearing
@@ -333,7 +333,7 @@ come_to p cleared filled clx beam sets due count = record {
   beam = beam;
   painter = cleared;
   sets = sets;
-  due = due;
+  due = record { next = due };
   next = p.next + (p.sets + count);
   filled = filled;
   clx = clx;

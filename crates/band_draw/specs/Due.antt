@@ -1,6 +1,6 @@
 -- The events of a script that are left when the beam has come to a place.
-use Rattle.std.specs.Prelude.{◌≡◌, ◌≤◌, ◌+◌, ℕ, nat_lt, Bool, false, List, length, Option, None, Some, if◌then◌else◌}
-use Rattle.ocs_base.specs.Limits.{AreFrom, AreInOrder, AreInLimits, time_of}
+use Rattle.std.specs.Prelude.{◌≡◌, ◌≤◌, ◌+◌, ℕ, Bool, false, List, length, Option, None, Some, if◌then◌else◌}
+use Rattle.ocs_base.specs.Limits.{AreFrom, AreInOrder, AreInLimits}
 use Rattle.ocs_base.specs.declared.beam.Beam.{Beam}
 use Rattle.ocs_base.specs.declared.script.At.{At}
 use Rattle.ocs_base.specs.declared.script.Act.{Act}
@@ -26,12 +26,7 @@ is_set (Joy port word) = false
 is_set (Fire port down) = false
 is_set (Key code) = false
 
--- of the event at some place of a script, if there is one: whether it is before a place in the order of time, whether it is
--- due, and how many writes to Denise's registers it is
-abbrev pub before_if : ℕ → Option At → Bool
-before_if place None = false
-before_if place (Some e) = nat_lt (time_of e) place
-
+-- of the event at some place of a script, if there is one: whether it is due, and how many writes to Denise's registers it is
 abbrev pub due_if : Beam → Option At → Bool
 due_if b None = false
 due_if b (Some e) = is_due b e
@@ -39,13 +34,6 @@ due_if b (Some e) = is_due b e
 abbrev pub sets_if : Option At → ℕ
 sets_if None = 0
 sets_if (Some e) = if is_set e.act then 1 else 0
-
--- what is left of a script has been come to by leaving out events that are before a place
-pub record IsSkipped (place : ℕ) (script left : List At) : Type 0 where
-  pub frames : ℕ
-  pub order : AreInOrder left
-  pub limits : AreInLimits frames left
-  pub same : (b : Beam) → IsOnScreen b → place ≤ place_of b → due_events b script ≡ due_events b left
 
 -- what is left of a script has been come to by counting, from what is before a place on, the writes that are due there
 pub record IsCounted (b : Beam) (script left : List At) (sets : ℕ) : Type 0 where

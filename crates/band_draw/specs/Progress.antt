@@ -37,8 +37,8 @@ pub record IsAt (run : RunValue) (events : List Event) (room : List ℕ) (p : Pr
   pub drawn : IsDrawnTo run p.from p.to p.clock picture (drop p.next events) (take p.filled room) p.clx
   pub place : IsSamePlace p.beam (beam_at run p.clock)
   pub sets : p.sets ≡ length (sets_at run p.clock)
-  pub left : IsLeft (place_of p.beam + 1) run.script.events (drop p.due run.script.events)
-  pub due : p.due ≤ length run.script.events
+  pub left : IsLeft (place_of p.beam + 1) run.script.events (drop p.due.next run.script.events)
+  pub due : p.due.next ≤ length run.script.events
   pub next : p.next ≤ length events
   pub filled : p.filled ≡ length (bytes_from run p.from (p.clock - p.from))
   pub size : length room ≡ length (bytes_from run p.from (p.to - p.from))

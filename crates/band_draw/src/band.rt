@@ -76,7 +76,7 @@ fn begin<S: Side>(run: &Run<S>, from: Clock, to: Clock, beam: Beam, opening: &De
         beam,
         painter: BandPainter::open(opening, &beam),
         sets: due.sets,
-        due: due.next,
+        due: due.behind,
         next: 0,
         filled: 0,
         clx: 0,

@@ -1,37 +1,37 @@
 //! The script's events of a clock, by a cursor into the script.
 
-ghost use Rattle.std.specs.Prelude.{◌≡◌, ◌≤◌, ◌<◌, ◌+◌, ◌^◌, ℕ, length, drop, slice_get, true};
+ghost use Rattle.std.specs.Prelude.{◌≡◌, ◌≤◌, ◌<◌, ◌+◌, ◌^◌, ℕ, length, drop, nat_lt, slice_get, true};
 ghost use Rattle.serial_model.specs.Beam.{IsOnScreen, place_of};
 ghost use Rattle.serial_model.specs.Events.{due_events, touches_of, is_due as due_at};
 ghost use Rattle.serial_model.specs.Registers.{is_picture_register};
 ghost use Rattle.ocs_base.specs.Limits.{time_of, order_of};
-ghost use Rattle.band_draw.specs.Due.{IsLeft, is_set as sets, before_if, due_if, sets_if};
+ghost use Rattle.band_draw.specs.Due.{IsLeft, is_set as sets, due_if, sets_if};
 
 use ocs_base::{Act, At, Beam, Reg, time_order};
 
-/// The place of the first event of a script that is not before the beam's place.
-pub fn first_from(script: &[At], beam: &Beam) -> usize
-    requires { IsLeft 0 script.now script.now }
-    ensures left { IsLeft (place_of beam.now) script.now (drop result script.now) }
-    ensures within { result ≤ length script.now }
-{
-    let place = order(beam.frame, beam.v, beam.h);
-    let mut at = 0;
-    while is_before(script, at, place) {
-        at += 1;
-    }
-    at
+/// A place in a script, which goes on with the beam: the events before it have happened.
+#[derive(Clone, Copy, Debug)]
+pub struct Cursor {
+    /// How many events those are.
+    pub next: usize,
 }
 
-/// Whether there is an event at this place of a script that is before a place in the order of time.
-fn is_before(script: &[At], at: usize, place: u64) -> bool
-    ensures before { result ≡ before_if place (slice_get script.now at) }
-    ensures there { result ≡ true → at < length script.now }
+/// The place of the first event of a script that is not before the beam's place, found by halving.
+pub fn first_from(script: &[At], beam: &Beam) -> Cursor
+    requires { IsLeft 0 script.now script.now }
+    ensures left { IsLeft (place_of beam.now) script.now (drop result.next script.now) }
+    ensures within { result.next ≤ length script.now }
 {
-    match script.get(at) {
-        Some(event) => order(event.frame, event.v, event.h) < place,
-        None => false,
-    }
+    let place = order(beam.frame, beam.v, beam.h);
+    let next = script.partition_point(|event| is_before(event, place));
+    Cursor { next }
+}
+
+/// Whether an event is before a place in the order of time.
+fn is_before(event: &At, place: u64) -> bool
+    ensures { result ≡ nat_lt (time_of event.now) place }
+{
+    order(event.frame, event.v, event.h) < place
 }
 
 /// A place in the order of time, as one number.
@@ -46,27 +46,28 @@ fn order(frame: u32, v: u16, h: u16) -> u64
 pub struct Due {
     /// How many events write to one of Denise's registers.
     pub sets: usize,
-    /// The place of the first event behind.
-    pub next: usize,
+    /// The place behind what is due.
+    pub behind: Cursor,
 }
 
-/// What is due at the beam's place of a script, of which the events before the place `at` are
-/// before it.
-pub fn due_from(script: &[At], at: usize, beam: &Beam) -> Due
+/// What is due at the beam's place of a script, of which the events before the cursor are before it.
+pub fn due_from(script: &[At], from: Cursor, beam: &Beam) -> Due
     requires screen { IsOnScreen beam.now }
-    requires left { IsLeft (place_of beam.now) script.now (drop at script.now) }
-    requires within { at ≤ length script.now }
+    requires left { IsLeft (place_of beam.now) script.now (drop from.next script.now) }
+    requires within { from.next ≤ length script.now }
     ensures sets { result.sets ≡ length (touches_of (due_events beam.now script.now)) }
-    ensures left { IsLeft (place_of beam.now + 1) script.now (drop result.next script.now) }
-    ensures within { result.next ≤ length script.now }
+    ensures left { IsLeft (place_of beam.now + 1) script.now
+        (drop result.behind.next script.now) }
+    ensures within { result.behind.next ≤ length script.now }
 {
     let mut sets = 0;
-    let mut next = at;
+    let mut next = from.next;
     while is_next_due(script, next, beam) {
         sets += set_count(script, next);
         next += 1;
     }
-    Due { sets, next }
+    let behind = Cursor { next };
+    Due { sets, behind }
 }
 
 /// Whether there is an event at this place of a script that is due.

@@ -7,7 +7,7 @@ ghost use Rattle.band_draw.specs.Progress.{IsSource, IsAt, IsEnded};
 
 use crate::band_painter::BandPainter;
 use crate::clock::{behind, next_place, part, show_clock, touch_access};
-use crate::due::due_from;
+use crate::due::{Cursor, due_from};
 use band_log::{Event, Run};
 use mem_versions::MemView;
 use ocs_base::{Beam, Clock};
@@ -27,7 +27,7 @@ pub struct Progress {
     /// How many of the script's events of that clock touch the picture, and the place in the script
     /// behind them.
     pub sets: usize,
-    pub due: usize,
+    pub due: Cursor,
     /// The place of the next of the band's events.
     pub next: usize,
     /// How many bytes of the room are filled.
@@ -70,7 +70,7 @@ impl Progress {
         self.clock += 1;
         self.next += self.sets + count;
         self.sets = coming.sets;
-        self.due = coming.next;
+        self.due = coming.behind;
         self.filled = filled;
     }
 

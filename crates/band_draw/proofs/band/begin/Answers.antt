@@ -20,8 +20,8 @@ returns-clause-at g c n events words room parts =
     let script : c.events-script.result.now ≡ c.args.run.now.script.events =
     c.events-script.ensures ∙ ap (λ (s : ScriptValue). s.events) c.script.ensures.value in
     let due = c.due_from-due in
-    begun_at run n c.args.from.0 c.args.to.0 c.args.beam c.args.opening.now c.open.result events words room due.result.sets due.result.next
+    begun_at run n c.args.from.0 c.args.to.0 c.args.beam c.args.opening.now c.open.result events words room due.result.sets due.result.behind.next
     parts c.open.ensures.opened c.open.ensures.keeps
     (due.ensures.sets ∙ ap (λ l. length (touches_of (due_events c.args.beam l))) script)
-    (subst (λ l. IsLeft (place_of c.args.beam + 1) l (drop due.result.next l)) script due.ensures.left)
-    (subst (λ (l : List At). due.result.next ≤ length l) script due.ensures.within)
+    (subst (λ l. IsLeft (place_of c.args.beam + 1) l (drop due.result.behind.next l)) script due.ensures.left)
+    (subst (λ (l : List At). due.result.behind.next ≤ length l) script due.ensures.within)

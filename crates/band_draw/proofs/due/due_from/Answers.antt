@@ -5,7 +5,7 @@ use Rattle.band_draw.proofs.due.due_from.Goals as goal
 
 pub loop-sets-init : goal.loop-sets-init
 loop-sets-init c = (
-  counted_none c.args.beam.now c.args.script.now (drop c.args.at c.args.script.now) c.requires.screen c.requires.left,
+  counted_none c.args.beam.now c.args.script.now (drop c.args.from.next c.args.script.now) c.requires.screen c.requires.left,
   c.requires.within,
   omega arith,
 )

@@ -1,17 +1,17 @@
-use Rattle.std.proofs.Common.{◌∙◌, sym, subst, drop, arith}
+use Rattle.std.proofs.Common.{◌≡◌, drop, nat_lt, rules, subst}
+use Rattle.std.proofs.lemmas.List.Sorted.{IsPartitionPoint-from_clause, IsPartitionedBy-ltb}
+use Rattle.ocs_base.specs.Limits.{time_of}
+use Rattle.ocs_base.specs.declared.script.At.{At}
 use Rattle.band_draw.specs.Due.{IsLeft}
-use Rattle.band_draw.proofs.Dues.{skipped_more, left_there}
+use Rattle.band_draw.proofs.Dues.{rising, left_at}
 use Rattle.band_draw.proofs.due.first_from.Goals as goal
-
-pub loop-at-preserved : goal.loop-at-preserved
-loop-at-preserved c = (
-  skipped_more c.order-place.result c.loop-at.at c.args.script.now c.loop-at.invariant.0
-      (sym c.is_before.ensures.before ∙ c.loop-at-test.true),
-  omega (arith, c.is_before.ensures.there c.loop-at-test.true),
-)
 
 pub returns-clause-left : goal.returns-clause-left
 returns-clause-left c =
-    subst (λ place. IsLeft place c.args.script.now (drop c.loop-at.at c.args.script.now)) c.order-place.ensures
-    (left_there c.order-place.result c.loop-at.at c.args.script.now c.loop-at.invariant.0
-    (sym c.is_before.ensures.before ∙ c.loop-at-test.false))
+    let script = c.args.script.now in
+    let place = c.order-place.result in
+    let point =
+    IsPartitionPoint-from_clause (λ (e : At). nat_lt (time_of e) place) script c.partition_point-next.result c.partition_point-next.ensures.partitioned
+    (IsPartitionedBy-ltb (λ (e : At). time_of e) script place (rising script c.requires.order)) (λ a r q k. search rules) in
+    subst (λ p. IsLeft p script (drop c.partition_point-next.result script)) c.order-place.ensures
+    (left_at c.requires.frames place c.partition_point-next.result script c.requires.order c.requires.limits point)

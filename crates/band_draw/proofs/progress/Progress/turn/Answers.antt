@@ -58,7 +58,7 @@ due_from-coming-requires-clause-left g c =
     let run = run_over g.S.Side.seen c.args.run.now in
     let script : c.events.result.now ≡ c.args.run.now.script.events =
     c.events.ensures ∙ ap (λ (s : ScriptValue). s.events) c.script.ensures.value in
-    subst (λ l. IsLeft (place_of c.next_place.new.beam) l (drop c.args.self.now.due l)) (sym script)
+    subst (λ l. IsLeft (place_of c.next_place.new.beam) l (drop c.args.self.now.due.next l)) (sym script)
     (left_there run c.args.events.now c.args.room.now c.args.self.now c.next_place.new.beam c.requires.at c.next_place.ensures)
 
 pub overflow_add-self-4 : goal.overflow_add-self-4
@@ -90,7 +90,7 @@ returns-clause-at g c =
     let h : ℕ = p.beam.h in
     let words : Addr → ℕ = word_then c.args.view.now p.clock in
     turned run c.args.events.now c.args.view.now c.args.room.now given.new.room p given.new.painter access.new.painter c.clear_line.new.self
-    given.result given.new.clx c.next_place.new.beam due.result.sets due.result.next access.result c.requires.source c.requires.at
+    given.result given.new.clx c.next_place.new.beam due.result.sets due.result.behind.next access.result c.requires.source c.requires.at
     c.requires.more
     (record {
       given = given_part p c.args.events.now c.args.view.now c.part-due.result.now _ _ given.new.painter given.new.clx c.part-due.ensures.part
@@ -99,8 +99,8 @@ returns-clause-at g c =
       size = given.ensures.size;
       place = c.next_place.ensures;
       coming = due.ensures.sets ∙ ap (λ l. length (touches_of (due_events c.next_place.new.beam l))) script;
-      left = subst (λ l. IsLeft (place_of c.next_place.new.beam + 1) l (drop due.result.next l)) script due.ensures.left;
-      bound = subst (λ (l : List At). due.result.next ≤ length l) script due.ensures.within;
+      left = subst (λ l. IsLeft (place_of c.next_place.new.beam + 1) l (drop due.result.behind.next l)) script due.ensures.left;
+      bound = subst (λ (l : List At). due.result.behind.next ≤ length l) script due.ensures.within;
       access =
           subst (λ l. Paints (4 * h) (touch_by_address h words (bus_touch_of p.clock due.result.sets l)) given.new.painter access.new.painter) rest
           access.ensures.touched;
