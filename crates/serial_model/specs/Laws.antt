@@ -84,20 +84,6 @@ AskOfFitIsBelow = (size : ℕ) (b : Beam) (dmacon : ℕ) (side : SideValue) → 
 abbrev pub NoneFitsEach : Type 0
 NoneFitsEach = (size : ℕ) → FitsSide size no_side
 
--- a side that fits a size of chip memory goes on fitting it, whatever happens to it
-abbrev pub FitIsKept : Type 0
-FitIsKept = (size : ℕ) (happening : Happening) (side : SideValue) → FitsSide size side →
-    FitsSide size (side_after happening side)
-
--- the address of what it asks for is below that size
-abbrev pub AskOfFitIsBelow : Type 0
-AskOfFitIsBelow = (size : ℕ) (b : Beam) (dmacon : ℕ) (side : SideValue) → FitsSide size side →
-    IsBelow size (ask_of_side b dmacon side)
-
--- a machine without a side fits every size
-abbrev pub NoneFitsEach : Type 0
-NoneFitsEach = (size : ℕ) → FitsSide size no_side
-
 -- each side fits chip memory of 512 KiB, since addresses are below it
 abbrev pub EachSideFits : Type 0
 EachSideFits = (side : SideValue) → FitsSide 524288 side
