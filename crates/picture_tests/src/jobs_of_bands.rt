@@ -171,7 +171,6 @@ impl Side for Steady {
       bits = λ later b dmacon. side.bits;
       ask = λ later b dmacon. Nothing;
       shows = λ later. [];
-      shows = λ later. [];
     } };
 
     fn poke(&mut self, _reg: Reg, _word: u16) {}
