@@ -1,4 +1,5 @@
-"""fs-uae without a screen: a machine that runs an image of ours, and keys that save its state."""
+"""fs-uae without a screen: a machine that runs an image of ours, or boots a disk, and keys that save its state and its
+picture."""
 from __future__ import annotations
 
 import os
@@ -14,16 +15,23 @@ SETTINGS = """[fs-uae]
 amiga_model = A500
 slow_memory = 0
 accuracy = 1
-kickstart_file = {folder}/boot.rom
+kickstart_file = {kickstart}
+{disk}
 base_dir = {folder}/base
 save_states_dir = {folder}/states
 state_dir = {folder}/states
+screenshots_output_dir = {folder}/pictures
+screenshots_output_mask = 7
 fullscreen = 0
 window_width = 720
 window_height = 568
+keyboard_key_f11 = action_screenshot
 {keys}
 """
+# the ROM that fs-uae brings along, in place of a Kickstart
+INTERNAL = "internal"
 SLOTS = 9
+STATE_END, PNG_END = b"END \0\0\0\x08", b"IEND\xaeB`\x82"
 START_SECONDS, SAVE_SECONDS = 20, 10
 # after the window is there: the ROM's copying, and the program's own beginning
 SETTLE_SECONDS = 2.5
@@ -38,23 +46,34 @@ def missing_programs() -> list[str]:
     return [package for name, package in PROGRAMS.items() if not shutil.which(name)]
 
 
-class FsUae:
-    """A machine in fs-uae on a display of its own; used in a `with`."""
+def absent_programs() -> str:
+    """What is not installed, in words; empty where all is there."""
+    lacking = missing_programs()
+    said = f"{', '.join(lacking)} not installed: on Debian, apt-get install --no-install-recommends"
+    return f"{said} {' '.join(PROGRAMS.values())}" if lacking else ""
 
-    def __init__(self, image: bytes) -> None:
-        lacking = missing_programs()
-        if lacking:
-            said = f"{', '.join(lacking)} not installed: on Debian, apt-get install --no-install-recommends"
-            raise EmulatorFault(f"{said} {' '.join(PROGRAMS.values())}")
+
+class FsUae:
+    """A machine in fs-uae on a display of its own, with an image that a ROM of ours starts, or with a disk that a Kickstart
+    boots; used in a `with`.
+    """
+
+    def __init__(self, image: bytes | None = None, disk: str | None = None, kickstart: str = INTERNAL) -> None:
+        if absent_programs():
+            raise EmulatorFault(absent_programs())
         self.folder = tempfile.mkdtemp(prefix="from-uae-")
         self.started: list[subprocess.Popen[bytes]] = []
-        with open(os.path.join(self.folder, "boot.rom"), "wb") as file:
-            file.write(boot_rom(image))
-        os.mkdir(os.path.join(self.folder, "states"))
+        if image is not None:
+            kickstart = os.path.join(self.folder, "boot.rom")
+            with open(kickstart, "wb") as file:
+                file.write(boot_rom(image))
+        for name in ("states", "pictures"):
+            os.mkdir(os.path.join(self.folder, name))
         keys = "\n".join(f"keyboard_key_f{slot} = action_save_state_{slot}" for slot in range(1, SLOTS + 1))
+        drive = f"floppy_drive_0 = {disk}" if disk else ""
         self.settings = os.path.join(self.folder, "machine.fs-uae")
-        with open(self.settings, "w", encoding="utf-8") as file:
-            file.write(SETTINGS.format(folder=self.folder, keys=keys))
+        with open(self.settings, "w", encoding="utf-8", errors="surrogateescape") as file:
+            file.write(SETTINGS.format(folder=self.folder, keys=keys, kickstart=kickstart, disk=drive))
 
     def __enter__(self) -> FsUae:
         try:
@@ -111,10 +130,28 @@ class FsUae:
         words = ["xdotool", "search", "--name", "FS-UAE"]
         return subprocess.run(words, env=self.environment, capture_output=True).returncode == 0
 
+    def press(self, key: str) -> None:
+        subprocess.run(["xdotool", "key", key], env=self.environment, check=True)
+
+    def picture(self) -> str:
+        """Saves the picture that is shown, which was drawn last; gives the place of the PNG file, whose pixels are the
+        machine's, two rows a line.
+        """
+        folder = os.path.join(self.folder, "pictures")
+        before = set(os.listdir(folder))
+
+        def made() -> list[str]:
+            names = [name for name in os.listdir(folder) if name not in before and "-full-" in name]
+            return [name for name in names if ends_with(os.path.join(folder, name), PNG_END)]
+
+        self.press("F11")
+        self.wait_for("a picture", SAVE_SECONDS, made)
+        return os.path.join(folder, made()[0])
+
     def save(self, slot: int) -> bytes:
         """Saves the state at the begin of the next field; gives the save state's bytes."""
         place = os.path.join(self.folder, "states", f"Saved State {slot}.uss")
-        subprocess.run(["xdotool", "key", f"F{slot}"], env=self.environment, check=True)
+        self.press(f"F{slot}")
         self.wait_for(f"save state {slot}", SAVE_SECONDS, lambda: is_whole(place))
         with open(place, "rb") as file:
             return file.read()
@@ -122,7 +159,9 @@ class FsUae:
 
 def is_whole(place: str) -> bool:
     """Whether a save state stands there to its end."""
-    if not os.path.exists(place):
-        return False
+    return os.path.exists(place) and ends_with(place, STATE_END)
+
+
+def ends_with(place: str, end: bytes) -> bool:
     with open(place, "rb") as file:
-        return file.read().endswith(b"END \0\0\0\x08")
+        return file.read().endswith(end)

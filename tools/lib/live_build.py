@@ -8,7 +8,7 @@ from dataclasses import dataclass, field
 
 from copper_text import read_copper
 from faults import BadFile
-from the_program import TOP
+from program import TOP
 
 CROSS = "m68k-linux-gnu-"
 PACKAGES = {"as": "binutils-m68k-linux-gnu", "gcc": "gcc-m68k-linux-gnu"}

@@ -120,7 +120,7 @@ class LiveTest(Tools):
         self.assertEqual(self.refused("live", "absent.copper"), "live: absent.copper: is not there")
         os.environ["OCS"] = self.place("nothing")
         self.write("list.copper", "move COLOR00 f00\n")
-        self.assertIn("nothing: is not there", self.refused("live", "list.copper"))
+        self.assertIn("nothing: is no program", self.refused("live", "list.copper"))
 
     @unittest.skipUnless(browser_is_there(), "chromium: apt-get install --no-install-recommends chromium fonts-dejavu-core")
     def test_the_page_loads_itself_anew(self) -> None:

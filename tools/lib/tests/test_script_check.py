@@ -6,7 +6,7 @@ import subprocess
 from faults import BadFile
 from runs import Tools
 from script_reader import faults_of
-from the_program import the_program
+from program import program
 
 HEAD = "ocs 1\ncpu off\nframes 3\n"
 # an event that is refused, and a part of the reason
@@ -98,21 +98,21 @@ class ScriptCheckTest(Tools):
     def test_the_emulator_names_the_same_line(self) -> None:
         """The program itself, where it stands and reads scripts by this grammar."""
         try:
-            program = the_program()
+            place = program()
         except BadFile as fault:
             self.skipTest(str(fault))
         self.write("image", bytes(8))
-        if self.said_by(program, "") != "bad script: line 1: missing":
-            self.skipTest(f"{program} is no ocs that names a script's first bad line")
+        if self.said_by(place, "") != "bad script: line 1: missing":
+            self.skipTest(f"{place} is no ocs that names a script's first bad line")
         texts = [*TEXTS, *(f"{HEAD}{event}\nend\n" for event in EVENTS)]
         for text in texts:
             with self.subTest(text=text[:60]):
                 found = faults_of(text.encode())
                 wanted = f"bad script: line {found[0].line}: {found[0].kind}" if found else ""
-                self.assertEqual(self.said_by(program, text), wanted)
+                self.assertEqual(self.said_by(place, text), wanted)
 
-    def said_by(self, program: str, text: str) -> str:
+    def said_by(self, place: str, text: str) -> str:
         self.write("script", text)
-        words = [program, "run", "image", "script", "frames", "trace", "memory", "20", "0"]
+        words = [place, "run", "image", "script", "frames", "trace", "memory", "20", "0"]
         done = subprocess.run(words, cwd=self.folder, capture_output=True, text=True)
         return (done.stdout + done.stderr).strip()

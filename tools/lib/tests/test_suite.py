@@ -194,7 +194,7 @@ class SuiteTest(Tools):
         self.assertIn("suite: cases: has no case", self.refused("suite", "cases"))
         self.case("one")
         os.environ["OCS"] = self.place("nothing")
-        self.assertIn("nothing: is not there", self.refused("suite", "cases"))
+        self.assertIn("nothing: is no program", self.refused("suite", "cases"))
 
     def test_the_keyboard_ends_it(self) -> None:
         self.case("one", script="slow")
@@ -205,7 +205,7 @@ class SuiteTest(Tools):
                 time.sleep(0.05)
             process.send_signal(signal.SIGINT)
             said = process.communicate(timeout=20)
-        self.assertEqual((process.returncode, *said), (130, "", "suite: stopped\n"))
+        self.assertEqual((process.returncode, *said), (-signal.SIGINT, "", ""))
 
     @unittest.skipUnless(shutil.which("ninja"), "ninja is not installed: apt-get install ninja-build")
     def test_ninja_runs_what_changed(self) -> None:
