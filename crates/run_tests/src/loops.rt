@@ -58,7 +58,12 @@ fn fifty_interrupts(rt: HostRuntime) -> Result<(), Fail> {
     let alloc = rt.alloc();
     let shelf = files_of(&rt, alloc, counter(), "313", "2")?;
     let memory = shelf.file("memory").ok_or("memory is written")?;
-    assert!(rt; memory.get(0x200..0x202) == Some([0x00u8, 0x32].as_slice()));
+    assert!(rt;
+        memory
+            .get(0x200..)
+            .unwrap_or(&[])
+            .starts_with(&[0x00, 0x32])
+    );
     let trace = shelf.file("trace").ok_or("a trace is written")?;
     assert!(rt; trace.starts_with(trace_of_counter().as_bytes()));
     assert_eq!(rt; lines_in(trace), 201);
