@@ -8,7 +8,9 @@ use std::sync::Wait;
 use std::test::Fail;
 use std::thread::Threads;
 
-const HEADING: &[u8] = b"P6\n720 286\n255\n";
+fn heading() -> &'static [u8] {
+    b"P6\n720 286\n255\n"
+}
 
 /// The bytes of chip memory.
 const CHIP: usize = 524_288;
@@ -178,7 +180,7 @@ fn put(memory: &mut [u8], at: usize, bytes: &[u8]) -> Result<(), Fail> {
 pub fn frames(alloc: Global, run: &str) -> Result<Vec<u8>, Fail> {
     let mut frames = Vec::new(alloc);
     for _ in 0..number(first(run, "frames", "1"))? {
-        frames.extend_from_slice(HEADING)?;
+        frames.extend_from_slice(heading())?;
         if first(run, "pixels", "").is_empty() {
             push_parts(alloc, run, &mut frames)?;
         } else {

@@ -11,16 +11,19 @@ use std::test::Fail;
 use std::thread::Threads;
 
 /// COLOR00 becomes red in line 100.
-const RUN: &str = "run COLOR00 becomes red.
+fn run_told() -> &'static str {
+    "run COLOR00 becomes red.
 image 4*0000
 at 0 100 100: 180=0f00
 part 74 74 212 719 ff0000
-part 75 285 0 719 ff0000";
+part 75 285 0 719 ff0000"
+}
 
 /// The number of the call that fails, the status, how many bytes the files frames, trace and memory have
 /// then (`-` where the file is not there), and what is said. The beam passes what is pending on at every
 /// 32nd line. The line of the trace stands there from line 128 on, and the frame at the end.
-const BAND_OF_313: &str = "
+fn faults_in_bands_of_313() -> &'static str {
+    "
 0 5 - - - cannot read image
 1 5 - - - cannot read script
 2 6 - - - cannot write frames
@@ -29,12 +32,14 @@ const BAND_OF_313: &str = "
 5 6 0 11 0 cannot write trace
 6 6 308887 23 0 cannot write frames
 7 6 617775 23 262144 cannot write memory
-8 0 617775 23 524288 ";
+8 0 617775 23 524288 "
+}
 
 /// Of bands of one line 16 are not collected yet, so that line 64 finds the heading and the rows of the
 /// lines 26 to 46, and each 32nd line then 32 rows more; the frame's end finds the rows up to line 295, and
 /// the last flush the others.
-const BAND_OF_1: &str = "
+fn faults_in_bands_of_1() -> &'static str {
+    "
 0 5 - - - cannot read image
 1 5 - - - cannot read script
 2 6 - - - cannot write frames
@@ -52,7 +57,8 @@ const BAND_OF_1: &str = "
 14 6 556215 23 0 cannot write frames
 15 6 600495 23 0 cannot write frames
 16 6 617775 23 262144 cannot write memory
-17 0 617775 23 524288 ";
+17 0 617775 23 524288 "
+}
 
 /// The words of a line, and what is behind them.
 #[derive(Drop)]
@@ -93,13 +99,18 @@ fn wrong_file(
     counts: &[&str; 3],
 ) -> Result<Option<&'static str>, Fail> {
     let [frames_count, trace_count, memory_count] = counts;
-    if !has_part(shelf, "frames", &frames(alloc, RUN)?, frames_count)? {
+    if !has_part(shelf, "frames", &frames(alloc, run_told())?, frames_count)? {
         return Ok(Some("frames"));
     }
-    if !has_part(shelf, "trace", trace(alloc, RUN)?.as_bytes(), trace_count)? {
+    if !has_part(
+        shelf,
+        "trace",
+        trace(alloc, run_told())?.as_bytes(),
+        trace_count,
+    )? {
         return Ok(Some("trace"));
     }
-    if !has_part(shelf, "memory", &memory(alloc, RUN)?, memory_count)? {
+    if !has_part(shelf, "memory", &memory(alloc, run_told())?, memory_count)? {
         return Ok(Some("memory"));
     }
     Ok(None)
@@ -112,7 +123,11 @@ fn wrong<R: Threads + Wait + Abort + Clone + Drop + Send + Sync + 'static>(
     band: &str,
     fault: &Fault<'_>,
 ) -> Result<Option<&'static str>, Fail> {
-    let mut shelf = shelf(alloc, &image(alloc, RUN)?, script(alloc, RUN)?.as_str())?;
+    let mut shelf = shelf(
+        alloc,
+        &image(alloc, run_told())?,
+        script(alloc, run_told())?.as_str(),
+    )?;
     shelf.fail_at(number(fault.call)?)?;
     let ended = status(rt, alloc, &run_words(band, "2"), &mut shelf)?;
     if ended as u64 != number(fault.status)? {
@@ -158,6 +173,6 @@ fn check_faults<R: Threads + Wait + Abort + Clone + Drop + Send + Sync + 'static
 #[test]
 fn each_call_fails_once(rt: HostRuntime) -> Result<(), Fail> {
     let alloc = rt.alloc();
-    check_faults(&rt, alloc, "313", BAND_OF_313)?;
-    check_faults(&rt, alloc, "1", BAND_OF_1)
+    check_faults(&rt, alloc, "313", faults_in_bands_of_313())?;
+    check_faults(&rt, alloc, "1", faults_in_bands_of_1())
 }

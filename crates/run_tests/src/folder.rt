@@ -1,7 +1,7 @@
 //! A run on real files, whose frames are read back.
 
 use crate::case::{frames, image, memory, script, trace};
-use crate::copper_lists::BARS;
+use crate::copper_lists::bars_told;
 use ocs_io::{Folder, Place};
 use ocs_run::{NoGate, ocs_main};
 use std::test::Fail;
@@ -58,8 +58,12 @@ fn bars_on_real_files(rt: HostRuntime) -> Result<(), Fail> {
     else {
         return Err(Fail::from("five names"));
     };
-    write(&rt, image_name.as_str(), &image(alloc, BARS)?)?;
-    write(&rt, script_name.as_str(), script(alloc, BARS)?.as_bytes())?;
+    write(&rt, image_name.as_str(), &image(alloc, bars_told())?)?;
+    write(
+        &rt,
+        script_name.as_str(),
+        script(alloc, bars_told())?.as_bytes(),
+    )?;
     let mut folder = Folder::new(&rt);
     let words = words(&rt, &names)?;
     assert_eq!(rt; ocs_main(&rt, alloc, &words, &mut folder, NoGate), 0);
@@ -67,17 +71,17 @@ fn bars_on_real_files(rt: HostRuntime) -> Result<(), Fail> {
     fs::remove_file(&rt, script_name.as_str())?;
     let written = take(&rt, frames_name.as_str())?;
     assert!(rt;
-        written.as_slice() == frames(alloc, BARS)?.as_slice(),
+        written.as_slice() == frames(alloc, bars_told())?.as_slice(),
         "frames"
     );
     let written = take(&rt, trace_name.as_str())?;
     assert!(rt;
-        written.as_slice() == trace(alloc, BARS)?.as_bytes(),
+        written.as_slice() == trace(alloc, bars_told())?.as_bytes(),
         "trace"
     );
     let written = take(&rt, memory_name.as_str())?;
     assert!(rt;
-        written.as_slice() == memory(alloc, BARS)?.as_slice(),
+        written.as_slice() == memory(alloc, bars_told())?.as_slice(),
         "memory"
     );
     Ok(())

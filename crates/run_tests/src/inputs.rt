@@ -8,23 +8,29 @@ use std::sync::Wait;
 use std::test::Fail;
 use std::thread::Threads;
 
-const SCRIPT: &str = "ocs 1\ncpu off\nframes 1\nend\n";
+fn good_script() -> &'static str {
+    "ocs 1\ncpu off\nframes 1\nend\n"
+}
 
-const HEAD: &str = "ocs 1\ncpu off\nframes 1\n";
+fn head() -> &'static str {
+    "ocs 1\ncpu off\nframes 1\n"
+}
 
 const IMAGE: [u8; 8] = [0; 8];
 
 /// A script that is bad, and where it is so.
-const BAD_SCRIPTS: [(&str, &str); 5] = [
-    ("ocs 1\ncpu off\nframes 0\nend\n", "3: frames"),
-    ("ocs 1\ncpu off\nframes 1\n", "4: missing"),
-    ("", "1: missing"),
-    (
-        "ocs 1\ncpu off\nframes 1\nat 0 5 0 poke 180 0001\nat 0 4 0 poke 180 0002\nend\n",
-        "5: order",
-    ),
-    ("ocs 1\ncpu off\nframes 1\nend\nend\n", "5: extra"),
-];
+fn bad_scripts_told() -> [(&'static str, &'static str); 5] {
+    [
+        ("ocs 1\ncpu off\nframes 0\nend\n", "3: frames"),
+        ("ocs 1\ncpu off\nframes 1\n", "4: missing"),
+        ("", "1: missing"),
+        (
+            "ocs 1\ncpu off\nframes 1\nat 0 5 0 poke 180 0001\nat 0 4 0 poke 180 0002\nend\n",
+            "5: order",
+        ),
+        ("ocs 1\ncpu off\nframes 1\nend\nend\n", "5: extra"),
+    ]
+}
 
 /// Whether no file was made.
 fn made_nothing(shelf: &Shelf) -> bool {
@@ -50,7 +56,7 @@ fn is_refused<R: Threads + Wait + Abort + Clone + Drop + Send + Sync + 'static>(
 #[test]
 fn bad_scripts(rt: HostRuntime) -> Result<(), Fail> {
     let alloc = rt.alloc();
-    for (script, place) in BAD_SCRIPTS {
+    for (script, place) in bad_scripts_told() {
         let said = format!(in alloc; "bad script: line {place}\n")?;
         assert!(rt;
             is_refused(&rt, alloc, &IMAGE, script, 4, said.as_str())?,
@@ -64,9 +70,9 @@ fn bad_scripts(rt: HostRuntime) -> Result<(), Fail> {
 #[test]
 fn bad_images(rt: HostRuntime) -> Result<(), Fail> {
     let alloc = rt.alloc();
-    assert!(rt; is_refused(&rt, alloc, &[0; 7], SCRIPT, 3, "bad image\n")?);
+    assert!(rt; is_refused(&rt, alloc, &[0; 7], good_script(), 3, "bad image\n")?);
     let long = vec![in alloc; 0u8; 524_290]?;
-    assert!(rt; is_refused(&rt, alloc, &long, SCRIPT, 3, "bad image\n")?);
+    assert!(rt; is_refused(&rt, alloc, &long, good_script(), 3, "bad image\n")?);
     Ok(())
 }
 
@@ -74,7 +80,7 @@ fn bad_images(rt: HostRuntime) -> Result<(), Fail> {
 #[test]
 fn a_bad_image_is_no_other_fault_where_that_is_not_said(rt: HostRuntime) -> Result<(), Fail> {
     let alloc = rt.alloc();
-    let mut shelf = shelf(alloc, &[0; 7], SCRIPT)?;
+    let mut shelf = shelf(alloc, &[0; 7], good_script())?;
     shelf.fail_at(1)?;
     assert_eq!(rt; status(&rt, alloc, &run_words("313", "2"), &mut shelf)?, 3);
     assert!(rt; shelf.said() == b"bad i".as_slice());
@@ -87,7 +93,7 @@ fn a_bad_image_is_no_other_fault_where_that_is_not_said(rt: HostRuntime) -> Resu
 fn an_image_of_the_whole_memory(rt: HostRuntime) -> Result<(), Fail> {
     let alloc = rt.alloc();
     let whole = vec![in alloc; 0u8; 524_288]?;
-    let mut shelf = shelf(alloc, &whole, SCRIPT)?;
+    let mut shelf = shelf(alloc, &whole, good_script())?;
     assert_eq!(rt; status(&rt, alloc, &run_words("313", "2"), &mut shelf)?, 0);
     assert!(rt; shelf.said().is_empty());
     let mut frames = Vec::from_slice(alloc, b"P6\n720 286\n255\n")?;
@@ -102,7 +108,7 @@ fn an_image_of_the_whole_memory(rt: HostRuntime) -> Result<(), Fail> {
 #[test]
 fn a_script_of_too_many_lines(rt: HostRuntime) -> Result<(), Fail> {
     let alloc = rt.alloc();
-    let mut text = String::from_str(alloc, HEAD)?;
+    let mut text = String::from_str(alloc, head())?;
     for _ in 0..99_998 {
         text.push_str("at 0 0 0 peek 006\n")?;
     }

@@ -11,7 +11,8 @@ use std::test::Fail;
 /// of the stacked PC, the stacked SR and D0; before an address error four words of its frame; at the end of
 /// each group D1 to D6 and A0 to A2. A write of COLOR00 at the end of each group has the sum of all results
 /// so far. The script requests the interrupts that end STOP and that come when the mask falls.
-const PROGRAM: &str = "run All instructions.
+fn program_told() -> &'static str {
+    "run All instructions.
 cpu on
 image 0000 2000 0000 013c 3*0000 00c0 0000 00ea 0000 00cc 0000 00ce 0000 00d0 0000 00ec 0000 00d2 0000 00ee
 image 0000 00f0 27*0000 00d6 3*0000 00e0 9*0000 010c 0000 00f2 27*0000 00d4 2cdf 2cdf 08af 0000 0005 6130
@@ -108,9 +109,10 @@ pixels 12960 bb44aa
 pixels 10168 229944
 pixels 6008 339966
 pixels 19196 77aa55
-pixels 123836 bb3344";
+pixels 123836 bb3344"
+}
 
 #[test]
 fn all_instructions(rt: HostRuntime) -> Result<(), Fail> {
-    check(&rt, rt.alloc(), &[PROGRAM])
+    check(&rt, rt.alloc(), &[program_told()])
 }

@@ -5,8 +5,6 @@
 #[cfg(test)]
 mod blits;
 #[cfg(test)]
-mod caps;
-#[cfg(test)]
 mod case;
 #[cfg(test)]
 mod copper_lists;

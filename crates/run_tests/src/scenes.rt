@@ -45,12 +45,22 @@ fn scene_0(rt: HostRuntime) -> Result<(), Fail> {
     Ok(())
 }
 
-/// The third line that was said.
-fn third_line(said: &[u8]) -> &[u8] {
-    let mut lines = said.split(|byte| *byte == b'\n');
-    lines.next();
-    lines.next();
-    lines.next().unwrap_or(&[])
+/// Whether the third of the lines is that of a trace of 546 lines.
+fn has_546_lines(said: &[u8]) -> bool {
+    let mut feeds = 0usize;
+    let mut at = said.len();
+    for (n, byte) in said.iter().enumerate() {
+        if *byte == b'\n' {
+            feeds = feeds.saturating_add(1);
+            if feeds == 2 {
+                at = n;
+            }
+        }
+    }
+    match said.get(at..) {
+        Some(rest) => rest.starts_with(b"\ntrace 546\n"),
+        None => false,
+    }
 }
 
 #[test]
@@ -62,10 +72,7 @@ fn every_scene_has_a_trace_of_546_lines(rt: HostRuntime) -> Result<(), Fail> {
             status(&rt, alloc, &["gen", number, "20", "0"], &mut place)?,
             0
         );
-        assert!(rt;
-            third_line(place.said()) == b"trace 546".as_slice(),
-            "{number}"
-        );
+        assert!(rt; has_546_lines(place.said()), "{number}");
     }
     Ok(())
 }

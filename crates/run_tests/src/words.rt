@@ -8,36 +8,44 @@ use std::sync::Wait;
 use std::test::Fail;
 use std::thread::Threads;
 
-const USAGE: &[u8] = b"usage: ocs run IMAGE SCRIPT FRAMES TRACE MEMORY BAND WORKERS\n";
+fn usage() -> &'static [u8] {
+    b"usage: ocs run IMAGE SCRIPT FRAMES TRACE MEMORY BAND WORKERS\n"
+}
 
-const USAGE_OF_GEN: &[u8] = b"usage: ocs gen N BAND WORKERS\n";
+fn usage_of_gen() -> &'static [u8] {
+    b"usage: ocs gen N BAND WORKERS\n"
+}
 
 /// Words that are no run: 33 workers; bands of no line, a leading zero, too many lines; six words; equal
 /// names; an empty name; another command; no word.
-const NO_RUN: [&str; 10] = [
-    "run image script frames trace memory 313 33",
-    "run image script frames trace memory 0 2",
-    "run image script frames trace memory 01 2",
-    "run image script frames trace memory 314 2",
-    "run image script frames trace memory",
-    "run image script frames frames memory 313 2",
-    "run image script frames image memory 313 2",
-    "run image script  trace memory 313 2",
-    "walk image script frames trace memory 313 2",
-    "",
-];
+fn no_run() -> [&'static str; 10] {
+    [
+        "run image script frames trace memory 313 33",
+        "run image script frames trace memory 0 2",
+        "run image script frames trace memory 01 2",
+        "run image script frames trace memory 314 2",
+        "run image script frames trace memory",
+        "run image script frames frames memory 313 2",
+        "run image script frames image memory 313 2",
+        "run image script  trace memory 313 2",
+        "walk image script frames trace memory 313 2",
+        "",
+    ]
+}
 
 /// Words that begin with `gen` and are not of its form.
-const NO_SCENE: [&str; 8] = [
-    "gen 4294967296 20 0",
-    "gen 00 20 0",
-    "gen 0 0 0",
-    "gen 0 314 0",
-    "gen 0 20 33",
-    "gen 0 20",
-    "gen 0 20 0 0",
-    "gen",
-];
+fn no_scene() -> [&'static str; 8] {
+    [
+        "gen 4294967296 20 0",
+        "gen 00 20 0",
+        "gen 0 0 0",
+        "gen 0 314 0",
+        "gen 0 20 33",
+        "gen 0 20",
+        "gen 0 20 0 0",
+        "gen",
+    ]
+}
 
 /// The status of the words of a text.
 fn status_of<R: Threads + Wait + Abort + Clone + Drop + Send + Sync + 'static>(
@@ -76,11 +84,11 @@ fn check_usage<R: Threads + Wait + Abort + Clone + Drop + Send + Sync + 'static>
 #[test]
 fn words_of_no_form(rt: HostRuntime) -> Result<(), Fail> {
     let alloc = rt.alloc();
-    for text in NO_RUN {
-        check_usage(&rt, alloc, text, USAGE)?;
+    for text in no_run() {
+        check_usage(&rt, alloc, text, usage())?;
     }
-    for text in NO_SCENE {
-        check_usage(&rt, alloc, text, USAGE_OF_GEN)?;
+    for text in no_scene() {
+        check_usage(&rt, alloc, text, usage_of_gen())?;
     }
     Ok(())
 }
