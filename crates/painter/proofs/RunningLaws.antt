@@ -1,10 +1,10 @@
 -- What runs of a sprite is what began last on the line: position by position.
-use Rattle.std.proofs.Common.{◌≡◌, ◌≤◌, ◌<◌, ℕ, zero, suc, ◌+◌, ◌*◌, ◌/◌, Bool, true, false, ◌&&◌, ◌==◌, nat_eq, List, Option, Some, None, replicate, slice_index, slice_index_or, refl, sym, ◌∙◌, ap, subst, arith}
+use Rattle.std.proofs.Common.{◌≡◌, ◌≤◌, ◌<◌, ℕ, zero, suc, ◌+◌, ◌*◌, ◌/◌, Bool, true, false, nat_eq, List, Option, Some, None, replicate, slice_index, slice_index_or, refl, sym, ◌∙◌, ap, subst, arith}
 use Rattle.std.specs.Bool.{if◌then◌else◌}
 use Rattle.std.proofs.lemmas.Bool.Decides.{nat_tests}
 use Rattle.sprites.specs.declared.runs.Start.{Start}
 use Rattle.serial_model.specs.declared.picture.Denise.{Denise}
-use Rattle.serial_model.specs.Picture.{is_armed, sprite_column, run_at, runs_at, runs_after}
+use Rattle.serial_model.specs.Picture.{run_at, runs_at, runs_after}
 use Rattle.sprite_rows.proofs.Values.{kept-none}
 use Rattle.painter.specs.RunningWords.{IsLine, begins_at, words_at, IsGreatestBegin, IsLastBegin, LastBeginRuns}
 
