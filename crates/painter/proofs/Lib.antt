@@ -9,3 +9,4 @@ pub mod Showing
 pub mod Overlays
 pub mod Registers
 pub mod KeptLoads
+pub mod RunningLaws

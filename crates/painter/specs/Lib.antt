@@ -8,3 +8,4 @@ pub mod Pixels
 pub mod SpriteState
 pub mod Overlay
 pub mod Painter
+pub mod RunningWords

@@ -6,6 +6,7 @@ mod ham;
 pub mod held;
 pub mod inks;
 mod kept_loads;
+pub mod laws;
 pub mod line;
 mod names;
 mod overlay;
