@@ -7,6 +7,7 @@ ghost use Rattle.foreground.specs.Fore.{over, IsNew, is_done};
 
 use crate::log::Log;
 use crate::machine::Machine;
+use band_draw::due::Cursor;
 use band_log::Run;
 use ocs_base::{Beam, OutOfMemory};
 use reg_file::Regs;
@@ -24,8 +25,8 @@ pub struct Fore<S> {
     pub(crate) run: Arc<Run<S>>,
     pub(crate) machine: Machine<S>,
     pub(crate) log: Log,
-    /// How many of the script's events have happened.
-    pub(crate) next: usize,
+    /// How far the script is: the events before it have happened.
+    pub(crate) cursor: Cursor,
     /// The collision bits of the bands that were gathered since CLXDAT was last read.
     pub(crate) clx: u16,
     /// Whether memory was wanted before.
@@ -42,7 +43,7 @@ impl<S> Model for Fore<S> {
       run = arc_value f.run;
       machine = f.machine;
       log = f.log;
-      next = f.next;
+      next = f.cursor.next;
       clx = f.clx;
       spent = f.spent;
     } };
@@ -74,7 +75,7 @@ impl<S: Side> Fore<S> {
             run,
             machine,
             log: Log::new(alloc),
-            next: 0,
+            cursor: Cursor { next: 0 },
             clx: 0,
             spent: false,
         })
