@@ -21,14 +21,15 @@ use Rattle.foreground.specs.Machine.{MachineValue, Start, Stands, Makes, MakesQu
 use Rattle.foreground.specs.Log.{IsLogOf}
 use Rattle.foreground.specs.Script.{IsLeft, IsMachine}
 use Rattle.foreground.specs.Gathered.{tinted_range}
-use Rattle.foreground.specs.Clock.{IsAt, IsBehindAccess, Tells, HasGiven, HasGivenPart, Rises, access_state, accessed_state}
+use Rattle.foreground.specs.Clock.{AreLeftFrom, IsAt, IsBehindAccess, Tells, HasGiven, HasGivenPart, Rises, access_state, accessed_state}
 use Rattle.foreground.specs.Fore.{ForeValue, HasScript, IsUnderway, HasAdvanced, Advances, GivesPart, is_done}
-use Rattle.foreground.specs.Steps.{IsBefore, KeepsClock, HasBegunClock, BeginsClock, HasScriptBehind, ReachesAccess, HasMadeAccess, MakesItsAccess, AccessesPart, EndsClock, reads_more}
+use Rattle.foreground.specs.Steps.{IsBefore, IsBehind, KeepsClock, HasBegunClock, BeginsClock, HasScriptBehind, ReachesAccess, HasMadeAccess, MakesItsAccess, AccessesPart, EndsClock, reads_more}
 use Rattle.foreground.specs.declared.log.Log.{Log}
 use Rattle.foreground.proofs.OutLaws.{gives_then}
 use Rattle.foreground.proofs.RunLaws.{stands_from, stands_behind_access}
 use Rattle.foreground.proofs.PlaceLaws.{IsOnScreen-same}
 use Rattle.foreground.proofs.MadeLaws.{given_more, part_of_given}
+use Rattle.foreground.proofs.LeftLaws.{left_from, started_band, log_band}
 
 -- the steps behind the access, at one clock of a run
 ends : (run : RunValue) (c first clx : ℕ) (m0 m1 m2 : MachineValue) (log : Log) (seen : RasterValue) (out given : OutFilesValue)
@@ -160,6 +161,7 @@ given_part run first mid seen between after old out new lines one two =
     record {
       until = two.until;
       least = (let a : first ≤ mid = one.least in let b : mid ≤ two.until = two.least in omega arith);
+      left = two.left;
       mark = record {
         bound = two.mark.bound ∙ one.mark.bound;
         mark = two.mark.mark ∙ one.mark.mark;
@@ -289,12 +291,25 @@ advances f0 f1 f2 f3 f4 clx lace seen s1 s2 o0 o1 o2 o3 o4 not begins reaches ma
     let before = (reached f0 f1 f2 first clx seen s1 o0 o1 o2 is begun reaches).0 in
     advanced f0 f1 f2 f3 f4 first clx lace seen s1 s2 o0 o1 o2 o3 o4 is not begun reaches (makes begun.until before) kept end next
 
+-- which bands are outstanding then
+left_begun : (f0 f1 : ForeValue) (first clx : ℕ) (seen s1 : RasterValue) (o0 o1 : OutFilesValue) (begun : HasBegunClock f0 f1 first clx seen s1 o0 o1)
+    → AreLeftFrom f0.run begun.until s1
+left_begun f0 f1 first clx seen s1 o0 o1 begun =
+    subst (λ r. AreLeftFrom r begun.until s1) (ap (λ (f : ForeValue). f.run) begun.same)
+    (left_from f1.run f1.log.band.number f1.log.band.from begun.until s1
+    (started_band f1.run f1.machine.t f1.log f1.machine.chip begun.begun.logged) begun.begun.fits)
+
+left_behind : (f : ForeValue) (until : ℕ) (seen : RasterValue) → IsBehind f until seen → AreLeftFrom f.run until seen
+left_behind f until seen is =
+    left_from f.run f.log.band.number f.log.band.from until seen
+    (log_band f.run (f.machine.t + 1) f.log f.machine.chip is.logged) is.fits
+
 -- where memory was wanted in the steps up to the access, in the access, and behind it
 pub part_reaching : (f0 f1 : ForeValue) (clx : ℕ) (seen s1 : RasterValue) (o0 o1 o2 : OutFilesValue) → BeginsClock f0 f1 clx seen s1 o0 o1
     → GivesLines o1 o2 → GivesPart f0 seen s1 o0 o2
 part_reaching f0 f1 clx seen s1 o0 o1 o2 begins told first is =
     let begun : HasBegunClock f0 f1 first clx seen s1 o0 o1 = begins first is in
-    part_of_given f0.run first begun.until seen s1 o0 o2 ([] ++ told.0) (given_more f0.run first begun.until seen s1 o0 o1 o2 [] told.0 begun.gives told.1)
+    part_of_given f0.run first begun.until seen s1 o0 o2 ([] ++ told.0) (left_begun f0 f1 first clx seen s1 o0 o1 begun) (given_more f0.run first begun.until seen s1 o0 o1 o2 [] told.0 begun.gives told.1)
 
 pub part_accessing : (f0 f1 f2 : ForeValue) (clx : ℕ) (seen s1 s2 : RasterValue) (o0 o1 o2 o3 : OutFilesValue) → BeginsClock f0 f1 clx seen s1 o0 o1
     → ReachesAccess clx f1 f2 o1 o2 → AccessesPart f2 s1 s2 o2 o3 → GivesPart f0 seen s2 o0 o3
@@ -306,13 +321,15 @@ part_accessing f0 f1 f2 clx seen s1 s2 o0 o1 o2 o3 begins reaches part first is 
     (subst (λ r. HasGivenPart r begun.until s1 s2 o2 o3) run (part begun.until before.0.logged))
 
 pub part_ending : (f0 f1 f2 f3 : ForeValue) (clx : ℕ) (seen s1 s2 : RasterValue) (o0 o1 o2 o3 o4 : OutFilesValue) → BeginsClock f0 f1 clx seen s1 o0 o1
-    → ReachesAccess clx f1 f2 o1 o2 → MakesItsAccess f2 f3 s1 s2 o2 o3 → o4 ≡ o3 → GivesPart f0 seen s2 o0 o4
-part_ending f0 f1 f2 f3 clx seen s1 s2 o0 o1 o2 o3 o4 begins reaches makes same first is =
+    → ReachesAccess clx f1 f2 o1 o2 → MakesItsAccess f2 f3 s1 s2 o2 o3 → KeepsClock f2 f3 → o4 ≡ o3 → GivesPart f0 seen s2 o0 o4
+part_ending f0 f1 f2 f3 clx seen s1 s2 o0 o1 o2 o3 o4 begins reaches makes kept same first is =
     let begun : HasBegunClock f0 f1 first clx seen s1 o0 o1 = begins first is in
     let before = reached f0 f1 f2 first clx seen s1 o0 o1 o2 is begun reaches in
     let made : HasMadeAccess f2 f3 begun.until s1 s2 o2 o3 = makes begun.until before.0 in
+    let run : f3.run ≡ f0.run = kept.run ∙ reaches.run ∙ ap (λ (f : ForeValue). f.run) begun.same in
     subst (λ o. HasGivenPart f0.run first seen s2 o0 o) (sym same)
     (part_of_given f0.run first made.until seen s2 o0 o3 (before.1.lines ++ made.lines)
+    (subst (λ r. AreLeftFrom r made.until s2) run (left_behind f3 made.until s2 made.behind))
     (given_made f0 f1 f2 f3 first clx seen s1 s2 o0 o1 o2 o3 is begun reaches made))
 
 -- what the parts need

@@ -26,6 +26,7 @@ use Rattle.foreground.specs.declared.log.Log.{Log}
 use Rattle.foreground.proofs.Logging.{log_starts, log_begins}
 use Rattle.foreground.proofs.CutLaws.{gives_none, gives_no_part, rises_none}
 use Rattle.foreground.proofs.ReadingLaws.{fits_least, here_at}
+use Rattle.foreground.proofs.LeftLaws.{left_from, log_band}
 
 -- the clock is one of the run
 not_end : (a b : ℕ) → a ≤ b → (a == b) ≡ false → a < b
@@ -219,7 +220,10 @@ begins_already old seen out going not_before unread first underway =
     }
 
 pub begins_no_part : (old : ForeValue) (seen : RasterValue) (out : OutFilesValue) → BeginsPart old seen seen out out
-begins_no_part old seen out first underway = gives_no_part old.run first seen out
+begins_no_part old seen out first underway =
+    gives_no_part old.run first seen out
+    (left_from old.run old.log.band.number old.log.band.from first seen
+    (log_band old.run old.machine.t old.log old.machine.chip underway.at.logged) underway.at.fits)
 
 -- what the script reads in this clock is what it reads at the place of the beam
 pub reads_there : (fore : ForeValue) (first : ℕ) (seen : RasterValue) (found : Bool) → IsUnderway fore first seen →

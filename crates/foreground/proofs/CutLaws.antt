@@ -12,14 +12,15 @@ use Rattle.band_log.specs.declared.job.Job.{Job}
 use Rattle.band_log.specs.Raster.{RasterValue}
 use Rattle.foreground.specs.Log.{IsLogOf, IsCut, IsJobOf, blank_after}
 use Rattle.foreground.specs.Gathered.{Fits, IsClosing, HasGathered, HasGatheredPart, HasGatheredTo, HasSubmitted, GathersAll, GathersPart, Submits}
-use Rattle.foreground.specs.Clock.{HasGiven, HasGivenPart, Rises}
+use Rattle.foreground.specs.Clock.{AreLeftFrom, HasGiven, HasGivenPart, Rises}
 use Rattle.foreground.specs.Cuts.{StandsBefore, HasEndedAll, EndsAtLine, EndsAtRead, EndsAll, EndsPart, EndsPartAtRead}
 use Rattle.foreground.specs.Fore.{ForeValue}
 use Rattle.foreground.specs.declared.band.OpenBand.{OpenBand}
 use Rattle.foreground.specs.declared.log.Log.{Log}
-use Rattle.foreground.proofs.Cutting.{fetches_are_few}
+use Rattle.foreground.proofs.Cutting.{fetches_are_few, log_cuts}
 use Rattle.foreground.proofs.OutLaws.{gives_nothing}
 use Rattle.foreground.proofs.GatherLaws.{no_bytes, gathered_then, part_then}
+use Rattle.foreground.proofs.LeftLaws.{left_from, IsBeginOf, ending_band, log_band}
 
 -- what was given where bands were gathered, or nothing was
 pub gives_none : (run : RunValue) (first : ℕ) (seen : RasterValue) (out : OutFilesValue) → HasGiven run first first seen seen out out []
@@ -29,10 +30,12 @@ gives_none run first seen out = record {
   text = rw (no_bytes run seen.tint first) (gives_nothing out);
 }
 
-pub gives_no_part : (run : RunValue) (first : ℕ) (seen : RasterValue) (out : OutFilesValue) → HasGivenPart run first seen seen out out
-gives_no_part run first seen out = record {
+pub gives_no_part : (run : RunValue) (first : ℕ) (seen : RasterValue) (out : OutFilesValue) → AreLeftFrom run first seen
+    → HasGivenPart run first seen seen out out
+gives_no_part run first seen out left = record {
   until = first;
   least = omega arith;
+  left = left;
   mark = record { bound = refl; mark = refl; tint = refl };
   part = [];
   rest = [];
@@ -47,10 +50,11 @@ gives_gathered run number to first until seen after old new clx gathered is =
     record { least = is.least; mark = is.mark; text = is.pixels }
 
 pub gives_part : (run : RunValue) (number to first : ℕ) (seen after : RasterValue) (old new : OutFilesValue) →
-    HasGatheredPart run number to first seen after old new → HasGivenPart run first seen after old new
-gives_part run number to first seen after old new is = record {
+    IsBeginOf run to number → HasGatheredPart run number to first seen after old new → HasGivenPart run first seen after old new
+gives_part run number to first seen after old new place is = record {
   until = is.then;
   least = is.least;
+  left = left_from run number to is.then after place is.fits;
   mark = is.mark;
   part = is.part;
   rest = is.rest;
@@ -72,12 +76,16 @@ submits_of run band to side_of job seen after old new clx gathered is submits =
 
 -- memory was wanted: before the band was submitted, while it was, or when all were gathered
 pub ends_no_part : (to : ℕ) (old : ForeValue) (seen : RasterValue) (out : OutFilesValue) → EndsPartAtRead to old seen seen out out
-ends_no_part to old seen out first stands = gives_no_part old.run first seen out
+ends_no_part to old seen out first stands =
+    gives_no_part old.run first seen out
+    (left_from old.run old.log.band.number old.log.band.from first seen
+    (ending_band old.run to old.log old.machine.chip stands.ending) stands.fits)
 
 pub ends_submit_part : (to : ℕ) (old : ForeValue) (seen after : RasterValue) (out given : OutFilesValue) → GathersPart seen after out given →
     EndsPartAtRead to old seen after out given
 ends_submit_part to old seen after out given part first stands =
     gives_part old.run old.log.band.number old.log.band.from first seen after out given
+    (ending_band old.run to old.log old.machine.chip stands.ending)
     (part old.run old.log.band.number old.log.band.from first stands.fits)
 
 pub ends_gather_part : (to : ℕ) (old : ForeValue) {S : Type 0} (side_of : S → SideValue) (job : Job S) (seen mid after : RasterValue)
@@ -89,17 +97,23 @@ ends_gather_part to old side_of job seen mid after out between given so_far is s
     let band : OpenBand = old.log.band in
     let sub : HasSubmitted old.run band.number band.from to first seen mid out between old.clx so_far =
     submits_of old.run band to side_of job seen mid out between old.clx so_far is submits first stands.fits in
-    gives_part old.run (band.number + 1) to first seen after out given
+    let cut : IsCut old.run to (record old.log { band = blank_after to band }) (after_cut old.machine.chip to) =
+    log_cuts old.run to old.log old.machine.chip stands.ending in
+    gives_part old.run (band.number + 1) to first seen after out given (cut.number, cut.begin)
     (part_then old.run (band.number + 1) to first sub.then seen mid after out between given old.clx so_far sub.bands
     (part old.run (band.number + 1) to sub.then sub.bands.fits))
 
 pub line_no_part : (to : ℕ) (old : ForeValue) (seen : RasterValue) (out : OutFilesValue) → EndsPart to old seen seen out out
-line_no_part to old seen out first stands = gives_no_part old.run first seen out
+line_no_part to old seen out first stands =
+    gives_no_part old.run first seen out
+    (left_from old.run old.log.band.number old.log.band.from first seen
+    (log_band old.run to old.log old.machine.chip stands.log) stands.fits)
 
 pub line_submit_part : (to : ℕ) (old : ForeValue) (seen after : RasterValue) (out given : OutFilesValue) → GathersPart seen after out given →
     EndsPart to old seen after out given
 line_submit_part to old seen after out given part first stands =
     gives_part old.run old.log.band.number old.log.band.from first seen after out given
+    (log_band old.run to old.log old.machine.chip stands.log)
     (part old.run old.log.band.number old.log.band.from first stands.fits)
 
 -- a foreground with another memory, log and collision bits

@@ -19,6 +19,7 @@ pub mod ReadingLaws
 pub mod BeginLaws
 pub mod SettleLaws
 pub mod NewLaws
+pub mod LeftLaws
 pub mod CutLaws
 pub mod EmptyLaws
 pub mod ShownLaws

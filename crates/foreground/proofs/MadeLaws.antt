@@ -26,7 +26,7 @@ use Rattle.foreground.specs.Out.{Gives, GivesLines}
 use Rattle.foreground.specs.Machine.{MachineValue, IsMachineOf, HasMade, HasAskedOf, MakesAccess, IsSamePlace, StaysInPlace, StoresMade}
 use Rattle.foreground.specs.Log.{IsLogOf, IsBandOf, IsShown, with_access_touch}
 use Rattle.foreground.specs.Gathered.{Fits, tinted_range}
-use Rattle.foreground.specs.Clock.{IsLogged, IsBeforeAccess, IsBehindAccess, HasGiven, HasGivenPart, access_state, accessed_state}
+use Rattle.foreground.specs.Clock.{AreLeftFrom, IsLogged, IsBeforeAccess, IsBehindAccess, HasGiven, HasGivenPart, access_state, accessed_state}
 use Rattle.foreground.specs.Fore.{ForeValue}
 use Rattle.foreground.specs.Steps.{IsBefore, IsLoggedBefore, HasReadByAccess, HasMadeAccess, MakesItsAccess, MakesReadingAccess, HasAskedNow, StandsBeforeRead, ReadsBits, AccessesPart, reads_more}
 use Rattle.foreground.specs.declared.log.Log.{Log}
@@ -35,6 +35,7 @@ use Rattle.foreground.proofs.GatherLaws.{no_bytes}
 use Rattle.foreground.proofs.ToldLaws.{told_none}
 use Rattle.foreground.proofs.RunLaws.{made_at_clock, memory_at_clock, stores_at_clock, touch_at_clock, range_at_clock, place_at_clock, reads_at_clock}
 use Rattle.foreground.proofs.Logging.{log_accessed}
+use Rattle.foreground.proofs.LeftLaws.{left_from, log_band, shown_band, IsBeginOf}
 
 -- the access of a clock reads CLXDAT exactly where its ask is for it
 pub clx_at_ask : (run : RunValue) (c : ℕ) (ask : Ask) → ask ≡ ask_of (access_state run c) → is_clx_read (made_at run c) ≡ is_clx_ask ask
@@ -262,10 +263,11 @@ asked_after_read f g first bits ask seen after out between read now =
 
 -- a part of the pixels: none where only lines were given, or all that were
 pub part_of_lines : (run : RunValue) (first : ℕ) (seen : RasterValue) (out given : OutFilesValue) → GivesLines out given
-    → HasGivenPart run first seen seen out given
-part_of_lines run first seen out given told = record {
+    → AreLeftFrom run first seen → HasGivenPart run first seen seen out given
+part_of_lines run first seen out given told left = record {
   until = first;
   least = omega arith;
+  left = left;
   mark = record { bound = refl; mark = refl; tint = refl };
   part = [];
   rest = [];
@@ -275,10 +277,11 @@ part_of_lines run first seen out given told = record {
 }
 
 pub part_of_given : (run : RunValue) (first until : ℕ) (seen after : RasterValue) (out given : OutFilesValue) (lines : List TraceLine)
-    → HasGiven run first until seen after out given lines → HasGivenPart run first seen after out given
-part_of_given run first until seen after out given lines all = record {
+    → AreLeftFrom run until after → HasGiven run first until seen after out given lines → HasGivenPart run first seen after out given
+part_of_given run first until seen after out given lines left all = record {
   until = until;
   least = all.least;
+  left = left;
   mark = all.mark;
   part = tinted_range run seen.tint first until;
   rest = [];
@@ -365,8 +368,14 @@ makes_with_read_of f f1 g bits ask made m2 seen after out between given view rea
 pub part_of_read : (f f1 : ForeValue) (bits : ℕ) (seen after : RasterValue) (out between given : OutFilesValue)
     → ReadsBits true f f1 bits seen after out between → given ≡ between → AccessesPart f seen after out given
 part_of_read f f1 bits seen after out between given reads same first logged =
+    let read : HasReadByAccess f f1 first bits seen after out between = reads first logged in
+    let t : ℕ = f.machine.t in
+    let left : AreLeftFrom f1.run (t + 1) after =
+    left_from f1.run f1.log.band.number (t + 1) (t + 1) after
+    (subst (λ k. IsBeginOf f1.run k f1.log.band.number) read.at.begin (log_band f1.run (t + 1) f1.log f1.machine.chip read.at.log)) read.at.fits in
     subst (λ o. HasGivenPart f.run first seen after out o) (sym same)
-    (part_of_given f.run first (f.machine.t + 1) seen after out between [] (reads first logged).gives)
+    (part_of_given f.run first (t + 1) seen after out between []
+    (subst (λ r. AreLeftFrom r (t + 1) after) (ap (λ (x : ForeValue). x.run) read.same) left) read.gives)
 
 pub before_view : (f g : ForeValue) (first : ℕ) (seen : RasterValue) → g ≡ f → IsBefore f first seen → IsBefore g first seen
 before_view f g first seen view is = subst (λ x. IsBefore x first seen) (sym view) is
@@ -384,7 +393,10 @@ on_err (Ok x) p = tt
 on_err (Err e) p = p
 
 pub quiet_part : (f : ForeValue) (seen : RasterValue) (out given : OutFilesValue) → GivesLines out given → AccessesPart f seen seen out given
-quiet_part f seen out given told first logged = part_of_lines f.run first seen out given told
+quiet_part f seen out given told first logged =
+    part_of_lines f.run first seen out given told
+    (left_from f.run f.log.band.number f.log.band.from first seen
+    (shown_band f.run f.machine.t f.log f.machine.chip logged.shown) logged.fits)
 
 pub on_ok_two : {T E P Q R : Type 0} (r : Result T E) → (P → Q → R) → OnOk r P → OnOk r Q → OnOk r R
 on_ok_two (Ok x) both p q = both p q

@@ -29,6 +29,7 @@ use Rattle.foreground.specs.Fore.{ForeValue, IsUnderway}
 use Rattle.foreground.specs.Steps.{IsLoggedBefore, StandsBeforeRead, ReadsBits, ReadsPart, BeginsPart, AccessesPart}
 use Rattle.foreground.proofs.Logging.{log_read, read_begins, log_ends}
 use Rattle.foreground.proofs.CutLaws.{gives_gathered, gives_part}
+use Rattle.foreground.proofs.LeftLaws.{log_band}
 
 -- clocks of a run are few
 place_small : (b : Beam) (frames : ℕ) → IsOnScreen b → b.frame < frames → frames ≤ 1000 → place_of b < 71364000
@@ -274,4 +275,5 @@ pub all_part : (now : ForeValue) (seen after : RasterValue) (out given : OutFile
     BeginsPart now seen after out given
 all_part now seen after out given part first underway =
     gives_part now.run now.log.band.number now.log.band.from first seen after out given
+    (log_band now.run now.machine.t now.log now.machine.chip underway.at.logged)
     (part now.run now.log.band.number now.log.band.from first underway.at.fits)

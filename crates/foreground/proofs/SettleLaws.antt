@@ -19,6 +19,7 @@ use Rattle.foreground.proofs.Logging.{log_ends}
 use Rattle.foreground.proofs.CutLaws.{gives_gathered, gives_part}
 use Rattle.foreground.proofs.ReadingLaws.{here_at}
 use Rattle.foreground.proofs.BeginLaws.{machine_kept}
+use Rattle.foreground.proofs.LeftLaws.{log_band}
 
 is_same : (a b : ℕ) → (a == b) ≡ true → a ≡ b
 is_same a b here = grind (arith, nat_tests)
@@ -99,6 +100,7 @@ pub settle_gather_part : (now : ForeValue) (seen after : RasterValue) (out given
     GivesPart now seen after out given
 settle_gather_part now seen after out given part first underway =
     gives_part now.run now.log.band.number now.log.band.from first seen after out given
+    (log_band now.run now.machine.t now.log now.machine.chip underway.at.logged)
     (part now.run now.log.band.number now.log.band.from first underway.at.fits)
 
 -- the same where a foreground is seen as its fields are

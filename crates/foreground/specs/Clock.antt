@@ -9,7 +9,7 @@ use Rattle.serial_model.specs.Tick.{before_access, make_access}
 use Rattle.serial_bands.specs.Run.{RunValue, state_of}
 use Rattle.serial_model.specs.Made.{is_clx_read}
 use Rattle.serial_bands.specs.Clock.{made_at}
-use Rattle.serial_bands.specs.Bands.{has_read_before}
+use Rattle.serial_bands.specs.Bands.{begins, begun, has_read_before}
 use Rattle.serial_bands.specs.Gathering.{IsGathered, IsGatheredIn}
 use Rattle.band_log.specs.Raster.{RasterValue}
 use Rattle.foreground.specs.Out.{Gives}
@@ -77,10 +77,20 @@ pub record HasGiven (run : RunValue) (first until : ℕ) (seen after : RasterVal
   pub mark : KeepsMark seen after
   pub text : Gives old new (tinted_range run seen.tint first until) lines
 
--- and where memory was wanted: a part of the bytes of bands up to some clock, from the first one on
+-- outstanding are the bands of the run from clock `until` up to a clock with which the next one begins, or at which the run ends
+pub record AreLeftFrom (run : RunValue) (until : ℕ) (seen : RasterValue) : Type 0 where
+  pub number : ℕ
+  pub to : ℕ
+  pub fits : Fits run number to until seen
+  pub count : begun run to ≡ number
+  pub begin : begins run to ≡ true
+
+-- and where memory was wanted: bands up to some clock were gathered, those from there on are outstanding, and a part of the bytes
+-- of those that were gathered was given, from the first one on
 pub record HasGivenPart (run : RunValue) (first : ℕ) (seen after : RasterValue) (old new : OutFilesValue) : Type 0 where
   pub until : ℕ
   pub least : first ≤ until
+  pub left : AreLeftFrom run until after
   pub mark : KeepsMark seen after
   pub part : List ℕ
   pub rest : List ℕ

@@ -93,7 +93,7 @@ pub record HasAdvanced (old new : ForeValue) (first : ℕ) (seen after : RasterV
 abbrev pub Advances : ForeValue → ForeValue → RasterValue → RasterValue → OutFilesValue → OutFilesValue → Type 0
 Advances old new seen after out given = (first : ℕ) → IsUnderway old first seen → HasAdvanced old new first seen after out given
 
--- memory was wanted: a part of the pixels of bands was given, from the first of those outstanding on
+-- memory was wanted: a part of the pixels of the bands that were gathered was given, from the first of those outstanding on
 abbrev pub GivesPart : ForeValue → RasterValue → RasterValue → OutFilesValue → OutFilesValue → Type 0
 GivesPart old seen after out given = (first : ℕ) → IsUnderway old first seen → HasGivenPart old.run first seen after out given
 

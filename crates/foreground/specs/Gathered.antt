@@ -1,5 +1,5 @@
 -- What gathering bands from a raster gives.
-use Rattle.std.specs.Prelude.{◌≡◌, ◌≤◌, ◌<◌, ◌↔◌, ℕ, zero, suc, ◌+◌, ◌-◌, ◌*◌, List, [], ◌∷◌, ◌++◌, bit_or, Option, Some, None, IsSome}
+use Rattle.std.specs.Prelude.{◌≡◌, ◌≤◌, ◌<◌, ◌↔◌, ℕ, zero, suc, ◌+◌, ◌-◌, ◌*◌, List, [], ◌∷◌, ◌++◌, bit_or, Option, Some, None, IsSome, IsOk, Result}
 use Rattle.out_files.specs.OutFiles.{OutFilesValue}
 use Rattle.serial_model.specs.declared.picture.Denise.{Denise}
 use Rattle.serial_bands.specs.Run.{RunValue, beam_at}
@@ -117,6 +117,10 @@ abbrev pub GathersPart : RasterValue → RasterValue → OutFilesValue → OutFi
 GathersPart seen after old new =
     (run : RunValue) (number to first : ℕ) → Fits run number to first seen →
     HasGatheredPart run number to first seen after old new
+
+-- no band was gathered: the raster is as said, nothing was given, and memory was not wanted
+abbrev pub GathersNone : {E : Type 0} → Result (Unit {0}) E → RasterValue → RasterValue → OutFilesValue → OutFilesValue → ℕ → ℕ → Type 0
+GathersNone answer seen after old new clx gathered = IsOk answer × (after ≡ seen) × (new ≡ old) × (gathered ≡ clx)
 
 abbrev pub Submits : RunValue → ℕ → ℕ → ℕ → RasterValue → RasterValue → OutFilesValue → OutFilesValue → ℕ → ℕ → Type 0
 Submits run number from to seen after old new clx gathered =

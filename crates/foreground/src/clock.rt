@@ -20,6 +20,7 @@ ghost use Rattle.foreground.specs.Steps.{HasAskedNow, MakesItsAccess, MakesReadi
 use crate::fore::Fore;
 use crate::script::{reads_clxdat, run_script};
 use crate::touches::touch_of;
+use band_draw::due::Cursor;
 use band_log::Raster;
 use chip_set::is_clx_ask;
 use ocs_base::OutOfMemory;
@@ -68,7 +69,7 @@ impl<S: Side> Fore<S> {
             (due_events self.now.machine.beam self.now.run.script.events) }
     {
         let events = self.run.script().events();
-        reads_clxdat(&events[self.next..], &self.machine.beam)
+        reads_clxdat(&events[self.cursor.next..], &self.machine.beam)
     }
 
     /// The first four steps, up to the access. `clx` is what the script's first read of CLXDAT sees.
@@ -114,7 +115,7 @@ impl<S: Side> Fore<S> {
         ensures chip { self.new.machine.chip ≡ self.old.machine.chip }
         ensures told { OnErr result (GivesLines out.old out.new) }
     {
-        if self.next == self.run.script().events().len() {
+        if self.cursor.next == self.run.script().events().len() {
             return Ok(());
         }
         self.run_due_events(clx, out)
@@ -148,14 +149,14 @@ impl<S: Side> Fore<S> {
         let mut clx = clx;
         let events = self.run.script().events();
         let left = run_script(
-            &events[self.next..],
+            &events[self.cursor.next..],
             &mut self.machine,
             &mut self.log,
             &mut clx,
             out,
         )?;
         let next = events.len() - left.len();
-        self.next = next;
+        self.cursor = Cursor { next };
         Ok(())
     }
 

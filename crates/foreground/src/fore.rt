@@ -9,6 +9,7 @@ ghost use Rattle.foreground.specs.Fore.{over, IsNew, is_done};
 
 use crate::log::Log;
 use crate::machine::Machine;
+use band_draw::due::Cursor;
 use band_log::Run;
 use beam::last_clock;
 use ocs_base::{Beam, OutOfMemory, System};
@@ -27,8 +28,8 @@ pub struct Fore<S> {
     pub(crate) run: Arc<Run<S>>,
     pub(crate) machine: Machine<S>,
     pub(crate) log: Log,
-    /// How many of the script's events have happened.
-    pub(crate) next: usize,
+    /// How far the script is: the events before it have happened.
+    pub(crate) cursor: Cursor,
     /// The collision bits of the bands that were gathered since CLXDAT was last read.
     pub(crate) clx: u16,
     /// Whether memory was wanted before.
@@ -45,7 +46,7 @@ impl<S> Model for Fore<S> {
       run = arc_value f.run;
       machine = f.machine;
       log = f.log;
-      next = f.next;
+      next = f.cursor.next;
       clx = f.clx;
       spent = f.spent;
     } };
@@ -77,7 +78,7 @@ impl<S: Side> Fore<S> {
             run,
             machine,
             log: Log::new(alloc),
-            next: 0,
+            cursor: Cursor { next: 0 },
             clx: 0,
             spent: false,
         })

@@ -3,9 +3,9 @@
 ghost use Rattle.std.specs.Prelude.{◌≡◌, ◌<◌, ◌≤◌, ℕ, [], length, OnOk, OnErr, IfOk};
 ghost use Rattle.std.specs.Arc.{arc_value};
 ghost use Rattle.serial_bands.specs.Run.{run_over};
-ghost use Rattle.band_log.specs.Raster.{without_first};
+ghost use Rattle.band_log.specs.Raster.{with_submitted, without_first};
 ghost use Rattle.band_log.specs.Right.{IsRightJob};
-ghost use Rattle.foreground.specs.Gathered.{Fits, GathersOne, GathersSome, GathersAll, GathersPart, Submits};
+ghost use Rattle.foreground.specs.Gathered.{Fits, GathersOne, GathersSome, GathersAll, GathersPart, GathersNone, Submits};
 
 use band_log::{Denise, Drawn, Job, Raster};
 use ocs_base::OutOfMemory;
@@ -67,6 +67,8 @@ fn make_place<S: Side, Q: Raster<S>>(
 ) -> Result<(), OutOfMemory>
     ensures few { OnOk result (length (Q.seen raster.old).outstanding ≤ 16
         → length (Q.seen raster.new).outstanding < 16) }
+    ensures kept { length (Q.seen raster.old).outstanding < 16 → GathersNone result
+        (Q.seen raster.old) (Q.seen raster.new) out.old out.new clx.old clx.new }
     ensures gathered { OnOk result (GathersSome (Q.seen raster.old) (Q.seen raster.new)
         out.old out.new clx.old clx.new) }
     ensures part { OnErr result (GathersPart (Q.seen raster.old) (Q.seen raster.new)
@@ -91,6 +93,9 @@ pub fn submit<S: Side, Q: Raster<S>>(
     requires fits { (first : ℕ) × Fits (run_over S.seen (arc_value job.run)) job.number job.from.0
         first
         (Q.seen raster.old) }
+    ensures at_once { length (Q.seen raster.old).outstanding < 16 → GathersNone result
+        (with_submitted (run_over S.seen (arc_value job.run)) job.number (Q.seen raster.old))
+        (Q.seen raster.new) out.old out.new clx.old clx.new }
     ensures submitted { OnOk result (Submits (run_over S.seen (arc_value job.run)) job.number
         job.from.0 job.to.0
         (Q.seen raster.old) (Q.seen raster.new) out.old out.new clx.old clx.new) }

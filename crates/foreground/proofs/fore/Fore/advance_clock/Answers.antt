@@ -29,4 +29,4 @@ returns-clause-clock g c =
 pub returns-clause-part : goal.returns-clause-part
 returns-clause-part g c =
     on_err_weaker c.end_clock.result (λ same. part_ending _ _ _ _ _ _ _ _ _ _ _ _ _ c.in_ok-clx.ensures.begins
-    c.in_ok-run_to_access.ensures.reaches c.in_ok-access.ensures.makes same) c.end_clock.ensures.refused
+    c.in_ok-run_to_access.ensures.reaches c.in_ok-access.ensures.makes c.in_ok-access.ensures.kept same) c.end_clock.ensures.refused
