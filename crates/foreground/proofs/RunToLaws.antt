@@ -5,8 +5,9 @@ use Rattle.std.proofs.lemmas.List.Sums.{count_by-le-length}
 use Rattle.out_files.specs.OutFiles.{OutFilesValue}
 use Rattle.serial_bands.specs.Run.{RunValue, state_of, beam_at}
 use Rattle.serial_bands.specs.Bands.{is_band_place}
-use Rattle.serial_bands.specs.BusReads.{bus_reads, word_registers, is_fetched}
+use Rattle.serial_bands.specs.BusReads.{bus_reads, word_registers, is_fetched, latched_words}
 use Rattle.serial_bands.specs.RightJob.{events_from}
+use Rattle.serial_bands.specs.OpenBand.{waiting_events}
 use Rattle.band_log.specs.Raster.{RasterValue}
 use Rattle.foreground.specs.Clock.{HasGiven, HasGivenPart, Rises}
 use Rattle.foreground.specs.Fore.{ForeOf, ForeValue, over, IsUnderway, CanGo, HasAdvanced, Advances, GivesPart, looked_up}
@@ -77,10 +78,12 @@ few_by false n few = omega arith
 looked_most : (fore : ForeValue) (first : ℕ) (seen : RasterValue) → IsUnderway fore first seen
     → looked_up fore ≤ (if is_band_place fore.run.height (beam_at fore.run fore.machine.t) then length word_registers else 0)
 looked_most fore first seen is =
-    subst (λ b. looked_up fore ≤ (if is_band_place fore.run.height b then length word_registers else 0)) (sym is.at.machine.beam)
-    (few_by (is_band_place fore.run.height fore.machine.beam) _
-    (count_by-le-length (λ register. is_fetched register false (events_from fore.run fore.log.band.from (fore.machine.t - fore.log.band.from - 1)))
-    word_registers))
+    let run = fore.run in
+    let from = fore.log.band.from in
+    let to = fore.machine.t in
+    subst (λ b. looked_up fore ≤ (if is_band_place run.height b then length word_registers else 0)) (sym is.at.machine.beam)
+    (few_by (is_band_place run.height fore.machine.beam) (latched_words run from to)
+    (count_by-le-length (λ register. is_fetched register false (events_from run from (to - from - 1) ++ waiting_events run to)) word_registers))
 
 pub no_reads : (run : RunValue) (from reads : ℕ) → RisesIn run from (from - from) reads reads
 no_reads run from reads =
@@ -108,7 +111,7 @@ one_more : (run : RunValue) (from n looked a b d : ℕ)
     → RisesIn run from n a b → Rises (bus_reads run (from + n)) (bus_reads run (from + n) + looked) b d → RisesIn run from (suc n) a d
 one_more run from n looked a b d few one two =
     let both : Rises (reads_from run from n + bus_reads run (from + n))
-        ((reads_from run from n + looked_from run from n) + (bus_reads run (from + n) + looked)) a d = rises_twice _ _ _ _ a b d one two in
+    ((reads_from run from n + looked_from run from n) + (bus_reads run (from + n) + looked)) a d = rises_twice _ _ _ _ a b d one two in
     rises_within _ _ _ _ a d (omega arith) (omega (arith, few)) both
 
 pub reads_then : (f0 f1 f2 : ForeValue) (s1 : RasterValue) → f1.run ≡ f0.run → f0.machine.t ≤ f1.machine.t → f1.spent ≡ false → CanGo f1 s1
@@ -141,8 +144,8 @@ few_behind f0 f1 f2 s1 limit run on before fresh can one two =
     let looked : looked_up f1 ≤ (if is_band_place f0.run.height (beam_at f0.run (from + n)) then length word_registers else 0) =
     looked_in f0 f1 s1 run on fresh can in
     let both : Rises (reads_from f0.run from n + 0)
-        ((reads_from f0.run from n + looked_from f0.run from n) + (bus_reads f0.run (from + n) + looked_up f1))
-        f0.machine.chip.reads f2.machine.chip.reads = rises_twice _ _ _ _ _ f1.machine.chip.reads _ one clock in
+    ((reads_from f0.run from n + looked_from f0.run from n) + (bus_reads f0.run (from + n) + looked_up f1))
+    f0.machine.chip.reads f2.machine.chip.reads = rises_twice _ _ _ _ _ f1.machine.chip.reads _ one clock in
     record {
       clocks = suc n;
       most = omega (arith, on, before);
