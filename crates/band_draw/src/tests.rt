@@ -1,6 +1,6 @@
 //! Single clocks worked by hand, and rasters without bands.
 
-ghost use Rattle.std.specs.Prelude.{◌≡◌, true, IfOk};
+ghost use Rattle.std.specs.Prelude.{◌≡◌, [], true, IfOk};
 
 use crate::Direct;
 use crate::band_painter::BandPainter;

@@ -1,6 +1,6 @@
 //! Each public call once, with ample memory.
 
-ghost use Rattle.std.specs.Prelude.{◌≡◌, length};
+ghost use Rattle.std.specs.Prelude.{◌≡◌, [], length};
 
 use band_log::{Denise, Drawn, Event, Events, Job, Reset, Room, Run};
 use mem_versions::{Chip, MemView};
