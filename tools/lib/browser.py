@@ -12,7 +12,8 @@ from typing import Any
 
 NAMES = ("chromium", "chromium-browser", "google-chrome")
 INSTALL = "no Chromium is installed: on Debian, `apt-get install --no-install-recommends chromium fonts-dejavu-core`"
-ANSWER_SECONDS = 30
+# a loaded machine takes its time
+ANSWER_SECONDS = 120
 
 
 class BrowserFault(Exception):
