@@ -32,7 +32,7 @@ keyboard_key_f11 = action_screenshot
 INTERNAL = "internal"
 SLOTS = 9
 STATE_END, PNG_END = b"END \0\0\0\x08", b"IEND\xaeB`\x82"
-START_SECONDS, SAVE_SECONDS = 20, 10
+START_SECONDS, SAVE_SECONDS = 60, 30
 # after the window is there: the ROM's copying, and the program's own beginning
 SETTLE_SECONDS = 2.5
 

@@ -45,9 +45,9 @@ def read_chunks(path: str, data: bytes) -> dict[bytes, bytes]:
     chunks: dict[bytes, bytes] = {}
     at = len(SIGNATURE)
     while at < len(data):
-        if at + 12 > len(data):
+        length, kind = struct.unpack(">I4s", data[at : at + 8].rjust(8, b"\xff"))
+        if at + 12 + length > len(data):
             raise BadFile(path, "is cut short")
-        length, kind = struct.unpack_from(">I4s", data, at)
         chunks[kind] = chunks.get(kind, b"") + data[at + 8 : at + 8 + length]
         at += 12 + length
     return chunks

@@ -168,10 +168,10 @@ class SuiteTest(Tools):
         self.case("ff new")
         self.case("gg good")
         self.golden("gg good")
-        status, said = self.suite("--limit", "1", "--jobs", "1")
+        status, said = self.suite("--limit", "8", "--jobs", "1")
         self.assertEqual((status, len(said)), (1, 8), said)
         self.assertEqual(said[0], "failed    aa killed: was ended by SIGKILL")
-        self.assertEqual(said[1], "failed    bb slow: took more than 1 seconds, and was ended")
+        self.assertEqual(said[1], "failed    bb slow: took more than 8 seconds, and was ended")
         self.assertIn("cc broken/golden: line 1 is no sum of a file and no comment: 'what'", said[2])
         self.assertIn("dd torn/image.xz: ", said[3])
         self.assertIn("./absent: cannot be run: no such file or directory", said[4])
@@ -187,6 +187,15 @@ class SuiteTest(Tools):
             self.suite("--accept", "--shard", f"{number}/3")
         self.assertEqual(self.suite("--report")[0], 0)
         self.assertIn("'4/3' is not I/N", self.refused("suite", "cases", "--shard", "4/3"))
+
+    def test_each_case_runs_once(self) -> None:
+        names = [f"case {number}" for number in range(12)]
+        for name in names:
+            self.case(name)
+            self.golden(name)
+        status, said = self.suite("--jobs", "5")
+        self.assertEqual((status, len(said)), (0, 1))
+        self.assertEqual(self.ran(), sorted(names))
 
     def test_unusable(self) -> None:
         self.assertIn("suite: cases: is not there", self.refused("suite", "cases"))
