@@ -23,7 +23,8 @@ open(sys.argv[4], "wb").write(frame({{}}))
 open(sys.argv[5], "w").write("0 44 100 W 180 %04x C\\n" % int.from_bytes(image[0x102:0x104], "big"))
 open(sys.argv[6], "wb").write(bytes(524288))
 """
-SECONDS = 30
+# beside much other work a run takes long
+SECONDS = 150
 
 
 def browser_is_there() -> bool:
