@@ -4,8 +4,7 @@ use Rattle.serial_bands.specs.Run.{RunValue}
 use Rattle.band_log.specs.Raster.{RasterValue, Takes}
 use Rattle.foreground.specs.Fore.{ForeValue, IsNew, IsUnderway, over}
 use Rattle.foreground.specs.Recorder.{recorder}
-use Rattle.serial_model.proofs.SideLaws.{each_side_fits}
-use Rattle.foreground.proofs.tests.side_runs.a_side_takes_part_in_the_run.Goals as goal
+use Rattle.foreground.proofs.tests.side_runs.run_whole_over_a_side.Goals as goal
 
 begins : (run : RunValue) (fore : ForeValue) (seen : RasterValue) → IsNew run fore
     → seen ≡ record { outstanding = []; next = 0; bound = None; mark = 0; tint = 0 } → (first : ℕ) × IsUnderway fore first seen
@@ -16,7 +15,4 @@ begins run fore seen new is = (
 )
 
 pub run_clocks-requires-clause-fits : goal.run_clocks-requires-clause-fits
-run_clocks-requires-clause-fits g c = begins _ _ _ c.in_ok-fore.ensures c.in_ok-raster.ensures
-
-pub over-requires-clause-fits : goal.over-requires-clause-fits
-over-requires-clause-fits g c = each_side_fits _
+run_clocks-requires-clause-fits c = begins _ _ _ c.in_ok-fore.ensures c.in_ok-raster.ensures
