@@ -5,7 +5,7 @@ use Rattle.std.specs.List.{All}
 use Rattle.std.proofs.lemmas.List.Elements.{All-set}
 use Rattle.std.proofs.lemmas.List.{get_or-replicate, length-replicate}
 use Rattle.ocs_base.specs.declared.beam.Beam.{Beam}
-use Rattle.ocs_base.specs.declared.script.System.TheVariants.{Pal}
+use Rattle.ocs_base.specs.declared.system.System.TheVariants.{Pal}
 use Rattle.priority_ham.specs.PixelColour.{Mode, DualPlayfield, HoldAndModify, ExtraHalfBrite, Plain, colour_in, mode_of, playfield_colour, colour_of, dual_number, plane}
 use Rattle.serial_model.specs.Beam.{is_line_start}
 use Rattle.serial_model.specs.Window.{is_inside}

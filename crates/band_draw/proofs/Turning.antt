@@ -9,7 +9,7 @@ use Rattle.ocs_base.specs.declared.addr.Addr.{Addr}
 use Rattle.ocs_base.specs.Limits.{AreFrom, AreInLimits, time_of}
 use Rattle.ocs_base.specs.declared.beam.Beam.{Beam}
 use Rattle.ocs_base.specs.declared.script.At.{At}
-use Rattle.ocs_base.specs.declared.script.System.TheVariants.{Pal}
+use Rattle.ocs_base.specs.declared.system.System.TheVariants.{Pal}
 use Rattle.mem_versions.specs.MemView.{ViewValue, word_then}
 use Rattle.serial_model.specs.Beam.{IsOnScreen, place_of, is_visible}
 use Rattle.serial_model.specs.Events.{due_events, touches_of}

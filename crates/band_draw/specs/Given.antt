@@ -1,6 +1,6 @@
 -- What the picture step of a clock gives.
 use Rattle.std.specs.Prelude.{◌≡◌, ◌+◌, ◌*◌, ℕ, if◌then◌else◌, List, ◌++◌, bit_or}
-use Rattle.ocs_base.specs.declared.script.System.TheVariants.{Pal}
+use Rattle.ocs_base.specs.declared.system.System.TheVariants.{Pal}
 use Rattle.serial_model.specs.declared.picture.Denise.{Denise}
 use Rattle.serial_model.specs.Beam.{is_visible}
 use Rattle.serial_model.specs.Picture.{step_of, after_step}

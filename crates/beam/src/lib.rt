@@ -5,8 +5,8 @@
 #![tactic(auto)]
 
 ghost use Rattle.std.specs.Prelude.{◌≡◌, ◌+◌, ◌<◌, ◌^◌};
-ghost use Rattle.serial_model.specs.Beam.{first_place, next_place, lines, last_clock as last_clock_of, is_line_start, is_field_start};
-ghost use Rattle.ocs_base.specs.declared.script.System.TheVariants.{Pal};
+ghost use Rattle.serial_model.specs.Beam.{first_place, next_place, is_line_start, is_field_start};
+ghost use Rattle.ocs_base.specs.declared.system.System.TheVariants.{Pal};
 
 use ocs_base::{Beam, System};
 
@@ -33,18 +33,18 @@ pub fn advance(b: &mut Beam, lace: bool)
 
 /// The beam comes to its next place, after one colour clock.
 ///
-/// A line has 227 clocks, a field 313 lines while LOF is set and 312 while it is clear (Hardware Reference
-/// Manual, interlaced display, for PAL). At a change of frame LOF turns where `lace`, bit 2 (LACE) of
-/// BPLCON0, is set. A field whose LOF is cleared while its line 312 runs ends with that line.
+/// A line and a field have as many clocks and lines as the system says; a field is long while LOF is set. At a
+/// change of frame LOF turns where `lace`, bit 2 (LACE) of BPLCON0, is set. A field whose LOF is cleared while
+/// the last line of a long one runs ends with that line.
 ///
 /// The greatest frame has no next place, so the caller stops before it.
 pub fn advance_in(b: &mut Beam, lace: bool, system: System)
     requires { b.old.frame + 1 < 2 ^ 32 }
     ensures { b.new ≡ next_place system lace b.old }
 {
-    if b.h < last_clock(system, b.v) {
+    if b.h < system.last_clock(b.v) {
         b.h += 1;
-    } else if b.v < last_line(system, b.lof) {
+    } else if b.v < system.lines(b.lof) - 1 {
         b.v += 1;
         b.h = 0;
     } else {
@@ -68,23 +68,4 @@ pub fn at_field_start(b: &Beam) -> bool
     ensures { result ≡ is_field_start b.now }
 {
     b.v == 0 && b.h == 0
-}
-
-/// The number of the last line of a field, long or short.
-fn last_line(system: System, lof: bool) -> u16
-    ensures { result + 1 ≡ lines system lof }
-{
-    match system {
-        System::Pal => { if lof { 312 } else { 311 } }
-    }
-}
-
-/// The last clock of line `v`.
-#[inline(always)]
-pub fn last_clock(system: System, v: u16) -> u16
-    ensures { result ≡ last_clock_of system v }
-{
-    match (system, v) {
-        (System::Pal, _) => 226,
-    }
 }

@@ -1,7 +1,7 @@
 -- The machine without its picture at a clock of a run.
 use Rattle.std.proofs.Common.{◌≡◌, true, ℕ, zero, suc, ◌+◌, ◌++◌, Option, refl, ap, subst, ◌∙◌, sym, add-one}
 use Rattle.mem_versions.specs.Chip.{ChipValue}
-use Rattle.ocs_base.specs.declared.script.System.TheVariants.{Pal}
+use Rattle.ocs_base.specs.declared.system.System.TheVariants.{Pal}
 use Rattle.out_files.specs.OutFiles.{OutFilesValue}
 use Rattle.serial_model.specs.declared.bus.Ask.{Ask}
 use Rattle.serial_model.specs.declared.bus.Made.{Made}

@@ -2,7 +2,7 @@
 use Rattle.std.proofs.Common.{◌≡◌, ◌≤◌, ◌<◌, ℕ, ◌+◌, ◌-◌, Bool, true, false, if◌then◌else◌, [], ◌++◌, length, refl, ap, ◌∙◌, sym, subst, arith, length-append, add-one}
 use Rattle.mem_versions.specs.Chip.{ChipValue}
 use Rattle.ocs_base.specs.declared.beam.Beam.{Beam}
-use Rattle.ocs_base.specs.declared.script.System.TheVariants.{Pal}
+use Rattle.ocs_base.specs.declared.system.System.TheVariants.{Pal}
 use Rattle.serial_model.specs.declared.picture.Denise.{Denise}
 use Rattle.serial_model.specs.Beam.{is_visible}
 use Rattle.serial_model.specs.Picture.{pixels, pixel_bytes, step_of}

@@ -8,7 +8,7 @@ use Rattle.ocs_base.specs.declared.script.Act.{Act}
 use Rattle.ocs_base.specs.declared.script.Act.TheVariants.{Poke, Peek, Joy, Fire, Key}
 use Rattle.out_files.specs.OutFiles.{OutFilesValue, with_line}
 use Rattle.out_files.specs.Together.{AddsLine}
-use Rattle.ocs_base.specs.declared.script.System.TheVariants.{Pal}
+use Rattle.ocs_base.specs.declared.system.System.TheVariants.{Pal}
 use Rattle.serial_model.specs.declared.bus.Half.{Half}
 use Rattle.serial_model.specs.declared.bus.Made.{Made}
 use Rattle.serial_model.specs.declared.bus.Made.TheVariants as M

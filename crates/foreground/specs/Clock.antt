@@ -1,6 +1,6 @@
 -- The foreground within a clock of a run: what stands before, between and behind its steps.
 use Rattle.std.specs.Prelude.{◌≡◌, ◌≤◌, ◌^◌, ℕ, ◌+◌, ◌-◌, min, true, List, [], ◌++◌}
-use Rattle.ocs_base.specs.declared.script.System.TheVariants.{Pal}
+use Rattle.ocs_base.specs.declared.system.System.TheVariants.{Pal}
 use Rattle.mem_versions.specs.Chip.{ChipValue}
 use Rattle.out_files.specs.OutFiles.{OutFilesValue}
 use Rattle.serial_model.specs.declared.trace.TraceLine.{TraceLine}

@@ -1,7 +1,7 @@
 -- How many pixel bytes a run has shown before a place of the beam.
 use Rattle.std.specs.Prelude.{ℕ, ◌+◌, ◌-◌, ◌*◌, ◌&&◌, min, nat_le, if◌then◌else◌}
 use Rattle.ocs_base.specs.declared.beam.Beam.{Beam}
-use Rattle.ocs_base.specs.declared.script.System.TheVariants.{Pal}
+use Rattle.ocs_base.specs.declared.system.System.TheVariants.{Pal}
 use Rattle.serial_model.specs.Beam.{is_visible}
 use Rattle.serial_model.specs.Outputs.{frame_bytes}
 

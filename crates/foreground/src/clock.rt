@@ -1,7 +1,7 @@
 //! One colour clock.
 
 ghost use Rattle.std.specs.Prelude.{◌≡◌, ◌+◌, ◌<◌, ◌^◌, ℕ, Bool, true, false, OnOk, OnErr};
-ghost use Rattle.ocs_base.specs.declared.script.System.TheVariants.{Pal};
+ghost use Rattle.ocs_base.specs.declared.system.System.TheVariants.{Pal};
 ghost use Rattle.serial_model.specs.Beam.{IsOnScreen, next_place};
 ghost use Rattle.serial_model.specs.Events.{due_events, touches_of};
 ghost use Rattle.serial_bands.specs.Bands.{has_clx_read};

@@ -1,7 +1,7 @@
 //! The foreground of a run.
 
 ghost use Rattle.std.specs.Prelude.{◌≡◌, ◌≤◌, ◌<◌, ◌+◌, ◌-◌, ◌^◌, IfOk};
-ghost use Rattle.ocs_base.specs.declared.script.System.TheVariants.{Pal};
+ghost use Rattle.ocs_base.specs.declared.system.System.TheVariants.{Pal};
 ghost use Rattle.serial_model.specs.Beam.{last_clock as last_clock_of};
 ghost use Rattle.std.specs.Arc.{arc_value};
 ghost use Rattle.serial_bands.specs.Run.{run_over};

@@ -3,7 +3,7 @@
 ghost use Rattle.std.specs.Prelude.{◌≡◌, ◌+◌, ◌<◌, ◌^◌, ◌≤◌, ℕ, true, false, Some, OnOk, OnErr, IfOk};
 ghost use Rattle.ocs_base.specs.Image.{is_image};
 ghost use Rattle.out_files.specs.OutFiles.{OutFilesValue};
-ghost use Rattle.ocs_base.specs.declared.script.System.TheVariants.{Pal};
+ghost use Rattle.ocs_base.specs.declared.system.System.TheVariants.{Pal};
 ghost use Rattle.serial_model.specs.declared.bus.Made.TheVariants as M;
 ghost use Rattle.serial_model.specs.Beam.{IsOnScreen, next_place};
 ghost use Rattle.serial_model.specs.Made.{is_clx_read};

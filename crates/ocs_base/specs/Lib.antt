@@ -3,6 +3,7 @@ pub mod AddressOf
 pub mod Span
 pub mod Image
 pub mod Script
+pub mod Systems
 pub mod Memory
 pub mod Limits
 pub mod Register

@@ -1,9 +1,11 @@
 -- Times of events, and the scripts that a run takes: in the limits of the grammar and in order.
-use Rattle.std.specs.Prelude.{ℕ, ◌+◌, ◌*◌, ◌<◌, ◌≤◌, List, [], ◌∷◌}
+use Rattle.std.specs.Prelude.{ℕ, ◌+◌, ◌*◌, ◌<◌, ◌≤◌, false, List, [], ◌∷◌}
 use Rattle.ocs_base.specs.Script.{ScriptValue}
 use Rattle.ocs_base.specs.declared.script.At.{At}
 use Rattle.ocs_base.specs.declared.script.Act.{Act}
 use Rattle.ocs_base.specs.declared.script.Act.TheVariants.{Poke, Peek, Joy, Fire, Key}
+use Rattle.ocs_base.specs.declared.system.System.{System}
+use Rattle.ocs_base.specs.Systems.{lines}
 
 -- places in the order of the beam, as one number: 313 lines a frame and 228 clocks a line leave room for each; PAL uses 227 of
 -- them in each line, NTSC all in every other
@@ -22,16 +24,16 @@ HasPort (Joy port word) = port ≤ 1
 HasPort (Fire port down) = port ≤ 1
 HasPort (Key code) = Unit {0}
 
--- an event of a run of so many frames
-pub record IsInLimits (frames : ℕ) (e : At) : Type 0 where
+-- an event of a run of so many frames: in a line that short fields have too, and at a clock that each line has
+pub record IsInLimits (system : System) (frames : ℕ) (e : At) : Type 0 where
   pub frame : e.frame < frames
-  pub line : e.v ≤ 311
+  pub line : e.v < lines system false
   pub clock : e.h ≤ 226
   pub port : HasPort e.act
 
-abbrev pub AreInLimits : ℕ → List At → Type 0
-AreInLimits frames [] = Unit {0}
-AreInLimits frames (e ∷ events) = IsInLimits frames e × AreInLimits frames events
+abbrev pub AreInLimits : System → ℕ → List At → Type 0
+AreInLimits system frames [] = Unit {0}
+AreInLimits system frames (e ∷ events) = IsInLimits system frames e × AreInLimits system frames events
 
 -- none of the events is before this time
 abbrev pub AreFrom : ℕ → List At → Type 0
@@ -47,5 +49,5 @@ AreInOrder (e ∷ events) = AreFrom (time_of e) events × AreInOrder events
 pub record IsRunnable (script : ScriptValue) : Type 0 where
   pub least : 1 ≤ script.frames
   pub most : script.frames ≤ 1000
-  pub limits : AreInLimits script.frames script.events
+  pub limits : AreInLimits script.system script.frames script.events
   pub order : AreInOrder script.events

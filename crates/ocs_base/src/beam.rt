@@ -12,7 +12,7 @@ pub struct Clock(pub u64);
 pub struct Colour(pub u16);
 
 /// A place of the beam. `v` is the line of the field from 0, `h` the colour clock of the line, 0 to
-/// 226, and `lof` says that the field is a long one (VPOSR bit 15).
+/// 226 or, in an odd line of NTSC, 227, and `lof` says that the field is a long one (VPOSR bit 15).
 #[derive(Clone, Copy, PartialEq, Eq, Debug)]
 pub struct Beam {
     pub frame: u32,

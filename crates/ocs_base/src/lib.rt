@@ -7,9 +7,11 @@ pub mod memory;
 pub mod offset;
 pub mod reg;
 pub mod script;
+pub mod system;
 
 pub use addr::Addr;
 pub use beam::{Beam, Clock, Colour, time_order};
 pub use memory::OutOfMemory;
 pub use reg::Reg;
-pub use script::{Act, At, Script, System};
+pub use script::{Act, At, Script};
+pub use system::System;

@@ -6,6 +6,7 @@ ghost use Rattle.ocs_base.specs.Limits.{time_of};
 use crate::beam::time_order;
 use crate::memory::OutOfMemory;
 use crate::reg::Reg;
+use crate::system::System;
 use std::alloc::Global;
 use std::marker::Model;
 
@@ -20,8 +21,8 @@ pub enum Act {
     Key { code: u8 },
 }
 
-/// An act and the place of the beam at which it happens: a frame from 0, a line, 0 to 311, and a
-/// colour clock of the line, 0 to 226.
+/// An act and the place of the beam at which it happens: a frame from 0, a line, 0 to 311 with PAL and
+/// to 261 with NTSC, and a colour clock of the line, 0 to 226.
 #[derive(Clone, Copy, PartialEq, Eq, Debug)]
 pub struct At {
     pub frame: u32,
@@ -39,17 +40,12 @@ impl At {
     }
 }
 
-/// Whose beam the machine has.
-#[derive(Clone, Copy, PartialEq, Eq, Debug)]
-pub enum System {
-    Pal,
-}
-
 /// The timed inputs of a run.
 #[derive(Drop)]
 pub struct Script {
     cpu: bool,
     frames: u32,
+    system: System,
     events: Vec<At>,
 }
 
@@ -58,19 +54,34 @@ impl Model for Script {
 
     ghost Value = { ScriptValue };
 
-    ghost view = { λ s. record { cpu = s.cpu; frames = s.frames; events = s.events.items } };
+    ghost view = { λ s. record {
+        cpu = s.cpu;
+        frames = s.frames;
+        system = s.system;
+        events = s.events.items;
+    } };
 }
 
 impl Script {
     ghost use Rattle.ocs_base.specs.Addr.{chip_span};
 
-    /// A script of so many frames without events.
+    /// A script of so many frames without events, for a PAL machine.
     pub fn new(alloc: Global, cpu: bool, frames: u32) -> Script
-        ensures { result ≡ record { cpu = cpu; frames = frames; events = [] } }
+        ensures { result
+            ≡ record { cpu = cpu; frames = frames; system = System.Pal; events = [] } }
+    {
+        Script::made(alloc, cpu, frames, System::Pal)
+    }
+
+    /// A script of so many frames without events.
+    pub fn made(alloc: Global, cpu: bool, frames: u32, system: System) -> Script
+        ensures { result
+            ≡ record { cpu = cpu; frames = frames; system = system; events = [] } }
     {
         Script {
             cpu,
             frames,
+            system,
             events: Vec::new(alloc),
         }
     }
@@ -115,8 +126,8 @@ impl Script {
 
     /// Whose beam the machine has.
     pub fn system(&self) -> System
-        ensures { result ≡ System.Pal }
+        ensures { result ≡ self.now.system }
     {
-        System::Pal
+        self.system
     }
 }

@@ -2,7 +2,7 @@
 use Rattle.std.proofs.Common.{◌≡◌, ℕ, zero, suc, ◌+◌, List, [], ◌++◌, ap, ◌∙◌, sym, append_assoc, append-nil, add-suc, add-zero}
 use Rattle.ocs_base.specs.Script.{ScriptValue}
 use Rattle.ocs_base.specs.declared.script.At.{At}
-use Rattle.ocs_base.specs.declared.script.System.TheVariants.{Pal}
+use Rattle.ocs_base.specs.declared.system.System.TheVariants.{Pal}
 use Rattle.serial_model.specs.Side.{SideValue}
 use Rattle.serial_model.specs.Serial.{state_over}
 use Rattle.serial_model.specs.State.{State}

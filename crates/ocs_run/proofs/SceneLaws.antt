@@ -5,7 +5,7 @@ use Rattle.std.proofs.lemmas.List.{length-set}
 use Rattle.std.specs.FinMap.{get, insert, empty}
 use Rattle.ocs_base.specs.Image.{is_image}
 use Rattle.ocs_base.specs.Script.{ScriptValue}
-use Rattle.ocs_base.specs.declared.script.System.TheVariants.{Pal}
+use Rattle.ocs_base.specs.declared.system.System.TheVariants.{Pal}
 use Rattle.ocs_io.specs.Place.{Files, with_file}
 use Rattle.ocs_io.proofs.MapLaws.{get_inserted}
 use Rattle.mem_versions.proofs.WordsLaws.{length-memory_of}

@@ -5,8 +5,8 @@ use Rattle.std.specs.Option.{option_or}
 use Rattle.std.proofs.Math.ListN.{set}
 use Rattle.std.proofs.lemmas.List.{set-get_or, get_or-set_other}
 use Rattle.std.proofs.lemmas.Nat.{or_lt}
-use Rattle.ocs_base.specs.declared.script.System.{System}
-use Rattle.ocs_base.specs.declared.script.System.TheVariants.{Pal}
+use Rattle.ocs_base.specs.declared.system.System.{System}
+use Rattle.ocs_base.specs.declared.system.System.TheVariants.{Pal}
 use Rattle.sprites.specs.declared.pixel.SpritePixel.{SpritePixel}
 use Rattle.sprites.specs.declared.runs.Start.{Start}
 use Rattle.sprites.specs.SpriteFront.{front_pixel, pixel_of}

@@ -1,10 +1,9 @@
 -- Ranges of bands.
 use Rattle.std.proofs.Common.{◌≡◌, ◌≤◌, ℕ, zero, suc, ◌+◌, ◌-◌, ◌*◌, Bool, true, false, if◌then◌else◌, [], ◌++◌, length, ap, ◌∙◌, sym, subst, arith, bit_xor, length-append}
 use Rattle.std.proofs.lemmas.List.{map-append, length-map}
-use Rattle.ocs_base.specs.declared.script.System.{System}
-use Rattle.ocs_base.specs.declared.script.System.TheVariants.{Pal}
+use Rattle.ocs_base.specs.declared.system.System.{System}
 use Rattle.serial_model.specs.declared.picture.Denise.{Denise}
-use Rattle.serial_model.specs.Beam.{is_visible}
+use Rattle.ocs_base.specs.Systems.{is_visible}
 use Rattle.serial_model.specs.Picture.{colour_bytes, step_of, shown_at, values_after, held_after}
 use Rattle.serial_bands.specs.Run.{RunValue, beam_at}
 use Rattle.serial_bands.specs.Clock.{bytes_at, picture_at}
@@ -114,7 +113,8 @@ of_step system v h p =
 
 of_clock : (run : RunValue) (c : ℕ) → length (bytes_at run c) ≤ 12
 of_clock run c =
-    subst (λ bytes. length bytes ≤ 12) (sym (bytes_are_of_step run c)) (of_step Pal (beam_at run c).v (beam_at run c).h (picture_at run c))
+    subst (λ bytes. length bytes ≤ 12) (sym (bytes_are_of_step run c))
+    (of_step run.script.system (beam_at run c).v (beam_at run c).h (picture_at run c))
 
 pub bytes_rise : BytesRise
 unfolding bytes_from

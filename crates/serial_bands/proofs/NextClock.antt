@@ -3,7 +3,7 @@ use Rattle.std.proofs.Common.{◌≡◌, ℕ, suc, Bool, true, false, ◌||◌, 
 use Rattle.std.proofs.lemmas.Bool.Decides.{nat_tests}
 use Rattle.ocs_base.specs.declared.beam.Beam.{Beam}
 use Rattle.ocs_base.specs.declared.script.At.{At}
-use Rattle.ocs_base.specs.declared.script.System.TheVariants.{Pal}
+use Rattle.ocs_base.specs.declared.system.System.{System}
 use Rattle.serial_model.specs.declared.picture.Denise.{Denise}
 use Rattle.serial_model.specs.declared.picture.Touch.{Touch}
 use Rattle.serial_model.specs.declared.picture.Touch.TheVariants.{Set, Plane, Sprite}
@@ -85,30 +85,31 @@ unfolding tick
 clx_of_tick system events s = refl
 
 -- the place
-next_in_field : (lace : Bool) (b : Beam) → is_field_start (next_place Pal lace b) ≡ false → IsNextInField b (next_place Pal lace b)
-next_in_field lace b inner = record {
+next_in_field : (system : System) (lace : Bool) (b : Beam) → is_field_start (next_place system lace b) ≡ false
+    → IsNextInField system b (next_place system lace b)
+next_in_field system lace b inner = record {
   frame = grind (arith, nat_tests, inner);
   line = grind (arith, nat_tests, inner);
   clock = grind (arith, nat_tests, inner);
 }
 
 pub place_of_tick : PlaceOfTick
-place_of_tick Pal events s inner =
-    let b : State = make_access (before_access Pal events s) in
+place_of_tick system events s inner =
+    let b : State = make_access (before_access system events s) in
     let place : Beam = record s.beam { lof = b.beam.lof } in
-    let here : (tick Pal events s).beam ≡ next_place Pal (is_interlaced b.chips.registers) place = beam_next Pal events s in
-    let next : IsNextInField place (next_place Pal (is_interlaced b.chips.registers) place) =
-    next_in_field (is_interlaced b.chips.registers) place (ap (λ (x : Beam). is_field_start x) (sym here) ∙ inner) in
-    subst (λ x. IsNextInField s.beam x) (sym here) (record { frame = next.frame; line = next.line; clock = next.clock })
+    let here : (tick system events s).beam ≡ next_place system (is_interlaced b.chips.registers) place = beam_next system events s in
+    let next : IsNextInField system place (next_place system (is_interlaced b.chips.registers) place) =
+    next_in_field system (is_interlaced b.chips.registers) place (ap (λ (x : Beam). is_field_start x) (sym here) ∙ inner) in
+    subst (λ x. IsNextInField system s.beam x) (sym here) (record { frame = next.frame; line = next.line; clock = next.clock })
 
 -- at the clocks of a run
 pub next_memory : NextMemory
 unfolding state_over made_at
-next_memory run c = memory_next Pal run.script.events (state_of run c)
+next_memory run c = memory_next run.script.system run.script.events (state_of run c)
 
 pub next_opening : NextOpening
 unfolding state_over opening_at made_at closing_at
-next_opening run c = opening_of_tick Pal run.script.events (state_of run c)
+next_opening run c = opening_of_tick run.script.system run.script.events (state_of run c)
 
 pub displayed_is_step : DisplayedIsStep
 unfolding displayed_at opening_at
@@ -128,7 +129,7 @@ closing_has_fetch run c = refl
 
 pub next_shown : NextShown
 unfolding state_over bytes_at
-next_shown run c = shown_next Pal run.script.events (state_of run c)
+next_shown run c = shown_next run.script.system run.script.events (state_of run c)
 
 pub clx_at_start : ClxAtStart
 unfolding clx_before_at
@@ -136,11 +137,11 @@ clx_at_start run c = clx_before run.script.events (state_of run c)
 
 pub clx_at_access : ClxAtAccess
 unfolding clx_after_at clx_before_at clx_at
-clx_at_access run c = clx_after Pal run.script.events (state_of run c)
+clx_at_access run c = clx_after run.script.system run.script.events (state_of run c)
 
 pub next_clx : NextClx
 unfolding state_over made_at clx_after_at
-next_clx run c = clx_of_tick Pal run.script.events (state_of run c)
+next_clx run c = clx_of_tick run.script.system run.script.events (state_of run c)
 
 pub first_of_three : (a b c : Bool) → ((a || b) || c) ≡ false → a ≡ false
 first_of_three false b c none = refl
@@ -150,7 +151,7 @@ pub next_in_band : NextInBand
 unfolding state_over begins
 next_in_band run c inner =
     let b : Beam = beam_at run (suc c) in
-    place_of_tick Pal run.script.events (state_of run c)
+    place_of_tick run.script.system run.script.events (state_of run c)
     (first_of_three (is_field_start b) (is_line_start b && (b.v % run.height == 0)) (has_read_at run (suc c)) inner)
 
 pub events_by_place : EventsByPlace

@@ -3,7 +3,8 @@ use Rattle.std.proofs.Common.{◌≡◌, ◌≤◌, ℕ, List, suc, ◌+◌, ◌
 use Rattle.std.proofs.lemmas.Bool.Decides.{nat_tests}
 use Rattle.ocs_base.specs.declared.beam.Beam.{Beam}
 use Rattle.ocs_base.specs.declared.script.At.{At}
-use Rattle.ocs_base.specs.declared.script.System.TheVariants.{Pal}
+use Rattle.ocs_base.specs.Systems.{last_clock}
+use Rattle.ocs_base.specs.declared.system.System.{System}
 use Rattle.serial_model.specs.declared.picture.Denise.{Denise}
 use Rattle.serial_model.specs.Made.{word_of}
 use Rattle.serial_model.specs.Picture.{clear_line, PictureStep, after_step}
@@ -27,7 +28,7 @@ scripted run c kept stands =
 same_step : (run : RunValue) (c : ℕ) (kept : Denise) → StandsFor (4 * (beam_at run c).h) kept (opening_at run c)
     → step_of_kept run c kept ≡ step_at run c
 same_step run c kept stands =
-    stands_shown Pal (beam_at run c).v (beam_at run c).h (with_script run c kept) (picture_at run c) (scripted run c kept stands)
+    stands_shown run.script.system (beam_at run c).v (beam_at run c).h (with_script run c kept) (picture_at run c) (scripted run c kept stands)
 
 pub bytes_of_kept : BytesOfKept
 bytes_of_kept run c kept stands = ap (λ (step : PictureStep). step.bytes) (same_step run c kept stands) ∙ sym (bytes_are_of_step run c)
@@ -40,7 +41,7 @@ closing_of_kept run c kept stands =
     let b : Beam = beam_at run c in
     let from : ℕ = 4 * b.h + 4 in
     let shown : StandsFor from (after_kept run c kept) (after_step (step_at run c) (picture_at run c)) =
-    stands_after Pal b.v b.h (with_script run c kept) (picture_at run c) (scripted run c kept stands) in
+    stands_after run.script.system b.v b.h (with_script run c kept) (picture_at run c) (scripted run c kept stands) in
     let fetched : StandsFor from (with_fetch run c (after_kept run c kept)) (with_fetch run c (after_step (step_at run c) (picture_at run c))) =
     stands_touched from b.h (word_of (run_memory run c)) (fetch_alone (bus_touch_at run c))
     (after_kept run c kept) (after_step (step_at run c) (picture_at run c)) shown in
@@ -49,16 +50,17 @@ closing_of_kept run c kept stands =
     subst (λ p. StandsFor from (with_fetch run c (after_kept run c kept)) p) (sym here) fetched
 
 -- the next clock's positions follow those of this one, where no line starts with it
-clock_of_tick : (events : List At) (s : State)
-    → (tick Pal events s).beam.h ≡ (if nat_le 226 s.beam.h then 0 else s.beam.h + 1)
-clock_of_tick events s = ap (λ (b : Beam). b.h) (beam_next Pal events s)
+clock_of_tick : (system : System) (events : List At) (s : State)
+    → (tick system events s).beam.h ≡ (if nat_le (last_clock system s.beam.v) s.beam.h then 0 else s.beam.h + 1)
+clock_of_tick system events s = ap (λ (b : Beam). b.h) (beam_next system events s)
 
-next_positions : (h next : ℕ) → next ≡ (if nat_le 226 h then 0 else h + 1) → (next == 0) ≡ false → 4 * h + 4 ≤ 4 * next
-next_positions h next is inner = grind (arith, nat_tests, is, inner)
+next_positions : (last h next : ℕ) → next ≡ (if nat_le last h then 0 else h + 1) → (next == 0) ≡ false → 4 * h + 4 ≤ 4 * next
+next_positions last h next is inner = grind (arith, nat_tests, is, inner)
 
-next_clock : (run : RunValue) (c : ℕ) → (beam_at run (suc c)).h ≡ (if nat_le 226 (beam_at run c).h then 0 else (beam_at run c).h + 1)
+next_clock : (run : RunValue) (c : ℕ) → (let b = beam_at run c in
+    (beam_at run (suc c)).h ≡ (if nat_le (last_clock run.script.system b.v) b.h then 0 else b.h + 1))
 unfolding state_over
-next_clock run c = clock_of_tick run.script.events (state_of run c)
+next_clock run c = clock_of_tick run.script.system run.script.events (state_of run c)
 
 pub opening_of_kept : OpeningOfKept
 opening_of_kept run c kept stands =
@@ -69,5 +71,5 @@ opening_of_kept run c kept stands =
     stands_touched from b.h (word_of (run_memory run c)) (write_alone (bus_touch_at run c)) kept (closing_at run c) stands in
     let cleared : StandsFor (4 * next.h) (clear_line next (with_write run c kept)) (clear_line next (with_write run c (closing_at run c))) =
     stands_cleared from next (with_write run c kept) (with_write run c (closing_at run c)) written
-    (λ inner. next_positions b.h next.h (next_clock run c) inner) in
+    (λ inner. next_positions (last_clock run.script.system b.v) b.h next.h (next_clock run c) inner) in
     subst (λ p. StandsFor (4 * next.h) (clear_line next (with_write run c kept)) p) (sym (next_opening run c)) cleared

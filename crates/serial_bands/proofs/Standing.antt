@@ -1,6 +1,6 @@
 -- Kept picture states.
 use Rattle.std.proofs.Common.{◌≡◌, ◌≤◌, ℕ, zero, suc, ◌+◌, ◌-◌, ◌*◌, ◌/◌, ◌%◌, Bool, true, false, ◌==◌, if◌then◌else◌, List, [], ◌∷◌, ◌++◌, Option, Some, None, refl, ap, ◌∙◌, sym, subst, arith, replicate, slice_index, slice_set, bit_or}
-use Rattle.ocs_base.specs.declared.script.System.{System}
+use Rattle.ocs_base.specs.declared.system.System.{System}
 use Rattle.planes.specs.PlaneBit.{ShowsSame, all_bits, load_of}
 use Rattle.planes.specs.declared.load.Load.{Load}
 use Rattle.planes.proofs.Standing.{ShowsSame-refl, ShowsSame-trans, ShowsSame-later, ShowsSame-more, all_bits-same}
@@ -8,7 +8,8 @@ use Rattle.priority_ham.specs.PlaneCount.{is_hires, planes_of}
 use Rattle.serial_model.specs.declared.picture.Denise.{Denise}
 use Rattle.serial_model.specs.declared.picture.Touch.{Touch}
 use Rattle.serial_model.specs.declared.picture.Touch.TheVariants.{Set, Plane, Sprite}
-use Rattle.serial_model.specs.Beam.{is_line_start, is_visible}
+use Rattle.ocs_base.specs.Systems.{is_visible}
+use Rattle.serial_model.specs.Beam.{is_line_start}
 use Rattle.serial_model.specs.Picture.{clear_line, set_picture, set_sprite, is_latch, is_sprite, is_colour, plane_latch, sprite_data, touch_picture, touch_in_order, pixel_colour, held_after, runs_after, runs_at, shown_at, collisions_at, values_after, pixel_bytes, pixel_collisions, pixels, clock_collisions, PictureStep, step_of, after_step, sprite_values, attached_pairs, colour_bytes}
 use Rattle.serial_model.specs.Window.{is_inside}
 use Rattle.sprites.specs.declared.runs.Start.{Start}

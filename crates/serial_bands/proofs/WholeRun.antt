@@ -4,7 +4,7 @@ use Rattle.std.proofs.lemmas.Bool.{cases_eq}
 use Rattle.std.proofs.lemmas.Bool.Decides.{nat_tests}
 use Rattle.ocs_base.specs.Limits.{IsRunnable}
 use Rattle.ocs_base.specs.declared.beam.Beam.{Beam}
-use Rattle.ocs_base.specs.declared.script.System.TheVariants.{Pal}
+use Rattle.ocs_base.specs.declared.system.System.{System}
 use Rattle.serial_model.specs.Beam.{IsOnScreen, place_of, next_place, is_field_start, is_line_start}
 use Rattle.serial_model.specs.Registers.{is_interlaced}
 use Rattle.serial_model.specs.Serial.{state_over}
@@ -20,8 +20,8 @@ use Rattle.serial_bands.specs.ClockLaws.{FramesRise}
 use Rattle.serial_bands.proofs.BandOrder.{begun_more, begun_same, grown_to, counted, not_later, one_place, first_begins, begun_in_band}
 
 -- a run ends where a field starts, and so where a band would begin
-next_field : (lace : Bool) (b : Beam) → (next_place Pal lace b).frame ≢ b.frame → is_field_start (next_place Pal lace b) ≡ true
-next_field lace b rises = grind (arith, nat_tests)
+next_field : (system : System) (lace : Bool) (b : Beam) → (next_place system lace b).frame ≢ b.frame → is_field_start (next_place system lace b) ≡ true
+next_field system lace b rises = grind (arith, nat_tests)
 
 first_of_three : (a b c : Bool) → a ≡ true → ((a || b) || c) ≡ true
 first_of_three a b c here = ap (λ x. (x || b) || c) here
@@ -37,14 +37,15 @@ unfolding state_over
 end_begins run zero end = first_begins run
 end_begins run (suc c) end =
     let s : State = state_of run c in
-    let b : State = make_access (before_access Pal run.script.events s) in
+    let system : System = run.script.system in
+    let b : State = make_access (before_access system run.script.events s) in
     let lace : Bool = is_interlaced b.chips.registers in
     let place : Beam = record s.beam { lof = b.beam.lof } in
-    let here : (tick Pal run.script.events s).beam ≡ next_place Pal lace place = beam_next Pal run.script.events s in
+    let here : (tick system run.script.events s).beam ≡ next_place system lace place = beam_next system run.script.events s in
     let before : s.beam.frame < run.script.frames = end.running c (omega arith) in
-    let frame : (next_place Pal lace place).frame ≡ run.script.frames = ap (λ (x : Beam). x.frame) (sym here) ∙ end.ended in
-    let start : is_field_start (next_place Pal lace place) ≡ true =
-    next_field lace place (λ same. absurd (omega (arith, same, frame, before))) in
+    let frame : (next_place system lace place).frame ≡ run.script.frames = ap (λ (x : Beam). x.frame) (sym here) ∙ end.ended in
+    let start : is_field_start (next_place system lace place) ≡ true =
+    next_field system lace place (λ same. absurd (omega (arith, same, frame, before))) in
     field_begins run (suc c) (ap (λ (x : Beam). is_field_start x) here ∙ start)
 
 -- the begin of each number below the count
@@ -174,8 +175,8 @@ unfolding state_over
 place_rises run zero = omega arith
 place_rises run (suc c) =
     let s : State = state_of run c in
-    let next : IsNext s.beam (tick Pal run.script.events s).beam =
-    tick-IsNext Pal run.script.events s (on_screen run.side run.image run.script c) in
+    let next : IsNext s.beam (tick run.script.system run.script.events s).beam =
+    tick-IsNext run.script.system run.script.events s (on_screen run.side run.image run.script c) in
     omega (arith, next.later, place_rises run c)
 
 place_below : (b : Beam) (frames : ℕ) → IsOnScreen b → b.frame < frames → frames ≤ 1000 → place_of b < 71364000
@@ -196,7 +197,7 @@ bands_are_few run (suc c) good end =
 
 frame_rises : (run : RunValue) (c : ℕ) → (beam_at run c).frame ≤ (beam_at run (suc c)).frame
 unfolding state_over
-frame_rises run c = (tick-IsNext Pal run.script.events (state_of run c) (on_screen run.side run.image run.script c)).frame
+frame_rises run c = (tick-IsNext run.script.system run.script.events (state_of run c) (on_screen run.side run.image run.script c)).frame
 
 none_after : (c : ℕ) → c + 0 ≡ c
 none_after c = omega arith

@@ -1,8 +1,7 @@
 -- What one colour clock makes of the picture: in a state in which it begins, and at a clock of a run.
 use Rattle.std.specs.Prelude.{ℕ, List, Option, Some, None}
 use Rattle.ocs_base.specs.declared.script.At.{At}
-use Rattle.ocs_base.specs.declared.script.System.{System}
-use Rattle.ocs_base.specs.declared.script.System.TheVariants.{Pal}
+use Rattle.ocs_base.specs.declared.system.System.{System}
 use Rattle.serial_model.specs.declared.bus.Ask.{Ask}
 use Rattle.serial_model.specs.declared.bus.Made.{Made}
 use Rattle.serial_model.specs.declared.picture.Denise.{Denise}
@@ -62,30 +61,30 @@ unfoldable pub opening_at : RunValue → ℕ → Denise
 opening_at run c = opening_in (state_of run c)
 
 unfoldable pub displayed_at : RunValue → ℕ → Denise
-displayed_at run c = displayed_in Pal run.script.events (state_of run c)
+displayed_at run c = displayed_in run.script.system run.script.events (state_of run c)
 
 unfoldable pub access_at : RunValue → ℕ → Ask
-access_at run c = access_in Pal run.script.events (state_of run c)
+access_at run c = access_in run.script.system run.script.events (state_of run c)
 
 -- what the access makes
 unfoldable pub made_at : RunValue → ℕ → Made
-made_at run c = made_in Pal run.script.events (state_of run c)
+made_at run c = made_in run.script.system run.script.events (state_of run c)
 
 unfoldable pub closing_at : RunValue → ℕ → Denise
-closing_at run c = closing_in Pal run.script.events (state_of run c)
+closing_at run c = closing_in run.script.system run.script.events (state_of run c)
 
 unfoldable pub clx_before_at : RunValue → ℕ → ℕ
 clx_before_at run c = clx_before_in run.script.events (state_of run c)
 
 unfoldable pub clx_after_at : RunValue → ℕ → ℕ
-clx_after_at run c = clx_after_in Pal run.script.events (state_of run c)
+clx_after_at run c = clx_after_in run.script.system run.script.events (state_of run c)
 
 -- the pixel bytes that the picture step shows, and its collision bits
 unfoldable pub bytes_at : RunValue → ℕ → List ℕ
-bytes_at run c = (picture_step Pal run.script.events (state_of run c)).bytes
+bytes_at run c = (picture_step run.script.system run.script.events (state_of run c)).bytes
 
 unfoldable pub clx_at : RunValue → ℕ → ℕ
-clx_at run c = (picture_step Pal run.script.events (state_of run c)).clx
+clx_at run c = (picture_step run.script.system run.script.events (state_of run c)).clx
 
 abbrev pub bus_touch_at : RunValue → ℕ → Option Touch
 bus_touch_at run c = touch_of (made_at run c)

@@ -2,8 +2,7 @@
 use Rattle.std.specs.Prelude.{◌≡◌, ◌≤◌, ℕ, suc, ◌+◌, false, if◌then◌else◌, List, ◌++◌, Option, bit_or}
 use Rattle.ocs_base.specs.declared.beam.Beam.{Beam}
 use Rattle.ocs_base.specs.declared.script.At.{At}
-use Rattle.ocs_base.specs.declared.script.System.{System}
-use Rattle.ocs_base.specs.declared.script.System.TheVariants.{Pal}
+use Rattle.ocs_base.specs.declared.system.System.{System}
 use Rattle.serial_model.specs.declared.picture.Denise.{Denise}
 use Rattle.serial_model.specs.declared.picture.Touch.{Touch}
 use Rattle.serial_model.specs.Beam.{is_line_end, is_field_start}
@@ -57,14 +56,14 @@ ClxOfTick = (system : System) (events : List At) (s : State) →
     (tick system events s).clx ≡ (if is_clx_read (made_in system events s) then 0 else clx_after_in system events s)
 
 -- the next place in a field: the next clock of the line, or the first of the next line
-pub record IsNextInField (b next : Beam) : Type 0 where
+pub record IsNextInField (system : System) (b next : Beam) : Type 0 where
   pub frame : next.frame ≡ b.frame
-  pub line : next.v ≡ (if is_line_end Pal b then b.v + 1 else b.v)
-  pub clock : next.h ≡ (if is_line_end Pal b then 0 else b.h + 1)
+  pub line : next.v ≡ (if is_line_end system b then b.v + 1 else b.v)
+  pub clock : next.h ≡ (if is_line_end system b then 0 else b.h + 1)
 
 abbrev pub PlaceOfTick : Type 0
 PlaceOfTick = (system : System) (events : List At) (s : State) → is_field_start (tick system events s).beam ≡ false →
-    IsNextInField s.beam (tick system events s).beam
+    IsNextInField system s.beam (tick system events s).beam
 
 -- at the clocks of a run
 abbrev pub NextMemory : Type 0
@@ -78,7 +77,7 @@ NextOpening = (run : RunValue) (c : ℕ) →
 
 -- the picture step shows the opening, touched by the script
 abbrev pub step_at : RunValue → ℕ → PictureStep
-step_at run c = step_of Pal (beam_at run c).v (beam_at run c).h (picture_at run c)
+step_at run c = step_of run.script.system (beam_at run c).v (beam_at run c).h (picture_at run c)
 
 abbrev pub DisplayedIsStep : Type 0
 DisplayedIsStep = (run : RunValue) (c : ℕ) → displayed_at run c ≡ after_step (step_at run c) (picture_at run c)
@@ -111,7 +110,8 @@ NextClx = (run : RunValue) (c : ℕ) →
 
 -- within a band no field starts
 abbrev pub NextInBand : Type 0
-NextInBand = (run : RunValue) (c : ℕ) → begins run (suc c) ≡ false → IsNextInField (beam_at run c) (beam_at run (suc c))
+NextInBand = (run : RunValue) (c : ℕ) → begins run (suc c) ≡ false →
+    IsNextInField run.script.system (beam_at run c) (beam_at run (suc c))
 
 -- the script's events of a clock follow from frame, line and clock alone, whatever LOF is
 abbrev pub EventsByPlace : Type 0

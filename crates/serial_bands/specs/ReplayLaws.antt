@@ -1,7 +1,6 @@
 -- Laws of a clock that is drawn later: from a picture state that stands for its opening come what it shows, a picture state
 -- that stands for its closing, and one for the next opening.
 use Rattle.std.specs.Prelude.{◌≡◌, ℕ, suc, ◌+◌, ◌*◌}
-use Rattle.ocs_base.specs.declared.script.System.TheVariants.{Pal}
 use Rattle.serial_model.specs.declared.picture.Denise.{Denise}
 use Rattle.serial_model.specs.Made.{word_of}
 use Rattle.serial_model.specs.Picture.{clear_line, PictureStep, step_of, after_step, touch_if_any, touch_in_order}
@@ -21,7 +20,7 @@ with_write run c p = touch_if_any (beam_at run c).h (word_of (run_memory run c))
 
 -- the picture step that it shows, and the picture state after that step
 abbrev pub step_of_kept : RunValue → ℕ → Denise → PictureStep
-step_of_kept run c kept = step_of Pal (beam_at run c).v (beam_at run c).h (with_script run c kept)
+step_of_kept run c kept = step_of run.script.system (beam_at run c).v (beam_at run c).h (with_script run c kept)
 
 abbrev pub after_kept : RunValue → ℕ → Denise → Denise
 after_kept run c kept = after_step (step_of_kept run c kept) (with_script run c kept)

@@ -1,7 +1,7 @@
 -- Laws of kept picture states: what changes the one and the other alike, and shows the same of both.
 use Rattle.std.specs.Prelude.{◌≡◌, ◌≤◌, ℕ, ◌+◌, ◌*◌, false, List, Option}
 use Rattle.ocs_base.specs.declared.beam.Beam.{Beam}
-use Rattle.ocs_base.specs.declared.script.System.{System}
+use Rattle.ocs_base.specs.declared.system.System.{System}
 use Rattle.serial_model.specs.declared.picture.Denise.{Denise}
 use Rattle.serial_model.specs.declared.picture.Touch.{Touch}
 use Rattle.serial_model.specs.Beam.{is_line_start}

@@ -1,17 +1,9 @@
--- The beam: lines and fields, the order of places, and what of them is visible.
+-- The beam: its places and their order.
 use Rattle.std.specs.Prelude.{ℕ, ◌+◌, ◌<◌, Bool, true, not, ◌&&◌, ◌==◌, nat_le, if◌then◌else◌}
 use Rattle.ocs_base.specs.declared.beam.Beam.{Beam}
 use Rattle.ocs_base.specs.Limits.{order_of}
-use Rattle.ocs_base.specs.declared.script.System.{System}
-use Rattle.ocs_base.specs.declared.script.System.TheVariants.{Pal}
-
--- how many lines a field has: with PAL a long one 313, a short one 312
-abbrev pub lines : System → Bool → ℕ
-lines Pal lof = if lof then 313 else 312
-
--- the last clock of a line
-abbrev pub last_clock : System → ℕ → ℕ
-last_clock Pal v = 226
+use Rattle.ocs_base.specs.Systems.{lines, last_clock}
+use Rattle.ocs_base.specs.declared.system.System.{System}
 
 -- the first place: frame 0, line 0, clock 0 of a long field
 abbrev pub first_place : Beam
@@ -41,15 +33,11 @@ is_line_start b = b.h == 0
 abbrev pub is_field_start : Beam → Bool
 is_field_start b = (b.v == 0) && (b.h == 0)
 
--- a place that the beam can have. (LOF can be cleared while the last line of a long field runs.)
+-- a place that a beam can have, in either system. (LOF can be cleared while the last line of a long field runs.)
 pub record IsOnScreen (b : Beam) : Type 0 where
   pub line : b.v < 313
-  pub clock : b.h < 227
+  pub clock : b.h < 228
 
 -- its place in the order of time, as one number
 abbrev pub place_of : Beam → ℕ
 place_of b = order_of b.frame b.v b.h
-
--- whether the clock h of line v is in the picture of a frame file
-abbrev pub is_visible : System → ℕ → ℕ → Bool
-is_visible Pal v h = nat_le 26 v && nat_le v 311 && nat_le 47 h && nat_le h 226

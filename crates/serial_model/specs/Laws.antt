@@ -4,13 +4,13 @@ use Rattle.ocs_base.specs.Limits.{IsRunnable}
 use Rattle.ocs_base.specs.Script.{ScriptValue}
 use Rattle.ocs_base.specs.declared.beam.Beam.{Beam}
 use Rattle.ocs_base.specs.declared.script.At.{At}
-use Rattle.ocs_base.specs.declared.script.System.{System}
+use Rattle.ocs_base.specs.Systems.{frame_bytes}
+use Rattle.ocs_base.specs.declared.system.System.{System}
 use Rattle.serial_model.specs.declared.bus.Made.{Made}
 use Rattle.serial_model.specs.declared.picture.Denise.{Denise}
 use Rattle.serial_model.specs.Beam.{next_place}
 use Rattle.serial_model.specs.Events.{due_events, touches_of, event_lines}
 use Rattle.serial_model.specs.Made.{word_of, memory_after, touch_of, is_clx_read, lines_of}
-use Rattle.serial_model.specs.Outputs.{frame_bytes}
 use Rattle.serial_model.specs.Picture.{touch_if_any, touch_in_order, clear_line, PictureStep, step_of, after_step}
 use Rattle.serial_model.specs.Registers.{is_interlaced}
 use Rattle.serial_model.specs.Serial.{state_over, IsEndOver}
@@ -97,4 +97,4 @@ HasEnd = (side : SideValue) (image : List ℕ) (script : ScriptValue) → IsRunn
 abbrev pub FramesAreWhole : Type 0
 FramesAreWhole = (side : SideValue) (image : List ℕ) (script : ScriptValue) (clocks : ℕ) → 1 ≤ script.frames →
     IsEndOver side image script clocks →
-    length (state_over side image script clocks).shown ≡ script.frames * frame_bytes
+    length (state_over side image script clocks).shown ≡ script.frames * frame_bytes script.system

@@ -2,7 +2,8 @@
 use Rattle.std.specs.Prelude.{ℕ, zero, suc, ◌+◌, ◌-◌, ◌*◌, ◌/◌, ◌%◌, ◌^◌, Bool, ◌&&◌, ◌==◌, nat_le, if◌then◌else◌, List, [], ◌∷◌, ◌++◌, slice_index, slice_index_or, slice_set, replicate, map, bit_and, bit_or, Option, Some, None}
 use Rattle.ocs_base.specs.declared.beam.Beam.{Beam}
 use Rattle.ocs_base.specs.declared.beam.Colour.{Colour}
-use Rattle.ocs_base.specs.declared.script.System.{System}
+use Rattle.ocs_base.specs.Systems.{is_visible}
+use Rattle.ocs_base.specs.declared.system.System.{System}
 use Rattle.planes.specs.PlaneBit.{load_of, all_bits}
 use Rattle.collisions.specs.Collision.{collision_bits}
 use Rattle.priority_ham.specs.PixelColour.{playfield_colour, shown_colour}
@@ -13,7 +14,7 @@ use Rattle.sprites.specs.declared.runs.Start.{Start}
 use Rattle.serial_model.specs.declared.picture.Denise.{Denise}
 use Rattle.serial_model.specs.declared.picture.Touch.{Touch}
 use Rattle.serial_model.specs.declared.picture.Touch.TheVariants.{Set, Plane, Sprite}
-use Rattle.serial_model.specs.Beam.{is_visible, is_line_start}
+use Rattle.serial_model.specs.Beam.{is_line_start}
 use Rattle.serial_model.specs.Window.{is_inside}
 
 -- the picture state at reset: every register is 0, and so every colour black

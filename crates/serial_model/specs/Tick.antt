@@ -2,7 +2,7 @@
 use Rattle.std.specs.Prelude.{ℕ, ◌+◌, if◌then◌else◌, List, ◌++◌, bit_or}
 use Rattle.ocs_base.specs.declared.beam.Beam.{Beam}
 use Rattle.ocs_base.specs.declared.script.At.{At}
-use Rattle.ocs_base.specs.declared.script.System.{System}
+use Rattle.ocs_base.specs.declared.system.System.{System}
 use Rattle.serial_model.specs.declared.bus.Ask.{Ask}
 use Rattle.serial_model.specs.declared.bus.Made.{Made}
 use Rattle.serial_model.specs.declared.bus.SideAsk.{SideAsk}

@@ -1,5 +1,5 @@
 use Rattle.std.proofs.Common.{◌≡◌, ◌∙◌, true, bit_or, sym, ap}
-use Rattle.ocs_base.specs.declared.script.System.TheVariants.{Pal}
+use Rattle.ocs_base.specs.declared.system.System.TheVariants.{Pal}
 use Rattle.serial_model.specs.Beam.{is_visible}
 use Rattle.serial_model.specs.Picture.{step_of}
 use Rattle.painter.proofs.Overlays.{backdrop_shown, backdrop_stands_after, backdrop_gathers}
