@@ -35,6 +35,7 @@ all_after (e ∷ events) = (omega arith, all_after events)
 
 pub left_all : (script : ScriptValue) → IsRunnable script → IsLeft 0 script.events script.events
 left_all script good = record {
+  system = script.system;
   frames = script.frames;
   from = all_after script.events;
   order = good.order;

@@ -8,6 +8,7 @@ use Rattle.ocs_base.specs.declared.beam.Beam.{Beam}
 use Rattle.ocs_base.specs.declared.script.At.{At}
 use Rattle.ocs_base.specs.declared.script.Act.{Act}
 use Rattle.ocs_base.specs.declared.script.Act.TheVariants.{Poke, Peek, Joy, Fire, Key}
+use Rattle.ocs_base.specs.declared.system.System.{System}
 use Rattle.serial_model.specs.Beam.{IsOnScreen, place_of}
 use Rattle.serial_model.specs.Events.{due_events, touches_of, add_touch, made_by_act}
 use Rattle.serial_model.specs.Made.{touch_of}
@@ -66,28 +67,30 @@ rising (e ∷ events) order (suc i) zero d at less = absurd (omega (arith, at))
 rising (e ∷ events) order (suc i) (suc j) d at less = rising events order.1 i j d (omega (arith, at)) (omega (arith, less))
 
 -- where the first events are before a place and the others are not, those others are left there
-pub left_at : (frames place n : ℕ) (events : List At) → AreInOrder events → AreInLimits frames events
+pub left_at : (system : System) (frames place n : ℕ) (events : List At) → AreInOrder events → AreInLimits system frames events
     → IsPartitionPoint (λ e. nat_lt (time_of e) place ≡ true) (λ e. nat_lt (time_of e) place ≡ false) events n
     → IsLeft place events (drop n events)
-left_at frames place zero [] order limits point =
-    record { frames = frames; from = tt; order = tt; limits = tt; same = λ b on later. refl }
-left_at frames place (suc n) [] order limits point =
-    record { frames = frames; from = tt; order = tt; limits = tt; same = λ b on later. refl }
-left_at frames place zero (e ∷ events) order limits point =
+left_at system frames place zero [] order limits point =
+    record { system = system; frames = frames; from = tt; order = tt; limits = tt; same = λ b on later. refl }
+left_at system frames place (suc n) [] order limits point =
+    record { system = system; frames = frames; from = tt; order = tt; limits = tt; same = λ b on later. refl }
+left_at system frames place zero (e ∷ events) order limits point =
     let after : place ≤ time_of e = before_false e place (point.1 0 e (omega arith) (omega arith)) in
     record {
+      system = system;
       frames = frames;
       from = (after, AreFrom-le place (time_of e) events after order.0);
       order = order;
       limits = limits;
       same = λ b on later. refl;
     }
-left_at frames place (suc n) (e ∷ events) order limits point =
+left_at system frames place (suc n) (e ∷ events) order limits point =
     let before : time_of e < place = before_true e place (point.0 0 e (omega arith) (omega arith)) in
     let rest : IsLeft place events (drop n events) =
-    left_at frames place n events order.1 limits.1
+    left_at system frames place n events order.1 limits.1
     ((λ k d low high. point.0 (suc k) d (omega (arith, low)) (omega (arith, high))), (λ k d low high. point.1 (suc k) d (omega (arith, low)) (omega (arith, high)))) in
     record {
+      system = rest.system;
       frames = rest.frames;
       from = rest.from;
       order = rest.order;
@@ -121,18 +124,19 @@ counted_one : (b : Beam) (script left : List At) (sets : ℕ) → IsOnScreen b �
 unfolding first_of
 counted_one b script [] sets on so is = cc
 counted_one b script (e ∷ left) sets on so is =
-    let queue : IsQueue so.frames (place_of b) (e ∷ left) = record { from = so.from; order = so.order; limits = so.limits } in
+    let queue : IsQueue so.system so.frames (place_of b) (e ∷ left) = record { from = so.from; order = so.order; limits = so.limits } in
     let more : length (touches_of (due_events b (e ∷ left))) ≡ sets_if (Some e) + length (touches_of (due_events b left)) =
     ap (λ l. length (touches_of l)) (due_events-more b e left is)
     ∙ ap (λ (l : List Touch). length l) (first_touch e (due_events b left))
     ∙ counted_act e.act (touches_of (due_events b left)) in
     record {
+      system = so.system;
       frames = so.frames;
       from = so.from.1;
       order = so.order.1;
       limits = so.limits.1;
       same = λ later screen after.
-          so.same later screen after ∙ due_events-later so.frames (place_of b) b later e left queue on screen is (omega (arith, after));
+          so.same later screen after ∙ due_events-later so.system so.frames (place_of b) b later e left queue on screen is (omega (arith, after));
       count = omega (arith, so.count, more);
     }
 
@@ -162,13 +166,13 @@ left_behind : (b : Beam) (script left : List At) (sets : ℕ) → IsOnScreen b �
 unfolding first_of
 left_behind b script [] sets on so is = (
   all_counted b script [] sets (no_events b) so,
-  record { frames = so.frames; from = tt; order = so.order; limits = so.limits; same = so.same },
+  record { system = so.system; frames = so.frames; from = tt; order = so.order; limits = so.limits; same = so.same },
 )
 left_behind b script (e ∷ left) sets on so is =
-    let queue : IsQueue so.frames (place_of b) (e ∷ left) = record { from = so.from; order = so.order; limits = so.limits } in
-    let end : IsQueue so.frames (place_of b + 1) (e ∷ left) = IsQueue-end so.frames b e left queue on is in (
-      all_counted b script (e ∷ left) sets (due_events-none so.frames b (e ∷ left) end.from so.limits on) so,
-      record { frames = so.frames; from = end.from; order = so.order; limits = so.limits; same = so.same },
+    let queue : IsQueue so.system so.frames (place_of b) (e ∷ left) = record { from = so.from; order = so.order; limits = so.limits } in
+    let end : IsQueue so.system so.frames (place_of b + 1) (e ∷ left) = IsQueue-end so.system so.frames b e left queue on is in (
+      all_counted b script (e ∷ left) sets (due_events-none so.system so.frames b (e ∷ left) end.from so.limits on) so,
+      record { system = so.system; frames = so.frames; from = end.from; order = so.order; limits = so.limits; same = so.same },
     )
 
 pub left_next : (b : Beam) (script : List At) (n sets : ℕ) → IsOnScreen b → IsCounted b script (drop n script) sets
@@ -179,6 +183,7 @@ left_next b script n sets on so is =
 
 pub counted_none : (b : Beam) (script left : List At) → IsOnScreen b → IsLeft (place_of b) script left → IsCounted b script left 0
 counted_none b script left on is = record {
+  system = is.system;
   frames = is.frames;
   from = is.from;
   order = is.order;

@@ -2,8 +2,8 @@
 use Rattle.std.proofs.Common.{◌≡◌, ℕ, ◌+◌, ◌*◌, Bool, true, false, List, [], ◌∷◌, ◌++◌, length, take, Some, None, refl, ap, ◌∙◌, subst, bit_or}
 use Rattle.std.specs.Bool.{if◌then◌else◌}
 use Rattle.ocs_base.specs.declared.addr.Addr.{Addr}
-use Rattle.ocs_base.specs.declared.system.System.TheVariants.{Pal}
-use Rattle.serial_model.specs.Beam.{is_visible}
+use Rattle.ocs_base.specs.Systems.{is_visible}
+use Rattle.ocs_base.specs.declared.system.System.{System}
 use Rattle.serial_model.specs.declared.picture.Denise.{Denise}
 use Rattle.serial_model.specs.Picture.{pixels, step_of, after_step}
 use Rattle.serial_bands.specs.declared.event.Event.{Event}
@@ -17,37 +17,37 @@ use Rattle.band_draw.specs.Touched.{touched_by_events}
 use Rattle.band_draw.specs.Given.{IsGiven}
 
 -- the bytes of a clock that is visible, and of one that is not
-shown_bytes : (v h : ℕ) (p : Denise) → pixels Pal v h p ≡ (step_of Pal v h p).bytes
+shown_bytes : (system : System) (v h : ℕ) (p : Denise) → pixels system v h p ≡ (step_of system v h p).bytes
 unfolding step_of
-shown_bytes v h p = refl
+shown_bytes system v h p = refl
 
 where_hidden : (b : Bool) (l : List ℕ) → b ≡ false → [] ≡ (if b then l else [])
 where_hidden true l is = cc
 where_hidden false l is = refl
 
-hidden_bytes : (v h : ℕ) (p : Denise) → is_visible Pal v h ≡ false → [] ≡ (step_of Pal v h p).bytes
+hidden_bytes : (system : System) (v h : ℕ) (p : Denise) → is_visible system v h ≡ false → [] ≡ (step_of system v h p).bytes
 unfolding step_of
-hidden_bytes v h p is = where_hidden (is_visible Pal v h) _ is
+hidden_bytes system v h p is = where_hidden (is_visible system v h) _ is
 
 nothing_more : (l : List ℕ) → l ≡ l ++ []
 nothing_more [] = refl
 nothing_more (x ∷ l) = ap (λ k. x ∷ k) (nothing_more l)
 
-pub given_visible : (v h : ℕ) (p : Denise) (new : BandPainter) (before after bytes : List ℕ) (gathered clx : ℕ)
-    → IsBandPainterOf (4 * h + 4) new (after_step (step_of Pal v h p) p) → clx ≡ bit_or gathered (step_of Pal v h p).clx
-    → bytes ≡ pixels Pal v h p → after ≡ before ++ bytes → IsGiven v h p new before after gathered clx
-given_visible v h p new before after bytes gathered clx painted bits shown put = record {
+pub given_visible : (system : System) (v h : ℕ) (p : Denise) (new : BandPainter) (before after bytes : List ℕ) (gathered clx : ℕ)
+    → IsBandPainterOf (4 * h + 4) new (after_step (step_of system v h p) p) → clx ≡ bit_or gathered (step_of system v h p).clx
+    → bytes ≡ pixels system v h p → after ≡ before ++ bytes → IsGiven system v h p new before after gathered clx
+given_visible system v h p new before after bytes gathered clx painted bits shown put = record {
   painted = painted;
-  bytes = put ∙ ap (λ l. before ++ l) (shown ∙ shown_bytes v h p);
+  bytes = put ∙ ap (λ l. before ++ l) (shown ∙ shown_bytes system v h p);
   bits = bits;
 }
 
-pub given_hidden : (v h : ℕ) (p : Denise) (new : BandPainter) (before : List ℕ) (gathered clx : ℕ)
-    → IsBandPainterOf (4 * h + 4) new (after_step (step_of Pal v h p) p) → clx ≡ bit_or gathered (step_of Pal v h p).clx
-    → is_visible Pal v h ≡ false → IsGiven v h p new before before gathered clx
-given_hidden v h p new before gathered clx painted bits hidden = record {
+pub given_hidden : (system : System) (v h : ℕ) (p : Denise) (new : BandPainter) (before : List ℕ) (gathered clx : ℕ)
+    → IsBandPainterOf (4 * h + 4) new (after_step (step_of system v h p) p) → clx ≡ bit_or gathered (step_of system v h p).clx
+    → is_visible system v h ≡ false → IsGiven system v h p new before before gathered clx
+given_hidden system v h p new before gathered clx painted bits hidden = record {
   painted = painted;
-  bytes = nothing_more before ∙ ap (λ l. before ++ l) (hidden_bytes v h p hidden);
+  bytes = nothing_more before ∙ ap (λ l. before ++ l) (hidden_bytes system v h p hidden);
   bits = bits;
 }
 

@@ -93,30 +93,30 @@ closed_stands from p closing loads now is same shows =
     (record { loads = subst (λ (l : List Load). ShowsSame from l p.loads) (sym same) shows; rest = refl })
 
 -- where loads are kept
-keeps_by : (start : Bool) (keeps old new : Bool) (to clock h next : ℕ) → (next == 0) ≡ start → (start ≡ true → new ≡ keeps)
-    → (start ≡ false → new ≡ old) → keeps ≡ nat_le (to - clock) 228 → next ≡ (if nat_le 226 h then 0 else h + 1)
-    → (old ≡ false → clock + 227 < to + h) → new ≡ false → clock + 1 + 227 < to + next
-keeps_by true keeps old new to clock h next is first on last place kept none =
-    let few : nat_le (to - clock) 228 ≡ false = sym last ∙ sym (first refl) ∙ none in
-    let many : 228 < to - clock = grind (arith, nat_tests) in
+keeps_by : (start : Bool) (keeps old new : Bool) (to clock last_clock h next : ℕ) → (next == 0) ≡ start → (start ≡ true → new ≡ keeps)
+    → (start ≡ false → new ≡ old) → keeps ≡ nat_le (to - clock) 229 → next ≡ (if nat_le last_clock h then 0 else h + 1)
+    → (old ≡ false → clock + 228 < to + h) → new ≡ false → clock + 1 + 228 < to + next
+keeps_by true keeps old new to clock last_clock h next is first on last place kept none =
+    let few : nat_le (to - clock) 229 ≡ false = sym last ∙ sym (first refl) ∙ none in
+    let many : 229 < to - clock = grind (arith, nat_tests) in
     omega (arith, many)
-keeps_by false keeps old new to clock h next is first on last place kept none =
-    let before : clock + 227 < to + h = kept (sym (on refl) ∙ none) in
-    let step : next ≡ h + 1 = step_by (nat_le 226 h) place is in
+keeps_by false keeps old new to clock last_clock h next is first on last place kept none =
+    let before : clock + 228 < to + h = kept (sym (on refl) ∙ none) in
+    let step : next ≡ h + 1 = step_by (nat_le last_clock h) place is in
     omega (arith, before, step)
   where
     step_by : (b : Bool) → next ≡ (if b then 0 else h + 1) → (next == 0) ≡ false → next ≡ h + 1
     step_by true zero not_zero = absurd (grind (arith, nat_tests))
     step_by false one not_zero = one
 
-pub keeps_next : (b : Beam) (keeps old new : Bool) (to clock h : ℕ) → (is_line_start b ≡ true → new ≡ keeps)
-    → (is_line_start b ≡ false → new ≡ old) → keeps ≡ nat_le (to - clock) 228 → b.h ≡ (if nat_le 226 h then 0 else h + 1)
-    → (old ≡ false → clock + 227 < to + h) → new ≡ false → clock + 1 + 227 < to + b.h
-keeps_next b keeps old new to clock h first on last place kept none =
-    keeps_by (is_line_start b) keeps old new to clock h b.h refl first on last place kept none
+pub keeps_next : (b : Beam) (keeps old new : Bool) (to clock last_clock h : ℕ) → (is_line_start b ≡ true → new ≡ keeps)
+    → (is_line_start b ≡ false → new ≡ old) → keeps ≡ nat_le (to - clock) 229 → b.h ≡ (if nat_le last_clock h then 0 else h + 1)
+    → (old ≡ false → clock + 228 < to + h) → new ≡ false → clock + 1 + 228 < to + b.h
+keeps_next b keeps old new to clock last_clock h first on last place kept none =
+    keeps_by (is_line_start b) keeps old new to clock last_clock h b.h refl first on last place kept none
 
-pub keeps_last : (keeps : Bool) (to clock h : ℕ) → (keeps ≡ false → clock + 227 < to + h) → clock + 1 ≡ to → h < 227 → keeps ≡ true
+pub keeps_last : (keeps : Bool) (to clock h : ℕ) → (keeps ≡ false → clock + 228 < to + h) → clock + 1 ≡ to → h < 228 → keeps ≡ true
 keeps_last true to clock h kept last place = refl
 keeps_last false to clock h kept last place =
-    let more : clock + 227 < to + h = kept refl in
+    let more : clock + 228 < to + h = kept refl in
     absurd (omega (arith, more, last, place))

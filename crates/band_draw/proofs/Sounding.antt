@@ -5,7 +5,7 @@ use Rattle.std.specs.List.{All}
 use Rattle.std.proofs.lemmas.List.Elements.{All-set}
 use Rattle.std.proofs.lemmas.List.{get_or-replicate, length-replicate}
 use Rattle.ocs_base.specs.declared.beam.Beam.{Beam}
-use Rattle.ocs_base.specs.declared.system.System.TheVariants.{Pal}
+use Rattle.ocs_base.specs.declared.system.System.{System}
 use Rattle.priority_ham.specs.PixelColour.{Mode, DualPlayfield, HoldAndModify, ExtraHalfBrite, Plain, colour_in, mode_of, playfield_colour, colour_of, dual_number, plane}
 use Rattle.serial_model.specs.Beam.{is_line_start}
 use Rattle.serial_model.specs.Window.{is_inside}
@@ -107,9 +107,9 @@ small_pixel v x held p all =
     small_if (is_inside v (x / 2) p.diwstrt p.diwstop) _ _ (small_in (mode_of p.con0) p.con2 _ held p.palette all) (small_at p.palette 0 all)
 
 -- the picture step and the clearing
-pub sound_after : (v h : ℕ) (p : Denise) → IsSound p → IsSound (after_step (step_of Pal v h p) p)
+pub sound_after : (system : System) (v h : ℕ) (p : Denise) → IsSound p → IsSound (after_step (step_of system v h p) p)
 unfolding step_of held_after runs_after
-sound_after v h p is = record {
+sound_after system v h p is = record {
   palette = is.palette;
   held = small_pixel v (4 * h + 3) (held_after v h 3 p) p is.palette;
   eight = refl;

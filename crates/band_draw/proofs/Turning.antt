@@ -9,9 +9,11 @@ use Rattle.ocs_base.specs.declared.addr.Addr.{Addr}
 use Rattle.ocs_base.specs.Limits.{AreFrom, AreInLimits, time_of}
 use Rattle.ocs_base.specs.declared.beam.Beam.{Beam}
 use Rattle.ocs_base.specs.declared.script.At.{At}
-use Rattle.ocs_base.specs.declared.system.System.TheVariants.{Pal}
+use Rattle.ocs_base.specs.Systems.{last_clock, is_visible}
+use Rattle.ocs_base.specs.declared.system.System.{System}
+use Rattle.ocs_base.specs.declared.system.System.TheVariants.{Pal, Ntsc}
 use Rattle.mem_versions.specs.MemView.{ViewValue, word_then}
-use Rattle.serial_model.specs.Beam.{IsOnScreen, place_of, is_visible}
+use Rattle.serial_model.specs.Beam.{IsOnScreen, place_of}
 use Rattle.serial_model.specs.Events.{due_events, touches_of}
 use Rattle.serial_model.specs.Made.{word_of}
 use Rattle.serial_model.specs.declared.picture.Denise.{Denise}
@@ -47,13 +49,13 @@ size_by : (b : Bool) (n : ℕ) (l : List ℕ) → length l ≡ 12 → (if b then
 size_by true n l is = omega (arith, is)
 size_by false n l is = omega arith
 
-step_size : (v h n : ℕ) (p : Denise) → filled_after v h n ≡ n + length (step_of Pal v h p).bytes
+step_size : (system : System) (v h n : ℕ) (p : Denise) → filled_after system v h n ≡ n + length (step_of system v h p).bytes
 unfolding step_of
-step_size v h n p = size_by (is_visible Pal v h) n _ refl
+step_size system v h n p = size_by (is_visible system v h) n _ refl
 
-clock_size : (run : RunValue) (c n : ℕ) → filled_after (beam_at run c).v (beam_at run c).h n ≡ n + length (bytes_at run c)
+clock_size : (run : RunValue) (c n : ℕ) → filled_after run.script.system (beam_at run c).v (beam_at run c).h n ≡ n + length (bytes_at run c)
 clock_size run c n =
-    step_size (beam_at run c).v (beam_at run c).h n _ ∙ ap (λ (l : List ℕ). n + length l) (sym (bytes_are_of_step run c))
+    step_size run.script.system (beam_at run c).v (beam_at run c).h n _ ∙ ap (λ (l : List ℕ). n + length l) (sym (bytes_are_of_step run c))
 
 more_size : (run : RunValue) (from n : ℕ) → length (bytes_from run from (suc n)) ≡ length (bytes_from run from n) + length (bytes_at run (from + n))
 unfolding bytes_from
@@ -76,11 +78,11 @@ size_within run from n most order =
     subst (λ m. length (bytes_from run from n) ≤ length (bytes_from run from m)) there (size_grows run from n (most - n))
 
 pub filled_next : (run : RunValue) (from c v h filled : ℕ) → from ≤ c → v ≡ (beam_at run c).v → h ≡ (beam_at run c).h
-    → filled ≡ length (bytes_from run from (c - from)) → filled_after v h filled ≡ length (bytes_from run from (c + 1 - from))
+    → filled ≡ length (bytes_from run from (c - from)) → filled_after run.script.system v h filled ≡ length (bytes_from run from (c + 1 - from))
 filled_next run from c v h filled least line clock is =
     let here : from + (c - from) ≡ c = omega arith in
     let count : suc (c - from) ≡ c + 1 - from = omega arith in
-    ap (λ k. filled_after k h filled) line ∙ ap (λ k. filled_after (beam_at run c).v k filled) clock
+    ap (λ k. filled_after run.script.system k h filled) line ∙ ap (λ k. filled_after run.script.system (beam_at run c).v k filled) clock
     ∙ clock_size run c filled
     ∙ ap (λ k. k + length (bytes_at run c)) is
     ∙ ap (λ k. length (bytes_from run from (c - from)) + length (bytes_at run k)) (sym here)
@@ -91,13 +93,13 @@ filled_if : (b : Bool) (filled most : ℕ) → b ≡ true → (if b then filled 
 filled_if true filled most is within = within
 filled_if false filled most is within = cc
 
-visible_filled : (v h filled most : ℕ) → is_visible Pal v h ≡ true → filled_after v h filled ≤ most → filled + 12 ≤ most
-visible_filled v h filled most is = filled_if (is_visible Pal v h) filled most is
+visible_filled : (system : System) (v h filled most : ℕ) → is_visible system v h ≡ true → filled_after system v h filled ≤ most → filled + 12 ≤ most
+visible_filled system v h filled most is = filled_if (is_visible system v h) filled most is
 
 pub room_there : (run : RunValue) (events : List Event) (room : List ℕ) (p : Progress) → IsAt run events room p
-    → is_visible Pal p.beam.v p.beam.h ≡ true → p.filled + 12 ≤ length room
+    → is_visible run.script.system p.beam.v p.beam.h ≡ true → p.filled + 12 ≤ length room
 room_there run events room p at visible =
-    visible_filled p.beam.v p.beam.h p.filled (length room) visible
+    visible_filled run.script.system p.beam.v p.beam.h p.filled (length room) visible
     (omega (
       arith,
       filled_next run p.from p.clock p.beam.v p.beam.h p.filled at.drawn.least at.place.line at.place.clock at.filled,
@@ -117,7 +119,7 @@ sound_there run events room p at =
 same_screen : (b other : Beam) → IsSamePlace b other → IsOnScreen other → IsOnScreen b
 same_screen b other same on = record {
   line = subst (λ k. k < 313) (sym same.line) on.line;
-  clock = subst (λ k. k < 227) (sym same.clock) on.clock;
+  clock = subst (λ k. k < 228) (sym same.clock) on.clock;
 }
 
 pub screen_there : (run : RunValue) (events : List Event) (room : List ℕ) (p : Progress) → IsAt run events room p → IsOnScreen p.beam
@@ -161,19 +163,20 @@ script_drawn run events view room p source at =
     ∙ all_found run p.from p.to c (word_then view) (sets_at run c) at.picture source.memory at.drawn.least (omega (arith, at.drawn.most))
 
 -- what the clock shows
-abbrev pub IsGivenBy : Progress → List Event → ViewValue → List ℕ → List ℕ → BandPainter → ℕ → Type 0
-IsGivenBy p events view before after shown clx = (q : Denise) → IsBandPainterOf (4 * p.beam.h) p.painter q →
-    IsGiven p.beam.v p.beam.h (touched_by_events p.beam.h (word_then view p.clock) (take p.sets (drop p.next events)) q) shown before after p.clx clx
+abbrev pub IsGivenBy : System → Progress → List Event → ViewValue → List ℕ → List ℕ → BandPainter → ℕ → Type 0
+IsGivenBy system p events view before after shown clx = (q : Denise) → IsBandPainterOf (4 * p.beam.h) p.painter q →
+    IsGiven system p.beam.v p.beam.h (touched_by_events p.beam.h (word_then view p.clock) (take p.sets (drop p.next events)) q) shown before after p.clx clx
 
 given_here : (run : RunValue) (events : List Event) (view : ViewValue) (room before after : List ℕ) (p : Progress) (shown : BandPainter) (clx : ℕ)
-    → IsSource run p.from p.to view → (at : IsAt run events room p) → IsGivenBy p events view before after shown clx
-    → IsGiven (beam_at run p.clock).v (beam_at run p.clock).h (with_script run p.clock at.picture) shown before after p.clx clx
+    → IsSource run p.from p.to view → (at : IsAt run events room p) → IsGivenBy run.script.system p events view before after shown clx
+    → IsGiven run.script.system (beam_at run p.clock).v (beam_at run p.clock).h (with_script run p.clock at.picture) shown before after p.clx clx
 given_here run events view room before after p shown clx source at given =
     let b : Beam = beam_at run p.clock in
+    let system : System = run.script.system in
     let part : List Event = take p.sets (drop p.next events) in
-    subst (λ q. IsGiven b.v b.h q shown before after p.clx clx) (script_drawn run events view room p source at)
-    (subst (λ k. IsGiven b.v k (touched_by_events k (word_then view p.clock) part at.picture) shown before after p.clx clx) at.place.clock
-    (subst (λ k. IsGiven k p.beam.h (touched_by_events p.beam.h (word_then view p.clock) part at.picture) shown before after p.clx clx) at.place.line
+    subst (λ q. IsGiven system b.v b.h q shown before after p.clx clx) (script_drawn run events view room p source at)
+    (subst (λ k. IsGiven system b.v k (touched_by_events k (word_then view p.clock) part at.picture) shown before after p.clx clx) at.place.clock
+    (subst (λ k. IsGiven system k p.beam.h (touched_by_events p.beam.h (word_then view p.clock) part at.picture) shown before after p.clx clx) at.place.line
     (given at.picture at.painted)))
 
 -- the events behind the script's
@@ -206,19 +209,27 @@ accessed run events view room p shown touched after found there source at is pai
 next_clock : (c : ℕ) → suc c ≡ c + 1
 next_clock c = omega arith
 
-nexts : (run : RunValue) (c : ℕ) → begins run (c + 1) ≡ false → IsNextInField (beam_at run c) (beam_at run (c + 1))
+nexts : (run : RunValue) (c : ℕ) → begins run (c + 1) ≡ false → IsNextInField run.script.system (beam_at run c) (beam_at run (c + 1))
 nexts run c none =
-    subst (λ k. IsNextInField (beam_at run c) (beam_at run k)) (next_clock c)
+    subst (λ k. IsNextInField run.script.system (beam_at run c) (beam_at run k)) (next_clock c)
     (next_in_band run c (subst (λ k. begins run k ≡ false) (sym (next_clock c)) none))
 
-line_by : (h k v w : ℕ) → h ≡ k → v ≡ w → (if nat_le 226 h then v + 1 else v) ≡ (if nat_le 226 k then w + 1 else w)
-line_by h k v w clock line = ap (λ x. if nat_le 226 x then v + 1 else v) clock ∙ ap (λ x. if nat_le 226 k then x + 1 else x) line
+line_by : (system : System) (h k v w : ℕ) → h ≡ k → v ≡ w
+    → (if nat_le (last_clock system v) h then v + 1 else v) ≡ (if nat_le (last_clock system w) k then w + 1 else w)
+line_by system h k v w clock line =
+    ap (λ x. if nat_le (last_clock system v) x then v + 1 else v) clock ∙ ap (λ x. if nat_le (last_clock system x) k then x + 1 else x) line
 
-same_next : (b beam other next : Beam) → IsSamePlace b other → IsNextInField b beam → IsNextInField other next → IsSamePlace beam next
-same_next b beam other next same one two = record {
+clock_by : (system : System) (h k v w : ℕ) → h ≡ k → v ≡ w
+    → (if nat_le (last_clock system v) h then 0 else h + 1) ≡ (if nat_le (last_clock system w) k then 0 else k + 1)
+clock_by system h k v w clock line =
+    ap (λ x. if nat_le (last_clock system v) x then 0 else x + 1) clock ∙ ap (λ x. if nat_le (last_clock system x) k then 0 else k + 1) line
+
+same_next : (system : System) (b beam other next : Beam) → IsSamePlace b other → IsNextInField system b beam → IsNextInField system other next
+    → IsSamePlace beam next
+same_next system b beam other next same one two = record {
   frame = one.frame ∙ same.frame ∙ sym two.frame;
-  line = one.line ∙ line_by b.h other.h b.v other.v same.clock same.line ∙ sym two.line;
-  clock = one.clock ∙ ap (λ h. if nat_le 226 h then 0 else h + 1) same.clock ∙ sym two.clock;
+  line = one.line ∙ line_by system b.h other.h b.v other.v same.clock same.line ∙ sym two.line;
+  clock = one.clock ∙ clock_by system b.h other.h b.v other.v same.clock same.line ∙ sym two.clock;
 }
 
 inner_next : (run : RunValue) (events : List Event) (view : ViewValue) (room : List ℕ) (p : Progress) → IsSource run p.from p.to view
@@ -226,56 +237,63 @@ inner_next : (run : RunValue) (events : List Event) (view : ViewValue) (room : L
 inner_next run events view room p source at more = source.inner (p.clock + 1) (omega (arith, at.drawn.least)) more
 
 pub place_next : (run : RunValue) (events : List Event) (view : ViewValue) (room : List ℕ) (p : Progress) (beam : Beam)
-    → IsSource run p.from p.to view → IsAt run events room p → p.clock + 1 < p.to → IsNextInField p.beam beam
+    → IsSource run p.from p.to view → IsAt run events room p → p.clock + 1 < p.to → IsNextInField run.script.system p.beam beam
     → IsSamePlace beam (beam_at run (p.clock + 1))
 place_next run events view room p beam source at more next =
-    same_next p.beam beam (beam_at run p.clock) (beam_at run (p.clock + 1)) at.place next
+    same_next run.script.system p.beam beam (beam_at run p.clock) (beam_at run (p.clock + 1)) at.place next
     (nexts run p.clock (inner_next run events view room p source at more))
 
 pub screen_next : (run : RunValue) (events : List Event) (view : ViewValue) (room : List ℕ) (p : Progress) (beam : Beam)
-    → IsSource run p.from p.to view → IsAt run events room p → p.clock + 1 < p.to → IsNextInField p.beam beam → IsOnScreen beam
+    → IsSource run p.from p.to view → IsAt run events room p → p.clock + 1 < p.to → IsNextInField run.script.system p.beam beam → IsOnScreen beam
 screen_next run events view room p beam source at more next =
     same_screen beam (beam_at run (p.clock + 1)) (place_next run events view room p beam source at more next)
     (on_screen run.side run.image run.script (p.clock + 1))
 
-one_place_on : (frame v h line clock : ℕ) → h < 227 → line ≡ (if nat_le 226 h then v + 1 else v) → clock ≡ (if nat_le 226 h then 0 else h + 1)
+one_place_on : (frame v h line clock last : ℕ) → h < 228 → line ≡ (if nat_le last h then v + 1 else v) → clock ≡ (if nat_le last h then 0 else h + 1)
     → (frame * 313 + v) * 228 + h + 1 ≤ (frame * 313 + line) * 228 + clock
-one_place_on frame v h line clock within one two = grind (arith, nat_tests)
+one_place_on frame v h line clock last within one two = grind (arith, nat_tests)
 
-one_time_on : (frame v h line clock f w k : ℕ) → h < 227 → k ≤ 226 → line ≡ (if nat_le 226 h then v + 1 else v) → clock ≡ (if nat_le 226 h then 0 else h + 1)
+one_time_on : (frame v h line clock f w k last : ℕ) → h < 228 → k ≤ 226 → 226 ≤ last
+    → line ≡ (if nat_le last h then v + 1 else v) → clock ≡ (if nat_le last h then 0 else h + 1)
     → (frame * 313 + v) * 228 + h + 1 ≤ (f * 313 + w) * 228 + k → (frame * 313 + line) * 228 + clock ≤ (f * 313 + w) * 228 + k
-one_time_on frame v h line clock f w k within early one two later = grind (arith, nat_tests)
+one_time_on frame v h line clock f w k last within early least one two later = grind (arith, nat_tests)
 
-place_on : (b beam : Beam) → b.h < 227 → IsNextInField b beam → place_of b + 1 ≤ place_of beam
-place_on b beam within next =
+least_last : (system : System) (v : ℕ) → 226 ≤ last_clock system v
+least_last Pal v = omega arith
+least_last Ntsc v = grind (arith, nat_tests)
+
+place_on : (system : System) (b beam : Beam) → b.h < 228 → IsNextInField system b beam → place_of b + 1 ≤ place_of beam
+place_on system b beam within next =
     subst (λ k. place_of b + 1 ≤ (k * 313 + beam.v) * 228 + beam.h) (sym next.frame)
-    (one_place_on b.frame b.v b.h beam.v beam.h within next.line next.clock)
+    (one_place_on b.frame b.v b.h beam.v beam.h (last_clock system b.v) within next.line next.clock)
 
 -- events are at clocks up to 226, so none is between a line's last clock and the next line
-from_next : (frames : ℕ) (b beam : Beam) (events : List At) → b.h < 227 → IsNextInField b beam → AreInLimits frames events
-    → AreFrom (place_of b + 1) events → AreFrom (place_of beam) events
-from_next frames b beam [] within next limits from = tt
-from_next frames b beam (e ∷ events) within next limits from = (
+from_next : (system of : System) (frames : ℕ) (b beam : Beam) (events : List At) → b.h < 228 → IsNextInField system b beam
+    → AreInLimits of frames events → AreFrom (place_of b + 1) events → AreFrom (place_of beam) events
+from_next system of frames b beam [] within next limits from = tt
+from_next system of frames b beam (e ∷ events) within next limits from = (
   subst (λ k. (k * 313 + beam.v) * 228 + beam.h ≤ time_of e) (sym next.frame)
-      (one_time_on b.frame b.v b.h beam.v beam.h e.frame e.v e.h within limits.0.clock next.line next.clock from.0),
-  from_next frames b beam events within next limits.1 from.1,
+      (one_time_on b.frame b.v b.h beam.v beam.h e.frame e.v e.h (last_clock system b.v) within limits.0.clock (least_last system b.v)
+      next.line next.clock from.0),
+  from_next system of frames b beam events within next limits.1 from.1,
 )
 
-left_on : (script left : List At) (b beam : Beam) → b.h < 227 → IsNextInField b beam → IsLeft (place_of b + 1) script left
+left_on : (system : System) (script left : List At) (b beam : Beam) → b.h < 228 → IsNextInField system b beam → IsLeft (place_of b + 1) script left
     → IsLeft (place_of beam) script left
-left_on script left b beam within next so =
-    let on : place_of b + 1 ≤ place_of beam = place_on b beam within next in
+left_on system script left b beam within next so =
+    let on : place_of b + 1 ≤ place_of beam = place_on system b beam within next in
     record {
+      system = so.system;
       frames = so.frames;
-      from = from_next so.frames b beam left within next so.limits so.from;
+      from = from_next system so.system so.frames b beam left within next so.limits so.from;
       order = so.order;
       limits = so.limits;
       same = λ later screen from. so.same later screen (omega (arith, on, from));
     }
 
 pub left_there : (run : RunValue) (events : List Event) (room : List ℕ) (p : Progress) (beam : Beam) → IsAt run events room p
-    → IsNextInField p.beam beam → IsLeft (place_of beam) run.script.events (drop p.due.next run.script.events)
-left_there run events room p beam at next = left_on run.script.events _ p.beam beam (screen_there run events room p at).clock next at.left
+    → IsNextInField run.script.system p.beam beam → IsLeft (place_of beam) run.script.events (drop p.due.next run.script.events)
+left_there run events room p beam at next = left_on run.script.system run.script.events _ p.beam beam (screen_there run events room p at).clock next at.left
 
 -- the clearing
 same_clear : (b other : Beam) (p : Denise) → b.h ≡ other.h → clear_line b p ≡ clear_line other p
@@ -287,16 +305,16 @@ clear_by : (b : Bool) (h next : ℕ) → next ≡ (if b then 0 else h + 1) → (
 clear_by true h next is none = absurd (grind (arith, nat_tests))
 clear_by false h next is none = omega (arith, is)
 
-clear_order : (h next : ℕ) → next ≡ (if nat_le 226 h then 0 else h + 1) → (next == 0) ≡ false → 4 * h + 4 ≤ 4 * next
-clear_order h next is none = clear_by (nat_le 226 h) h next is none
+clear_order : (last h next : ℕ) → next ≡ (if nat_le last h then 0 else h + 1) → (next == 0) ≡ false → 4 * h + 4 ≤ 4 * next
+clear_order last h next is none = clear_by (nat_le last h) h next is none
 
 -- what a clock before the last comes to
 pub record IsTurn (run : RunValue) (events : List Event) (view : ViewValue) (room after : List ℕ) (p : Progress)
     (shown touched cleared : BandPainter) (filled clx : ℕ) (beam : Beam) (sets due count : ℕ) : Type 0 where
-  pub given : IsGivenBy p events view (take p.filled room) (take filled after) shown clx
-  pub bytes : filled ≡ filled_after p.beam.v p.beam.h p.filled
+  pub given : IsGivenBy run.script.system p events view (take p.filled room) (take filled after) shown clx
+  pub bytes : filled ≡ filled_after run.script.system p.beam.v p.beam.h p.filled
   pub size : length after ≡ length room
-  pub place : IsNextInField p.beam beam
+  pub place : IsNextInField run.script.system p.beam beam
   pub coming : sets ≡ length (touches_of (due_events beam run.script.events))
   pub left : IsLeft (place_of beam + 1) run.script.events (drop due run.script.events)
   pub bound : due ≤ length run.script.events
@@ -306,10 +324,10 @@ pub record IsTurn (run : RunValue) (events : List Event) (view : ViewValue) (roo
   pub within : count ≤ length (drop (p.next + p.sets) events)
   pub clean : (from : ℕ) (q : Denise) → IsBandPainterOf from touched q → ((beam.h == 0) ≡ false → from ≤ 4 * beam.h)
       → IsBandPainterOf (4 * beam.h) cleared (clear_line beam q)
-  pub kept : cleared.keeps ≡ false → p.clock + 1 + 227 < p.to + beam.h
+  pub kept : cleared.keeps ≡ false → p.clock + 1 + 228 < p.to + beam.h
 
 touch_next : (run : RunValue) (events : List Event) (view : ViewValue) (room : List ℕ) (p : Progress) (beam : Beam) (sets : ℕ)
-    → IsSource run p.from p.to view → IsAt run events room p → p.clock + 1 < p.to → IsNextInField p.beam beam
+    → IsSource run p.from p.to view → IsAt run events room p → p.clock + 1 < p.to → IsNextInField run.script.system p.beam beam
     → sets ≡ length (touches_of (due_events beam run.script.events))
     → bus_touch_of p.clock sets (drop (p.next + p.sets) events) ≡ bus_touch_at run p.clock
 touch_next run events view room p beam sets source at more next is =
@@ -357,10 +375,10 @@ painted_next run events view room after p shown touched cleared filled clx beam 
     (given_here run events view room (take p.filled room) (take filled after) p shown clx source at turn.given).painted turn.access in
     subst (λ q. IsBandPainterOf (4 * beam.h) cleared q) (same_clear beam next left place.clock)
     (turn.clean (4 * h + 4) left painted
-    (clear_order h beam.h (place.clock ∙ (nexts run c (inner_next run events view room p source at more)).clock)))
+    (clear_order (last_clock run.script.system (beam_at run c).v) h beam.h (place.clock ∙ (nexts run c (inner_next run events view room p source at more)).clock)))
 
 drop_clock : (run : RunValue) (events : List Event) (view : ViewValue) (room : List ℕ) (p : Progress) (beam : Beam) (sets count : ℕ)
-    → IsSource run p.from p.to view → IsAt run events room p → p.clock + 1 < p.to → IsNextInField p.beam beam
+    → IsSource run p.from p.to view → IsAt run events room p → p.clock + 1 < p.to → IsNextInField run.script.system p.beam beam
     → sets ≡ length (touches_of (due_events beam run.script.events))
     → count ≡ length (bus_events p.clock (bus_touch_of p.clock sets (drop (p.next + p.sets) events)))
     → drop (p.next + (p.sets + count)) events ≡ behind_clock run p.clock (drop p.next events)
@@ -391,7 +409,7 @@ pub turned : (run : RunValue) (events : List Event) (view : ViewValue) (room aft
     → IsAt run events after (come_to p cleared filled clx beam sets due count)
 turned run events view room after p shown touched cleared filled clx beam sets due count source at more turn =
     let c : ℕ = p.clock in
-    let given : IsGiven (beam_at run c).v (beam_at run c).h (with_script run c at.picture) shown (take p.filled room) (take filled after) p.clx clx =
+    let given : IsGiven run.script.system (beam_at run c).v (beam_at run c).h (with_script run c at.picture) shown (take p.filled room) (take filled after) p.clx clx =
     given_here run events view room (take p.filled room) (take filled after) p shown clx source at turn.given in
     let place : IsSamePlace beam (beam_at run (c + 1)) = place_next run events view room p beam source at more turn.place in
     record {
@@ -426,13 +444,13 @@ sound_end run events room p at =
     let script : IsSound (with_script run c at.picture) =
     sound_in_order b.h words (sets_at run c) at.picture (sound_there run events room p at) in
     sound_touched b.h words (fetch_alone (bus_touch_at run c)) (after_kept run c at.picture)
-    (sound_after b.v b.h (with_script run c at.picture) script)
+    (sound_after run.script.system b.v b.h (with_script run c at.picture) script)
 
 pub ended : (run : RunValue) (events : List Event) (view : ViewValue) (room after : List ℕ) (p : Progress)
     (shown touched : BandPainter) (closing : Denise) (filled clx coming : ℕ)
     → IsSource run p.from p.to view → IsAt run events room p → p.clock + 1 ≡ p.to
-    → IsGivenBy p events view (take p.filled room) (take filled after) shown clx
-    → filled ≡ filled_after p.beam.v p.beam.h p.filled → length after ≡ length room
+    → IsGivenBy run.script.system p events view (take p.filled room) (take filled after) shown clx
+    → filled ≡ filled_after run.script.system p.beam.v p.beam.h p.filled → length after ≡ length room
     → Paints (4 * p.beam.h)
     (touch_by_address p.beam.h (word_then view p.clock) (bus_touch_of p.clock coming (drop (p.next + p.sets) events))) shown touched
     → ((from : ℕ) (q : Denise) → IsBandPainterOf from touched q → q.held.0 ≤ 4095 → StandsFor from closing q)
@@ -440,7 +458,7 @@ pub ended : (run : RunValue) (events : List Event) (view : ViewValue) (room afte
 ended run events view room after p shown touched closing filled clx coming source at last given filled_is size access close n band =
     let c : ℕ = p.clock in
     let left : Denise = with_fetch run c (after_kept run c at.picture) in
-    let here : IsGiven (beam_at run c).v (beam_at run c).h (with_script run c at.picture) shown (take p.filled room) (take filled after) p.clx clx =
+    let here : IsGiven run.script.system (beam_at run c).v (beam_at run c).h (with_script run c at.picture) shown (take p.filled room) (take filled after) p.clx clx =
     given_here run events view room (take p.filled room) (take filled after) p shown clx source at given in
     let touch : bus_touch_of c coming (drop (p.next + p.sets) events) ≡ fetch_alone (bus_touch_at run c) =
     ap (λ l. bus_touch_of c coming l) (rest_there run events room p at)
@@ -458,10 +476,10 @@ ended run events view room after p shown touched closing filled clx coming sourc
     (sym here.bits)
     (drawing_ends run n p.from p.to c at.picture closing (drop p.next events) (take p.filled room) p.clx band at.drawn last stands))
 
-pub given_part : (p : Progress) (events : List Event) (view : ViewValue) (part : List Event) (before after : List ℕ) (shown : BandPainter) (clx : ℕ)
+pub given_part : (system : System) (p : Progress) (events : List Event) (view : ViewValue) (part : List Event) (before after : List ℕ) (shown : BandPainter) (clx : ℕ)
     → part ≡ take p.sets (drop p.next events)
     → ((q : Denise) → IsBandPainterOf (4 * p.beam.h) p.painter q
-    → IsGiven p.beam.v p.beam.h (touched_by_events p.beam.h (word_then view p.clock) part q) shown before after p.clx clx)
-    → IsGivenBy p events view before after shown clx
-given_part p events view part before after shown clx is given q painted =
-    subst (λ l. IsGiven p.beam.v p.beam.h (touched_by_events p.beam.h (word_then view p.clock) l q) shown before after p.clx clx) is (given q painted)
+    → IsGiven system p.beam.v p.beam.h (touched_by_events p.beam.h (word_then view p.clock) part q) shown before after p.clx clx)
+    → IsGivenBy system p events view before after shown clx
+given_part system p events view part before after shown clx is given q painted =
+    subst (λ l. IsGiven system p.beam.v p.beam.h (touched_by_events p.beam.h (word_then view p.clock) l q) shown before after p.clx clx) is (given q painted)

@@ -5,6 +5,7 @@ use Rattle.ocs_base.specs.declared.beam.Beam.{Beam}
 use Rattle.ocs_base.specs.declared.script.At.{At}
 use Rattle.ocs_base.specs.declared.script.Act.{Act}
 use Rattle.ocs_base.specs.declared.script.Act.TheVariants.{Poke, Peek, Joy, Fire, Key}
+use Rattle.ocs_base.specs.declared.system.System.{System}
 use Rattle.serial_model.specs.Beam.{IsOnScreen, place_of}
 use Rattle.serial_model.specs.Events.{due_events, is_due, touches_of}
 use Rattle.serial_model.specs.Registers.{is_picture_register}
@@ -12,10 +13,11 @@ use Rattle.serial_model.specs.Registers.{is_picture_register}
 -- none of them is before the place, they are in order and in the limits of some run, and at the place and each later one as
 -- many are due as of the whole script
 pub record IsLeft (place : ℕ) (script left : List At) : Type 0 where
+  pub system : System
   pub frames : ℕ
   pub from : AreFrom place left
   pub order : AreInOrder left
-  pub limits : AreInLimits frames left
+  pub limits : AreInLimits system frames left
   pub same : (b : Beam) → IsOnScreen b → place ≤ place_of b → due_events b script ≡ due_events b left
 
 -- whether an act writes to one of Denise's registers
@@ -37,9 +39,10 @@ sets_if (Some e) = if is_set e.act then 1 else 0
 
 -- what is left of a script has been come to by counting, from what is before a place on, the writes that are due there
 pub record IsCounted (b : Beam) (script left : List At) (sets : ℕ) : Type 0 where
+  pub system : System
   pub frames : ℕ
   pub from : AreFrom (place_of b) left
   pub order : AreInOrder left
-  pub limits : AreInLimits frames left
+  pub limits : AreInLimits system frames left
   pub same : (later : Beam) → IsOnScreen later → place_of b + 1 ≤ place_of later → due_events later script ≡ due_events later left
   pub count : length (touches_of (due_events b script)) ≡ sets + length (touches_of (due_events b left))

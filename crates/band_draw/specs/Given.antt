@@ -1,19 +1,19 @@
 -- What the picture step of a clock gives.
 use Rattle.std.specs.Prelude.{◌≡◌, ◌+◌, ◌*◌, ℕ, if◌then◌else◌, List, ◌++◌, bit_or}
-use Rattle.ocs_base.specs.declared.system.System.TheVariants.{Pal}
+use Rattle.ocs_base.specs.Systems.{is_visible}
+use Rattle.ocs_base.specs.declared.system.System.{System}
 use Rattle.serial_model.specs.declared.picture.Denise.{Denise}
-use Rattle.serial_model.specs.Beam.{is_visible}
 use Rattle.serial_model.specs.Picture.{step_of, after_step}
 use Rattle.band_draw.specs.declared.band_painter.BandPainter.{BandPainter}
 use Rattle.band_draw.specs.BandPainter.{IsBandPainterOf}
 
 -- At clock h of line v the picture step of p was given: what paints goes on from the picture state after it, its bytes are
 -- behind those before, and its collision bits are gathered.
-pub record IsGiven (v h : ℕ) (p : Denise) (new : BandPainter) (before after : List ℕ) (gathered clx : ℕ) : Type 0 where
-  pub painted : IsBandPainterOf (4 * h + 4) new (after_step (step_of Pal v h p) p)
-  pub bytes : after ≡ before ++ (step_of Pal v h p).bytes
-  pub bits : clx ≡ bit_or gathered (step_of Pal v h p).clx
+pub record IsGiven (system : System) (v h : ℕ) (p : Denise) (new : BandPainter) (before after : List ℕ) (gathered clx : ℕ) : Type 0 where
+  pub painted : IsBandPainterOf (4 * h + 4) new (after_step (step_of system v h p) p)
+  pub bytes : after ≡ before ++ (step_of system v h p).bytes
+  pub bits : clx ≡ bit_or gathered (step_of system v h p).clx
 
 -- how many bytes are filled after a clock
-abbrev pub filled_after : ℕ → ℕ → ℕ → ℕ
-filled_after v h filled = if is_visible Pal v h then filled + 12 else filled
+abbrev pub filled_after : System → ℕ → ℕ → ℕ → ℕ
+filled_after system v h filled = if is_visible system v h then filled + 12 else filled

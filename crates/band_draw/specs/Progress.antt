@@ -32,8 +32,8 @@ pub record IsSamePlace (b other : Beam) : Type 0 where
 pub record IsAt (run : RunValue) (events : List Event) (room : List ℕ) (p : Progress) : Type 0 where
   pub picture : Denise
   pub painted : IsBandPainterOf (4 * p.beam.h) p.painter picture
-  -- where no loads are kept, another line starts in the band
-  pub kept : p.painter.keeps ≡ false → p.clock + 227 < p.to + p.beam.h
+  -- where no loads are kept, another line starts in the band: a line has at most 228 clocks
+  pub kept : p.painter.keeps ≡ false → p.clock + 228 < p.to + p.beam.h
   pub drawn : IsDrawnTo run p.from p.to p.clock picture (drop p.next events) (take p.filled room) p.clx
   pub place : IsSamePlace p.beam (beam_at run p.clock)
   pub sets : p.sets ≡ length (sets_at run p.clock)

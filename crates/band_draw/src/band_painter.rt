@@ -2,7 +2,8 @@
 
 ghost use Rattle.std.specs.Prelude.{◌≡◌, ◌≤◌, ◌+◌, ◌*◌, ℕ, bit_or, false, true, flat_map, length, ◌++◌, ◌∷◌, []};
 ghost use Rattle.serial_model.specs.declared.picture.Denise.{Denise as DeniseValue};
-ghost use Rattle.serial_model.specs.Beam.{is_line_start, is_visible as visible};
+ghost use Rattle.ocs_base.specs.Systems.{is_visible};
+ghost use Rattle.serial_model.specs.Beam.{is_line_start};
 ghost use Rattle.serial_model.specs.Picture.{set_picture, clear_line as cleared, pixels, step_of, after_step};
 ghost use Rattle.serial_bands.specs.StandsFor.{StandsFor};
 
@@ -59,7 +60,7 @@ impl BandPainter {
 
     /// A write at clock `h` of the line to the register at an offset.
     pub fn set(&mut self, h: u16, offset: u16, word: u16)
-        requires { h ≤ 226 }
+        requires { h ≤ 227 }
         ensures paints { Paints (4 * h) (set_picture h offset word) self.old self.new }
         ensures keeps { self.new.keeps ≡ self.old.keeps }
     {
@@ -101,19 +102,25 @@ impl BandPainter {
 
     /// The picture step of a clock, as `Painter::show` has it.
     #[inline(always)]
-    pub fn show(&mut self, beam: &Beam, into: &mut [[u8; 3]; 4], clx: &mut u16) -> bool
-        requires { beam.now.h ≤ 226 }
-        ensures visible { result ≡ visible System.Pal beam.now.v beam.now.h }
+    pub fn show(
+        &mut self,
+        system: System,
+        beam: &Beam,
+        into: &mut [[u8; 3]; 4],
+        clx: &mut u16,
+    ) -> bool
+        requires { beam.now.h ≤ 227 }
+        ensures visible { result ≡ is_visible system beam.now.v beam.now.h }
         ensures pixels { (from : ℕ) (p : DeniseValue) → IsBandPainterOf from self.old p
             → result ≡ true
-            → flat_map (λ x. x) into.new ≡ pixels System.Pal beam.now.v beam.now.h p }
+            → flat_map (λ x. x) into.new ≡ pixels system beam.now.v beam.now.h p }
         ensures after { (p : DeniseValue) → IsBandPainterOf (4 * beam.now.h) self.old p
             → IsBandPainterOf (4 * beam.now.h + 4) self.new
-            (after_step (step_of System.Pal beam.now.v beam.now.h p) p) }
+            (after_step (step_of system beam.now.v beam.now.h p) p) }
         ensures clx { (from : ℕ) (p : DeniseValue) → IsBandPainterOf from self.old p
-            → clx.new ≡ bit_or clx.old (step_of System.Pal beam.now.v beam.now.h p).clx }
+            → clx.new ≡ bit_or clx.old (step_of system beam.now.v beam.now.h p).clx }
         ensures keeps { self.new.keeps ≡ self.old.keeps }
     {
-        self.painter.show(beam, into, clx)
+        self.painter.show(system, beam, into, clx)
     }
 }

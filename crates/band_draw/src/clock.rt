@@ -2,7 +2,7 @@
 
 ghost use Rattle.std.specs.Prelude.{◌≡◌, ◌≤◌, ◌<◌, ◌+◌, ◌*◌, ◌^◌, ℕ, true, if◌then◌else◌, length, take, drop};
 ghost use Rattle.serial_model.specs.declared.picture.Denise.{Denise as DeniseValue};
-ghost use Rattle.serial_model.specs.Beam.{is_visible as visible};
+ghost use Rattle.ocs_base.specs.Systems.{is_visible};
 ghost use Rattle.mem_versions.specs.MemView.{Covers, word_then};
 ghost use Rattle.serial_bands.specs.ClockLaws.{IsNextInField};
 ghost use Rattle.serial_bands.specs.DrawnTo.{touch_by_address};
@@ -16,7 +16,6 @@ use crate::band_painter::BandPainter;
 use crate::room::put;
 use crate::touch::{bus_count, touch_all};
 use band_log::Event;
-use beam::last_clock;
 use mem_versions::MemView;
 use ocs_base::{Beam, Clock, System};
 
@@ -26,6 +25,7 @@ use ocs_base::{Beam, Clock, System};
 #[inline(always)]
 pub fn show_clock(
     painter: &mut BandPainter,
+    system: System,
     beam: &Beam,
     due: &[Event],
     clock: Clock,
@@ -35,42 +35,43 @@ pub fn show_clock(
     clx: &mut u16,
 ) -> usize
     requires covered { Covers view.now clock.0 }
-    requires place { beam.now.h ≤ 226 }
-    requires room { visible System.Pal beam.now.v beam.now.h ≡ true
+    requires place { beam.now.h ≤ 227 }
+    requires room { is_visible system beam.now.v beam.now.h ≡ true
         → filled + 12 ≤ length room.old }
     ensures given { (p : DeniseValue) → IsBandPainterOf (4 * beam.now.h) painter.old p
-        → IsGiven beam.now.v beam.now.h
+        → IsGiven system beam.now.v beam.now.h
         (touched_by_events beam.now.h (word_then view.now clock.0) due.now p)
         painter.new (take filled room.old) (take result room.new) clx.old clx.new }
-    ensures filled { result ≡ filled_after beam.now.v beam.now.h filled }
+    ensures filled { result ≡ filled_after system beam.now.v beam.now.h filled }
     ensures keeps { painter.new.keeps ≡ painter.old.keeps }
     ensures size { length room.new ≡ length room.old }
 {
     touch_all(painter, beam.h, due, clock, view);
-    give(painter, beam, room, filled, clx)
+    give(painter, system, beam, room, filled, clx)
 }
 
 /// The picture step of a clock.
 #[inline(always)]
 fn give(
     painter: &mut BandPainter,
+    system: System,
     beam: &Beam,
     room: &mut [u8],
     filled: usize,
     clx: &mut u16,
 ) -> usize
-    requires place { beam.now.h ≤ 226 }
-    requires room { visible System.Pal beam.now.v beam.now.h ≡ true
+    requires place { beam.now.h ≤ 227 }
+    requires room { is_visible system beam.now.v beam.now.h ≡ true
         → filled + 12 ≤ length room.old }
     ensures given { (p : DeniseValue) → IsBandPainterOf (4 * beam.now.h) painter.old p
-        → IsGiven beam.now.v beam.now.h p
+        → IsGiven system beam.now.v beam.now.h p
         painter.new (take filled room.old) (take result room.new) clx.old clx.new }
-    ensures filled { result ≡ filled_after beam.now.v beam.now.h filled }
+    ensures filled { result ≡ filled_after system beam.now.v beam.now.h filled }
     ensures keeps { painter.new.keeps ≡ painter.old.keeps }
     ensures size { length room.new ≡ length room.old }
 {
     let mut pixels = [[0; 3]; 4];
-    if painter.show(beam, &mut pixels, clx) {
+    if painter.show(system, beam, &mut pixels, clx) {
         put(room, filled, &pixels);
         return filled + 12;
     }
@@ -89,7 +90,7 @@ pub fn touch_access(
     clock: Clock,
     view: &MemView,
 ) -> usize
-    requires place { h ≤ 226 }
+    requires place { h ≤ 227 }
     requires covered { Covers view.now clock.0 }
     requires room { clock.0 + 1 < 2 ^ 64 }
     ensures touched { Paints (4 * h) (touch_by_address h (word_then view.now clock.0)
@@ -104,11 +105,11 @@ pub fn touch_access(
 }
 
 /// Goes on to the next place of a field: the next clock of the line, or the first of the next line.
-pub fn next_place(beam: &mut Beam)
+pub fn next_place(system: System, beam: &mut Beam)
     requires { beam.old.v < 313 }
-    ensures { IsNextInField beam.old beam.new }
+    ensures { IsNextInField system beam.old beam.new }
 {
-    if beam.h < last_clock(System::Pal, beam.v) {
+    if beam.h < system.last_clock(beam.v) {
         beam.h += 1;
     } else {
         beam.h = 0;

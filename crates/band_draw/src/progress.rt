@@ -48,11 +48,14 @@ impl Progress {
         ensures clock { self.new.clock ≡ self.old.clock + 1 }
         ensures size { length room.new ≡ length room.old }
     {
+        let script = run.script();
+        let system = script.system();
         let h = self.beam.h;
         let clock = Clock(self.clock);
         let due = part(events, self.next, self.sets);
         let filled = show_clock(
             &mut self.painter,
+            system,
             &self.beam,
             due,
             clock,
@@ -62,10 +65,10 @@ impl Progress {
             &mut self.clx,
         );
         let rest = behind(events, self.next + self.sets);
-        next_place(&mut self.beam);
-        let coming = due_from(run.script().events(), self.due, &self.beam);
+        next_place(system, &mut self.beam);
+        let coming = due_from(script.events(), self.due, &self.beam);
         let count = touch_access(&mut self.painter, h, rest, coming.sets, clock, view);
-        let is_last_line = self.to - self.clock <= 228;
+        let is_last_line = self.to - self.clock <= 229;
         self.painter.clear_line(&self.beam, is_last_line);
         self.clock += 1;
         self.next += self.sets + count;
@@ -90,11 +93,13 @@ impl Progress {
             room.new result self.new.clx }
         ensures size { length room.new ≡ length room.old }
     {
+        let system = run.script().system();
         let h = self.beam.h;
         let clock = Clock(self.clock);
         let due = part(events, self.next, self.sets);
         show_clock(
             &mut self.painter,
+            system,
             &self.beam,
             due,
             clock,

@@ -20,7 +20,7 @@ const LATCHES: u16 = 0x10e;
 /// Events at clock `h` of the line in their order. The word of a fetch is that of the colour clock.
 #[inline(always)]
 pub fn touch_all(painter: &mut BandPainter, h: u16, events: &[Event], clock: Clock, view: &MemView)
-    requires place { h ≤ 226 }
+    requires place { h ≤ 227 }
     requires covered { Covers view.now clock.0 }
     ensures paints { Paints (4 * h)
         (touched_by h (word_then view.now clock.0) (map touch_of_event events.now))
@@ -35,7 +35,7 @@ pub fn touch_all(painter: &mut BandPainter, h: u16, events: &[Event], clock: Clo
 /// One event at clock `h` of the line.
 #[inline(never)]
 fn touch(painter: &mut BandPainter, h: u16, event: &Event, clock: Clock, view: &MemView)
-    requires place { h ≤ 226 }
+    requires place { h ≤ 227 }
     requires covered { Covers view.now clock.0 }
     ensures paints { Paints (4 * h) (touch_by_address h (word_then view.now clock.0)
         (Some (touch_of_event event.now))) painter.old painter.new }

@@ -1,10 +1,12 @@
 -- One colour clock of the foreground, from its parts.
-use Rattle.std.proofs.Common.{◌≡◌, ◌≤◌, ◌<◌, ◌==◌, ◌^◌, ℕ, ◌+◌, ◌-◌, min, Bool, true, false, List, [], ◌++◌, drop, arith, refl, ap, subst, ◌∙◌, sym, append_assoc, add-one, below_more}
+use Rattle.std.proofs.Common.{◌≡◌, ◌≤◌, ◌<◌, ◌==◌, ◌^◌, ℕ, zero, suc, ◌+◌, ◌-◌, min, Bool, true, false, List, [], ◌∷◌, ◌++◌, drop, arith, refl, ap, subst, ◌∙◌, sym, append_assoc, add-one, below_more}
 use Rattle.std.proofs.lemmas.Bool.Decides.{nat_tests}
+use Rattle.ocs_base.specs.Limits.{IsRunnable, AreInLimits}
 use Rattle.ocs_base.specs.declared.beam.Beam.{Beam}
+use Rattle.ocs_base.specs.declared.script.At.{At}
 use Rattle.mem_versions.specs.Chip.{ChipValue}
 use Rattle.out_files.specs.OutFiles.{OutFilesValue}
-use Rattle.ocs_base.specs.declared.system.System.TheVariants.{Pal}
+use Rattle.ocs_base.specs.declared.system.System.{System}
 use Rattle.serial_model.specs.declared.trace.TraceLine.{TraceLine}
 use Rattle.serial_model.specs.Beam.{IsOnScreen, place_of, next_place}
 use Rattle.serial_model.specs.Tick.{run_processor, advance_beam}
@@ -33,7 +35,7 @@ use Rattle.foreground.proofs.LeftLaws.{left_from, started_band, log_band}
 
 -- the steps behind the access, at one clock of a run
 ends : (run : RunValue) (c first clx : ℕ) (m0 m1 m2 : MachineValue) (log : Log) (seen : RasterValue) (out given : OutFilesValue)
-    → Makes run_processor m0 out m1 given → MakesQuietly (advance_beam Pal) m1 m2 → m2.chip ≡ m0.chip → IsBehindAccess run c first m0 log clx seen
+    → Makes run_processor m0 out m1 given → MakesQuietly (advance_beam run.script.system) m1 m2 → m2.chip ≡ m0.chip → IsBehindAccess run c first m0 log clx seen
     → IsAt run (c + 1) first m2 log clx seen × Tells (accessed_state run c) (state_of run (c + 1)) out given
 ends run c first clx m0 m1 m2 log seen out given turns advances chip is =
     let start : Start = record { out = out; trace = (accessed_state run c).trace } in
@@ -51,7 +53,7 @@ ends run c first clx m0 m1 m2 log seen out given turns advances chip is =
     )
 
 ends_at : (g : ForeValue) (m1 m2 : MachineValue) (out given : OutFilesValue) → Makes run_processor g.machine out m1 given
-    → m1 ≡ record g.machine { chips = m1.chips } → MakesQuietly (advance_beam Pal) m1 m2 → m2.t ≡ m1.t + 1 → m2.chip ≡ m1.chip
+    → m1 ≡ record g.machine { chips = m1.chips } → MakesQuietly (advance_beam g.run.script.system) m1 m2 → m2.t ≡ m1.t + 1 → m2.chip ≡ m1.chip
     → EndsClock g (record g { machine = m2 }) out given
 ends_at g m1 m2 out given turns same advances count chip =
     let kept : m2.chip ≡ g.machine.chip = chip ∙ ap (λ (m : MachineValue). m.chip) same in
@@ -66,31 +68,41 @@ ends_at g m1 m2 out given turns same advances count chip =
       stands = λ first seen is. ends g.run g.machine.t first g.clx g.machine m1 m2 g.log seen out given turns advances kept is;
     }
 
-pub ends_clock : (f g : ForeValue) (m1 m2 : MachineValue) (out given : OutFilesValue) → g ≡ f → Makes run_processor g.machine out m1 given
-    → m1 ≡ record g.machine { chips = m1.chips } → MakesQuietly (advance_beam Pal) m1 m2 → m2.t ≡ m1.t + 1 → m2.chip ≡ m1.chip
-    → EndsClock f (record g { machine = m2 }) out given
-ends_clock f g m1 m2 out given view turns same advances count chip =
-    subst (λ x. EndsClock x (record g { machine = m2 }) out given) view (ends_at g m1 m2 out given turns same advances count chip)
+pub ends_clock : (system : System) (f g : ForeValue) (m1 m2 : MachineValue) (out given : OutFilesValue) → g ≡ f → system ≡ f.run.script.system
+    → Makes run_processor g.machine out m1 given → m1 ≡ record g.machine { chips = m1.chips } → MakesQuietly (advance_beam system) m1 m2
+    → m2.t ≡ m1.t + 1 → m2.chip ≡ m1.chip → EndsClock f (record g { machine = m2 }) out given
+ends_clock system f g m1 m2 out given view by turns same advances count chip =
+    let own : system ≡ g.run.script.system = by ∙ ap (λ (x : ForeValue). x.run.script.system) (sym view) in
+    subst (λ x. EndsClock x (record g { machine = m2 }) out given) view
+    (ends_at g m1 m2 out given turns same (subst (λ s. MakesQuietly (advance_beam s) m1 m2) own advances) count chip)
 
 -- the next place of the beam
-pub next_of : (f g : ForeValue) (m1 : MachineValue) (b : Beam) (lace : Bool) → g ≡ f → m1 ≡ record g.machine { chips = m1.chips }
-    → b ≡ next_place Pal lace m1.beam → b ≡ next_place Pal lace f.machine.beam
-next_of f g m1 b lace view same next =
-    next ∙ ap (λ (m : MachineValue). next_place Pal lace m.beam) same ∙ ap (λ (x : ForeValue). next_place Pal lace x.machine.beam) view
+pub next_of : (system : System) (f g : ForeValue) (m1 : MachineValue) (b : Beam) (lace : Bool) → g ≡ f → system ≡ f.run.script.system
+    → m1 ≡ record g.machine { chips = m1.chips } → b ≡ next_place system lace m1.beam → b ≡ next_place f.run.script.system lace f.machine.beam
+next_of system f g m1 b lace view by same next =
+    next ∙ ap (λ (m : MachineValue). next_place system lace m.beam) same ∙ ap (λ (x : ForeValue). next_place system lace x.machine.beam) view
+    ∙ ap (λ s. next_place s lace f.machine.beam) by
 
 -- the script's events that are left at the next place
-script_next : (run : RunValue) (b here next : Beam) (lace : Bool) (was left : ℕ) → HasScript run b was → HasScriptBehind run b was left → IsOnScreen b
-    → IsSamePlace b here → next ≡ next_place Pal lace here → place_of b < place_of next → HasScript run next left
-script_next run b here next lace was left script behind on same is later =
+limits_left : (system : System) (frames n : ℕ) (events : List At) → AreInLimits system frames events → AreInLimits system frames (drop n events)
+limits_left system frames zero events limits = limits
+limits_left system frames (suc n) [] limits = limits
+limits_left system frames (suc n) (e ∷ events) limits = limits_left system frames n events limits.1
+
+script_next : (run : RunValue) (b here next : Beam) (lace : Bool) (was left : ℕ) → IsRunnable run.script → HasScript run b was → HasScriptBehind run b was left → IsOnScreen b
+    → IsSamePlace b here → next ≡ next_place run.script.system lace here → place_of b < place_of next → HasScript run next left
+script_next run b here next lace was left good script behind on same is later =
     let at_place : place_of here ≡ place_of b = ap place_of same in
     let queue : IsLeft (place_of here + 1) (drop left run.script.events) =
     subst (λ n. IsLeft (n + 1) (drop left run.script.events)) (sym at_place) behind.left in
     record {
       within = behind.within;
       left = subst (λ b. IsLeft (place_of b) (drop left run.script.events)) (sym is) (record {
+        system = queue.system;
         frames = queue.frames;
         queue = record {
-          from = AreFrom-next queue.frames lace here (drop left run.script.events) (IsOnScreen-same b here same on) queue.queue.limits queue.queue.from;
+          from = AreFrom-next run.script.system run.script.frames lace here (drop left run.script.events) (IsOnScreen-same b here same on)
+              (limits_left run.script.system run.script.frames left run.script.events good.limits) queue.queue.from;
           order = queue.queue.order;
           limits = queue.queue.limits;
         };
@@ -111,10 +123,10 @@ going f first seen is not =
 underway_next : (old new : ForeValue) (first until : ℕ) (seen after : RasterValue) (lace : Bool) (here : Beam) → IsUnderway old first seen
     → is_done old ≡ false → new.run ≡ old.run → new.machine.t ≡ old.machine.t + 1
     → IsAt old.run (old.machine.t + 1) until new.machine new.log new.clx after → HasScriptBehind old.run old.machine.beam old.next new.next
-    → IsSamePlace old.machine.beam here → new.machine.beam ≡ next_place Pal lace here → IsUnderway new until after
+    → IsSamePlace old.machine.beam here → new.machine.beam ≡ next_place old.run.script.system lace here → IsUnderway new until after
 underway_next old new first until seen after lace here is not run t at script same next =
     let on : IsOnScreen here = IsOnScreen-same old.machine.beam here same is.screen in
-    let step : IsNext here new.machine.beam = subst (λ b. IsNext here b) (sym next) (next_place-IsNext lace here on) in
+    let step : IsNext here new.machine.beam = subst (λ b. IsNext here b) (sym next) (next_place-IsNext old.run.script.system lace here on) in
     let at_place : place_of here ≡ place_of old.machine.beam = ap place_of same in
     let frame : here.frame ≡ old.machine.beam.frame = ap (λ (b : Beam). b.frame) same in
     let low : old.machine.beam.frame < old.run.script.frames = below old.machine.beam.frame old.run.script.frames is.frame not in
@@ -130,7 +142,8 @@ underway_next old new first until seen after lace here is not run t at script sa
       screen = step.screen;
       count = omega (arith, is.count, later, t);
       script = subst (λ r. HasScript r new.machine.beam new.next) (sym run)
-          (script_next old.run old.machine.beam here new.machine.beam lace old.next new.next is.script script is.screen same next later);
+          (script_next old.run old.machine.beam here new.machine.beam lace old.next new.next is.good.script is.script script is.screen same next
+          later);
     }
 
 -- what was given in two parts
@@ -238,7 +251,7 @@ same_place_then a b c first second = second ∙ ap (λ (x : Beam). record x { lo
 -- the end of a clock, once its access was made
 advanced : (f0 f1 f2 f3 f4 : ForeValue) (first clx : ℕ) (lace : Bool) (seen s1 s2 : RasterValue) (o0 o1 o2 o3 o4 : OutFilesValue)
     → (is : IsUnderway f0 first seen) → is_done f0 ≡ false → (begun : HasBegunClock f0 f1 first clx seen s1 o0 o1) → ReachesAccess clx f1 f2 o1 o2
-    → HasMadeAccess f2 f3 begun.until s1 s2 o2 o3 → KeepsClock f2 f3 → EndsClock f3 f4 o3 o4 → f4.machine.beam ≡ next_place Pal lace f3.machine.beam
+    → HasMadeAccess f2 f3 begun.until s1 s2 o2 o3 → KeepsClock f2 f3 → EndsClock f3 f4 o3 o4 → f4.machine.beam ≡ next_place f3.run.script.system lace f3.machine.beam
     → HasAdvanced f0 f4 first seen s2 o0 o4
 advanced f0 f1 f2 f3 f4 first clx lace seen s1 s2 o0 o1 o2 o3 o4 is not begun reaches made kept end next =
     let r : RunValue = f0.run in
@@ -275,7 +288,8 @@ advanced f0 f1 f2 f3 f4 first clx lace seen s1 s2 o0 o1 o2 o3 o4 is not begun re
     (subst (λ (f : ForeValue). HasScriptBehind f.run f.machine.beam f.next f2.next) begun.same script1) in
     record {
       until = made.until;
-      stands = underway_next f0 f4 first made.until seen s2 lace f3.machine.beam is not (end.run ∙ run3) (end.t ∙ ap (λ k. k + 1) t3) at script place next;
+      stands = underway_next f0 f4 first made.until seen s2 lace f3.machine.beam is not (end.run ∙ run3) (end.t ∙ ap (λ k. k + 1) t3) at script place
+          (next ∙ ap (λ (x : RunValue). next_place x.script.system lace f3.machine.beam) run3);
       lines = (l2.lines ++ made.lines) ++ last.1.lines;
       trace = traces r c l2.lines made.lines last.1.lines trace2 tracem trace4;
       gives = given_more r first made.until seen s2 o0 o3 o4 (l2.lines ++ made.lines) last.1.lines
@@ -284,7 +298,7 @@ advanced f0 f1 f2 f3 f4 first clx lace seen s1 s2 o0 o1 o2 o3 o4 is not begun re
 
 pub advances : (f0 f1 f2 f3 f4 : ForeValue) (clx : ℕ) (lace : Bool) (seen s1 s2 : RasterValue) (o0 o1 o2 o3 o4 : OutFilesValue)
     → is_done f0 ≡ false → BeginsClock f0 f1 clx seen s1 o0 o1 → ReachesAccess clx f1 f2 o1 o2
-    → MakesItsAccess f2 f3 s1 s2 o2 o3 → KeepsClock f2 f3 → EndsClock f3 f4 o3 o4 → f4.machine.beam ≡ next_place Pal lace f3.machine.beam
+    → MakesItsAccess f2 f3 s1 s2 o2 o3 → KeepsClock f2 f3 → EndsClock f3 f4 o3 o4 → f4.machine.beam ≡ next_place f3.run.script.system lace f3.machine.beam
     → Advances f0 f4 seen s2 o0 o4
 advances f0 f1 f2 f3 f4 clx lace seen s1 s2 o0 o1 o2 o3 o4 not begins reaches makes kept end next first is =
     let begun : HasBegunClock f0 f1 first clx seen s1 o0 o1 = begins first is in

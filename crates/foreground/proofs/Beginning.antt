@@ -8,7 +8,8 @@ use Rattle.mem_versions.specs.MemView.{ViewValue, IsViewOf, word_then}
 use Rattle.ocs_base.specs.declared.addr.Addr.{Addr}
 use Rattle.ocs_base.specs.declared.beam.Beam.{Beam}
 use Rattle.ocs_base.specs.declared.script.At.{At}
-use Rattle.ocs_base.specs.declared.system.System.TheVariants.{Pal}
+use Rattle.ocs_base.specs.Systems.{last_clock}
+use Rattle.ocs_base.specs.declared.system.System.{System}
 use Rattle.serial_model.specs.declared.picture.Denise.{Denise}
 use Rattle.serial_model.specs.declared.picture.Touch.{Touch}
 use Rattle.serial_model.specs.declared.picture.Touch.TheVariants as T
@@ -44,6 +45,7 @@ use Rattle.serial_bands.proofs.Standing.{stands_for_itself, stands_on, stands_cl
 use Rattle.serial_bands.proofs.Storing.{view_has_memory}
 use Rattle.band_draw.specs.Keeps.{Keeps}
 use Rattle.band_log.specs.declared.job.Job.{Job}
+use Rattle.foreground.specs.Cuts.{IsClockBefore}
 use Rattle.foreground.specs.declared.band.OpenBand.{OpenBand}
 use Rattle.foreground.specs.declared.log.Log.{Log}
 use Rattle.foreground.specs.Gathered.{IsClosing}
@@ -232,36 +234,87 @@ written waiting k h words touch closing opening waits is =
     (is (4 * h) closing (omega arith) (stands_for_itself (4 * h) closing))
 
 -- the next clock's positions follow those of this one, where no line starts with it
-clock_of_tick : (events : List At) (s : State)
-    → (tick Pal events s).beam.h ≡ (if nat_le 226 s.beam.h then 0 else s.beam.h + 1)
-clock_of_tick events s = ap (λ (b : Beam). b.h) (beam_next Pal events s)
+clock_of_tick : (system : System) (events : List At) (s : State)
+    → (tick system events s).beam.h ≡ (if nat_le (last_clock system s.beam.v) s.beam.h then 0 else s.beam.h + 1)
+clock_of_tick system events s = ap (λ (b : Beam). b.h) (beam_next system events s)
 
-next_clock : (run : RunValue) (c : ℕ) → (beam_at run (suc c)).h ≡ (if nat_le 226 (beam_at run c).h then 0 else (beam_at run c).h + 1)
+next_clock : (run : RunValue) (c : ℕ) → (let b = beam_at run c in
+    (beam_at run (suc c)).h ≡ (if nat_le (last_clock run.script.system b.v) b.h then 0 else b.h + 1))
 unfolding state_over
-next_clock run c = clock_of_tick run.script.events (state_of run c)
+next_clock run c = clock_of_tick run.script.system run.script.events (state_of run c)
 
-next_positions : (h next : ℕ) → next ≡ (if nat_le 226 h then 0 else h + 1) → (next == 0) ≡ false → 4 * h ≤ 4 * next
-next_positions h next is inner = grind (arith, nat_tests, is, inner)
+next_positions : (last h next : ℕ) → next ≡ (if nat_le last h then 0 else h + 1) → (next == 0) ≡ false → 4 * h ≤ 4 * next
+next_positions last h next is inner = grind (arith, nat_tests, is, inner)
 
-opens_next : (run : RunValue) (c : ℕ) (waiting : Option Event) (closing opening : Denise)
-    → waiting_list waiting ≡ bus_events c (write_alone (bus_touch_at run c)) → IsWritten waiting (beam_at run c).h closing opening
-    → StandsFor (4 * (beam_at run c).h + 4) closing (closing_at run c)
-    → StandsFor (4 * (beam_at run (suc c)).h) (clear_line (beam_at run (suc c)) opening) (opening_at run (suc c))
-opens_next run c waiting closing opening waits is stands =
+-- what a line's start leaves of a picture state does not tell at which clock a write before it was made
+abbrev cleared : Denise → Denise
+cleared p = record p { loads = []; runs = replicate 8 None; held = record { 0 = slice_index p.palette 0 } }
+
+either_cleared : (b : Bool) (x y one two : Denise) → cleared x ≡ cleared y → cleared one ≡ cleared two
+    → cleared (if b then x else one) ≡ cleared (if b then y else two)
+either_cleared true x y one two first second = first
+either_cleared false x y one two first second = second
+
+write_cleared : (h k offset word : ℕ) (p : Denise) → cleared (set_picture h offset word p) ≡ cleared (set_picture k offset word p)
+unfolding set_picture
+write_cleared h k offset word p =
+    either_cleared (offset == 0x08e) _ _ _ _ refl (either_cleared (offset == 0x090) _ _ _ _ refl (either_cleared (offset == 0x098) _ _ _ _ refl
+    (either_cleared (offset == 0x100) _ _ _ _ refl (either_cleared (offset == 0x102) _ _ _ _ refl (either_cleared (offset == 0x104) _ _ _ _ refl
+    (either_cleared (offset == 0x110) _ _ _ _ refl refl))))))
+
+touch_cleared : (h k : ℕ) (words : ℕ → ℕ) (touch : Option Touch) (p : Denise)
+    → cleared (touch_if_any h words (write_alone touch) p) ≡ cleared (touch_if_any k words (write_alone touch) p)
+touch_cleared h k words None p = refl
+touch_cleared h k words (Some (T.Set reg word)) p = write_cleared h k reg.offset word p
+touch_cleared h k words (Some (T.Plane plane at)) p = refl
+touch_cleared h k words (Some (T.Sprite sprite second at)) p = refl
+
+at_line_start : (b : Beam) (p : Denise) → is_line_start b ≡ true → clear_line b p ≡ cleared p
+unfolding clear_line
+at_line_start b p start = ap (λ (t : Bool). if t then cleared p else p) start
+
+line_forgets : (b : Beam) (h k : ℕ) (words : ℕ → ℕ) (touch : Option Touch) (p : Denise) → is_line_start b ≡ true
+    → clear_line b (touch_if_any h words (write_alone touch) p) ≡ clear_line b (touch_if_any k words (write_alone touch) p)
+line_forgets b h k words touch p start =
+    at_line_start b _ start ∙ touch_cleared h k words touch p ∙ sym (at_line_start b _ start)
+
+-- so the write that waits may be made at any clock where a line starts, and else is made at that of the access
+write_opens : (run : RunValue) (c h : ℕ) (waiting : Option Event) (closing opening : Denise)
+    → waiting_list waiting ≡ bus_events c (write_alone (bus_touch_at run c)) → IsClockBefore run (suc c) h → IsWritten waiting h closing opening
+    → (start : Bool) → is_line_start (beam_at run (suc c)) ≡ start
+    → StandsFor (4 * (beam_at run (suc c)).h) (clear_line (beam_at run (suc c)) opening) (clear_line (beam_at run (suc c)) (with_write run c closing))
+write_opens run c h waiting closing opening waits place is true start =
+    let next : Beam = beam_at run (suc c) in
+    let words : ℕ → ℕ = word_of (run_memory run c) in
+    let touch : Option Touch = bus_touch_at run c in
+    subst (λ p. StandsFor (4 * next.h) (clear_line next opening) p) (line_forgets next h (beam_at run c).h words touch closing start)
+    (stands_cleared (4 * h) next opening (touch_if_any h words (write_alone touch) closing) (written waiting c h words touch closing opening waits is)
+    (λ inner. absurd (true≢false (sym start ∙ inner))))
+write_opens run c h waiting closing opening waits place is false inner =
     let b : Beam = beam_at run c in
     let next : Beam = beam_at run (suc c) in
+    let here : h ≡ b.h = place inner in
     let made : StandsFor (4 * b.h) opening (with_write run c closing) =
-    written waiting c b.h (word_of (run_memory run c)) (bus_touch_at run c) closing opening waits is in
+    written waiting c b.h (word_of (run_memory run c)) (bus_touch_at run c) closing opening waits
+    (subst (λ x. IsWritten waiting x closing opening) here is) in
+    stands_cleared (4 * b.h) next opening (with_write run c closing) made
+    (λ more. next_positions (last_clock run.script.system b.v) b.h next.h (next_clock run c) more)
+
+opens_next : (run : RunValue) (c h : ℕ) (waiting : Option Event) (closing opening : Denise)
+    → waiting_list waiting ≡ bus_events c (write_alone (bus_touch_at run c)) → IsClockBefore run (suc c) h → IsWritten waiting h closing opening
+    → StandsFor (4 * (beam_at run c).h + 4) closing (closing_at run c)
+    → StandsFor (4 * (beam_at run (suc c)).h) (clear_line (beam_at run (suc c)) opening) (opening_at run (suc c))
+opens_next run c h waiting closing opening waits place is stands =
+    let next : Beam = beam_at run (suc c) in
     stands_on (4 * next.h) (clear_line next opening) (clear_line next (with_write run c closing)) (opening_at run (suc c))
-    (stands_cleared (4 * b.h) next opening (with_write run c closing) made
-    (λ inner. next_positions b.h next.h (next_clock run c) inner))
+    (write_opens run c h waiting closing opening waits place is (is_line_start next) refl)
     (opening_of_kept run c closing stands)
 
 same_size : (words : List ℕ) (count : ℕ) → length (map (λ word. F.Word word) words) ≡ count → length words ≡ count
 same_size words count is = sym (length-map words (λ word. F.Word word)) ∙ is
 
 pub log_opens : (run : RunValue) (to h : ℕ) (log : Log) (chip : ChipValue) (closing opening : Denise)
-    → IsCut run to log chip → IsClosing run to closing → h ≡ (beam_at run (to - 1)).h → IsWritten log.waiting h closing opening
+    → IsCut run to log chip → IsClosing run to closing → IsClockBefore run to h → IsWritten log.waiting h closing opening
     → length (shadow_of opening).latches ≡ 6 → length (shadow_of opening).words_a ≡ 8 → length (shadow_of opening).words_b ≡ 8
     → IsLogOf run to (with_opening opening (shadow_of opening) log) chip
 log_opens run to h log chip closing opening has stands place is planes first second =
@@ -270,7 +323,7 @@ log_opens run to h log chip closing opening has stands place is planes first sec
     let b : Beam = beam_at run to in
     let opens : StandsFor (4 * b.h) (clear_line b opening) (opening_at run to) =
     subst (λ k. StandsFor (4 * (beam_at run k).h) (clear_line (beam_at run k) opening) (opening_at run k)) here
-    (opens_next run c log.waiting closing opening has.waits (subst (λ x. IsWritten log.waiting x closing opening) place is) stands) in
+    (opens_next run c h log.waiting closing opening has.waits (subst (λ k. IsClockBefore run k h) (sym here) place) is stands) in
     record {
       band = inl (
         record {

@@ -13,7 +13,7 @@ use Rattle.band_log.specs.Raster.{RasterValue}
 use Rattle.foreground.specs.Log.{IsLogOf, IsCut, IsJobOf, blank_after}
 use Rattle.foreground.specs.Gathered.{Fits, IsClosing, HasGathered, HasGatheredPart, HasGatheredTo, HasSubmitted, GathersAll, GathersPart, Submits}
 use Rattle.foreground.specs.Clock.{AreLeftFrom, HasGiven, HasGivenPart, Rises}
-use Rattle.foreground.specs.Cuts.{StandsBefore, HasEndedAll, EndsAtLine, EndsAtRead, EndsAll, EndsPart, EndsPartAtRead}
+use Rattle.foreground.specs.Cuts.{StandsBefore, HasEndedAll, EndsAtLine, EndsAtRead, EndsAll, EndsPart, EndsPartAtRead, IsClockBefore}
 use Rattle.foreground.specs.Fore.{ForeValue}
 use Rattle.foreground.specs.declared.band.OpenBand.{OpenBand}
 use Rattle.foreground.specs.declared.log.Log.{Log}
@@ -161,9 +161,9 @@ run_of to first old new seen after out given closing is = ap (λ (f : ForeValue)
 
 pub ends_at_read : (to h : ℕ) (old mid : ForeValue) (seen after : RasterValue) (out given : OutFilesValue) (closing : Denise) (log : Log) →
     EndsAll to old mid seen after out given (Some closing) →
-    ((run : RunValue) (at : ℕ) (chip : ChipValue) → IsCut run at mid.log chip → IsClosing run at closing → h ≡ (beam_at run (at - 1)).h →
+    ((run : RunValue) (at : ℕ) (chip : ChipValue) → IsCut run at mid.log chip → IsClosing run at closing → IsClockBefore run at h →
     IsLogOf run at log chip) →
-    log.band.from ≡ mid.log.band.from → log.band.number ≡ mid.log.band.number → h ≡ (beam_at old.run (to - 1)).h →
+    log.band.from ≡ mid.log.band.from → log.band.number ≡ mid.log.band.number → IsClockBefore old.run to h →
     EndsAtRead to old (record mid { log = log }) seen after out given
 ends_at_read to h old mid seen after out given closing log ends opens from number clock first stands =
     let all : HasEndedAll to first old mid seen after out given (Some closing) = ends first stands in
@@ -267,9 +267,9 @@ line_rises_now old now first seen chip same stands before reads =
 
 pub ends_at_read_now : (to h : ℕ) (old mid now : ForeValue) (seen after : RasterValue) (out given : OutFilesValue) (closing : Denise) (log : Log) →
     mid ≡ now → EndsAll to old now seen after out given (Some closing) →
-    ((run : RunValue) (at : ℕ) (chip : ChipValue) → IsCut run at mid.log chip → IsClosing run at closing → h ≡ (beam_at run (at - 1)).h →
+    ((run : RunValue) (at : ℕ) (chip : ChipValue) → IsCut run at mid.log chip → IsClosing run at closing → IsClockBefore run at h →
     IsLogOf run at log chip) →
-    log.band.from ≡ mid.log.band.from → log.band.number ≡ mid.log.band.number → h ≡ (beam_at old.run (to - 1)).h →
+    log.band.from ≡ mid.log.band.from → log.band.number ≡ mid.log.band.number → IsClockBefore old.run to h →
     EndsAtRead to old (record mid { log = log }) seen after out given
 ends_at_read_now to h old mid now seen after out given closing log same ends opens from number clock =
     ends_at_read to h old mid seen after out given closing log

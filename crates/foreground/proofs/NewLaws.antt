@@ -68,6 +68,7 @@ script_first : (run : RunValue) (b : Beam) → IsGoodRun run → b ≡ first_pla
 script_first run b good is = subst (λ (x : Beam). HasScript run x 0) (sym is) (record {
   within = omega arith;
   left = record {
+    system = run.script.system;
     frames = run.script.frames;
     queue = record { from = from_first run.script.events; order = good.script.order; limits = good.script.limits };
   };

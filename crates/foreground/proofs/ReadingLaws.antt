@@ -3,10 +3,10 @@ use Rattle.std.proofs.Common.{◌≡◌, ◌≤◌, ◌<◌, ℕ, zero, suc, ◌
 use Rattle.std.proofs.lemmas.Bool.Decides.{nat_tests}
 use Rattle.ocs_base.specs.Limits.{IsRunnable}
 use Rattle.ocs_base.specs.declared.beam.Beam.{Beam}
-use Rattle.ocs_base.specs.declared.system.System.TheVariants.{Pal}
+use Rattle.ocs_base.specs.declared.system.System.{System}
 use Rattle.out_files.specs.OutFiles.{OutFilesValue}
 use Rattle.serial_model.specs.declared.picture.Denise.{Denise}
-use Rattle.serial_model.specs.Beam.{IsOnScreen, place_of, next_place}
+use Rattle.serial_model.specs.Beam.{IsOnScreen, place_of, next_place, is_line_start}
 use Rattle.serial_model.specs.Made.{is_clx_read}
 use Rattle.serial_model.specs.Registers.{is_interlaced}
 use Rattle.serial_model.specs.Serial.{state_over}
@@ -24,7 +24,7 @@ use Rattle.band_log.specs.Raster.{RasterValue}
 use Rattle.foreground.specs.Log.{IsEnding}
 use Rattle.foreground.specs.Gathered.{Fits, HasGatheredTo, GathersAll, GathersPart}
 use Rattle.foreground.specs.Clock.{access_state}
-use Rattle.foreground.specs.Cuts.{StandsAtEnd, HasEnded, EndsAtRead, EndsPartAtRead, clock_before}
+use Rattle.foreground.specs.Cuts.{StandsAtEnd, HasEnded, EndsAtRead, EndsPartAtRead, IsClockBefore}
 use Rattle.foreground.specs.Fore.{ForeValue, IsUnderway}
 use Rattle.foreground.specs.Steps.{IsLoggedBefore, StandsBeforeRead, ReadsBits, ReadsPart, BeginsPart, AccessesPart}
 use Rattle.foreground.proofs.Logging.{log_read, read_begins, log_ends}
@@ -44,24 +44,25 @@ pub fits_least : (run : RunValue) (number to first : ℕ) (seen : RasterValue) �
 fits_least run number to first seen fits = bands_order run fits.least fits.count first to fits.bands
 
 -- the clock of the line before one
-before_next : (lace : Bool) (b : Beam) → b.h < 227 → clock_before (next_place Pal lace b).h ≡ b.h
-before_next lace b on = grind (arith, nat_tests)
+before_next : (system : System) (lace : Bool) (b : Beam) → is_line_start (next_place system lace b) ≡ false → (next_place system lace b).h - 1 ≡ b.h
+before_next system lace b inner = grind (arith, nat_tests, inner)
 
-before_after : (run : RunValue) (c : ℕ) → clock_before (beam_at run (suc c)).h ≡ (beam_at run c).h
+before_after : (run : RunValue) (c : ℕ) → is_line_start (beam_at run (suc c)) ≡ false → (beam_at run (suc c)).h - 1 ≡ (beam_at run c).h
 unfolding state_over
-before_after run c =
+before_after run c inner =
+    let system : System = run.script.system in
     let s : State = state_of run c in
-    let b : State = make_access (before_access Pal run.script.events s) in
+    let b : State = make_access (before_access system run.script.events s) in
     let lace : Bool = is_interlaced b.chips.registers in
     let place : Beam = record s.beam { lof = b.beam.lof } in
-    ap (λ (x : Beam). clock_before x.h) (beam_next Pal run.script.events s)
-    ∙ before_next lace place (on_screen run.side run.image run.script c).clock
+    ap (λ (x : Beam). x.h - 1) (beam_next system run.script.events s)
+    ∙ before_next system lace place (ap (λ (x : Beam). is_line_start x) (sym (beam_next system run.script.events s)) ∙ inner)
 
-pub before_at : (run : RunValue) (c : ℕ) → 0 < c → clock_before (beam_at run c).h ≡ (beam_at run (c - 1)).h
-before_at run zero some = absurd (omega (arith, some))
-before_at run (suc c) some =
+pub before_at : (run : RunValue) (c : ℕ) → 0 < c → IsClockBefore run c ((beam_at run c).h - 1)
+before_at run zero some inner = absurd (omega (arith, some))
+before_at run (suc c) some inner =
     let same : suc c - 1 ≡ c = omega arith in
-    before_after run c ∙ ap (λ k. (beam_at run k).h) (sym same)
+    before_after run c inner ∙ ap (λ k. (beam_at run k).h) (sym same)
 
 -- a band begins with a clock in which the script reads CLXDAT
 one_of : (a b c : Bool) → b ≡ true → (a || (b || c)) ≡ true
@@ -145,10 +146,10 @@ script_ends fore first seen underway reads before = record {
 }
 
 pub script_place : (fore : ForeValue) (first h : ℕ) (seen : RasterValue) → IsUnderway fore first seen → fore.log.band.from < fore.machine.t →
-    h ≡ clock_before fore.machine.beam.h → h ≡ (beam_at fore.run (fore.machine.t - 1)).h
-script_place fore first h seen underway before is =
-    is ∙ ap (λ (b : Beam). clock_before b.h) (sym underway.at.machine.beam)
-    ∙ before_at fore.run fore.machine.t (omega (arith, before))
+    h ≡ fore.machine.beam.h - 1 → IsClockBefore fore.run fore.machine.t h
+script_place fore first h seen underway before is inner =
+    is ∙ ap (λ (b : Beam). b.h - 1) (sym underway.at.machine.beam)
+    ∙ before_at fore.run fore.machine.t (omega (arith, before)) inner
 
 pub reads_by_script : (old mid : ForeValue) (seen after : RasterValue) (out given : OutFilesValue) →
     has_clx_read (due_at old.run old.machine.t) ≡ true → old.log.band.from < old.machine.t →
@@ -247,11 +248,11 @@ script_part_now old now seen after out given same reads before part =
     (subst (λ (o : ForeValue). EndsPartAtRead o.machine.t now seen after out given) same part)
 
 pub script_place_now : (old now : ForeValue) (first h : ℕ) (seen : RasterValue) → old ≡ now → IsUnderway now first seen →
-    old.log.band.from < old.machine.t → h ≡ clock_before old.machine.beam.h → h ≡ (beam_at now.run (old.machine.t - 1)).h
+    old.log.band.from < old.machine.t → h ≡ old.machine.beam.h - 1 → IsClockBefore now.run old.machine.t h
 script_place_now old now first h seen same underway before is =
-    subst (λ (o : ForeValue). h ≡ (beam_at now.run (o.machine.t - 1)).h) (sym same)
+    subst (λ (o : ForeValue). IsClockBefore now.run o.machine.t h) (sym same)
     (script_place now first h seen underway (subst (λ (o : ForeValue). o.log.band.from < o.machine.t) same before)
-    (subst (λ (o : ForeValue). h ≡ clock_before o.machine.beam.h) same is))
+    (subst (λ (o : ForeValue). h ≡ o.machine.beam.h - 1) same is))
 
 pub script_ends_now : (old now : ForeValue) (first : ℕ) (seen : RasterValue) → old ≡ now → IsUnderway now first seen →
     has_clx_read (due_at now.run now.machine.t) ≡ true → old.log.band.from < old.machine.t → StandsAtEnd old.machine.t first now seen

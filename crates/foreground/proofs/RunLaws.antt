@@ -1,7 +1,7 @@
 -- The machine without its picture at a clock of a run.
 use Rattle.std.proofs.Common.{◌≡◌, true, ℕ, zero, suc, ◌+◌, ◌++◌, Option, refl, ap, subst, ◌∙◌, sym, add-one}
 use Rattle.mem_versions.specs.Chip.{ChipValue}
-use Rattle.ocs_base.specs.declared.system.System.TheVariants.{Pal}
+use Rattle.ocs_base.specs.declared.system.System.{System}
 use Rattle.out_files.specs.OutFiles.{OutFilesValue}
 use Rattle.serial_model.specs.declared.bus.Ask.{Ask}
 use Rattle.serial_model.specs.declared.bus.Made.{Made}
@@ -24,7 +24,7 @@ use Rattle.foreground.proofs.ToldLaws.{told_same, told_none}
 
 -- the state in which the access of a clock is made
 abbrev pub state_in : RunValue → ℕ → State
-state_in run c = before_access Pal run.script.events (state_of run c)
+state_in run c = before_access run.script.system run.script.events (state_of run c)
 
 -- at reset it stands for the run's first state
 pub machine_at_reset : (run : RunValue) (m : MachineValue) → IsReset run.side run.image run.script.cpu m → IsMachineOf m (state_of run 0)
@@ -38,10 +38,11 @@ machine_at_reset run m is = record {
 }
 
 -- the picture step leaves it
-pub stands_shown : (start : Start) (m : MachineValue) (out : OutFilesValue) (s : State) → Stands start m out s → Stands start m out (show_pixels Pal s)
-stands_shown start m out s is = record {
+pub stands_shown : (system : System) (start : Start) (m : MachineValue) (out : OutFilesValue) (s : State) → Stands start m out s
+    → Stands start m out (show_pixels system s)
+stands_shown system start m out s is = record {
   machine = record { t = is.machine.t; beam = is.machine.beam; memory = is.machine.memory; chips = is.machine.chips; side = is.machine.side };
-  told = told_same start out s (show_pixels Pal s) refl is.told;
+  told = told_same start out s (show_pixels system s) refl is.told;
 }
 
 -- what is told is told from here on
@@ -96,7 +97,7 @@ pub range_at_clock : (run : RunValue) (c : ℕ) (made : Made) (touch : Option To
 range_at_clock run c made touch is by range able = subst IsInRange (touch_at_clock run c made touch is by) (range able)
 
 -- the next state
-pub state_next : (run : RunValue) (c : ℕ) → state_of run (c + 1) ≡ advance_beam Pal (run_processor (make_access (state_in run c)))
+pub state_next : (run : RunValue) (c : ℕ) → state_of run (c + 1) ≡ advance_beam run.script.system (run_processor (make_access (state_in run c)))
 unfolding state_over tick
 state_next run c = ap (λ n. state_of run n) (add-one c)
 
@@ -110,12 +111,12 @@ stands_before_access run c clx m0 m1 m2 m3 out after starts happens counts read 
     let s : State = state_of run c in
     let scripted : Stands start m2 after (run_script run.script.events (start_clock s)) =
     happens start (start_clock s) read (starts out start s is) in
-    stands_shown start m3 after (count_timers (run_script run.script.events (start_clock s)))
+    stands_shown run.script.system start m3 after (count_timers (run_script run.script.events (start_clock s)))
     (counts after start (run_script run.script.events (start_clock s)) scripted)
 
 -- and those behind it
 pub stands_behind_access : (run : RunValue) (c : ℕ) (m0 m1 m2 : MachineValue) (out after : OutFilesValue) → Makes run_processor m0 out m1 after
-    → MakesQuietly (advance_beam Pal) m1 m2 → (start : Start) → Stands start m0 out (make_access (state_in run c))
+    → MakesQuietly (advance_beam run.script.system) m1 m2 → (start : Start) → Stands start m0 out (make_access (state_in run c))
     → Stands start m2 after (state_of run (c + 1))
 stands_behind_access run c m0 m1 m2 out after turns advances start is =
     let s : State = make_access (state_in run c) in

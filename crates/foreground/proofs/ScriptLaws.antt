@@ -4,6 +4,8 @@ use Rattle.std.proofs.lemmas.List.{drop-drop}
 use Rattle.ocs_base.specs.declared.beam.Beam.{Beam}
 use Rattle.ocs_base.specs.declared.script.Act.{Act}
 use Rattle.ocs_base.specs.declared.script.At.{At}
+use Rattle.ocs_base.specs.declared.system.System.{System}
+use Rattle.ocs_base.specs.declared.system.System.TheVariants.{Pal}
 use Rattle.out_files.specs.OutFiles.{OutFilesValue}
 use Rattle.serial_model.specs.declared.picture.Touch.{Touch}
 use Rattle.serial_model.specs.Beam.{IsOnScreen, place_of}
@@ -78,14 +80,14 @@ touches_more t e events log = added (touch_of (made_by_act e.act))
     added None = refl
     added (Some touch) = refl
 
-HasDone-more : (frames : ℕ) (events left : List At) (e : At) (old now new : MachineValue) (was out given : OutFilesValue) (log after noted : Log)
-    (clx cleared bits : ℕ) → IsOnScreen old.beam → IsQueue frames (place_of old.beam) (e ∷ left) → is_due now.beam e ≡ true
+HasDone-more : (system : System) (frames : ℕ) (events left : List At) (e : At) (old now new : MachineValue) (was out given : OutFilesValue) (log after noted : Log)
+    (clx cleared bits : ℕ) → IsOnScreen old.beam → IsQueue system frames (place_of old.beam) (e ∷ left) → is_due now.beam e ≡ true
     → HasDone events (e ∷ left) old now was out log after clx cleared
     → (is_clx_read (made_by_act e.act) ≡ true → bits ≡ 0) → (is_clx_read (made_by_act e.act) ≡ false → bits ≡ cleared)
     → MakesEvent cleared e.act now out new given → KeepsPlace now new
     → noted ≡ with_touch_if_any now.t (touch_of (made_by_act e.act)) after
     → HasDone events left old new was given log noted clx bits
-HasDone-more frames events left e old now new was out given log after noted clx cleared bits on queue is so reads keeps makes kept notes =
+HasDone-more system frames events left e old now new was out given log after noted clx cleared bits on queue is so reads keeps makes kept notes =
     let due_now : is_due old.beam e ≡ true = sym (ap (λ b. is_due b e) so.place.beam) ∙ is in
     let first : due_events old.beam (e ∷ left) ≡ e ∷ due_events old.beam left = due_events-more old.beam e left due_now in
     record {
@@ -97,7 +99,7 @@ HasDone-more frames events left e old now new was out given log after noted clx 
           ∙ touches_more old.t e (due_events old.beam left) after
           ∙ ap (λ es. with_script_touches old.t (touches_of es) after) (sym first) ∙ so.noted;
       later = λ later screen behind.
-          so.later later screen behind ∙ due_events-later frames (place_of old.beam) old.beam later e left queue on screen due_now behind;
+          so.later later screen behind ∙ due_events-later system frames (place_of old.beam) old.beam later e left queue on screen due_now behind;
     }
 
 -- one turn: the first that is left is due and happens
@@ -112,9 +114,9 @@ turn events left others e old now new was out given log after noted clx cleared 
     let here : HasDone events (e ∷ others) old now was out log after clx cleared =
     subst (λ es. HasDone events es old now was out log after clx cleared) is so.0 in
     let queue : IsLeft (place_of old.beam) (e ∷ others) = subst (λ es. IsLeft (place_of old.beam) es) is so.1 in (
-      HasDone-more queue.frames events others e old now new was out given log after noted clx cleared bits on queue.queue due_now here reads keeps
+      HasDone-more queue.system queue.frames events others e old now new was out given log after noted clx cleared bits on queue.queue due_now here reads keeps
           makes kept notes,
-      record { frames = queue.frames; queue = IsQueue-more queue.frames (place_of old.beam) e others queue.queue },
+      record { system = queue.system; frames = queue.frames; queue = IsQueue-more queue.system queue.frames (place_of old.beam) e others queue.queue },
     )
 
 -- none of those that are left is due: the events of the clock have happened
@@ -142,15 +144,15 @@ pub IsOver-later : (left others : List At) (e : At) (b now : Beam) → IsOnScree
 IsOver-later left others e b now on so is same not =
     let queue : IsLeft (place_of b) (e ∷ others) = subst (λ es. IsLeft (place_of b) es) is so in
     let here : is_due b e ≡ false = sym (ap (λ x. is_due x e) same) ∙ not in
-    let end : IsQueue queue.frames (place_of b + 1) (e ∷ others) = IsQueue-end queue.frames b e others queue.queue on here in
+    let end : IsQueue queue.system queue.frames (place_of b + 1) (e ∷ others) = IsQueue-end queue.system queue.frames b e others queue.queue on here in
     subst (λ es. IsOver b es) (sym is) (record {
-      none = due_events-none queue.frames b (e ∷ others) end.from end.limits on;
-      rest = record { frames = queue.frames; queue = end };
+      none = due_events-none queue.system queue.frames b (e ∷ others) end.from end.limits on;
+      rest = record { system = queue.system; frames = queue.frames; queue = end };
     })
 
 pub IsOver-empty : (left : List At) (b : Beam) → length left ≡ 0 → IsOver b left
 unfolding due_events
-IsOver-empty [] b is = record { none = refl; rest = record { frames = 0; queue = IsQueue-empty 0 (place_of b + 1) } }
+IsOver-empty [] b is = record { none = refl; rest = record { system = Pal; frames = 0; queue = IsQueue-empty Pal 0 (place_of b + 1) } }
 IsOver-empty (e ∷ left) b is = absurd (omega arith)
 
 -- lines of the trace alone were given
@@ -201,7 +203,7 @@ searched_more b events left others e so is due not =
     let queue : IsLeft (place_of b) (e ∷ others) = subst (λ es. IsLeft (place_of b) es) is so.rest in
     record {
       same = so.same ∙ first_of_rest b left others e is due ∙ ap (λ found. found || has_clx_read (due_events b others)) not;
-      rest = record { frames = queue.frames; queue = IsQueue-more queue.frames (place_of b) e others queue.queue };
+      rest = record { system = queue.system; frames = queue.frames; queue = IsQueue-more queue.system queue.frames (place_of b) e others queue.queue };
     }
 
 pub search_found : (b : Beam) (events left others : List At) (e : At) → IsSearched b events left → left ≡ e ∷ others → is_due b e ≡ true →

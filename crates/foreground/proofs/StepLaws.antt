@@ -8,7 +8,7 @@ use Rattle.ocs_base.specs.declared.script.Act.{Act}
 use Rattle.ocs_base.specs.declared.script.Act.TheVariants.{Poke, Peek, Joy, Fire, Key}
 use Rattle.out_files.specs.OutFiles.{OutFilesValue, with_line}
 use Rattle.out_files.specs.Together.{AddsLine}
-use Rattle.ocs_base.specs.declared.system.System.TheVariants.{Pal}
+use Rattle.ocs_base.specs.declared.system.System.{System}
 use Rattle.serial_model.specs.declared.bus.Half.{Half}
 use Rattle.serial_model.specs.declared.bus.Made.{Made}
 use Rattle.serial_model.specs.declared.bus.Made.TheVariants as M
@@ -112,20 +112,20 @@ Makes-processed old new out after begins same runs interrupt gives start s is =
     }
 
 -- seventh step
-pub Makes-advanced : (old new : MachineValue) → new ≡ record old { t = new.t; beam = new.beam }
-    → new.beam ≡ next_place Pal (is_interlaced old.chips.registers) old.beam → new.t ≡ old.t + 1 → MakesQuietly (advance_beam Pal) old new
-Makes-advanced old new same beam count out start s is =
-    let now : IsMachineOf (record old { t = new.t; beam = new.beam }) (advance_beam Pal s) = record {
+pub Makes-advanced : (system : System) (old new : MachineValue) → new ≡ record old { t = new.t; beam = new.beam }
+    → new.beam ≡ next_place system (is_interlaced old.chips.registers) old.beam → new.t ≡ old.t + 1 → MakesQuietly (advance_beam system) old new
+Makes-advanced system old new same beam count out start s is =
+    let now : IsMachineOf (record old { t = new.t; beam = new.beam }) (advance_beam system s) = record {
       t = ap (λ t. t + 1) is.machine.t ∙ sym count;
-      beam = ap (λ r. next_place Pal (is_interlaced r) s.beam) is.machine.chips.registers
-          ∙ ap (λ b. next_place Pal (is_interlaced old.chips.registers) b) is.machine.beam ∙ sym beam;
+      beam = ap (λ r. next_place system (is_interlaced r) s.beam) is.machine.chips.registers
+          ∙ ap (λ b. next_place system (is_interlaced old.chips.registers) b) is.machine.beam ∙ sym beam;
       memory = is.machine.memory;
       chips = is.machine.chips;
       side = is.machine.side;
     } in
     record {
-      machine = subst (λ m. IsMachineOf m (advance_beam Pal s)) (sym same) now;
-      told = told_same start out s (advance_beam Pal s) refl is.told;
+      machine = subst (λ m. IsMachineOf m (advance_beam system s)) (sym same) now;
+      told = told_same start out s (advance_beam system s) refl is.told;
     }
 
 -- the collision bits count for a read of them alone

@@ -1,6 +1,5 @@
 -- The foreground within a clock of a run: what stands before, between and behind its steps.
 use Rattle.std.specs.Prelude.{◌≡◌, ◌≤◌, ◌^◌, ℕ, ◌+◌, ◌-◌, min, true, List, [], ◌++◌}
-use Rattle.ocs_base.specs.declared.system.System.TheVariants.{Pal}
 use Rattle.mem_versions.specs.Chip.{ChipValue}
 use Rattle.out_files.specs.OutFiles.{OutFilesValue}
 use Rattle.serial_model.specs.declared.trace.TraceLine.{TraceLine}
@@ -39,7 +38,7 @@ pub record HasBegun (run : RunValue) (c first : ℕ) (m : MachineValue) (log : L
 
 -- the state in which the access of a clock is made, and that behind the access
 abbrev pub access_state : RunValue → ℕ → State
-access_state run c = before_access Pal run.script.events (state_of run c)
+access_state run c = before_access run.script.system run.script.events (state_of run c)
 
 abbrev pub accessed_state : RunValue → ℕ → State
 accessed_state run c = make_access (access_state run c)

@@ -1,7 +1,9 @@
 -- What ends a band, and what gathering for a read of CLXDAT gives.
-use Rattle.std.specs.Prelude.{◌≡◌, ◌≤◌, ◌-◌, ◌==◌, if◌then◌else◌, ℕ, [], bit_or, Option, IsSome}
+use Rattle.std.specs.Prelude.{◌≡◌, ◌≤◌, ◌-◌, false, ℕ, [], bit_or, Option, IsSome}
 use Rattle.out_files.specs.OutFiles.{OutFilesValue}
 use Rattle.serial_model.specs.declared.picture.Denise.{Denise}
+use Rattle.serial_model.specs.Beam.{is_line_start}
+use Rattle.serial_bands.specs.Run.{RunValue, beam_at}
 use Rattle.serial_bands.specs.BandShown.{clx_from}
 use Rattle.band_log.specs.Raster.{RasterValue}
 use Rattle.foreground.specs.Log.{IsLogOf, IsEnding, IsCut}
@@ -63,6 +65,7 @@ abbrev pub EndsPartAtRead : ℕ → ForeValue → RasterValue → RasterValue �
 EndsPartAtRead to old seen after out given =
     (first : ℕ) → StandsAtEnd to first old seen → HasGivenPart old.run first seen after out given
 
--- the clock of a line before one: where that is a first, the last of a line
-abbrev pub clock_before : ℕ → ℕ
-clock_before h = if h == 0 then 226 else h - 1
+-- The clock of the line before clock `to` is h, where no line starts there. (Where one does, loads are forgotten, and of what a write makes nothing else
+-- depends on its clock.)
+abbrev pub IsClockBefore : RunValue → ℕ → ℕ → Type 0
+IsClockBefore run to h = is_line_start (beam_at run to) ≡ false → h ≡ (beam_at run (to - 1)).h

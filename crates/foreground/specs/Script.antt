@@ -2,6 +2,7 @@
 use Rattle.std.specs.Prelude.{◌≡◌, ◌<◌, ◌≤◌, ◌-◌, ℕ, true, List, length, drop, Option, Some, None}
 use Rattle.ocs_base.specs.declared.beam.Beam.{Beam}
 use Rattle.ocs_base.specs.declared.script.At.{At}
+use Rattle.ocs_base.specs.declared.system.System.{System}
 use Rattle.out_files.specs.OutFiles.{OutFilesValue}
 use Rattle.serial_model.specs.Beam.{IsOnScreen, place_of}
 use Rattle.serial_model.specs.Events.{due_events, do_events}
@@ -13,10 +14,11 @@ use Rattle.foreground.specs.Machine.{MachineValue, Start, Stands, IsMachineOf}
 use Rattle.foreground.specs.Log.{with_script_touch}
 use Rattle.foreground.specs.declared.log.Log.{Log}
 
--- events that are none of them before the place, in order and in the limits of a run of some length
+-- events that are none of them before the place, in order and in the limits of some run
 pub record IsLeft (place : ℕ) (events : List At) : Type 0 where
+  pub system : System
   pub frames : ℕ
-  pub queue : IsQueue frames place events
+  pub queue : IsQueue system frames place events
 
 -- events are the last of others
 pub record IsRest (events left : List At) : Type 0 where

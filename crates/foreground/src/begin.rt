@@ -96,7 +96,7 @@ impl<S: Side> Fore<S> {
             (latched_words (over S.seen self.old).run self.old.log.band.from self.old.machine.t)
             self.old.machine.chip.reads self.new.machine.chip.reads }
     {
-        let shown = shown_before(&self.machine.beam);
+        let shown = shown_before(self.system(), &self.machine.beam);
         self.end_at_line(shown, raster, out)?;
         self.begin_log();
         Ok(0)

@@ -1,7 +1,6 @@
 //! One colour clock.
 
 ghost use Rattle.std.specs.Prelude.{◌≡◌, ◌+◌, ◌<◌, ◌^◌, ℕ, Bool, true, false, OnOk, OnErr};
-ghost use Rattle.ocs_base.specs.declared.system.System.TheVariants.{Pal};
 ghost use Rattle.serial_model.specs.Beam.{IsOnScreen, next_place};
 ghost use Rattle.serial_model.specs.Events.{due_events, touches_of};
 ghost use Rattle.serial_bands.specs.Bands.{has_clx_read};
@@ -224,13 +223,15 @@ impl<S: Side> Fore<S> {
         ensures ends { OnOk result (EndsClock (over S.seen self.old) (over S.seen self.new) out.old
             out.new) }
         ensures place { OnOk result ((lace : Bool)
-            × (self.new.machine.beam ≡ next_place Pal lace self.old.machine.beam)) }
+            × (self.new.machine.beam ≡ next_place (over S.seen self.old).run.script.system lace
+            self.old.machine.beam)) }
         ensures run { (over S.seen self.new).run ≡ (over S.seen self.old).run }
         ensures chip { self.new.machine.chip ≡ self.old.machine.chip }
         ensures refused { OnErr result (out.new ≡ out.old) }
     {
+        let system = self.system();
         self.machine.process(out)?;
-        self.machine.advance();
+        self.machine.advance(system);
         Ok(())
     }
 }

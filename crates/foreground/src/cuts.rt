@@ -6,7 +6,7 @@ ghost use Rattle.serial_bands.specs.Run.{state_of, beam_at};
 ghost use Rattle.serial_bands.specs.Bands.{begins};
 ghost use Rattle.serial_bands.specs.BusReads.{latched_words};
 ghost use Rattle.foreground.specs.Clock.{Rises};
-ghost use Rattle.foreground.specs.Cuts.{StandsBefore, StandsAtEnd, EndsAtLine, EndsAtRead, EndsAll, EndsPart, EndsPartAtRead};
+ghost use Rattle.foreground.specs.Cuts.{StandsBefore, StandsAtEnd, EndsAtLine, EndsAtRead, EndsAll, EndsPart, EndsPartAtRead, IsClockBefore};
 ghost use Rattle.foreground.specs.Fore.{over};
 ghost use Rattle.foreground.specs.Steps.{KeepsClock};
 
@@ -108,7 +108,7 @@ impl<S: Side> Fore<S> {
     ) -> Result<(), OutOfMemory>
         requires stands { (first : ℕ) × StandsAtEnd to first (over S.seen self.old)
             (Q.seen raster.old) }
-        requires clock { h ≡ (beam_at (over S.seen self.old).run (to - 1)).h }
+        requires clock { IsClockBefore (over S.seen self.old).run to h }
         requires count { shown ≡ length (state_of (over S.seen self.old).run to).shown }
         ensures ends { OnOk result (EndsAtRead to (over S.seen self.old) (over S.seen self.new)
             (Q.seen raster.old) (Q.seen raster.new) out.old out.new) }

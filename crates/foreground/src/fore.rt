@@ -1,8 +1,7 @@
 //! The foreground of a run.
 
 ghost use Rattle.std.specs.Prelude.{◌≡◌, ◌≤◌, ◌<◌, ◌+◌, ◌-◌, ◌^◌, IfOk};
-ghost use Rattle.ocs_base.specs.declared.system.System.TheVariants.{Pal};
-ghost use Rattle.serial_model.specs.Beam.{last_clock as last_clock_of};
+ghost use Rattle.ocs_base.specs.Systems.{last_clock};
 ghost use Rattle.std.specs.Arc.{arc_value};
 ghost use Rattle.serial_bands.specs.Run.{run_over};
 ghost use Rattle.foreground.specs.Fore.{over, IsNew, is_done};
@@ -11,7 +10,6 @@ use crate::log::Log;
 use crate::machine::Machine;
 use band_draw::due::Cursor;
 use band_log::Run;
-use beam::last_clock;
 use ocs_base::{Beam, OutOfMemory, System};
 use reg_file::Regs;
 use serial_model::{NoSide, Side};
@@ -92,6 +90,14 @@ impl<S: Side> Fore<S> {
         self.machine.beam.frame == self.run.script().frames()
     }
 
+    /// Whose beam the machine of the run has.
+    #[inline(always)]
+    pub(crate) fn system(&self) -> System
+        ensures { result ≡ (over S.seen self.now).run.script.system }
+    {
+        self.run.script().system()
+    }
+
     /// How many colour clocks were done since reset.
     #[inline(always)]
     pub fn clocks(&self) -> u64
@@ -102,13 +108,13 @@ impl<S: Side> Fore<S> {
 
     /// The clock with which the beam's next line begins, as a number of colour clocks since reset.
     pub fn next_line(&self) -> u64
-        requires room { self.now.machine.t + 227 < 2 ^ 64 }
-        requires screen { self.now.machine.beam.h ≤ last_clock_of Pal self.now.machine.beam.v }
-        ensures { result ≡ self.now.machine.t
-            + (last_clock_of Pal self.now.machine.beam.v - self.now.machine.beam.h) + 1 }
+        requires room { self.now.machine.t + 228 < 2 ^ 64 }
+        ensures { result ≡ self.now.machine.t + (last_clock (over S.seen self.now).run.script.system
+            self.now.machine.beam.v - self.now.machine.beam.h) + 1 }
     {
         let here = self.machine.beam;
-        self.machine.t + (last_clock(System::Pal, here.v) - here.h) as u64 + 1
+        let last = self.system().last_clock(here.v);
+        self.machine.t + last.saturating_sub(here.h) as u64 + 1
     }
 
     /// The present place of the beam.

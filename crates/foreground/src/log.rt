@@ -12,6 +12,7 @@ ghost use Rattle.serial_bands.specs.RightJob.{event_at as event_of};
 ghost use Rattle.serial_bands.specs.Shadows.{IsInRange};
 ghost use Rattle.serial_bands.specs.Fetches.{fetches_in};
 ghost use Rattle.band_draw.specs.Keeps.{Keeps};
+ghost use Rattle.foreground.specs.Cuts.{IsClockBefore};
 ghost use Rattle.foreground.specs.Gathered.{IsClosing};
 ghost use Rattle.foreground.specs.Log.{IsLogOf, IsEnding, IsCut, IsJobOf, with_waiting, with_begin, with_script_touch, with_access_touch, with_write_at, blank_after};
 
@@ -145,8 +146,9 @@ impl Log {
         ensures refused { OnErr result (self.new ≡ self.old) }
         ensures kept { OnErr result (chip.new ≡ chip.old) }
     {
+        let system = run.script().system();
         let run = Arc::try_clone(run)?;
-        let bytes = shown - shown_before(&self.band.beam);
+        let bytes = shown - shown_before(system, &self.band.beam);
         let room = Room::new(alloc, bytes as usize)?;
         let view = chip.cut(Clock(to))?;
         let next = OpenBand {
@@ -210,7 +212,7 @@ impl Log {
     /// before it, once the write that waits is made at clock `h` of the line, where that band ended.
     pub fn open_with(&mut self, closing: Denise, h: u16)
         ensures log { (run : RunValue) (to : ℕ) (chip : ChipValue) → IsCut run to self.old chip
-            → IsClosing run to closing → h ≡ (beam_at run (to - 1)).h
+            → IsClosing run to closing → IsClockBefore run to h
             → IsLogOf run to self.new chip }
         ensures from { self.new.band.from ≡ self.old.band.from }
         ensures number { self.new.band.number ≡ self.old.band.number }

@@ -3,7 +3,6 @@
 ghost use Rattle.std.specs.Prelude.{◌≡◌, ◌+◌, ◌<◌, ◌^◌, ◌≤◌, ℕ, true, false, Some, OnOk, OnErr, IfOk};
 ghost use Rattle.ocs_base.specs.Image.{is_image};
 ghost use Rattle.out_files.specs.OutFiles.{OutFilesValue};
-ghost use Rattle.ocs_base.specs.declared.system.System.TheVariants.{Pal};
 ghost use Rattle.serial_model.specs.declared.bus.Made.TheVariants as M;
 ghost use Rattle.serial_model.specs.Beam.{IsOnScreen, next_place};
 ghost use Rattle.serial_model.specs.Made.{is_clx_read};
@@ -19,7 +18,7 @@ ghost use Rattle.foreground.specs.MachineSteps.{WritesRegister, GivesSide, Does}
 
 use chip_set::Chips;
 use mem_versions::Chip;
-use ocs_base::{Act, Addr, Beam, Clock, OutOfMemory, Reg};
+use ocs_base::{Act, Addr, Beam, Clock, OutOfMemory, Reg, System};
 use out_files::OutFiles;
 use reg_file::Effect;
 use serial_model::{Ask, Half, Made, Side, Source, TraceLine};
@@ -300,18 +299,18 @@ impl<S: Side> Machine<S> {
 
     /// Seventh step: the beam advances.
     #[inline(always)]
-    pub fn advance(&mut self)
+    pub fn advance(&mut self, system: System)
         requires screen { IsOnScreen self.old.beam }
         requires frame { self.old.beam.frame + 1 < 2 ^ 32 }
         requires count { self.old.t + 1 < 2 ^ 64 }
-        ensures step { MakesQuietly (advance_beam Pal) (machine_over S.seen self.old)
+        ensures step { MakesQuietly (advance_beam system) (machine_over S.seen self.old)
             (machine_over S.seen self.new) }
         ensures beam { self.new.beam
-            ≡ next_place Pal (is_interlaced self.old.chips.registers) self.old.beam }
+            ≡ next_place system (is_interlaced self.old.chips.registers) self.old.beam }
         ensures count { self.new.t ≡ self.old.t + 1 }
         ensures chip { self.new.chip ≡ self.old.chip }
     {
-        beam::advance(&mut self.beam, self.chips.is_interlaced());
+        beam::advance_in(&mut self.beam, self.chips.is_interlaced(), system);
         self.t += 1;
     }
 }

@@ -1,7 +1,6 @@
 //! Reads of CLXDAT: the collision bits of all bands up to the read are gathered.
 
-ghost use Rattle.std.specs.Prelude.{◌≡◌, true, false, IfOk, IsErr, OnOk, OnErr};
-ghost use Rattle.foreground.specs.Cuts.{clock_before as clock_before_of};
+ghost use Rattle.std.specs.Prelude.{◌≡◌, ◌-◌, true, false, IfOk, IsErr, OnOk, OnErr};
 ghost use Rattle.foreground.specs.Fore.{over};
 ghost use Rattle.foreground.specs.Steps.{StandsBeforeRead, ReadsBits, ReadsPart, KeepsClock};
 
@@ -12,9 +11,6 @@ use band_log::Raster;
 use ocs_base::{Beam, OutOfMemory};
 use out_files::OutFiles;
 use serial_model::Side;
-
-/// The last clock of a line.
-const LAST_CLOCK: u16 = 226;
 
 impl<S: Side> Fore<S> {
     /// The collision bits that a read of CLXDAT sees, which clears them: the band ends there, and all
@@ -94,7 +90,7 @@ impl<S: Side> Fore<S> {
         let _height = self.run.height();
         let to = self.machine.t + 1;
         let h = self.machine.beam.h;
-        let shown = shown_behind(&self.machine.beam);
+        let shown = shown_behind(self.system(), &self.machine.beam);
         self.end_at_read(to, h, shown, raster, out)?;
         Ok(self.take_bits())
     }
@@ -117,7 +113,7 @@ impl<S: Side> Fore<S> {
         let to = self.machine.t;
         if self.log.band.from < to {
             let h = clock_before(self.machine.beam.h);
-            let shown = shown_before(&self.machine.beam);
+            let shown = shown_before(self.system(), &self.machine.beam);
             self.end_at_read(to, h, shown, raster, out)?;
             return Ok(self.take_bits());
         }
@@ -136,9 +132,10 @@ impl<S: Side> Fore<S> {
     }
 }
 
-/// The clock of a line before this one, which is the last of another line where this is a first.
+/// The clock of a line before this one. Where this is the first, the write that waits may be made at any: its
+/// load is of the line that has ended.
 fn clock_before(h: u16) -> u16
-    ensures { result ≡ clock_before_of h }
+    ensures { result ≡ h - 1 }
 {
-    if h == 0 { LAST_CLOCK } else { h - 1 }
+    h.saturating_sub(1)
 }

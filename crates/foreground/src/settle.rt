@@ -65,7 +65,7 @@ impl<S: Side> Fore<S> {
     {
         let to = self.machine.t;
         if self.log.band.from < to {
-            let shown = shown_before(&self.machine.beam);
+            let shown = shown_before(self.system(), &self.machine.beam);
             self.end_all(to, shown, raster, out)?;
             return Ok(());
         }

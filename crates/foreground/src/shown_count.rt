@@ -3,43 +3,34 @@
 ghost use Rattle.std.specs.Prelude.{◌≡◌};
 ghost use Rattle.foreground.specs.ShownCount.{shown_before as before, shown_behind as behind};
 
-use ocs_base::Beam;
+use ocs_base::{Beam, System};
 
-/// The pixel bytes of a frame, of a visible line, and of a visible clock: four pixels of three.
-const FRAME: u64 = 617_760;
-
+/// The pixel bytes of a line that is shown, and of a clock that is: four pixels of three.
 const LINE: u64 = 2160;
 
 const CLOCK: u64 = 12;
 
-/// The first visible line, and how many there are; the first visible clock of a line.
-const FIRST_LINE: u16 = 26;
-
-const LINES: u16 = 286;
-
+/// The first clock of a line that is shown.
 const FIRST_CLOCK: u16 = 47;
 
 /// How many pixel bytes a run has shown before the picture step at this place of the beam.
-pub fn shown_before(beam: &Beam) -> u64
-    ensures { result ≡ before beam.now }
+pub fn shown_before(system: System, beam: &Beam) -> u64
+    ensures { result ≡ before system beam.now }
 {
-    let lines = beam.v.saturating_sub(FIRST_LINE).min(LINES) as u64;
-    let clocks = if 26 <= beam.v && beam.v <= 311 {
+    let above = beam.v.saturating_sub(system.top_line());
+    let lines = above.min(system.shown_lines()) as u64;
+    let clocks = if system.shows_line(beam.v) {
         beam.h.saturating_sub(FIRST_CLOCK) as u64
     } else {
         0
     };
-    FRAME * beam.frame as u64 + LINE * lines + CLOCK * clocks
+    system.frame_bytes() as u64 * beam.frame as u64 + LINE * lines + CLOCK * clocks
 }
 
 /// How many it has shown behind that step.
-pub fn shown_behind(beam: &Beam) -> u64
-    ensures { result ≡ behind beam.now }
+pub fn shown_behind(system: System, beam: &Beam) -> u64
+    ensures { result ≡ behind system beam.now }
 {
-    let clock = if 26 <= beam.v && beam.v <= 311 && 47 <= beam.h && beam.h <= 226 {
-        CLOCK
-    } else {
-        0
-    };
-    shown_before(beam) + clock
+    let clock = if system.shows(beam.v, beam.h) { CLOCK } else { 0 };
+    shown_before(system, beam) + clock
 }

@@ -1,7 +1,7 @@
 //! Whose beam a machine has, and what follows from it: lines, clocks and the part that is shown.
 
 ghost use Rattle.std.specs.Prelude.{◌≡◌};
-ghost use Rattle.ocs_base.specs.Systems.{lines, last_clock, top_line, shown_lines, is_visible, frame_bytes};
+ghost use Rattle.ocs_base.specs.Systems.{lines, last_clock, top_line, shown_lines, is_shown_line, is_visible, frame_bytes};
 
 /// A television standard. A PAL machine has lines of 227 colour clocks, fields of 313 and 312 lines and
 /// pictures of 720 by 286 pixels; an NTSC machine has lines of 227 and 228 colour clocks by turns, fields of
@@ -55,12 +55,21 @@ impl System {
         }
     }
 
+    /// Whether a frame's picture shows line `v`.
+    #[inline(always)]
+    pub fn shows_line(self, v: u16) -> bool
+        ensures { result ≡ is_shown_line self v }
+    {
+        let top = self.top_line();
+        top <= v && v < top + self.shown_lines()
+    }
+
     /// Whether a frame's picture shows clock `h` of line `v`.
+    #[inline(always)]
     pub fn shows(self, v: u16, h: u16) -> bool
         ensures { result ≡ is_visible self v h }
     {
-        let top = self.top_line();
-        top <= v && v < top + self.shown_lines() && 47 <= h && h <= 226
+        self.shows_line(v) && 47 <= h && h <= 226
     }
 
     /// The number of pixel bytes of a frame: three a pixel, 720 pixels a line.

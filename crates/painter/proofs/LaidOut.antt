@@ -63,7 +63,7 @@ starts_more x runs sprite new is within at = record {
 
 -- words that begin at a position where the rows are exact, or before it
 pub laid_more : (quiet_from from column : ℕ) (rows next : SpriteRows) (runs : List (Option Start)) (sprite : ℕ) (start : Start) →
-    IsLaidOut quiet_from from rows runs → sprite < 8 → start.x ≡ column → column ≤ 453 → from ≤ column →
+    IsLaidOut quiet_from from rows runs → sprite < 8 → start.x ≡ column → column ≤ 455 → from ≤ column →
     ((all : List (Option Start)) → StartsBy column all → IsRowsOf column rows all → IsRowsOf column next (slice_set all sprite (Some start))) →
     IsLaidOut (max quiet_from (column + 16)) column next (slice_set runs sprite (Some start))
 laid_more quiet_from from column rows next runs sprite start is within at room le lay = record {
@@ -75,7 +75,7 @@ laid_more quiet_from from column rows next runs sprite start is within at room l
 }
 
 pub laid_less : (quiet_from from column : ℕ) (rows : SpriteRows) (runs : List (Option Start)) (sprite : ℕ) (start : Start) →
-    IsLaidOut quiet_from from rows runs → sprite < 8 → start.x ≡ column → column ≤ 453 →
+    IsLaidOut quiet_from from rows runs → sprite < 8 → start.x ≡ column → column ≤ 455 →
     IsLaidOut (max quiet_from (column + 16)) 512 rows (slice_set runs sprite (Some start))
 laid_less quiet_from from column rows runs sprite start is within at room = record {
   still = begun_quiet quiet_from column runs sprite start is.still within at;

@@ -6,7 +6,6 @@ use Rattle.std.proofs.Math.ListN.{set}
 use Rattle.std.proofs.lemmas.List.{set-get_or, get_or-set_other}
 use Rattle.std.proofs.lemmas.Nat.{or_lt}
 use Rattle.ocs_base.specs.declared.system.System.{System}
-use Rattle.ocs_base.specs.declared.system.System.TheVariants.{Pal}
 use Rattle.sprites.specs.declared.pixel.SpritePixel.{SpritePixel}
 use Rattle.sprites.specs.declared.runs.Start.{Start}
 use Rattle.sprites.specs.SpriteFront.{front_pixel, pixel_of}
@@ -14,7 +13,7 @@ use Rattle.priority_ham.specs.PixelColour.{hides, playfield_colour, shown_colour
 use Rattle.collisions.specs.Collision.{collision_bits, playfield_matches}
 use Rattle.collisions.proofs.Quiet.{quiet_bits}
 use Rattle.serial_model.specs.declared.picture.Denise.{Denise}
-use Rattle.serial_model.specs.Beam.{is_visible}
+use Rattle.ocs_base.specs.Systems.{is_visible}
 use Rattle.serial_model.specs.Picture.{colour_bytes, pixel_colour, held_after, runs_at, runs_after, sprite_values, attached_pairs, shown_at, collisions_at, values_after, pixel_bytes, pixels, clock_collisions, step_of, after_step}
 use Rattle.serial_model.specs.Window.{is_inside}
 use Rattle.painter.specs.declared.painter.Painter.{Painter}
@@ -206,7 +205,7 @@ none_by : (v column : ℕ) (p : Denise) (b : Bool) → is_inside v column p.diws
 none_by v column p true is one two = none_meets v column p is one two
 none_by v column p false is one two = bits_outside v column (replicate 8 0) p is
 
-pub none_gather : (v h : ℕ) (now : Painter) (p : Denise) → IsPainterOf now p → h ≤ 226 → ((x : ℕ) → 4 * h ≤ x → row_bits now.line x ≡ 0) →
+pub none_gather : (v h : ℕ) (now : Painter) (p : Denise) → IsPainterOf now p → h ≤ 227 → ((x : ℕ) → 4 * h ≤ x → row_bits now.line x ≡ 0) →
     (playfield_matches now.clxcon 0 1 && playfield_matches now.clxcon 0 2) ≡ false → quiet_collisions v h p ≡ 0
 none_gather v h now p stands room blank apart =
     let unmet : (x : ℕ) → 4 * h ≤ x → x < 1024 → meets x p ≡ false =
@@ -478,17 +477,18 @@ pub bits_apart : (v h held : ℕ) (p : Denise) → clock_collisions v h (with_he
 unfolding collisions_at runs_after
 bits_apart v h held p = refl
 
-visible_list : (v h : ℕ) (p : Denise) → is_visible Pal v h ≡ true → flat_map (λ (x : List ℕ). x) (pixel_list v h p) ≡ pixels Pal v h p
-visible_list v h p is =
+visible_list : (system : System) (v h : ℕ) (p : Denise) → is_visible system v h ≡ true
+    → flat_map (λ (x : List ℕ). x) (pixel_list v h p) ≡ pixels system v h p
+visible_list system v h p is =
     sym (ap (λ (b : Bool). if b then pixel_bytes v h 0 p ++ (pixel_bytes v h 1 p ++ (pixel_bytes v h 2 p ++ pixel_bytes v h 3 p)) else []) is)
 
-pub clock_shown : (v h held : ℕ) (p : Denise) (into playfields : List (List ℕ)) → is_visible Pal v h ≡ true →
+pub clock_shown : (system : System) (v h held : ℕ) (p : Denise) (into playfields : List (List ℕ)) → is_visible system v h ≡ true →
     playfields ≡ clock_bytes v h p → into ≡ clock_over v h playfields (with_held held p) →
-    flat_map (λ (x : List ℕ). x) into ≡ pixels Pal v h p
-clock_shown v h held p into playfields visible below over =
+    flat_map (λ (x : List ℕ). x) into ≡ pixels system v h p
+clock_shown system v h held p into playfields visible below over =
     ap (λ (l : List (List ℕ)). flat_map (λ (x : List ℕ). x) l)
     (over ∙ held_apart v h held playfields p ∙ ap (λ (l : List (List ℕ)). clock_over v h l p) below ∙ all_over v h p)
-    ∙ visible_list v h p visible
+    ∙ visible_list system v h p visible
 
 pub clock_stands : (system : System) (v h : ℕ) (now : Painter) (p : Denise) →
     IsPainterOf now (with_runs (runs_after h 2 (with_held (held_after v h 4 p) p)) (with_held (held_after v h 4 p) p)) →
@@ -501,22 +501,22 @@ still_held : (v h held : ℕ) (now : Painter) (p : Denise) → IsPainterOf now p
 still_held v h held now p stands idle =
     still h (record now { held = colour_bytes held }) (with_held held p) (with_held_stands now p (colour_bytes held) held stands refl) idle
 
-pub backdrop_shown : (v h : ℕ) (now : Painter) (p : Denise) (into : List (List ℕ)) → IsPainterOf now p → IsIdle h now.sprites →
-    backdrop now.inks.palette ≡ clock_bytes v h p → is_visible Pal v h ≡ true → into ≡ backdrop now.inks.palette →
-    flat_map (λ (x : List ℕ). x) into ≡ pixels Pal v h p
-backdrop_shown v h now p into stands idle below visible is =
+pub backdrop_shown : (system : System) (v h : ℕ) (now : Painter) (p : Denise) (into : List (List ℕ)) → IsPainterOf now p → IsIdle h now.sprites →
+    backdrop now.inks.palette ≡ clock_bytes v h p → is_visible system v h ≡ true → into ≡ backdrop now.inks.palette →
+    flat_map (λ (x : List ℕ). x) into ≡ pixels system v h p
+backdrop_shown system v h now p into stands idle below visible is =
     let held : ℕ = held_after v h 4 p in
     let four : length into ≡ 4 = ap length (is ∙ below) in
-    clock_shown v h (held_after v h 4 p) p into into visible (is ∙ below)
+    clock_shown system v h (held_after v h 4 p) p into into visible (is ∙ below)
     (still_pixels v h (with_held held p) now.sprites.runs into (still_held v h held now p stands idle) four)
 
-pub backdrop_stands_after : (v h : ℕ) (now next : Painter) (p : Denise) → IsPainterOf now p → IsIdle h now.sprites →
+pub backdrop_stands_after : (system : System) (v h : ℕ) (now next : Painter) (p : Denise) → IsPainterOf now p → IsIdle h now.sprites →
     backdrop now.inks.palette ≡ clock_bytes v h p → next ≡ record now { held = colour_bytes (slice_index now.inks.palette 0) } →
-    IsPainterOf next (after_step (step_of Pal v h p) p)
-backdrop_stands_after v h now next p stands idle below is =
+    IsPainterOf next (after_step (step_of system v h p) p)
+backdrop_stands_after system v h now next p stands idle below is =
     let held : ℕ = held_after v h 4 p in
     let runs : now.sprites.runs ≡ next.sprites.runs = sym (ap (λ (painter : Painter). painter.sprites.runs) is) in
-    clock_stands Pal v h next p
+    clock_stands system v h next p
     (same_runs_stand next (with_held held p) (runs_after h 2 (with_held held p)) (backdrop_stands v h now next p stands below is)
     ((still_held v h held now p stands idle).both ∙ runs))
 

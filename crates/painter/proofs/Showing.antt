@@ -86,7 +86,7 @@ border_column v column now p stands is =
       border_pixel v (2 * column + 1) (first_colour v column p) column p (omega arith) outside,
     )
 
-pub ink_column : (v column : ℕ) (now : Painter) (p : Denise) → IsPainterOf now p → column ≤ 453 →
+pub ink_column : (v column : ℕ) (now : Painter) (p : Denise) → IsPainterOf now p → column ≤ 455 →
     is_inside v column now.window.diwstrt now.window.diwstop ≡ true → is_held now.inks.con0 ≡ false →
     (ink_at now.inks now.line (2 * column) ≡ first_colour v column p) × (ink_at now.inks now.line (2 * column + 1) ≡ second_colour v column p)
 unfolding first_colour second_colour ink_at
@@ -98,7 +98,7 @@ ink_column v column now p stands room is free =
       ink_pixel v (2 * column + 1) (first_colour v column p) column p now.line (omega arith) (omega arith) inside stands.line plain,
     )
 
-pub held_column : (v column : ℕ) (now : Painter) (p : Denise) → IsPainterOf now p → column ≤ 453 →
+pub held_column : (v column : ℕ) (now : Painter) (p : Denise) → IsPainterOf now p → column ≤ 455 →
     is_inside v column now.window.diwstrt now.window.diwstop ≡ true → is_held now.inks.con0 ≡ true →
     (modified_at now.inks now.line (2 * column) p.held.0 ≡ first_colour v column p)
     × (modified_at now.inks now.line (2 * column + 1) (first_colour v column p) ≡ second_colour v column p)
@@ -195,7 +195,7 @@ last_written into at a b d long le =
     get_or-set_same (set into at a) (at + 1) b d (omega arith)
 
 -- the four pixels of a clock whose two columns are both inside the display window
-pub ink_clock : (v h : ℕ) (now : Painter) (p : Denise) → IsPainterOf now p → h ≤ 226 →
+pub ink_clock : (v h : ℕ) (now : Painter) (p : Denise) → IsPainterOf now p → h ≤ 227 →
     is_inside v (2 * h) now.window.diwstrt now.window.diwstop ≡ true → is_inside v (2 * h + 1) now.window.diwstrt now.window.diwstop ≡ true →
     is_held now.inks.con0 ≡ false → (into left right : List (List ℕ)) → length into ≡ 4 →
     left ≡ slice_set (slice_set into 0 (colour_bytes (ink_at now.inks now.line (2 * (2 * h)))))
@@ -213,7 +213,7 @@ ink_clock v h now p stands room inside after free into left right long first sec
     clock_written v h p into left right long
     (first ∙ two_written into 0 _ _ _ _ one.0 one.1) (second ∙ two_written left 2 _ _ _ _ two.0 two.1)
 
-pub held_clock : (v h : ℕ) (now : Painter) (p : Denise) → IsPainterOf now p → h ≤ 226 →
+pub held_clock : (v h : ℕ) (now : Painter) (p : Denise) → IsPainterOf now p → h ≤ 227 →
     is_inside v (2 * h) now.window.diwstrt now.window.diwstop ≡ true → is_inside v (2 * h + 1) now.window.diwstrt now.window.diwstop ≡ true →
     is_held now.inks.con0 ≡ true → (into left right : List (List ℕ)) → length into ≡ 4 →
     left ≡ slice_set (slice_set into 0 (colour_bytes (modified_at now.inks now.line (2 * (2 * h)) p.held.0)))
@@ -251,7 +251,7 @@ number_zero con0 con2 =
     either false = refl
 
 -- a column inside the display window where no plane shows a bit
-blank_by : (v column : ℕ) (now : Painter) (p : Denise) → IsPainterOf now p → column ≤ 453 →
+blank_by : (v column : ℕ) (now : Painter) (p : Denise) → IsPainterOf now p → column ≤ 455 →
     is_inside v column now.window.diwstrt now.window.diwstop ≡ true → row_bits now.line (2 * column) ≡ 0 → row_bits now.line (2 * column + 1) ≡ 0 →
     (b : Bool) → is_held now.inks.con0 ≡ b →
     (slice_index now.inks.palette 0 ≡ first_colour v column p) × (slice_index now.inks.palette 0 ≡ second_colour v column p)
@@ -274,7 +274,7 @@ blank_by v column now p stands room is first second true holds =
       none (first_colour v column p) ∙ ap (colour (first_colour v column p)) (sym second) ∙ both.1,
     )
 
-blank_column : (v column : ℕ) (now : Painter) (p : Denise) → IsPainterOf now p → column ≤ 453 →
+blank_column : (v column : ℕ) (now : Painter) (p : Denise) → IsPainterOf now p → column ≤ 455 →
     is_inside v column now.window.diwstrt now.window.diwstop ≡ true → row_bits now.line (2 * column) ≡ 0 → row_bits now.line (2 * column + 1) ≡ 0 →
     (slice_index now.inks.palette 0 ≡ first_colour v column p) × (slice_index now.inks.palette 0 ≡ second_colour v column p)
 blank_column v column now p stands room is first second =
@@ -305,14 +305,14 @@ border_clock v h now p stands outside after =
     backdrop_by v h (slice_index now.inks.palette 0) p one.0 one.1 two.0 two.1
 
 -- any column
-any_by : (v column : ℕ) (now : Painter) (p : Denise) → IsPainterOf now p → column ≤ 453 → row_bits now.line (2 * column) ≡ 0 →
+any_by : (v column : ℕ) (now : Painter) (p : Denise) → IsPainterOf now p → column ≤ 455 → row_bits now.line (2 * column) ≡ 0 →
     row_bits now.line (2 * column + 1) ≡ 0 → (b : Bool) → is_inside v column now.window.diwstrt now.window.diwstop ≡ b →
     (slice_index now.inks.palette 0 ≡ first_colour v column p) × (slice_index now.inks.palette 0 ≡ second_colour v column p)
 any_by v column now p stands room first second true is = blank_column v column now p stands room is first second
 any_by v column now p stands room first second false is = border_column v column now p stands is
 
 -- no plane shows a bit
-pub unset_clock : (v h : ℕ) (now : Painter) (p : Denise) → IsPainterOf now p → h ≤ 226 → ((x : ℕ) → 4 * h ≤ x → row_bits now.line x ≡ 0) →
+pub unset_clock : (v h : ℕ) (now : Painter) (p : Denise) → IsPainterOf now p → h ≤ 227 → ((x : ℕ) → 4 * h ≤ x → row_bits now.line x ≡ 0) →
     backdrop now.inks.palette ≡ clock_bytes v h p
 unset_clock v h now p stands room blank =
     let colour : ℕ = second_colour v (2 * h) p in

@@ -40,7 +40,7 @@ impl Line {
     /// Shows the load of a write to BPL1DAT at clock `h`, with the latches and BPLCON1 as they are
     /// then.
     pub fn load(&mut self, h: u16, latches: &[u16; 6], con1: u16, hires: bool)
-        requires { h ≤ 226 }
+        requires { h ≤ 227 }
         ensures { (loads : List Load) → IsLineOf self.old loads
             → IsLineOf self.new (loads ++ load_of h latches.now con1 hires ∷ []) }
     {
@@ -75,7 +75,7 @@ impl Line {
 /// The position from which the planes of one parity show a load of clock `h`, by their scroll in
 /// bits 3 to 0 of a word: PF1H or PF2H of BPLCON1.
 fn start_at(h: u16, scroll: u16, hires: bool) -> usize
-    requires { h ≤ 226 }
+    requires { h ≤ 227 }
     ensures value { result ≡ 4 * h + 6 + 2 * delay hires (scroll % 16) }
     ensures room { result ≤ 992 }
 {

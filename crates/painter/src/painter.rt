@@ -10,7 +10,7 @@ ghost use Rattle.painter.specs.Overlay.{with_runs, shown_bits, covered_column, c
 ghost use Rattle.painter.specs.Inks.{is_held, backdrop};
 ghost use Rattle.painter.specs.SpriteState.{IsIdle};
 ghost use Rattle.painter.specs.Line.{row_bits};
-ghost use Rattle.serial_model.specs.Beam.{is_visible as visible};
+ghost use Rattle.ocs_base.specs.Systems.{is_visible};
 
 use crate::ham::hold;
 use crate::inks::{Inks, bytes_of, colour_of};
@@ -20,7 +20,7 @@ use crate::names::counted_planes;
 use crate::overlay::cover;
 use crate::pixels::{show_border, show_inks, show_modified};
 use crate::sprite_state::SpriteState;
-use crate::window::{Window, is_visible};
+use crate::window::Window;
 use collisions::do_playfields_meet;
 use ocs_base::{Beam, Colour, Reg, System};
 use planes::Loads;
@@ -141,7 +141,7 @@ impl Painter {
     /// A write to one of Denise's registers at clock `h` of the line. A word that is fetched for a
     /// bitplane comes as a write to the latch of its plane.
     pub fn set(&mut self, h: u16, reg: Reg, word: u16)
-        requires { h ≤ 226 }
+        requires { h ≤ 227 }
         ensures { (p : DeniseValue) → IsPainterOf self.old p
             → IsPainterOf self.new (set_picture h reg.offset word p) }
     {
@@ -151,7 +151,7 @@ impl Painter {
     /// The same to the register at an offset, where it is one of Denise's.
     #[tactic(auto, unfolding(serial_model::specs::Picture::set_picture))]
     pub fn set_at(&mut self, h: u16, offset: u16, word: u16)
-        requires { h ≤ 226 }
+        requires { h ≤ 227 }
         ensures { (p : DeniseValue) → IsPainterOf self.old p
             → IsPainterOf self.new (set_picture h offset word p) }
     {
@@ -173,7 +173,7 @@ impl Painter {
     /// A write to BPL1DAT at clock `h`: the six latches are loaded.
     #[inline(never)]
     fn load(&mut self, h: u16, word: u16)
-        requires { h ≤ 226 }
+        requires { h ≤ 227 }
         ensures { (p : DeniseValue) → IsPainterOf self.old p → IsPainterOf self.new
             (add_load h (record p { latches = slice_set p.latches 0 word })) }
     {
@@ -218,28 +218,34 @@ impl Painter {
     /// Sprites are in front of the playfields by BPLCON2, and collide by CLXCON (Hardware Reference
     /// Manual, sprite hardware, priorities and collisions).
     #[inline(always)]
-    pub fn show(&mut self, beam: &Beam, into: &mut [[u8; 3]; 4], clx: &mut u16) -> bool
-        requires { beam.now.h ≤ 226 }
-        ensures visible { result ≡ visible System.Pal beam.now.v beam.now.h }
+    pub fn show(
+        &mut self,
+        system: System,
+        beam: &Beam,
+        into: &mut [[u8; 3]; 4],
+        clx: &mut u16,
+    ) -> bool
+        requires { beam.now.h ≤ 227 }
+        ensures visible { result ≡ is_visible system beam.now.v beam.now.h }
         ensures pixels { (p : DeniseValue) → IsPainterOf self.old p → result ≡ true
-            → flat_map (λ x. x) into.new ≡ pixels System.Pal beam.now.v beam.now.h p }
+            → flat_map (λ x. x) into.new ≡ pixels system beam.now.v beam.now.h p }
         ensures held { (p : DeniseValue) → IsPainterOf self.old p → IsPainterOf self.new
-            (after_step (step_of System.Pal beam.now.v beam.now.h p) p) }
+            (after_step (step_of system beam.now.v beam.now.h p) p) }
         ensures clx { (p : DeniseValue) → IsPainterOf self.old p
-            → clx.new ≡ bit_or clx.old (step_of System.Pal beam.now.v beam.now.h p).clx }
+            → clx.new ≡ bit_or clx.old (step_of system beam.now.v beam.now.h p).clx }
     {
         if self.is_backdrop(beam.v, beam.h, *clx) {
             self.show_backdrop(into);
-            return is_visible(beam.v, beam.h);
+            return system.shows(beam.v, beam.h);
         }
-        self.show_any(beam, into, clx)
+        self.show_any(system, beam, into, clx)
     }
 
     /// Whether it is known of a clock that its four pixels show COLOR00, with no sprite near, and
     /// that its collisions are gathered already.
     #[inline(always)]
     fn is_backdrop(&self, v: u16, h: u16, clx: u16) -> bool
-        requires { h ≤ 226 }
+        requires { h ≤ 227 }
         ensures known { result ≡ is_known_backdrop v h clx self.now }
         ensures idle { result ≡ true → IsIdle h self.now.sprites }
         ensures pixels { result ≡ true → (p : DeniseValue) → IsPainterOf self.now p
@@ -253,7 +259,7 @@ impl Painter {
     /// The same of the playfields alone, behind the last load.
     #[inline(always)]
     fn is_blank(&self, v: u16, h: u16, clx: u16) -> bool
-        requires { h ≤ 226 }
+        requires { h ≤ 227 }
         ensures known { result ≡ is_known_blank v h clx self.now }
         ensures pixels { result ≡ true → (p : DeniseValue) → IsPainterOf self.now p
             → backdrop self.now.inks.palette ≡ clock_bytes v h p }
@@ -267,7 +273,7 @@ impl Painter {
     /// 0 of CLXDAT is set, or such playfields do not meet, or it is outside the display window.
     #[inline(always)]
     fn is_gathered(&self, v: u16, h: u16, clx: u16) -> bool
-        requires { h ≤ 226 }
+        requires { h ≤ 227 }
         ensures known { result ≡ is_known_gathered v h clx self.now }
         ensures clx { result ≡ true → (p : DeniseValue) → IsPainterOf self.now p
             → ((x : ℕ) → 4 * h ≤ x → row_bits self.now.line x ≡ 0)
@@ -284,25 +290,31 @@ impl Painter {
 
     /// The four pixels of any clock, and all that `show` does.
     #[inline(never)]
-    fn show_any(&mut self, beam: &Beam, into: &mut [[u8; 3]; 4], clx: &mut u16) -> bool
-        requires { beam.now.h ≤ 226 }
-        ensures visible { result ≡ visible System.Pal beam.now.v beam.now.h }
+    fn show_any(
+        &mut self,
+        system: System,
+        beam: &Beam,
+        into: &mut [[u8; 3]; 4],
+        clx: &mut u16,
+    ) -> bool
+        requires { beam.now.h ≤ 227 }
+        ensures visible { result ≡ is_visible system beam.now.v beam.now.h }
         ensures pixels { (p : DeniseValue) → IsPainterOf self.old p → result ≡ true
-            → flat_map (λ x. x) into.new ≡ pixels System.Pal beam.now.v beam.now.h p }
+            → flat_map (λ x. x) into.new ≡ pixels system beam.now.v beam.now.h p }
         ensures held { (p : DeniseValue) → IsPainterOf self.old p → IsPainterOf self.new
-            (after_step (step_of System.Pal beam.now.v beam.now.h p) p) }
+            (after_step (step_of system beam.now.v beam.now.h p) p) }
         ensures clx { (p : DeniseValue) → IsPainterOf self.old p
-            → clx.new ≡ bit_or clx.old (step_of System.Pal beam.now.v beam.now.h p).clx }
+            → clx.new ≡ bit_or clx.old (step_of system beam.now.v beam.now.h p).clx }
     {
         self.show_playfields(beam.v, beam.h, into);
         self.show_sprites(beam.v, beam.h, into, clx);
-        is_visible(beam.v, beam.h)
+        system.shows(beam.v, beam.h)
     }
 
     /// The four pixels of a clock without sprites.
     #[inline(always)]
     fn show_playfields(&mut self, v: u16, h: u16, into: &mut [[u8; 3]; 4])
-        requires { h ≤ 226 }
+        requires { h ≤ 227 }
         ensures pixels { (p : DeniseValue) → IsPainterOf self.old p → into.new ≡ clock_bytes v h p }
         ensures held { (p : DeniseValue) → IsPainterOf self.old p
             → IsPainterOf self.new (with_held (held_after v h 4 p) p) }
@@ -319,7 +331,7 @@ impl Painter {
     /// The four pixels of a clock inside the display window.
     #[inline(always)]
     fn show_inside(&mut self, v: u16, h: u16, into: &mut [[u8; 3]; 4])
-        requires place { h ≤ 226 }
+        requires place { h ≤ 227 }
         requires first { is_inside v (2 * h) self.old.window.diwstrt
             self.old.window.diwstop ≡ true }
         requires second { is_inside v (2 * h + 1) self.old.window.diwstrt
@@ -342,7 +354,7 @@ impl Painter {
     /// The four pixels of a clock outside the display window.
     #[inline(always)]
     fn show_outside(&mut self, v: u16, h: u16, into: &mut [[u8; 3]; 4])
-        requires place { h ≤ 226 }
+        requires place { h ≤ 227 }
         requires first { is_inside v (2 * h) self.old.window.diwstrt
             self.old.window.diwstop ≡ false }
         requires second { is_inside v (2 * h + 1) self.old.window.diwstrt
@@ -369,7 +381,7 @@ impl Painter {
     /// The four pixels of a clock inside the display window, in hold-and-modify.
     #[inline(never)]
     fn show_held(&mut self, v: u16, h: u16, into: &mut [[u8; 3]; 4])
-        requires place { h ≤ 226 }
+        requires place { h ≤ 227 }
         requires first { is_inside v (2 * h) self.old.window.diwstrt
             self.old.window.diwstop ≡ true }
         requires second { is_inside v (2 * h + 1) self.old.window.diwstrt
@@ -390,7 +402,7 @@ impl Painter {
     /// The four pixels of a clock, column by column.
     #[inline(never)]
     fn show_columns(&mut self, v: u16, h: u16, into: &mut [[u8; 3]; 4])
-        requires { h ≤ 226 }
+        requires { h ≤ 227 }
         ensures pixels { (p : DeniseValue) → IsPainterOf self.old p → into.new ≡ clock_bytes v h p }
         ensures held { (p : DeniseValue) → IsPainterOf self.old p
             → IsPainterOf self.new (with_held (held_after v h 4 p) p) }
@@ -402,7 +414,7 @@ impl Painter {
     /// The two pixels of a low-resolution column.
     fn show_column(&mut self, v: u16, column: u16, at: usize, into: &mut [[u8; 3]; 4])
         requires place { at ≤ 2 }
-        requires room { column ≤ 453 }
+        requires room { column ≤ 455 }
         ensures pixels { (p : DeniseValue) → IsPainterOf self.old p → into.new ≡ slice_set
             (slice_set into.old at (colour_bytes (first_colour v column p)))
             (at + 1) (colour_bytes (second_colour v column p)) }
@@ -423,7 +435,7 @@ impl Painter {
     /// The sprites over the four pixels of a clock, and what collides there.
     #[inline(always)]
     fn show_sprites(&mut self, v: u16, h: u16, into: &mut [[u8; 3]; 4], clx: &mut u16)
-        requires { h ≤ 226 }
+        requires { h ≤ 227 }
         ensures pixels { (p : DeniseValue) → IsPainterOf self.old p
             → into.new ≡ clock_over v h into.old p }
         ensures runs { (p : DeniseValue) → IsPainterOf self.old p
@@ -441,7 +453,7 @@ impl Painter {
     /// The sprites over the four pixels of a clock, column by column, and what collides there.
     #[inline(never)]
     fn show_sprite_columns(&mut self, v: u16, h: u16, into: &mut [[u8; 3]; 4], clx: &mut u16)
-        requires { h ≤ 226 }
+        requires { h ≤ 227 }
         ensures pixels { (p : DeniseValue) → IsPainterOf self.old p
             → into.new ≡ clock_over v h into.old p }
         ensures runs { (p : DeniseValue) → IsPainterOf self.old p
@@ -463,7 +475,7 @@ impl Painter {
         clx: &mut u16,
     )
         requires place { at ≤ 2 }
-        requires room { column ≤ 453 }
+        requires room { column ≤ 455 }
         ensures pixels { (p : DeniseValue) → IsPainterOf self.old p
             → into.new ≡ column_over v column at into.old (with_runs (runs_at column p p.runs) p) }
         ensures runs { (p : DeniseValue) → IsPainterOf self.old p
@@ -481,7 +493,7 @@ impl Painter {
     /// there.
     fn cover_column(&self, column: u16, at: usize, into: &mut [[u8; 3]; 4], clx: &mut u16)
         requires place { at ≤ 2 }
-        requires room { column ≤ 453 }
+        requires room { column ≤ 455 }
         ensures pixels { (p : DeniseValue) → IsPainterOf self.now p
             → into.new ≡ covered_column column at into.old p }
         ensures clx { (p : DeniseValue) → IsPainterOf self.now p
@@ -500,7 +512,7 @@ impl Painter {
     /// these bits. In low resolution they are the same.
     #[inline(always)]
     fn collide(&self, column: u16, first: u8, second: u8, clx: &mut u16)
-        requires { column ≤ 453 }
+        requires { column ≤ 455 }
         ensures { let values = sprite_values column self.now.sprites.runs in
             clx.new ≡ bit_or clx.old (bit_or (collision_bits self.now.clxcon first values)
             (collision_bits self.now.clxcon second values)) }
@@ -522,7 +534,7 @@ impl Painter {
     /// The collisions of a clock where no sprite shows: those of the playfields with one another.
     #[inline(never)]
     fn meet_playfields(&self, v: u16, h: u16, clx: &mut u16)
-        requires { h ≤ 226 }
+        requires { h ≤ 227 }
         ensures { (p : DeniseValue) → IsPainterOf self.now p
             → clx.new ≡ bit_or clx.old (quiet_collisions v h p) }
     {
@@ -532,7 +544,7 @@ impl Painter {
 
     /// The collision of the playfields with one another in a column.
     fn meet_in_column(&self, v: u16, column: u16, clx: &mut u16)
-        requires { column ≤ 453 }
+        requires { column ≤ 455 }
         ensures { (p : DeniseValue) → IsPainterOf self.now p
             → clx.new ≡ bit_or clx.old (quiet_in_column v column p) }
     {

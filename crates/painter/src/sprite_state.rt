@@ -213,7 +213,7 @@ impl SpriteState {
     /// The words of each sprite begin to run whose HSTART is this column, where it is armed: bits 7
     /// to 0 of SPRxPOS, with bit 0 of SPRxCTL as the lowest (this project's profile).
     pub fn begin_words(&mut self, column: u16)
-        requires { column ≤ 453 }
+        requires { column ≤ 455 }
         ensures { self.new ≡ words_begun column self.old }
     {
         if self.armed == 0 || !self.may_begin(column / 2) {
@@ -227,7 +227,7 @@ impl SpriteState {
     /// The words of a sprite begin to run if its HSTART is this column, and it is armed.
     fn begin_words_of(&mut self, sprite: u8, column: u16)
         requires sprite { sprite < 8 }
-        requires place { column ≤ 453 }
+        requires place { column ≤ 455 }
         ensures { self.new ≡ record self.old {
           runs = slice_set self.old.runs sprite (run_in column self.old sprite);
           quiet_from = quiet_or column self.old sprite self.old.quiet_from;
@@ -252,7 +252,7 @@ impl SpriteState {
     /// Whether it is known that no words begin at this clock, and none shows a bit from it on.
     #[inline(always)]
     pub fn is_idle(&self, h: u16) -> bool
-        requires { h ≤ 226 }
+        requires { h ≤ 227 }
         ensures known { result ≡ is_known_idle h self.now }
         ensures idle { result ≡ true → IsIdle h self.now }
     {
@@ -278,7 +278,7 @@ impl SpriteState {
     /// Manual, sprite hardware).
     #[inline(always)]
     pub fn front_pixel(&self, column: u16) -> Option<SpritePixel>
-        requires { column ≤ 453 }
+        requires { column ≤ 455 }
         ensures value { result ≡ pixel_of_front (sprite_values column self.now.runs)
             (attached_in self.now) }
         ensures within { IfSome result (λ s. (s.pair ≤ 3) × (s.colour ≤ 31)) }
@@ -294,7 +294,7 @@ impl SpriteState {
     /// of its planes, in the places of CLXDAT (Hardware Reference Manual, collision detection).
     #[inline(always)]
     pub fn collisions(&self, column: u16, clxcon: u16, bits: u8) -> u16
-        requires { column ≤ 453 }
+        requires { column ≤ 455 }
         ensures { result ≡ collision_bits clxcon bits (sprite_values column self.now.runs) }
     {
         if column < self.exact_from {

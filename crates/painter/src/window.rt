@@ -1,10 +1,8 @@
-//! Places of the picture: the lines and clocks of a frame file, and the display window.
+//! The display window.
 
 ghost use Rattle.std.specs.Prelude.{◌≡◌, ◌≤◌, ◌+◌, ◌*◌, ◌&&◌, ◌||◌, not, true, false};
-ghost use Rattle.serial_model.specs.Beam.{is_visible as visible};
 ghost use Rattle.serial_model.specs.Window.{is_inside};
 
-use ocs_base::System;
 use std::marker::Model;
 
 /// The display window (Hardware Reference Manual): the registers DIWSTRT and DIWSTOP, with the
@@ -94,7 +92,7 @@ impl Window {
     /// Whether both columns of a clock are in the window.
     #[inline(always)]
     pub fn contains_clock(&self, v: u16, h: u16) -> bool
-        requires { h ≤ 226 }
+        requires { h ≤ 227 }
         ensures both { result ≡ (is_inside v (2 * h) self.now.diwstrt self.now.diwstop
             && is_inside v (2 * h + 1) self.now.diwstrt self.now.diwstop) }
         ensures first { result ≡ true
@@ -108,7 +106,7 @@ impl Window {
     /// Whether neither column of a clock is in the window.
     #[inline(always)]
     pub fn excludes_clock(&self, v: u16, h: u16) -> bool
-        requires { h ≤ 226 }
+        requires { h ≤ 227 }
         ensures neither { result ≡ not (is_inside v (2 * h) self.now.diwstrt self.now.diwstop
             || is_inside v (2 * h + 1) self.now.diwstrt self.now.diwstop) }
         ensures first { result ≡ true
@@ -118,12 +116,4 @@ impl Window {
     {
         v < self.top || self.bottom <= v || 2 * h + 1 < self.left || self.right <= 2 * h
     }
-}
-
-/// Whether the clock `h` of line `v` is in the picture of a frame file (this project's profile).
-#[inline(always)]
-pub fn is_visible(v: u16, h: u16) -> bool
-    ensures { result ≡ visible System.Pal v h }
-{
-    (26..=311).contains(&v) && (47..=226).contains(&h)
 }

@@ -84,7 +84,7 @@ has_end side image script good = find_end side image script (script.frames * 713
 -- how many bytes of its frame were shown before a place: those of each line that is shown, and 12 in each clock
 abbrev bytes_before : System → ℕ → ℕ → ℕ
 bytes_before system v h =
-    line_bytes * min (v - top_line system) (shown_lines system) + (if is_shown_line system v then min (12 * (h - 47)) line_bytes else 0)
+    line_bytes * min (v - top_line system) (shown_lines system) + (if is_shown_line system v then 12 * (h - 47) else 0)
 
 abbrev bytes_at : System → ℕ → ℕ → ℕ
 bytes_at system v h = if is_visible system v h then 12 else 0

@@ -28,7 +28,7 @@ use sprites::SpritePixel;
 
 /// What the eight sprites show along a line (Hardware Reference Manual, sprite hardware).
 ///
-/// Positions are low-resolution pixels from the line's begin, 0 to 453 on a line. A sprite's words
+/// Positions are low-resolution pixels from the line's begin, 0 to 453 on a line of 227 clocks. A sprite's words
 /// are laid over its pair's row as they begin to run, so a position takes a byte of each pair.
 /// A row reaches past the line's end, so that words that begin at its last position find room.
 #[derive(Drop)]

@@ -14,4 +14,4 @@ returns-clause-left c =
     IsPartitionPoint-from_clause (λ (e : At). nat_lt (time_of e) place) script c.partition_point-next.result c.partition_point-next.ensures.partitioned
     (IsPartitionedBy-ltb (λ (e : At). time_of e) script place (rising script c.requires.order)) (λ a r q k. search rules) in
     subst (λ p. IsLeft p script (drop c.partition_point-next.result script)) c.order-place.ensures
-    (left_at c.requires.frames place c.partition_point-next.result script c.requires.order c.requires.limits point)
+    (left_at c.requires.system c.requires.frames place c.partition_point-next.result script c.requires.order c.requires.limits point)

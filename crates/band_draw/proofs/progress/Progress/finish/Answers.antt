@@ -1,11 +1,14 @@
-use Rattle.std.proofs.Common.{◌*◌, arith, subst, ◌∙◌}
+use Rattle.std.proofs.Common.{◌≡◌, ◌*◌, take, arith, subst, sym, ap, ◌∙◌}
+use Rattle.ocs_base.specs.Script.{ScriptValue}
+use Rattle.ocs_base.specs.Systems.{is_visible}
 use Rattle.mem_versions.specs.MemView.{word_then}
 use Rattle.serial_bands.specs.DrawnTo.{touch_by_address}
 use Rattle.serial_bands.specs.EventReading.{bus_touch_of}
 use Rattle.serial_bands.specs.Run.{run_over}
 use Rattle.band_draw.specs.BandPainter.{Paints}
+use Rattle.band_draw.specs.Given.{filled_after}
 use Rattle.band_draw.specs.declared.progress.Progress.{Progress}
-use Rattle.band_draw.proofs.Turning.{part_there, screen_there, room_there, given_part, ended}
+use Rattle.band_draw.proofs.Turning.{part_there, screen_there, room_there, given_part, IsGivenBy, ended}
 use Rattle.band_draw.proofs.Painting.{keeps_last}
 use Rattle.band_draw.proofs.progress.Progress.finish.Goals as goal
 
@@ -22,7 +25,11 @@ show_clock-requires-clause-place g c =
 pub show_clock-requires-clause-room : goal.show_clock-requires-clause-room
 show_clock-requires-clause-room g c =
     let run = run_over g.S.Side.seen c.args.run.now in
-    room_there run c.args.events.now c.args.room.now c.args.self.now c.requires.at
+    let beam = c.args.self.now.beam in
+    let system : c.system-system.result ≡ c.args.run.now.script.system =
+    c.system-system.ensures ∙ ap (λ (s : ScriptValue). s.system) c.script.ensures.value in
+    λ visible. room_there run c.args.events.now c.args.room.now c.args.self.now c.requires.at
+    (ap (λ s. is_visible s beam.v beam.h) (sym system) ∙ visible)
 
 pub overflow_add-self : goal.overflow_add-self
 overflow_add-self g c =
@@ -53,11 +60,15 @@ returns-clause-ended g c =
     let p : Progress = c.args.self.now in
     let given = c.show_clock in
     let access = c.touch_access in
+    let system : c.system-system.result ≡ c.args.run.now.script.system =
+    c.system-system.ensures ∙ ap (λ (s : ScriptValue). s.system) c.script.ensures.value in
     ended run c.args.events.now c.args.view.now c.args.room.now given.new.room p given.new.painter access.new.painter c.close.result
     given.result given.new.clx 0 c.requires.source c.requires.at c.requires.last
-    (given_part p c.args.events.now c.args.view.now c.part-due.result.now _ _ given.new.painter given.new.clx c.part-due.ensures.part
-    given.ensures.given)
-    given.ensures.filled given.ensures.size
+    (subst (λ s. IsGivenBy s p c.args.events.now c.args.view.now (take p.filled c.args.room.now) (take given.result given.new.room)
+    given.new.painter given.new.clx) system
+    (given_part _ p c.args.events.now c.args.view.now c.part-due.result.now _ _ given.new.painter given.new.clx c.part-due.ensures.part
+    given.ensures.given))
+    (given.ensures.filled ∙ ap (λ s. filled_after s p.beam.v p.beam.h p.filled) system) given.ensures.size
     (subst (λ l. Paints (4 * p.beam.h) (touch_by_address p.beam.h (word_then c.args.view.now p.clock) (bus_touch_of p.clock 0 l))
     given.new.painter access.new.painter)
     c.behind-rest.ensures.part access.ensures.touched)

@@ -14,8 +14,8 @@ end_at_line-requires g c =
     record {
       stands = (c.requires.underway.0, found.2);
       before = c.requires.before;
-      count = shown_now _ (over g.S.Side.seen c.args.self.now) c.requires.underway.0 c.shown_before-shown.result (g.Q.Raster.seen c.args.raster.now)
-          (ap (over g.S.Side.seen) c.self.view_is) c.requires.underway.1 c.shown_before-shown.ensures;
+      count = shown_now _ _ (over g.S.Side.seen c.args.self.now) c.requires.underway.0 c.shown_before-shown.result (g.Q.Raster.seen c.args.raster.now)
+          c.system.ensures (ap (over g.S.Side.seen) c.self.view_is) c.requires.underway.1 c.shown_before-shown.ensures;
       line = found.0;
       begins = found.1;
     }

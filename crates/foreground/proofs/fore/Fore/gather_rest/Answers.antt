@@ -13,8 +13,8 @@ end_all-requires g c = record {
     settle_ends_now _ (over g.S.Side.seen c.args.self.now) c.requires.underway.0 (g.Q.Raster.seen c.args.raster.now) (ap (over g.S.Side.seen) c.self.view_is)
         c.requires.underway.1 c.requires.done c.if-self-to.true,
   );
-  count = shown_there _ (over g.S.Side.seen c.args.self.now) c.requires.underway.0 c.shown_before-shown.result (g.Q.Raster.seen c.args.raster.now)
-      (ap (over g.S.Side.seen) c.self.view_is) c.requires.underway.1 c.shown_before-shown.ensures;
+  count = shown_there _ _ (over g.S.Side.seen c.args.self.now) c.requires.underway.0 c.shown_before-shown.result (g.Q.Raster.seen c.args.raster.now)
+      c.system.ensures (ap (over g.S.Side.seen) c.self.view_is) c.requires.underway.1 c.shown_before-shown.ensures;
 }
 
 pub returns-in_err-end_all-clause-part : goal.returns-in_err-end_all-clause-part

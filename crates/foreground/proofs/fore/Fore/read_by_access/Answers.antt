@@ -29,9 +29,9 @@ end_at_read-requires g c =
         subst (λ (o : ForeValue). StandsAtEnd (o.machine.t + 1) first old (g.Q.Raster.seen c.args.raster.now)) (sym (ap (over g.S.Side.seen) c.self.view_is))
             (access_ends old first (g.Q.Raster.seen c.args.raster.now) c.requires.1 c.requires.2),
       );
-      clock = subst (λ (o : ForeValue). o.machine.beam.h ≡ (beam_at old.run (o.machine.t + 1 - 1)).h) (sym (ap (over g.S.Side.seen) c.self.view_is))
+      clock = λ inner. subst (λ (o : ForeValue). o.machine.beam.h ≡ (beam_at old.run (o.machine.t + 1 - 1)).h) (sym (ap (over g.S.Side.seen) c.self.view_is))
           (access_place old.run old.machine.t old.machine.beam.h (ap (λ (b : Beam). b.h) c.requires.3));
-      count = shown_within _ old c.shown_behind-shown.result (ap (over g.S.Side.seen) c.self.view_is) c.requires.3 c.shown_behind-shown.ensures;
+      count = shown_within _ _ old c.shown_behind-shown.result c.system.ensures (ap (over g.S.Side.seen) c.self.view_is) c.requires.3 c.shown_behind-shown.ensures;
     }
 
 pub returns-clause-bits : goal.returns-clause-bits

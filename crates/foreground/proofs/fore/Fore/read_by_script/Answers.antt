@@ -17,8 +17,8 @@ end_at_read-requires g c =
         script_ends_now _ (over g.S.Side.seen c.args.self.now) first (seen c.args.raster.now) (ap (over g.S.Side.seen) c.self.view_is)
             c.requires.1 c.requires.2 c.if-self-to.true,
       );
-      count = shown_there _ (over g.S.Side.seen c.args.self.now) first c.shown_before-shown.result (seen c.args.raster.now)
-          (ap (over g.S.Side.seen) c.self.view_is)
+      count = shown_there _ _ (over g.S.Side.seen c.args.self.now) first c.shown_before-shown.result (seen c.args.raster.now)
+          c.system.ensures (ap (over g.S.Side.seen) c.self.view_is)
           c.requires.1 c.shown_before-shown.ensures;
       clock =
           script_place_now _ (over g.S.Side.seen c.args.self.now) first c.clock_before-h.result (seen c.args.raster.now)

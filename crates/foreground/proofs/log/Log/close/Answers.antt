@@ -2,6 +2,7 @@ use Rattle.serial_bands.specs.Run.{run_over}
 use Rattle.std.proofs.Common.{◌≡◌, ◌+◌, ◌-◌, ◌≤◌, rules, length, refl, ap, ◌∙◌, sym, subst, arith}
 use Rattle.std.proofs.lemmas.List.{length-replicate}
 use Rattle.std.specs.Arc.{arc_value}
+use Rattle.ocs_base.specs.Script.{ScriptValue}
 use Rattle.foreground.specs.Log.{IsCut, blank_after, size_to}
 use Rattle.foreground.specs.ShownCount.{shown_before}
 use Rattle.foreground.proofs.Beginning.{ended_job}
@@ -21,18 +22,24 @@ returns-clause-job g c =
     c.requires.ending
     c.replace-band.ensures.value (ap (run_over g.S.Side.seen) c.in_ok-run.ensures) refl refl refl refl refl refl c.in_ok-view.ensures.view
     (let run = run_over g.S.Side.seen (arc_value c.args.run.now) in
-    let whole : c.args.shown ≡ shown_before c.args.self.now.band.beam + size_to run c.args.self.now.band.from c.args.to =
+    let whole : c.args.shown ≡ shown_before run.script.system c.args.self.now.band.beam + size_to run c.args.self.now.band.from c.args.to =
     ended_size run c.args.to c.args.shown c.args.self.now c.args.chip.now c.requires.ending c.requires.count in
-    let before : c.shown_before.result ≡ shown_before c.args.self.now.band.beam = c.shown_before.ensures in
+    let system : c.system-system.result ≡ run.script.system =
+    c.system-system.ensures ∙ ap (λ (s : ScriptValue). s.system) c.script.ensures.value ∙ ap (λ r. (run_over g.S.Side.seen r).script.system) c.deref.ensures in
+    let before : c.shown_before.result ≡ shown_before run.script.system c.args.self.now.band.beam =
+    c.shown_before.ensures ∙ ap (λ s. shown_before s c.args.self.now.band.beam) system in
     let rest : c.args.shown - c.shown_before.result ≡ size_to run c.args.self.now.band.from c.args.to = omega (arith, whole, before) in
     ap length c.in_ok-room.ensures ∙ length-replicate _ 0 ∙ rest)
 
 pub overflow_sub-bytes : goal.overflow_sub-bytes
 overflow_sub-bytes g c =
     let run = run_over g.S.Side.seen (arc_value c.args.run.now) in
-    let whole : c.args.shown ≡ shown_before c.args.self.now.band.beam + size_to run c.args.self.now.band.from c.args.to =
+    let whole : c.args.shown ≡ shown_before run.script.system c.args.self.now.band.beam + size_to run c.args.self.now.band.from c.args.to =
     ended_size run c.args.to c.args.shown c.args.self.now c.args.chip.now c.requires.ending c.requires.count in
-    let before : c.shown_before.result ≡ shown_before c.args.self.now.band.beam = c.shown_before.ensures in
+    let system : c.system-system.result ≡ run.script.system =
+    c.system-system.ensures ∙ ap (λ (s : ScriptValue). s.system) c.script.ensures.value ∙ ap (λ r. (run_over g.S.Side.seen r).script.system) c.deref.ensures in
+    let before : c.shown_before.result ≡ shown_before run.script.system c.args.self.now.band.beam =
+    c.shown_before.ensures ∙ ap (λ s. shown_before s c.args.self.now.band.beam) system in
     omega (arith, whole, before)
 
 pub returns-clause-cut : goal.returns-clause-cut

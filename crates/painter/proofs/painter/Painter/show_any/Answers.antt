@@ -1,7 +1,6 @@
 use Rattle.std.proofs.Common.{◌≡◌, ◌∙◌, true, bit_or, sym, ap}
-use Rattle.ocs_base.specs.declared.system.System.TheVariants.{Pal}
+use Rattle.ocs_base.specs.Systems.{is_visible}
 use Rattle.serial_model.specs.declared.picture.Denise.{Denise}
-use Rattle.serial_model.specs.Beam.{is_visible}
 use Rattle.serial_model.specs.Picture.{held_after, step_of}
 use Rattle.painter.specs.Painter.{with_held}
 use Rattle.painter.proofs.Overlays.{clock_shown, clock_stands, bits_apart}
@@ -12,8 +11,8 @@ returns-clause-pixels c p stands shown =
     let v = c.args.beam.now.v in
     let h = c.args.beam.now.h in
     let next : Denise = with_held (held_after c.args.beam.now.v c.args.beam.now.h 4 p) p in
-    let visible : is_visible Pal c.args.beam.now.v c.args.beam.now.h ≡ true = sym c.is_visible.ensures ∙ shown in
-    clock_shown v h (held_after v h 4 p) p c.show_sprites.new.into c.show_playfields.new.into visible
+    let visible : is_visible c.args.system c.args.beam.now.v c.args.beam.now.h ≡ true = sym c.shows.ensures ∙ shown in
+    clock_shown c.args.system v h (held_after v h 4 p) p c.show_sprites.new.into c.show_playfields.new.into visible
     (c.show_playfields.ensures.pixels p stands)
     (c.show_sprites.ensures.pixels next (c.show_playfields.ensures.held p stands))
 
@@ -22,7 +21,7 @@ returns-clause-held c p stands =
     let v = c.args.beam.now.v in
     let h = c.args.beam.now.h in
     let next : Denise = with_held (held_after c.args.beam.now.v c.args.beam.now.h 4 p) p in
-    clock_stands Pal v h c.show_sprites.new.self p
+    clock_stands c.args.system v h c.show_sprites.new.self p
     (c.show_sprites.ensures.runs next (c.show_playfields.ensures.held p stands))
 
 pub returns-clause-clx : goal.returns-clause-clx
