@@ -35,6 +35,8 @@ fn a_script_of_one_event(rt: HostRuntime) -> Result<(), OutOfMemory> {
     assert!(rt; script.events()[0] == at);
     assert!(rt; script.cpu() && script.frames() == 3);
     assert!(rt; script.chip() == 524_288 && script.system() == System::Pal);
+    let ntsc = Script::made(rt.alloc(), false, 1, System::Ntsc);
+    assert!(rt; ntsc.system() == System::Ntsc && !ntsc.cpu() && ntsc.events().is_empty());
     let refused: Result<(), OutOfMemory> = Err(OutOfMemory::from(AllocError));
     assert!(rt; refused.is_err());
     Ok(())

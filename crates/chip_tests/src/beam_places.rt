@@ -1,7 +1,7 @@
 //! Places of the beam at the ends of lines and fields, worked by hand.
 
-use beam::{advance, at_field_start, at_line_start, start};
-use ocs_base::Beam;
+use beam::{advance, advance_in, at_field_start, at_line_start, start};
+use ocs_base::{Beam, System};
 
 fn place(frame: u32, v: u16, h: u16, lof: bool) -> Beam {
     Beam { frame, v, h, lof }
@@ -26,6 +26,54 @@ fn next_places(rt: HostRuntime) {
         advance(&mut beam, lace);
         assert_eq!(rt; beam, after, "{before:?}");
     }
+}
+
+#[test]
+fn next_places_of_ntsc(rt: HostRuntime) {
+    for (lace, before, after) in [
+        (true, place(0, 0, 225, true), place(0, 0, 226, true)),
+        (true, place(0, 0, 226, true), place(0, 1, 0, true)),
+        (true, place(0, 1, 226, true), place(0, 1, 227, true)),
+        (true, place(0, 1, 227, true), place(0, 2, 0, true)),
+        (true, place(2, 261, 227, true), place(2, 262, 0, true)),
+        (true, place(2, 262, 226, true), place(3, 0, 0, false)),
+        (false, place(2, 262, 226, true), place(3, 0, 0, true)),
+        (true, place(2, 261, 226, false), place(2, 261, 227, false)),
+        (true, place(2, 261, 227, false), place(3, 0, 0, true)),
+        (false, place(2, 261, 227, false), place(3, 0, 0, false)),
+    ] {
+        let mut beam = before;
+        assert!(rt; beam.frame < 9);
+        advance_in(&mut beam, lace, System::Ntsc);
+        assert_eq!(rt; beam, after, "{before:?}");
+    }
+}
+
+/// A long field of NTSC has 132 lines of 227 clocks and 131 of 228; a short one lacks the last of 227.
+#[test]
+fn fields_of_ntsc(rt: HostRuntime) {
+    let mut beam = start();
+    for (clocks, lof) in [(59_832, false), (59_605, true), (59_832, false)] {
+        for _ in 0..clocks {
+            assert!(rt; beam.frame < 9);
+            advance_in(&mut beam, true, System::Ntsc);
+        }
+        assert!(rt; at_field_start(&beam) && beam.lof == lof, "{clocks}");
+    }
+    assert_eq!(rt; beam.frame, 3);
+}
+
+#[test]
+fn what_a_picture_shows(rt: HostRuntime) {
+    for (system, lines) in [(System::Pal, 26..312), (System::Ntsc, 20..262)] {
+        for (v, h) in [(19, 47), (20, 47), (25, 47), (26, 47), (261, 226), (262, 226), (311, 226)] {
+            assert_eq!(rt; system.shows(v, h), lines.contains(&v), "{v} {h}");
+        }
+        assert!(rt; !system.shows(100, 46) && system.shows(100, 47));
+        assert!(rt; system.shows(101, 226) && !system.shows(101, 227));
+    }
+    assert_eq!(rt; System::Pal.frame_bytes(), 617_760);
+    assert_eq!(rt; System::Ntsc.frame_bytes(), 522_720);
 }
 
 #[test]

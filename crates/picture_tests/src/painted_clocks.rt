@@ -2,7 +2,7 @@
 
 ghost use Rattle.std.specs.Prelude.{◌≡◌, ◌≤◌, ◌<◌, length};
 
-use ocs_base::{Beam, Colour, Reg};
+use ocs_base::{Beam, Colour, Reg, System};
 use painter::Painter;
 use planes::Loads;
 use serial_model::Denise;
@@ -45,7 +45,7 @@ fn pixels_of(painter: &mut Painter, h: u16) -> [[u8; 3]; 4]
     requires { h ≤ 226 }
 {
     let mut pixels = [BLACK; 4];
-    painter.show(&beam_at(h), &mut pixels, &mut 0);
+    painter.show(System::Pal, &beam_at(h), &mut pixels, &mut 0);
     pixels
 }
 
@@ -114,7 +114,7 @@ fn visible_clocks(rt: HostRuntime) {
     let mut painter = painter_with(0x1000, 0);
     let mut pixels = [BLACK; 4];
     for (h, want) in [(46, false), (47, true), (226, true)] {
-        assert_eq!(rt; painter.show(&beam_at(h), &mut pixels, &mut 0), want, "{h}");
+        assert_eq!(rt; painter.show(System::Pal, &beam_at(h), &mut pixels, &mut 0), want, "{h}");
     }
 }
 
@@ -184,7 +184,7 @@ fn collisions_of(painter: &mut Painter, from: u16, end: u16) -> u16
 {
     let mut clx = 0;
     for h in from..end {
-        painter.show(&beam_at(h), &mut [BLACK; 4], &mut clx);
+        painter.show(System::Pal, &beam_at(h), &mut [BLACK; 4], &mut clx);
     }
     clx
 }
@@ -195,7 +195,7 @@ fn a_sprite_shows_sixteen_columns(rt: HostRuntime) {
     set_sprite(&mut painter, 0);
     for h in 71..81 {
         let mut pixels = [BLACK; 4];
-        painter.show(&beam_at(h), &mut pixels, &mut 0);
+        painter.show(System::Pal, &beam_at(h), &mut pixels, &mut 0);
         let want = if 72 <= h && h < 80 { GREEN } else { BLACK };
         assert_eq!(rt; pixels, [want; 4], "{h}");
     }

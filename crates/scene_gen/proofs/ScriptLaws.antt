@@ -7,6 +7,7 @@ use Rattle.ocs_base.specs.Script.{ScriptValue}
 use Rattle.ocs_base.specs.declared.script.Act.{Act}
 use Rattle.ocs_base.specs.declared.script.Act.TheVariants.{Poke, Peek, Joy, Fire, Key}
 use Rattle.ocs_base.specs.declared.script.At.{At}
+use Rattle.ocs_base.specs.declared.system.System.TheVariants.{Pal}
 use Rattle.scene_gen.specs.Scene.{event, poke, peek, pokes_at, first_pokes, blit_pokes, frame_pokes, frame_events, scene_script}
 use Rattle.scene_gen.proofs.Growth.{parts_more}
 
@@ -37,13 +38,13 @@ frame_events-is n frame colour before poked peeked after p q is_peek is_poke is_
     ∙ ap (λ a. all a q) is_peek ∙ ap (λ b. all (peek 0x00e) b) (is_poke ∙ ap (poke 0x180) is_colour)
 
 abbrev pub script_of : ℕ → ℕ → ScriptValue
-script_of n frames = record { cpu = true; frames = 10; events = flat_map (frame_events n) (range_with_len 0 frames) }
+script_of n frames = record { cpu = true; frames = 10; system = Pal; events = flat_map (frame_events n) (range_with_len 0 frames) }
 
 pub next_frame : (n frame : ℕ) (before after : ScriptValue) → before ≡ script_of n frame
     → after ≡ record before { events = before.events ++ frame_events n frame } → after ≡ script_of n (frame + 1)
 next_frame n frame before after so_far step =
     step ∙ ap (λ (s : ScriptValue). record s { events = s.events ++ frame_events n frame }) so_far
-    ∙ ap (λ (e : List At). record { cpu = true; frames = 10; events = e }) (sym (parts_more (frame_events n) 0 frame frame (omega arith)))
+    ∙ ap (λ (e : List At). record { cpu = true; frames = 10; system = Pal; events = e }) (sym (parts_more (frame_events n) 0 frame frame (omega arith)))
 
 -- ---- limits and order
 
@@ -59,7 +60,7 @@ is_access (Key code) = false
 follow : ℕ → ℕ → List At → Bool
 follow frames time [] = true
 follow frames time (e ∷ events) =
-    nat_lt e.frame frames && (nat_le e.v 311 && (nat_le e.h 226 && (is_access e.act && (nat_le time (time_of e) && follow frames (time_of e) events))))
+    nat_lt e.frame frames && (nat_lt e.v 312 && (nat_le e.h 226 && (is_access e.act && (nat_le time (time_of e) && follow frames (time_of e) events))))
 
 both : (a b : Bool) → (a && b) ≡ true → (a ≡ true) × (b ≡ true)
 both true b e = (refl, e)
@@ -78,7 +79,7 @@ AreFrom-lower low high [] le from = tt
 AreFrom-lower low high (e ∷ events) le from = (omega (arith, from.0), AreFrom-lower low high events le from.1)
 
 record Follow (frames time : ℕ) (events : List At) : Type 0 where
-  limits : AreInLimits frames events
+  limits : AreInLimits Pal frames events
   from : AreFrom time events
   order : AreInOrder events
 
@@ -87,7 +88,7 @@ unfolding follow
 Follow-test frames time [] e = record { limits = tt; from = tt; order = tt }
 Follow-test frames time (at ∷ events) e =
     let in_frames = both (nat_lt at.frame frames) _ e in
-    let in_lines = both (nat_le at.v 311) _ in_frames.1 in
+    let in_lines = both (nat_lt at.v 312) _ in_frames.1 in
     let in_clocks = both (nat_le at.h 226) _ in_lines.1 in
     let accesses = both (is_access at.act) _ in_clocks.1 in
     let later = both (nat_le time (time_of at)) (follow frames (time_of at) events) accesses.1 in
@@ -97,7 +98,7 @@ Follow-test frames time (at ∷ events) e =
       limits = (
         record {
           frame = ltb-true at.frame frames in_frames.0;
-          line = leb-true at.v 311 in_lines.0;
+          line = ltb-true at.v 312 in_lines.0;
           clock = leb-true at.h 226 in_clocks.0;
           port = HasPort-access at.act accesses.0;
         },

@@ -7,6 +7,7 @@ use Rattle.ocs_base.specs.Script.{ScriptValue}
 use Rattle.ocs_base.specs.declared.script.Act.{Act}
 use Rattle.ocs_base.specs.declared.script.Act.TheVariants.{Poke, Peek}
 use Rattle.ocs_base.specs.declared.script.At.{At}
+use Rattle.ocs_base.specs.declared.system.System.TheVariants.{Pal}
 use Rattle.scene_gen.specs.Blocks.{Block, bytes_of, bytes_by, byte_at}
 
 -- ---- the program
@@ -158,4 +159,4 @@ frame_events n frame =
     ∷ []
 
 unfoldable pub scene_script : ℕ → ScriptValue
-scene_script n = record { cpu = true; frames = 10; events = flat_map (frame_events n) (range_with_len 0 10) }
+scene_script n = record { cpu = true; frames = 10; system = Pal; events = flat_map (frame_events n) (range_with_len 0 10) }
