@@ -137,7 +137,7 @@ sound_opening run (suc c) =
     let words : ℕ → ℕ = word_of (run_memory run c) in
     let picture : IsSound (picture_at run c) = sound_in_order h words (sets_at run c) (opening_at run c) (sound_opening run c) in
     let displayed : IsSound (displayed_at run c) =
-    subst IsSound (sym (displayed_is_step run c)) (sound_after (beam_at run c).v h (picture_at run c) picture) in
+    subst IsSound (sym (displayed_is_step run c)) (sound_after run.script.system (beam_at run c).v h (picture_at run c) picture) in
     let closing : IsSound (closing_at run c) =
     subst IsSound (sym (closing_has_fetch run c)) (sound_touched h words (fetch_alone (bus_touch_at run c)) (displayed_at run c) displayed) in
     subst IsSound (sym (next_opening run c))
