@@ -1,6 +1,8 @@
 -- The three output files as contracts see them, and what their calls make of them.
 use Rattle.std.specs.Prelude.{ℕ, ◌+◌, ◌%◌, List, [], ◌++◌, length}
-use Rattle.serial_model.specs.Outputs.{with_headings, frame_bytes}
+use Rattle.ocs_base.specs.Systems.{frame_bytes}
+use Rattle.ocs_base.specs.declared.system.System.{System}
+use Rattle.serial_model.specs.Outputs.{with_headings}
 use Rattle.serial_model.specs.TraceText.{line_text}
 use Rattle.serial_model.specs.declared.trace.TraceLine.{TraceLine}
 
@@ -11,6 +13,8 @@ pub record OutNames : Type 0 where
 
 pub record OutFilesValue : Type 0 where
   pub names : OutNames
+  -- whose frames they are
+  pub system : System
   -- the text that is not yet appended to the frames file and to the trace
   pub frames : List ℕ
   pub trace : List ℕ
@@ -20,7 +24,7 @@ pub record OutFilesValue : Type 0 where
 -- after pixel bytes, each frame's first of them with the heading before it
 abbrev pub with_pixels : OutFilesValue → List ℕ → OutFilesValue
 with_pixels o piece =
-    record o { frames = o.frames ++ with_headings o.given piece; given = (o.given + length piece) % frame_bytes }
+    record o { frames = o.frames ++ with_headings o.system o.given piece; given = (o.given + length piece) % frame_bytes o.system }
 
 -- after a line of the trace
 abbrev pub with_line : OutFilesValue → TraceLine → OutFilesValue

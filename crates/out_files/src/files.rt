@@ -12,7 +12,7 @@ use crate::pieces::{give, make};
 use crate::pixels::put_pixels;
 use crate::words::put_memory;
 use mem_versions::Chip;
-use ocs_base::OutOfMemory;
+use ocs_base::{OutOfMemory, System};
 use ocs_io::Place;
 use serial_model::TraceLine;
 use std::alloc::Global;
@@ -26,6 +26,8 @@ pub struct OutFiles {
     frames_name: String,
     trace_name: String,
     memory_name: String,
+    // whose frames they are
+    system: System,
     frames: Vec<u8>,
     trace: Vec<u8>,
     // the line that is being made
@@ -38,7 +40,7 @@ impl Model for OutFiles {
     ghost use Rattle.std.specs.Prelude.{◌<◌, string_bytes};
     ghost use Rattle.out_files.specs.OutFiles.{OutFilesValue};
     ghost use Rattle.out_files.specs.Together.{AreDifferent};
-    ghost use Rattle.serial_model.specs.Outputs.{frame_bytes};
+    ghost use Rattle.ocs_base.specs.Systems.{frame_bytes};
 
     ghost Value = { OutFilesValue };
 
@@ -48,13 +50,14 @@ impl Model for OutFiles {
         trace = string_bytes f.trace_name;
         memory = string_bytes f.memory_name;
       };
+      system = f.system;
       frames = f.frames.items;
       trace = f.trace.items;
       given = f.given;
     } };
 
     ghost invariant = { λ f. record {
-      within : f.given < frame_bytes;
+      within : f.given < frame_bytes f.system;
       different : AreDifferent (record {
         frames = string_bytes f.frames_name;
         trace = string_bytes f.trace_name;
@@ -68,7 +71,7 @@ impl OutFiles {
     ghost use Rattle.out_files.specs.Answers.{NamesFile, CreateAnswers, AreGrowable, FlushAnswers, MemoryAnswers};
     ghost use Rattle.out_files.specs.Together.{Begins, AddsPixels, AddsLine, StayTogether, LeavesParts, Completes};
 
-    /// Files of these three different names, with nothing pending and no frame begun.
+    /// Files of these three different names for a PAL machine, with nothing pending and no frame begun.
     pub fn new(alloc: Global, frames: String, trace: String, memory: String) -> OutFiles
         requires frames_trace { string_bytes frames ≢ string_bytes trace }
         requires frames_memory { string_bytes frames ≢ string_bytes memory }
@@ -79,6 +82,33 @@ impl OutFiles {
             trace = string_bytes trace;
             memory = string_bytes memory;
           };
+          system = System.Pal;
+          frames = [];
+          trace = [];
+          given = 0;
+        } }
+    {
+        OutFiles::made(alloc, frames, trace, memory, System::Pal)
+    }
+
+    /// Files of these three different names, with nothing pending and no frame begun.
+    pub fn made(
+        alloc: Global,
+        frames: String,
+        trace: String,
+        memory: String,
+        system: System,
+    ) -> OutFiles
+        requires frames_trace { string_bytes frames ≢ string_bytes trace }
+        requires frames_memory { string_bytes frames ≢ string_bytes memory }
+        requires trace_memory { string_bytes trace ≢ string_bytes memory }
+        ensures { result ≡ record {
+          names = record {
+            frames = string_bytes frames;
+            trace = string_bytes trace;
+            memory = string_bytes memory;
+          };
+          system = system;
           frames = [];
           trace = [];
           given = 0;
@@ -88,6 +118,7 @@ impl OutFiles {
             frames_name: frames,
             trace_name: trace,
             memory_name: memory,
+            system,
             frames: Vec::new(alloc),
             trace: Vec::new(alloc),
             line: Vec::new(alloc),
@@ -124,7 +155,7 @@ impl OutFiles {
         ensures refused { OnErr result (self.new ≡ self.old) }
     {
         let before = self.frames.len();
-        match put_pixels(&mut self.frames, self.given, piece) {
+        match put_pixels(&mut self.frames, self.system, self.given, piece) {
             Ok(given) => {
                 self.given = given;
                 Ok(())

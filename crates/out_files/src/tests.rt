@@ -162,3 +162,38 @@ fn the_memory_file(rt: HostRuntime) -> Result<(), Fail> {
     assert!(rt; file.starts_with(&[0x12, 0x34, 0x56, 0x78, 0, 0, 0, 1, 0]));
     Ok(())
 }
+
+/// Files of the same names of an NTSC machine.
+fn ntsc_files(alloc: Global) -> Result<OutFiles, OutOfMemory> {
+    let frames = String::from_str(alloc, "a")?;
+    let trace = String::from_str(alloc, "b")?;
+    let memory = String::from_str(alloc, "c")?;
+    Ok(OutFiles::made(alloc, frames, trace, memory, ocs_base::System::Ntsc))
+}
+
+/// Creates the files of an NTSC machine, gives these bytes, and flushes.
+fn flushed_ntsc(shelf: &mut Shelf, alloc: Global, pixels: &[u8]) -> Result<(), WriteFault> {
+    let mut out = ntsc_files(alloc)?;
+    out.create(shelf)?;
+    out.pixels(pixels)?;
+    out.flush(shelf)
+}
+
+#[test]
+fn a_heading_before_each_frame_of_ntsc(rt: HostRuntime) -> Result<(), Fail> {
+    for (given, size, end) in [
+        (522_720, 522_735, b"\x09\x09".as_slice()),
+        (522_721, 522_751, b"\x09P6\n720 242\n255\n\x09".as_slice()),
+    ] {
+        let bytes = nines(rt.alloc(), given)?;
+        let mut shelf = Shelf::new(rt.alloc());
+        assert!(rt; flushed_ntsc(&mut shelf, rt.alloc(), bytes.as_slice()).is_ok());
+        let Some(file) = shelf.file("a") else {
+            return Err(Fail::from(OutOfMemory));
+        };
+        assert_eq!(rt; file.len(), size);
+        assert!(rt; file.starts_with(b"P6\n720 242\n255\n\x09"));
+        assert!(rt; file.ends_with(end));
+    }
+    Ok(())
+}
