@@ -1,5 +1,6 @@
 -- What a call adds to the texts of the output files.
 use Rattle.std.specs.Prelude.{◌≡◌, ℕ, List, [], ◌++◌, Option}
+use Rattle.ocs_base.specs.declared.system.System.{System}
 use Rattle.ocs_io.specs.Place.{Files}
 use Rattle.out_files.specs.OutFiles.{OutFilesValue}
 use Rattle.out_files.specs.Together.{AreTogether}
@@ -9,8 +10,8 @@ use Rattle.serial_model.specs.declared.trace.TraceLine.{TraceLine}
 -- given before are together that of it and of these
 pub record Gives (old new : OutFilesValue) (pixels : List ℕ) (lines : List TraceLine) : Type 0 where
   pub names : new.names ≡ old.names
-  pub text : (base files : Option Files) (before : List ℕ) (traced : List TraceLine) →
-      AreTogether old base files before traced → AreTogether new base files (before ++ pixels) (traced ++ lines)
+  pub text : (system : System) (base files : Option Files) (before : List ℕ) (traced : List TraceLine) →
+      AreTogether system old base files before traced → AreTogether system new base files (before ++ pixels) (traced ++ lines)
 
 -- nothing but some lines of the trace
 abbrev pub GivesLines : OutFilesValue → OutFilesValue → Type 0
