@@ -4,7 +4,13 @@ use Rattle.ocs_base.specs.Script.{ScriptValue}
 use Rattle.ocs_base.specs.declared.script.Act.{Act}
 use Rattle.ocs_base.specs.declared.script.Act.TheVariants.{Poke, Peek, Joy, Fire, Key}
 use Rattle.ocs_base.specs.declared.script.At.{At}
+use Rattle.ocs_base.specs.declared.system.System.{System}
+use Rattle.ocs_base.specs.declared.system.System.TheVariants.{Pal, Ntsc}
 use Rattle.ocs_io.specs.Numbers.{hex_text}
+use Rattle.script_read.specs.KindName.{kind_name}
+use Rattle.script_read.specs.Versions.{HeadLine, CpuLine, FramesLine, ChipLine, SystemLine, kind_of, head_lines, lowest}
+use Rattle.script_read.specs.declared.version.Version.{Version}
+use Rattle.script_read.specs.declared.version.Version.TheVariants.{One, Two, Three}
 
 -- words after a first one: a space before each
 unfoldable pub spaced : List (List ℕ) → List ℕ
@@ -37,13 +43,32 @@ event_text at = line_text (codes "at") (time_words at)
 abbrev pub cpu_word : Bool → List ℕ
 cpu_word cpu = if cpu then codes "on" else codes "off"
 
-unfoldable pub head_text : Bool → ℕ → List ℕ
-head_text cpu frames = line_text (codes "ocs") (codes "1" ∷ [])
-    ++ (line_text (codes "cpu") (cpu_word cpu ∷ []) ++ line_text (codes "frames") (decimal frames ∷ []))
+abbrev pub system_word : System → List ℕ
+system_word Pal = codes "pal"
+system_word Ntsc = codes "ntsc"
 
--- three lines, a line for each event, and the end line
+abbrev pub version_word : Version → List ℕ
+version_word One = codes "1"
+version_word Two = codes "2"
+version_word Three = codes "3"
+
+-- what a line of the head says of a script
+abbrev pub head_word : ScriptValue → HeadLine → List ℕ
+head_word script CpuLine = cpu_word script.cpu
+head_word script FramesLine = decimal script.frames
+head_word script ChipLine = codes "512"
+head_word script SystemLine = system_word script.system
+
+-- a line of the head begins with the name of the kind that is said where it is bad
+abbrev pub head_line : ScriptValue → HeadLine → List ℕ
+head_line script part = line_text (kind_name (kind_of part)) (head_word script part ∷ [])
+
+unfoldable pub head_text : Version → ScriptValue → List ℕ
+head_text version script = line_text (codes "ocs") (version_word version ∷ []) ++ flat_map (head_line script) (head_lines version)
+
+-- the head of the lowest version that says the script, a line for each event, and the end line
 unfoldable pub script_text : ScriptValue → List ℕ
-script_text script = head_text script.cpu script.frames ++ (flat_map event_text script.events ++ line_text (codes "end") [])
+script_text script = head_text (lowest script.system) script ++ (flat_map event_text script.events ++ line_text (codes "end") [])
 
 -- the numbers of an act are of 16 and 8 bits, as the code's are
 abbrev pub HasWords : Act → Type 0
@@ -57,6 +82,14 @@ abbrev pub AllHaveWords : List At → Type 0
 AllHaveWords [] = Unit {0}
 AllHaveWords (at ∷ events) = HasWords at.act × AllHaveWords events
 
--- what a head begins with, up to the number of frames
-abbrev pub head_start : Bool → List ℕ
-head_start cpu = if cpu then codes "ocs 1\ncpu on\nframes" else codes "ocs 1\ncpu off\nframes"
+-- what a head begins with, its second line up to the number of frames, and what follows that number
+abbrev pub first_text : System → List ℕ
+first_text Pal = codes "ocs 1\n"
+first_text Ntsc = codes "ocs 3\n"
+
+abbrev pub cpu_text : Bool → List ℕ
+cpu_text cpu = if cpu then codes "cpu on\nframes" else codes "cpu off\nframes"
+
+abbrev pub last_text : System → List ℕ
+last_text Pal = codes "\n"
+last_text Ntsc = codes "\nchip 512\nsystem ntsc\n"

@@ -1,13 +1,19 @@
--- The grammar of a script, version 1, by lines, and the first fault of a text outside it.
+-- The grammar of a script in its three versions, by lines, and the first fault of a text outside it.
 use Rattle.std.specs.Prelude.{ℕ, ◌+◌, Bool, true, false, ◌&&◌, nat_le, nat_lt, if◌then◌else◌, List, [], ◌∷◌, length, codes, bytes_eq, Option, Some, None, Result, Ok, Err}
+use Rattle.ocs_base.specs.Addr.{chip_span}
 use Rattle.ocs_base.specs.Limits.{time_of}
 use Rattle.ocs_base.specs.Script.{ScriptValue}
 use Rattle.ocs_base.specs.declared.script.At.{At}
+use Rattle.ocs_base.specs.declared.system.System.{System}
+use Rattle.ocs_base.specs.declared.system.System.TheVariants.{Pal, Ntsc}
 use Rattle.ocs_io.specs.Numbers.{dec_of}
 use Rattle.script_read.specs.Split.{lines_of, words_of}
+use Rattle.script_read.specs.Versions.{HeadLine, CpuLine, FramesLine, ChipLine, SystemLine, kind_of, head_lines, blank}
 use Rattle.script_read.specs.Words.{event_of}
 use Rattle.script_read.specs.declared.fault.BadKind.{BadKind}
-use Rattle.script_read.specs.declared.fault.BadKind.TheVariants.{Long, Lines, Header, Cpu, Frames, Event, Order, Missing, Extra}
+use Rattle.script_read.specs.declared.fault.BadKind.TheVariants.{Long, Lines, Header, Event, Order, Missing, Extra}
+use Rattle.script_read.specs.declared.version.Version.{Version}
+use Rattle.script_read.specs.declared.version.Version.TheVariants.{One, Two, Three}
 
 -- a script, or the first bad line and what is wrong with it
 pub data Verdict : Type 0 where
@@ -18,12 +24,12 @@ abbrev pub in_order : ℕ → Option At → Result (Option At) BadKind
 in_order before None = Err Event
 in_order before (Some at) = if nat_lt (time_of at) before then Err Order else Ok (Some at)
 
--- a line after the third, by its number, where the event before it was at the time `before`: an event that
+-- a line after the head, by its number, where the event before it was at the time `before`: an event that
 -- is no earlier, or none at `end`; no line stands past line 100,000
-unfoldable pub body_line : ℕ → ℕ → ℕ → List ℕ → Result (Option At) BadKind
-body_line frames number before line =
+unfoldable pub body_line : System → ℕ → ℕ → ℕ → List ℕ → Result (Option At) BadKind
+body_line system frames number before line =
     if nat_lt 100000 number then Err Lines
-    else (if bytes_eq line (codes "end") then Ok None else in_order before (event_of frames line))
+    else (if bytes_eq line (codes "end") then Ok None else in_order before (event_of system frames line))
 
 -- after `end` there is nothing
 abbrev pub after_end : ScriptValue → ℕ → List (List ℕ) → Verdict
@@ -43,41 +49,78 @@ from_line (Ok (Some at)) number ended more = with_event at (more at)
 unfoldable pub body_of : ScriptValue → ℕ → ℕ → List (List ℕ) → Verdict
 body_of head number before [] = Bad number Missing
 body_of head number before (line ∷ lines) =
-    from_line (body_line head.frames number before line) number (after_end head (number + 1) lines) (λ at. body_of head (number + 1) (time_of at) lines)
+    from_line (body_line head.system head.frames number before line) number (after_end head (number + 1) lines)
+    (λ at. body_of head (number + 1) (time_of at) lines)
 
 abbrev pub kept_frames : Option ℕ → Option ℕ
 kept_frames None = None
 kept_frames (Some n) = if nat_le 1 n && nat_le n 1000 then Some n else None
 
--- the third line, `frames N`
+-- `frames N`
 unfoldable pub frames_in : List (List ℕ) → Option ℕ
 frames_in (name ∷ number ∷ []) = if bytes_eq name (codes "frames") then kept_frames (dec_of number) else None
 frames_in words = None
 
-abbrev pub with_frames : Bool → List (List ℕ) → Option ℕ → Verdict
-with_frames cpu lines None = Bad 3 Frames
-with_frames cpu lines (Some n) = body_of (record { cpu = cpu; frames = n; events = [] }) 4 0 lines
-
-unfoldable pub from_frames : Bool → List (List ℕ) → Verdict
-from_frames cpu [] = Bad 3 Missing
-from_frames cpu (line ∷ lines) = with_frames cpu lines (frames_in (words_of line))
-
--- the second line
+-- `cpu on` or `cpu off`
 unfoldable pub cpu_in : List ℕ → Option Bool
 cpu_in line = if bytes_eq line (codes "cpu on") then Some true else (if bytes_eq line (codes "cpu off") then Some false else None)
 
-abbrev pub with_cpu : List (List ℕ) → Option Bool → Verdict
-with_cpu lines None = Bad 2 Cpu
-with_cpu lines (Some cpu) = from_frames cpu lines
+-- the size of chip memory in bytes: `chip 512`, the one that there is
+unfoldable pub chip_in : List ℕ → Option ℕ
+chip_in line = if bytes_eq line (codes "chip 512") then Some chip_span else None
 
-unfoldable pub from_cpu : List (List ℕ) → Verdict
-from_cpu [] = Bad 2 Missing
-from_cpu (line ∷ lines) = with_cpu lines (cpu_in line)
+-- `system pal` or `system ntsc`
+unfoldable pub system_in : List ℕ → Option System
+system_in line = if bytes_eq line (codes "system pal") then Some Pal else (if bytes_eq line (codes "system ntsc") then Some Ntsc else None)
 
--- the first line
+abbrev pub with_cpu : ScriptValue → Option Bool → Option ScriptValue
+with_cpu head None = None
+with_cpu head (Some cpu) = Some (record head { cpu = cpu })
+
+abbrev pub with_frames : ScriptValue → Option ℕ → Option ScriptValue
+with_frames head None = None
+with_frames head (Some frames) = Some (record head { frames = frames })
+
+-- each script has the one size
+abbrev pub with_chip : ScriptValue → Option ℕ → Option ScriptValue
+with_chip head None = None
+with_chip head (Some size) = Some head
+
+abbrev pub with_system : ScriptValue → Option System → Option ScriptValue
+with_system head None = None
+with_system head (Some system) = Some (record head { system = system })
+
+-- the script with what a line of its head says
+abbrev pub head_with : HeadLine → ScriptValue → List ℕ → Option ScriptValue
+head_with CpuLine head line = with_cpu head (cpu_in line)
+head_with FramesLine head line = with_frames head (frames_in (words_of line))
+head_with ChipLine head line = with_chip head (chip_in line)
+head_with SystemLine head line = with_system head (system_in line)
+
+abbrev pub from_head : Option ScriptValue → ℕ → BadKind → (ScriptValue → Verdict) → Verdict
+from_head None number kind more = Bad number kind
+from_head (Some head) number kind more = more head
+
+-- the lines from the one of this number on: these of the head, and then the body
+unfoldable pub head_of : List HeadLine → ℕ → ScriptValue → List (List ℕ) → Verdict
+head_of [] number head lines = body_of head number 0 lines
+head_of (part ∷ parts) number head [] = Bad number Missing
+head_of (part ∷ parts) number head (line ∷ lines) =
+    from_head (head_with part head line) number (kind_of part) (λ next. head_of parts (number + 1) next lines)
+
+-- the first line, `ocs` and the version
+unfoldable pub version_in : List ℕ → Option Version
+version_in line =
+    if bytes_eq line (codes "ocs 1") then Some One
+    else (if bytes_eq line (codes "ocs 2") then Some Two else (if bytes_eq line (codes "ocs 3") then Some Three else None))
+
+abbrev pub from_version : Option Version → List (List ℕ) → Verdict
+from_version None lines = Bad 1 Header
+from_version (Some version) lines = head_of (head_lines version) 2 blank lines
+
 unfoldable pub from_header : List (List ℕ) → Verdict
 from_header [] = Bad 1 Missing
-from_header (line ∷ lines) = if bytes_eq line (codes "ocs 1") then from_cpu lines else Bad 1 Header
+from_header (line ∷ lines) = from_version (version_in line) lines
 
 -- the script of a text of at most 4,194,304 bytes
 unfoldable pub script_of : List ℕ → Verdict

@@ -1,6 +1,7 @@
 pub mod KindName
 pub mod Split
 pub mod Words
+pub mod Versions
 pub mod Grammar
 pub mod Verdict
 pub mod Cut

@@ -1,10 +1,12 @@
 -- The words of an event: numbers, registers, acts and times.
-use Rattle.std.specs.Prelude.{ℕ, ◌%◌, ◌==◌, ◌&&◌, nat_lt, if◌then◌else◌, List, [], ◌∷◌, length, codes, bytes_eq, Option, Some, None}
+use Rattle.std.specs.Prelude.{ℕ, false, ◌%◌, ◌==◌, ◌&&◌, nat_lt, if◌then◌else◌, List, [], ◌∷◌, length, codes, bytes_eq, Option, Some, None}
 use Rattle.ocs_base.specs.Register.{register_of}
 use Rattle.ocs_base.specs.declared.reg.Reg.{Reg}
 use Rattle.ocs_base.specs.declared.script.Act.{Act}
 use Rattle.ocs_base.specs.declared.script.Act.TheVariants.{Poke, Peek, Joy, Fire, Key}
 use Rattle.ocs_base.specs.declared.script.At.{At}
+use Rattle.ocs_base.specs.declared.system.System.{System}
+use Rattle.ocs_base.specs.Systems.{lines}
 use Rattle.ocs_io.specs.Numbers.{dec_of, hex_of}
 use Rattle.script_read.specs.Split.{words_of}
 
@@ -87,11 +89,11 @@ timed (Some frame) (Some v) None act = None
 timed (Some frame) (Some v) (Some h) None = None
 timed (Some frame) (Some v) (Some h) (Some act) = Some (record { frame = frame; v = v; h = h; act = act })
 
--- an event of a run of so many frames: `at F V H` and an act
-unfoldable pub event_in : ℕ → List (List ℕ) → Option At
-event_in frames (at ∷ frame ∷ v ∷ h ∷ verb ∷ words) =
-    if bytes_eq at (codes "at") then timed (below frames frame) (below 312 v) (below 227 h) (act_of verb words) else None
-event_in frames words = None
+-- an event of a run of so many frames: `at F V H` and an act, in a line that each field of the system has
+unfoldable pub event_in : System → ℕ → List (List ℕ) → Option At
+event_in system frames (at ∷ frame ∷ v ∷ h ∷ verb ∷ words) =
+    if bytes_eq at (codes "at") then timed (below frames frame) (below (lines system false) v) (below 227 h) (act_of verb words) else None
+event_in system frames words = None
 
-unfoldable pub event_of : ℕ → List ℕ → Option At
-event_of frames line = event_in frames (words_of line)
+unfoldable pub event_of : System → ℕ → List ℕ → Option At
+event_of system frames line = event_in system frames (words_of line)

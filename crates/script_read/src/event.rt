@@ -1,24 +1,25 @@
 //! The line of an event.
 
-ghost use Rattle.std.specs.Prelude.{◌≡◌, ◌^◌, ◌<◌, IfSome};
+ghost use Rattle.std.specs.Prelude.{◌≡◌, ◌^◌, ◌<◌, false, IfSome};
+ghost use Rattle.ocs_base.specs.Systems.{lines};
 ghost use Rattle.script_read.specs.Words.{below, hex_number, register_named, poke_of, peek_of, joy_of, fire_of, key_of, act_of, event_of};
 ghost use Rattle.script_read.specs.Cut.{words_left};
 
 use crate::parts::{event_words, one_word, two_words};
-use ocs_base::{Act, At, Reg};
+use ocs_base::{Act, At, Reg, System};
 use ocs_io::{dec, hex};
 
-/// Reads an event of a run of so many frames; None exactly where the line is none.
+/// Reads an event of a run of so many frames on a machine of this system; None exactly where the line is none.
 #[tactic(auto, using(crate::proofs::EventLaws::event_laws), unfolding(crate::specs::Words::event_of))]
-pub fn read_event(frames: u32, line: &[u8]) -> Option<At>
-    ensures { result ≡ event_of frames line.now }
+pub fn read_event(system: System, frames: u32, line: &[u8]) -> Option<At>
+    ensures { result ≡ event_of system frames line.now }
 {
     let words = event_words(line)?;
     if words.at != b"at".as_slice() {
         return None;
     }
     let frame = number_below(frames, words.frame)?;
-    let v = number_below(312, words.v)? as u16;
+    let v = beam_line(system, words.v)?;
     let h = number_below(227, words.h)? as u16;
     let act = read_act(words.verb, words.args)?;
     Some(At { frame, v, h, act })
@@ -107,6 +108,15 @@ fn hex_digits(digits: usize, text: &[u8]) -> Option<u16>
         return None;
     }
     hex(text)
+}
+
+/// A line of the beam that each field of the system has.
+#[tactic(auto, using(crate::proofs::EventLaws::line_laws))]
+fn beam_line(system: System, text: &[u8]) -> Option<u16>
+    ensures { result ≡ below (lines system false) text.now }
+{
+    let v = number_below(system.lines(false) as u32, text)?;
+    Some(v as u16)
 }
 
 /// A decimal number below a limit.

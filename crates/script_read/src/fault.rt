@@ -3,9 +3,10 @@
 use thiserror::Error;
 
 /// What is wrong with a line. `Long`: the text is too long as a whole. `Lines`: a line past the
-/// greatest number of lines. `Header`, `Cpu`, `Frames`: the first three lines. `Event`: neither an event
-/// nor the end. `Order`: an event earlier than the one before it. `Missing`: the text ends before its end
-/// line. `Extra`: a line after the end line.
+/// greatest number of lines. `Header`, `Cpu`, `Frames`: the first three lines. `Chip`: line 4 of versions 2
+/// and 3. `System`: line 5 of version 3. `Event`: neither an event nor the end. `Order`: an event earlier
+/// than the one before it. `Missing`: the text ends before its end line, or within its head. `Extra`: a
+/// line after the end line.
 #[derive(Clone, Copy, PartialEq, Eq, Debug)]
 pub enum BadKind {
     Long,
@@ -13,6 +14,8 @@ pub enum BadKind {
     Header,
     Cpu,
     Frames,
+    Chip,
+    System,
     Event,
     Order,
     Missing,
@@ -33,6 +36,8 @@ impl BadKind {
             BadKind::Header => "header",
             BadKind::Cpu => "cpu",
             BadKind::Frames => "frames",
+            BadKind::Chip => "chip",
+            BadKind::System => "system",
             BadKind::Event => "event",
             BadKind::Order => "order",
             BadKind::Missing => "missing",

@@ -7,6 +7,7 @@ pub mod fault;
 mod parts;
 mod printer;
 mod reader;
+mod version;
 
 pub use fault::{BadKind, ScriptFault};
 pub use printer::print_script;
@@ -14,3 +15,5 @@ pub use reader::read_script;
 
 #[cfg(test)]
 mod tests;
+#[cfg(test)]
+mod version_tests;

@@ -2,16 +2,17 @@
 
 ghost use Rattle.std.specs.Prelude.{◌≡◌, ◌<◌, ◌≤◌, ◌^◌, [], ◌∷◌, ◌++◌, length, flat_map, codes, decimal, OnOk, OnErr};
 ghost use Rattle.ocs_io.specs.Numbers.{hex_text};
-ghost use Rattle.script_read.specs.Canonical.{spaced, act_words, event_text, head_start, head_text, script_text, digit_of, HasWords, AllHaveWords};
+ghost use Rattle.script_read.specs.Canonical.{spaced, act_words, event_text, first_text, cpu_text, last_text, head_text, script_text, digit_of, HasWords, AllHaveWords};
 ghost use Rattle.script_read.specs.Extends.{Extends};
 ghost use Rattle.script_read.specs.Printable.{IsPrintable};
+ghost use Rattle.script_read.specs.Versions.{lowest};
 ghost use Rattle.script_read.specs.Grammar.{script_of, Good};
 
-use ocs_base::{Act, At, OutOfMemory, Script};
+use ocs_base::{Act, At, OutOfMemory, Script, System};
 use ocs_io::{put_dec, put_hex};
 
-/// Appends the canonical text of a script: each line ended by a line feed. It is read again as the same
-/// script. After a refusal `into` is as before.
+/// Appends the canonical text of a script, in the lowest version that says it: each line ended by a line
+/// feed. It is read again as the same script. After a refusal `into` is as before.
 #[tactic(auto, using(crate::proofs::PrintLaws::print_laws))]
 pub fn print_script(script: &Script, into: &mut Vec<u8>) -> Result<(), OutOfMemory>
     requires { IsPrintable script.now }
@@ -33,20 +34,22 @@ fn put_script(script: &Script, into: &mut Vec<u8>) -> Result<(), OutOfMemory>
     ensures words { OnOk result (AllHaveWords script.now.events) }
     ensures kept { Extends into.old.items into.new.items }
 {
-    put_head(script.cpu(), script.frames(), into)?;
+    put_head(script, into)?;
     put_events(script.events(), into)?;
     into.extend_from_slice(b"end\n")?;
     Ok(())
 }
 
 #[tactic(auto, using(crate::proofs::PrintLaws::extends_laws))]
-fn put_head(cpu: bool, frames: u32, into: &mut Vec<u8>) -> Result<(), OutOfMemory>
-    ensures ok { OnOk result (into.new.items ≡ into.old.items ++ head_text cpu frames) }
+fn put_head(script: &Script, into: &mut Vec<u8>) -> Result<(), OutOfMemory>
+    ensures ok { OnOk result (into.new.items
+        ≡ into.old.items ++ head_text (lowest script.now.system) script.now) }
     ensures kept { Extends into.old.items into.new.items }
 {
-    into.extend_from_slice(head(cpu))?;
-    put_number(frames as u64, into)?;
-    into.push(b'\n')?;
+    into.extend_from_slice(first_line(script.system()))?;
+    into.extend_from_slice(cpu_line(script.cpu()))?;
+    put_number(script.frames() as u64, into)?;
+    into.extend_from_slice(last_lines(script.system()))?;
     Ok(())
 }
 
@@ -136,14 +139,34 @@ fn put_digits(n: u16, digits: usize, into: &mut Vec<u8>) -> Result<(), OutOfMemo
     Ok(())
 }
 
-/// What the head begins with.
-fn head(cpu: bool) -> &'static [u8]
-    ensures { result.now ≡ head_start cpu }
+/// The first line of the lowest version that says a script for this system.
+fn first_line(system: System) -> &'static [u8]
+    ensures { result.now ≡ first_text system }
+{
+    match system {
+        System::Pal => b"ocs 1\n",
+        System::Ntsc => b"ocs 3\n",
+    }
+}
+
+/// The second line, and the third up to its number.
+fn cpu_line(cpu: bool) -> &'static [u8]
+    ensures { result.now ≡ cpu_text cpu }
 {
     if cpu {
-        b"ocs 1\ncpu on\nframes"
+        b"cpu on\nframes"
     } else {
-        b"ocs 1\ncpu off\nframes"
+        b"cpu off\nframes"
+    }
+}
+
+/// What follows the number of frames: the end of its line, and the lines that later versions have.
+fn last_lines(system: System) -> &'static [u8]
+    ensures { result.now ≡ last_text system }
+{
+    match system {
+        System::Pal => b"\n",
+        System::Ntsc => b"\nchip 512\nsystem ntsc\n",
     }
 }
 

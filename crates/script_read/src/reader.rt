@@ -1,8 +1,9 @@
 //! Reading a script, line by line.
 
-ghost use Rattle.std.specs.Prelude.{◌≡◌, ◌<◌, ◌≤◌, [], OnOk, IfOk, IfSome};
+ghost use Rattle.std.specs.Prelude.{◌≡◌, ◌<◌, ◌≤◌, [], ◌∷◌, if◌then◌else◌, OnOk, IfOk, IfSome};
 ghost use Rattle.script_read.specs.Split.{lines_of, words_of};
-ghost use Rattle.script_read.specs.Grammar.{script_of, from_header, from_cpu, from_frames, frames_in, kept_frames, cpu_in, body_of, body_line, after_end};
+ghost use Rattle.script_read.specs.Grammar.{script_of, from_header, version_in, head_of, frames_in, kept_frames, cpu_in, chip_in, system_in, body_of, body_line, after_end};
+ghost use Rattle.script_read.specs.Versions.{CpuLine, FramesLine, ChipLine, SystemLine, head_lines, later_lines, blank, begun};
 ghost use Rattle.ocs_io.specs.Numbers.{dec_of};
 ghost use Rattle.script_read.specs.Printable.{IsPrintable};
 ghost use Rattle.script_read.specs.Verdict.{ReadsAs};
@@ -10,7 +11,8 @@ ghost use Rattle.script_read.specs.Verdict.{ReadsAs};
 use crate::event::read_event;
 use crate::fault::{BadKind, ScriptFault};
 use crate::parts::{next_line, two_words};
-use ocs_base::{At, Script};
+use crate::version::{Head, Version};
+use ocs_base::{At, Script, System};
 use ocs_io::dec;
 use std::alloc::Global;
 
@@ -20,7 +22,7 @@ const GREATEST_SIZE: usize = 4_194_304;
 /// The greatest number of lines of a script.
 const GREATEST_LINE: u32 = 100_000;
 
-/// Reads a script of version 1. `Bad` names the first bad line.
+/// Reads a script of version 1, 2 or 3. `Bad` names the first bad line.
 #[tactic(auto, using(crate::proofs::RunnableLaws::runnable_laws), unfolding(crate::specs::Grammar::script_of))]
 pub fn read_script(alloc: Global, bytes: &[u8]) -> Result<Script, ScriptFault>
     ensures verdict { ReadsAs (script_of bytes.now) result }
@@ -47,23 +49,38 @@ fn read_header(alloc: Global, text: &[u8]) -> Result<Script, ScriptFault>
     let Some(line) = next_line(text) else {
         return Err(bad(1, BadKind::Missing));
     };
-    if line.text == b"ocs 1".as_slice() {
-        read_cpu(alloc, line.rest)
+    match version(line.text) {
+        Some(version) => read_cpu(alloc, version, line.rest),
+        None => Err(bad(1, BadKind::Header)),
+    }
+}
+
+/// The version that the first line names.
+#[tactic(auto, unfolding(crate::specs::Grammar::version_in))]
+fn version(line: &[u8]) -> Option<Version>
+    ensures { result ≡ version_in line.now }
+{
+    if line == b"ocs 1".as_slice() {
+        Some(Version::One)
+    } else if line == b"ocs 2".as_slice() {
+        Some(Version::Two)
+    } else if line == b"ocs 3".as_slice() {
+        Some(Version::Three)
     } else {
-        Err(bad(1, BadKind::Header))
+        None
     }
 }
 
 /// Reads from the second line on.
-#[tactic(auto, unfolding(crate::specs::Grammar::from_cpu))]
-fn read_cpu(alloc: Global, text: &[u8]) -> Result<Script, ScriptFault>
-    ensures { ReadsAs (from_cpu (lines_of text.now)) result }
+#[tactic(auto, unfolding(crate::specs::Grammar::head_of))]
+fn read_cpu(alloc: Global, version: Version, text: &[u8]) -> Result<Script, ScriptFault>
+    ensures { ReadsAs (head_of (head_lines version) 2 blank (lines_of text.now)) result }
 {
     let Some(line) = next_line(text) else {
         return Err(bad(2, BadKind::Missing));
     };
     match cpu(line.text) {
-        Some(cpu) => read_frames(alloc, cpu, line.rest),
+        Some(cpu) => read_frames(alloc, version, cpu, line.rest),
         None => Err(bad(2, BadKind::Cpu)),
     }
 }
@@ -83,15 +100,35 @@ fn cpu(line: &[u8]) -> Option<bool>
 }
 
 /// Reads from the third line on.
-#[tactic(auto, unfolding(crate::specs::Grammar::from_frames))]
-fn read_frames(alloc: Global, cpu: bool, text: &[u8]) -> Result<Script, ScriptFault>
-    ensures { ReadsAs (from_frames cpu (lines_of text.now)) result }
+#[tactic(auto, unfolding(crate::specs::Grammar::head_of))]
+fn read_frames(
+    alloc: Global,
+    version: Version,
+    cpu: bool,
+    text: &[u8],
+) -> Result<Script, ScriptFault>
+    ensures { ReadsAs
+        (head_of (FramesLine ∷ later_lines version) 3 (record blank { cpu = cpu })
+        (lines_of text.now))
+        result }
 {
     let Some(line) = next_line(text) else {
         return Err(bad(3, BadKind::Missing));
     };
+    let system = System::Pal;
     match frames(line.text) {
-        Some(frames) => read_body(alloc, cpu, frames, line.rest),
+        Some(frames) => {
+            read_later(
+                alloc,
+                version,
+                Head {
+                    cpu,
+                    frames,
+                    system,
+                },
+                line.rest,
+            )
+        }
         None => Err(bad(3, BadKind::Frames)),
     }
 }
@@ -120,19 +157,100 @@ fn frame_count(text: &[u8]) -> Option<u32>
     if n <= 1000 { Some(n as u32) } else { None }
 }
 
-/// Reads from the fourth line on.
-#[tactic(auto, using(crate::proofs::BodyLaws::body_laws))]
-fn read_body(alloc: Global, cpu: bool, frames: u32, text: &[u8]) -> Result<Script, ScriptFault>
+/// Reads from the fourth line on: a later line of the head, or the body.
+#[tactic(auto, unfolding(crate::specs::Grammar::head_of))]
+fn read_later(
+    alloc: Global,
+    version: Version,
+    head: Head,
+    text: &[u8],
+) -> Result<Script, ScriptFault>
+    ensures { ReadsAs (head_of (later_lines version) 4 (begun head) (lines_of text.now)) result }
+{
+    match version {
+        Version::One => read_body(alloc, head, 4, text),
+        Version::Two => read_chip(alloc, head, false, text),
+        Version::Three => read_chip(alloc, head, true, text),
+    }
+}
+
+/// Reads from the line of the chip memory on, which a line of the system may follow.
+#[tactic(auto, unfolding(crate::specs::Grammar::head_of))]
+fn read_chip(
+    alloc: Global,
+    head: Head,
+    has_system: bool,
+    text: &[u8],
+) -> Result<Script, ScriptFault>
     ensures { ReadsAs
-        (body_of (record { cpu = cpu; frames = frames; events = [] }) 4 0 (lines_of text.now))
+        (head_of (ChipLine ∷ (if has_system then SystemLine ∷ [] else [])) 4 (begun head)
+        (lines_of text.now))
         result }
 {
-    let mut script = Script::new(alloc, cpu, frames);
-    let mut number = 4;
+    let Some(line) = next_line(text) else {
+        return Err(bad(4, BadKind::Missing));
+    };
+    if chip(line.text).is_none() {
+        return Err(bad(4, BadKind::Chip));
+    }
+    if has_system {
+        read_system(alloc, head, line.rest)
+    } else {
+        read_body(alloc, head, 5, line.rest)
+    }
+}
+
+/// The size of chip memory in bytes that a line names, where it is the size of the machine.
+#[tactic(auto, unfolding(crate::specs::Grammar::chip_in))]
+fn chip(line: &[u8]) -> Option<u32>
+    ensures { result ≡ chip_in line.now }
+{
+    if line == b"chip 512".as_slice() {
+        Some(0x8_0000)
+    } else {
+        None
+    }
+}
+
+/// Reads from the line of the system on.
+#[tactic(auto, unfolding(crate::specs::Grammar::head_of))]
+fn read_system(alloc: Global, head: Head, text: &[u8]) -> Result<Script, ScriptFault>
+    ensures { ReadsAs (head_of (SystemLine ∷ []) 5 (begun head) (lines_of text.now)) result }
+{
+    let Some(line) = next_line(text) else {
+        return Err(bad(5, BadKind::Missing));
+    };
+    match system(line.text) {
+        Some(system) => read_body(alloc, Head { system, ..head }, 6, line.rest),
+        None => Err(bad(5, BadKind::System)),
+    }
+}
+
+/// The system that a line names.
+#[tactic(auto, unfolding(crate::specs::Grammar::system_in))]
+fn system(line: &[u8]) -> Option<System>
+    ensures { result ≡ system_in line.now }
+{
+    if line == b"system pal".as_slice() {
+        Some(System::Pal)
+    } else if line == b"system ntsc".as_slice() {
+        Some(System::Ntsc)
+    } else {
+        None
+    }
+}
+
+/// Reads the lines after the head, the first of which has the number `first`.
+#[tactic(auto, using(crate::proofs::BodyLaws::body_laws))]
+fn read_body(alloc: Global, head: Head, first: u32, text: &[u8]) -> Result<Script, ScriptFault>
+    ensures { ReadsAs (body_of (begun head) first 0 (lines_of text.now)) result }
+{
+    let mut script = Script::made(alloc, head.cpu, head.frames, head.system);
+    let mut number = first;
     let mut before = 0;
     let mut rest = text;
     while let Some(line) = next_line(rest) {
-        let event = match read_line(frames, number, before, line.text) {
+        let event = match read_line(head, number, before, line.text) {
             Ok(event) => event,
             Err(kind) => return Err(bad(number, kind)),
         };
@@ -149,10 +267,10 @@ fn read_body(alloc: Global, cpu: bool, frames: u32, text: &[u8]) -> Result<Scrip
     Err(bad(number, BadKind::Missing))
 }
 
-/// Reads a line after the third: an event, or none at the end line.
+/// Reads a line after the head: an event, or none at the end line.
 #[tactic(auto, unfolding(crate::specs::Grammar::body_line))]
-fn read_line(frames: u32, number: u32, before: u64, line: &[u8]) -> Result<Option<At>, BadKind>
-    ensures line { result ≡ body_line frames number before line.now }
+fn read_line(head: Head, number: u32, before: u64, line: &[u8]) -> Result<Option<At>, BadKind>
+    ensures line { result ≡ body_line head.system head.frames number before line.now }
     ensures number { OnOk result (number ≤ 100000) }
 {
     if number > GREATEST_LINE {
@@ -161,7 +279,7 @@ fn read_line(frames: u32, number: u32, before: u64, line: &[u8]) -> Result<Optio
     if line == b"end".as_slice() {
         return Ok(None);
     }
-    let Some(at) = read_event(frames, line) else {
+    let Some(at) = read_event(head.system, head.frames, line) else {
         return Err(BadKind::Event);
     };
     if at.time() < before {

@@ -47,7 +47,7 @@ fn scripts_are_read(rt: HostRuntime) -> Result<(), Fail> {
 fn heads_that_are_bad(rt: HostRuntime) {
     let cases: [(&[u8], u32, BadKind); 14] = [
         (b"", 1, BadKind::Missing),
-        (b"ocs 2\n", 1, BadKind::Header),
+        (b"ocs 4\n", 1, BadKind::Header),
         (b"ocs  1\n", 1, BadKind::Header),
         (b"ocs 1\r\n", 1, BadKind::Header),
         (b"\nocs 1\n", 1, BadKind::Header),

@@ -1,0 +1,20 @@
+//! The versions of a script's text, and what a head says.
+
+use ocs_base::System;
+
+/// A version of the text, as its first line names it.
+#[derive(Clone, Copy, PartialEq, Eq, Debug)]
+pub enum Version {
+    One,
+    Two,
+    Three,
+}
+
+/// What a head says: whether the processor is started, how many frames the run shows, and whose beam the
+/// machine has.
+#[derive(Clone, Copy)]
+pub struct Head {
+    pub cpu: bool,
+    pub frames: u32,
+    pub system: System,
+}
