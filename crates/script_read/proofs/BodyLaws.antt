@@ -21,23 +21,28 @@ with_events-push events at (Good script) = ap (λ e. Good (record script { event
 with_events-push events at (Bad number kind) = refl
 
 -- where the reading stands: the events so far, and the lines that are left
-pub record StandsAt (head : ScriptValue) (all : List (List ℕ)) (script : ScriptValue) (number before : ℕ) (left : List (List ℕ)) : Type 0 where
+pub record StandsAt (head : ScriptValue) (first : ℕ) (all : List (List ℕ)) (script : ScriptValue) (number before : ℕ) (left : List (List ℕ)) : Type 0 where
   pub cpu : script.cpu ≡ head.cpu
   pub frames : script.frames ≡ head.frames
-  pub verdict : body_of head 4 0 all ≡ with_events script.events (body_of head number before left)
+  pub system : script.system ≡ head.system
+  pub verdict : body_of head first 0 all ≡ with_events script.events (body_of head number before left)
 
-pub StandsAt-start : (head : ScriptValue) (all : List (List ℕ)) → head.events ≡ [] → StandsAt head all head 4 0 all
-StandsAt-start head all none =
-    record { cpu = refl; frames = refl; verdict = sym (with_events-none (body_of head 4 0 all)) ∙ ap (λ e. with_events e (body_of head 4 0 all)) (sym none) }
+pub StandsAt-start : (head : ScriptValue) (first : ℕ) (all : List (List ℕ)) → head.events ≡ [] → StandsAt head first all head first 0 all
+StandsAt-start head first all none = record {
+  cpu = refl;
+  frames = refl;
+  system = refl;
+  verdict = sym (with_events-none (body_of head first 0 all)) ∙ ap (λ e. with_events e (body_of head first 0 all)) (sym none);
+}
 
-module _ (head : ScriptValue) (all : List (List ℕ)) (script : ScriptValue) (number before : ℕ) (left : List (List ℕ)) where
-  pub StandsAt-missing : StandsAt head all script number before left → left ≡ [] → body_of head 4 0 all ≡ Bad number Missing
+module _ (head : ScriptValue) (first : ℕ) (all : List (List ℕ)) (script : ScriptValue) (number before : ℕ) (left : List (List ℕ)) where
+  pub StandsAt-missing : StandsAt head first all script number before left → left ≡ [] → body_of head first 0 all ≡ Bad number Missing
   unfolding body_of
   StandsAt-missing stands none = stands.verdict ∙ ap (λ l. with_events script.events (body_of head number before l)) none
 
-  opened : (line : List ℕ) (lines : List (List ℕ)) (answer : Result (Option At) BadKind) → StandsAt head all script number before left → left ≡ line ∷ lines
-      → answer ≡ body_line head.frames number before line
-      → body_of head 4 0 all ≡ with_events script.events
+  opened : (line : List ℕ) (lines : List (List ℕ)) (answer : Result (Option At) BadKind) → StandsAt head first all script number before left
+      → left ≡ line ∷ lines → answer ≡ body_line head.system head.frames number before line
+      → body_of head first 0 all ≡ with_events script.events
       (from_line answer number (after_end head (number + 1) lines) (λ at. body_of head (number + 1) (time_of at) lines))
   unfolding body_of
   opened line lines answer stands next is =
@@ -45,26 +50,28 @@ module _ (head : ScriptValue) (all : List (List ℕ)) (script : ScriptValue) (nu
       ∙ ap (λ a. with_events script.events (from_line a number (after_end head (number + 1) lines) (λ at. body_of head (number + 1) (time_of at) lines)))
       (sym is)
 
-  pub StandsAt-bad : (line : List ℕ) (lines : List (List ℕ)) (kind : BadKind) → StandsAt head all script number before left → left ≡ line ∷ lines
-      → Err kind ≡ body_line head.frames number before line → body_of head 4 0 all ≡ Bad number kind
+  pub StandsAt-bad : (line : List ℕ) (lines : List (List ℕ)) (kind : BadKind) → StandsAt head first all script number before left → left ≡ line ∷ lines
+      → Err kind ≡ body_line head.system head.frames number before line → body_of head first 0 all ≡ Bad number kind
   StandsAt-bad line lines kind stands next is = opened line lines (Err kind) stands next is
 
-  pub StandsAt-more : (line : List ℕ) (lines : List (List ℕ)) (at : At) → StandsAt head all script number before left → left ≡ line ∷ lines
-      → Ok (Some at) ≡ body_line head.frames number before line
-      → StandsAt head all (record script { events = script.events ++ at ∷ [] }) (number + 1) (time_of at) lines
+  pub StandsAt-more : (line : List ℕ) (lines : List (List ℕ)) (at : At) → StandsAt head first all script number before left → left ≡ line ∷ lines
+      → Ok (Some at) ≡ body_line head.system head.frames number before line
+      → StandsAt head first all (record script { events = script.events ++ at ∷ [] }) (number + 1) (time_of at) lines
   StandsAt-more line lines at stands next is = record {
     cpu = stands.cpu;
     frames = stands.frames;
+    system = stands.system;
     verdict = opened line lines (Ok (Some at)) stands next is ∙ with_events-push script.events at (body_of head (number + 1) (time_of at) lines);
   }
 
-  pub StandsAt-end : (line : List ℕ) (lines : List (List ℕ)) → head.events ≡ [] → StandsAt head all script number before left → left ≡ line ∷ lines
-      → Ok None ≡ body_line head.frames number before line
-      → body_of head 4 0 all ≡ after_end script (number + 1) lines
+  pub StandsAt-end : (line : List ℕ) (lines : List (List ℕ)) → head.events ≡ [] → StandsAt head first all script number before left → left ≡ line ∷ lines
+      → Ok None ≡ body_line head.system head.frames number before line
+      → body_of head first 0 all ≡ after_end script (number + 1) lines
   StandsAt-end line lines none stands next is = opened line lines (Ok None) stands next is ∙ ended lines
     where
       ended : (lines : List (List ℕ)) → with_events script.events (after_end head (number + 1) lines) ≡ after_end script (number + 1) lines
-      ended [] = (λ i. Good (record { cpu = sym stands.cpu i; frames = sym stands.frames i; events = script.events ++ none i }))
+      ended [] =
+          (λ i. Good (record { cpu = sym stands.cpu i; frames = sym stands.frames i; system = sym stands.system i; events = script.events ++ none i }))
           ∙ ap (λ e. Good (record script { events = e })) (append-nil script.events)
       ended (extra ∷ lines) = refl
 

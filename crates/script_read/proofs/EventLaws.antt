@@ -12,6 +12,9 @@ use Rattle.ocs_io.specs.Numbers.{hex_of, all_bytes, is_lower_hex}
 use Rattle.script_read.specs.Words.{below, hex_number, kept_register, register_named, poke_of, peek_of, joy_of, fire_of, key_of, act_of, event_in, event_of, poke_with, peek_with, joy_with, fire_with, key_with, timed}
 use Rattle.script_read.specs.Split.{words_of}
 use Rattle.ocs_base.specs.declared.script.Act.{Act}
+use Rattle.ocs_base.specs.declared.system.System.{System}
+use Rattle.ocs_base.specs.declared.system.System.TheVariants.{Pal, Ntsc}
+use Rattle.ocs_base.specs.Systems.{lines}
 use Rattle.std.proofs.lemmas.List.Splits.{length-slice_split}
 
 -- words of a wrong number are no act
@@ -48,14 +51,19 @@ key_of-none [] few = refl
 key_of-none (a ∷ []) few = absurd (few refl)
 key_of-none (a ∷ b ∷ words) few = refl
 
-pub event_in-none : (frames : ℕ) (words : List (List ℕ)) → length words < 5 → event_in frames words ≡ None
+pub event_in-none : (system : System) (frames : ℕ) (words : List (List ℕ)) → length words < 5 → event_in system frames words ≡ None
 unfolding event_in
-event_in-none frames [] few = refl
-event_in-none frames (a ∷ []) few = refl
-event_in-none frames (a ∷ b ∷ []) few = refl
-event_in-none frames (a ∷ b ∷ c ∷ []) few = refl
-event_in-none frames (a ∷ b ∷ c ∷ d ∷ []) few = refl
-event_in-none frames (a ∷ b ∷ c ∷ d ∷ e ∷ words) few = absurd (omega arith)
+event_in-none system frames [] few = refl
+event_in-none system frames (a ∷ []) few = refl
+event_in-none system frames (a ∷ b ∷ []) few = refl
+event_in-none system frames (a ∷ b ∷ c ∷ []) few = refl
+event_in-none system frames (a ∷ b ∷ c ∷ d ∷ []) few = refl
+event_in-none system frames (a ∷ b ∷ c ∷ d ∷ e ∷ words) few = absurd (omega arith)
+
+-- each field of a system has less than 313 lines
+pub lines-few : (system : System) → lines system false < 313
+lines-few Pal = omega arith
+lines-few Ntsc = omega arith
 
 -- a number of so many hexadecimal digits is below the power
 lower_digit : (b : ℕ) → is_lower_hex b ≡ true → digit_value b < 16
@@ -142,21 +150,22 @@ unfolding key_of
 key-read words first code is r = ap key_with r ∙ ap key_of (sym is)
 
 -- an event, from what is read of its words
-pub event-read : (frames : ℕ) (line at frame v h verb : List ℕ) (args : List (List ℕ)) (f l c : Option ℕ) (act : Option Act)
+pub event-read : (system : System) (frames : ℕ) (line at frame v h verb : List ℕ) (args : List (List ℕ)) (f l c : Option ℕ) (act : Option Act)
     → words_of line ≡ at ∷ frame ∷ v ∷ h ∷ verb ∷ args → bytes_eq at (codes "at") ≡ true
-    → f ≡ below frames frame → l ≡ below 312 v → c ≡ below 227 h → act ≡ act_of verb args → timed f l c act ≡ event_of frames line
+    → f ≡ below frames frame → l ≡ below (lines system false) v → c ≡ below 227 h → act ≡ act_of verb args
+    → timed f l c act ≡ event_of system frames line
 unfolding event_of event_in
-event-read frames line at frame v h verb args f l c act is named ff ll cc' aa =
+event-read system frames line at frame v h verb args f l c act is named ff ll cc' aa =
     (λ i. timed (ff i) (ll i) (cc' i) (aa i))
-    ∙ ap (λ b. if b then timed (below frames frame) (below 312 v) (below 227 h) (act_of verb args) else None) (sym named)
-    ∙ ap (event_in frames) (sym is)
+    ∙ ap (λ b. if b then timed (below frames frame) (below (lines system false) v) (below 227 h) (act_of verb args) else None) (sym named)
+    ∙ ap (event_in system frames) (sym is)
 
-pub event-other : (frames : ℕ) (line at frame v h verb : List ℕ) (args : List (List ℕ)) → words_of line ≡ at ∷ frame ∷ v ∷ h ∷ verb ∷ args
-    → bytes_eq at (codes "at") ≡ false → None ≡ event_of frames line
+pub event-other : (system : System) (frames : ℕ) (line at frame v h verb : List ℕ) (args : List (List ℕ))
+    → words_of line ≡ at ∷ frame ∷ v ∷ h ∷ verb ∷ args → bytes_eq at (codes "at") ≡ false → None ≡ event_of system frames line
 unfolding event_of event_in
-event-other frames line at frame v h verb args is other =
-    ap (λ b. if b then timed (below frames frame) (below 312 v) (below 227 h) (act_of verb args) else None) (sym other)
-    ∙ ap (event_in frames) (sym is)
+event-other system frames line at frame v h verb args is other =
+    ap (λ b. if b then timed (below frames frame) (below (lines system false) v) (below 227 h) (act_of verb args) else None) (sym other)
+    ∙ ap (event_in system frames) (sym is)
 
 pub not_one : (words : List (List ℕ)) (first rest : List ℕ) → words ≡ first ∷ words_of rest → length words ≢ 1
 unfolding words_of
@@ -169,6 +178,8 @@ not_two words first second rest is two = omega (arith, ap length is, length-slic
 pub ruleset act_laws = (poke_of-none, peek_of-none, joy_of-none, fire_of-none, key_of-none, poke_of, peek_of, joy_of, fire_of, key_of)
 
 pub ruleset event_laws = (event_in-none, event_in)
+
+pub ruleset line_laws = (lines-few)
 
 pub ruleset hex_laws = (hex-fits)
 

@@ -9,7 +9,10 @@ use Rattle.ocs_base.specs.declared.script.Act.{Act}
 use Rattle.ocs_base.specs.declared.script.Act.TheVariants.{Poke, Peek, Joy, Fire, Key}
 use Rattle.ocs_base.specs.declared.script.At.{At}
 use Rattle.ocs_base.specs.Script.{ScriptValue}
-use Rattle.script_read.specs.Canonical.{spaced, line_of, line_text, digit_of, act_words, event_text, head_text, script_text, HasWords, AllHaveWords, head_start}
+use Rattle.ocs_base.specs.declared.system.System.{System}
+use Rattle.ocs_base.specs.declared.system.System.TheVariants.{Pal, Ntsc}
+use Rattle.script_read.specs.Canonical.{spaced, line_of, line_text, digit_of, act_words, event_text, head_text, script_text, HasWords, AllHaveWords, first_text, cpu_text, last_text}
+use Rattle.script_read.specs.Versions.{lowest}
 
 pub Extends-same : (old new : List ℕ) → new ≡ old → Extends old new
 Extends-same old new e = record { part = []; is = e ∙ sym (append-nil old) }
@@ -36,6 +39,9 @@ steps-2 = two_steps
 
 pub steps-3 : (a b c d p q r : List ℕ) → b ≡ a ++ p → c ≡ b ++ q → d ≡ c ++ r → d ≡ a ++ (p ++ (q ++ r))
 steps-3 a b c d p q r first second third = steps-2 a b d p (q ++ r) first (two_steps b c d q r second third)
+
+pub steps-4 : (a b c d e p q r s : List ℕ) → b ≡ a ++ p → c ≡ b ++ q → d ≡ c ++ r → e ≡ d ++ s → e ≡ a ++ (p ++ (q ++ (r ++ s)))
+steps-4 a b c d e p q r s one two three four = steps-3 a b c e p q (r ++ s) one two (two_steps c d e r s three four)
 
 pub steps-6 : (a b c d e f g p q r s t u : List ℕ) → b ≡ a ++ p → c ≡ b ++ q → d ≡ c ++ r → e ≡ d ++ s → f ≡ e ++ t → g ≡ f ++ u
     → g ≡ a ++ (p ++ (q ++ (r ++ (s ++ (t ++ u)))))
@@ -82,12 +88,21 @@ pub event-text : (at : At)
 unfolding event_text line_text line_of spaced
 event-text at = simp append_assoc
 
-pub head-text : (cpu : Bool) (frames : ℕ) → head_start cpu ++ ((32 ∷ decimal frames) ++ 10 ∷ []) ≡ head_text cpu frames
-unfolding head_text line_text line_of spaced
-head-text true frames = ap (λ t. codes "ocs 1\ncpu on\nframes " ++ (t ++ 10 ∷ [])) (sym (append-nil (decimal frames)))
-head-text false frames = ap (λ t. codes "ocs 1\ncpu off\nframes " ++ (t ++ 10 ∷ [])) (sym (append-nil (decimal frames)))
+-- the number of a line that others follow
+number-text : (number rest : List ℕ) → number ++ (10 ∷ rest) ≡ ((number ++ []) ++ 10 ∷ []) ++ rest
+number-text number rest = sym (append_assoc (number ++ []) (10 ∷ []) rest ∙ ap (λ t. t ++ (10 ∷ rest)) (append-nil number))
 
-pub script-text : (script : ScriptValue) → head_text script.cpu script.frames ++ (flat_map event_text script.events ++ codes "end\n") ≡ script_text script
+pub head-text : (cpu : Bool) (frames : ℕ) (system : System) (events : List At)
+    → first_text system ++ (cpu_text cpu ++ ((32 ∷ decimal frames) ++ last_text system))
+    ≡ head_text (lowest system) (record { cpu = cpu; frames = frames; system = system; events = events })
+unfolding head_text line_text line_of spaced
+head-text true frames Pal events = ap (λ t. codes "ocs 1\ncpu on\nframes " ++ t) (number-text (decimal frames) [])
+head-text false frames Pal events = ap (λ t. codes "ocs 1\ncpu off\nframes " ++ t) (number-text (decimal frames) [])
+head-text true frames Ntsc events = ap (λ t. codes "ocs 3\ncpu on\nframes " ++ t) (number-text (decimal frames) (codes "chip 512\nsystem ntsc\n"))
+head-text false frames Ntsc events = ap (λ t. codes "ocs 3\ncpu off\nframes " ++ t) (number-text (decimal frames) (codes "chip 512\nsystem ntsc\n"))
+
+pub script-text : (script : ScriptValue)
+    → head_text (lowest script.system) script ++ (flat_map event_text script.events ++ codes "end\n") ≡ script_text script
 unfolding script_text line_text line_of spaced
 script-text script = refl
 

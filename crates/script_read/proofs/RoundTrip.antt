@@ -13,15 +13,24 @@ use Rattle.ocs_base.specs.declared.reg.Reg.{Reg}
 use Rattle.ocs_base.specs.declared.script.Act.{Act}
 use Rattle.ocs_base.specs.declared.script.Act.TheVariants.{Poke, Peek, Joy, Fire, Key}
 use Rattle.ocs_base.specs.declared.script.At.{At}
+use Rattle.ocs_base.specs.declared.system.System.{System}
+use Rattle.ocs_base.specs.declared.system.System.TheVariants.{Pal, Ntsc}
+use Rattle.ocs_base.specs.Addr.{chip_span}
+use Rattle.ocs_base.specs.Systems.{lines}
 use Rattle.ocs_io.specs.Numbers.{all_bytes, hex_of, hex_digit, hex_text}
 use Rattle.ocs_io.proofs.TextLaws.{dec_of-decimal, hex_of-hex_text}
 use Rattle.script_read.specs.Split.{without_empty_last, lines_of, words_of}
 use Rattle.script_read.specs.Words.{below, kept_below, hex_number, kept_register, register_named, poke_with, peek_with, joy_with, fire_with, key_with, poke_of, peek_of, joy_of, fire_of, key_of, act_of, timed, event_in, event_of}
-use Rattle.script_read.specs.Grammar.{Good, Bad, in_order, body_line, body_of, after_end, with_event, from_line, with_frames, from_frames, kept_frames, frames_in, with_cpu, cpu_in, from_cpu, from_header, script_of}
-use Rattle.script_read.specs.declared.fault.BadKind.TheVariants.{Long, Lines, Order}
-use Rattle.script_read.specs.Canonical.{spaced, line_of, line_text, digit_of, act_words, time_words, event_text, cpu_word, head_text, script_text, HasWords, AllHaveWords}
+use Rattle.script_read.specs.Grammar.{Good, Bad, in_order, body_line, body_of, after_end, with_event, from_line, from_head, head_of, with_frames, kept_frames, frames_in, with_cpu, cpu_in, with_chip, chip_in, with_system, system_in, version_in, from_version, from_header, script_of}
+use Rattle.script_read.specs.declared.fault.BadKind.TheVariants.{Long, Lines, Order, Cpu, Frames, Chip, System as BadSystem}
+use Rattle.script_read.specs.Canonical.{spaced, line_of, line_text, digit_of, act_words, time_words, event_text, cpu_word, system_word, version_word, head_word, head_line, head_text, script_text, HasWords, AllHaveWords}
+use Rattle.script_read.specs.KindName.{kind_name}
+use Rattle.script_read.specs.Printable.{IsPrintable}
+use Rattle.script_read.specs.Versions.{HeadLine, CpuLine, FramesLine, ChipLine, SystemLine, kind_of, later_lines, head_lines, head_size, says, lowest, blank}
+use Rattle.script_read.specs.declared.version.Version.{Version}
+use Rattle.script_read.specs.declared.version.Version.TheVariants.{One, Two, Three}
 use Rattle.script_read.proofs.SplitLaws.{kept-more, lines-empty}
-use Rattle.script_read.proofs.EventLaws.{tests_of, register_of-offset}
+use Rattle.script_read.proofs.EventLaws.{tests_of, register_of-offset, lines-few}
 
 -- bytes that are all above one
 
@@ -158,60 +167,61 @@ AreAbove-act (Fire port down) low = (refl, (above-decimal port (omega (arith, lo
     digit_fits false = omega arith
 AreAbove-act (Key code) port = (refl, (above-hex_text 2 code, tt))
 
-AreAbove-time : (frames : ℕ) (at : At) → frames ≤ 1000 → IsInLimits frames at → AreAbove (time_words at)
+AreAbove-time : (system : System) (frames : ℕ) (at : At) → frames ≤ 1000 → IsInLimits system frames at → AreAbove (time_words at)
 unfolding AreAbove
-AreAbove-time frames at most limits = (
+AreAbove-time system frames at most limits = (
   above-decimal at.frame (omega (arith, limits.frame)),
-  (above-decimal at.v (omega (arith, limits.line)), (above-decimal at.h (omega (arith, limits.clock)), AreAbove-act at.act limits.port)),
+  (above-decimal at.v (omega (arith, limits.line, lines-few system)), (above-decimal at.h (omega (arith, limits.clock)), AreAbove-act at.act limits.port)),
 )
 
-event_in-act : (frames : ℕ) (at f v h : List ℕ) (act : Act) → bytes_eq at (codes "at") ≡ true → HasPort act → HasWords act
-    → event_in frames (at ∷ f ∷ v ∷ h ∷ act_words act) ≡ timed (below frames f) (below 312 v) (below 227 h) (Some act)
+event_in-act : (system : System) (frames : ℕ) (at f v h : List ℕ) (act : Act) → bytes_eq at (codes "at") ≡ true → HasPort act → HasWords act
+    → event_in system frames (at ∷ f ∷ v ∷ h ∷ act_words act) ≡ timed (below frames f) (below (lines system false) v) (below 227 h) (Some act)
 unfolding event_in act_words act_of poke_of peek_of joy_of fire_of key_of
-event_in-act frames at f v h (Poke reg word) named port fits =
-    ap (λ b. if b then timed (below frames f) (below 312 v) (below 227 h)
+event_in-act system frames at f v h (Poke reg word) named port fits =
+    ap (λ b. if b then timed (below frames f) (below (lines system false) v) (below 227 h)
     (poke_with (register_named (hex_text 3 reg.offset)) (hex_number 4 (hex_text 4 word))) else None) named
-    ∙ (λ i. timed (below frames f) (below 312 v) (below 227 h)
+    ∙ (λ i. timed (below frames f) (below (lines system false) v) (below 227 h)
     (poke_with (register_named-hex_text reg i) (hex_number-hex_text 4 word (omega arith) (omega arith) (omega (arith, fits)) i)))
-event_in-act frames at f v h (Peek reg) named port fits =
-    ap (λ b. if b then timed (below frames f) (below 312 v) (below 227 h) (peek_with (register_named (hex_text 3 reg.offset))) else None) named
-    ∙ (λ i. timed (below frames f) (below 312 v) (below 227 h) (peek_with (register_named-hex_text reg i)))
-event_in-act frames at f v h (Joy port word) named low fits =
-    ap (λ b. if b then timed (below frames f) (below 312 v) (below 227 h) (joy_with (below 2 (decimal port)) (hex_number 4 (hex_text 4 word))) else None) named
-    ∙ (λ i. timed (below frames f) (below 312 v) (below 227 h)
+event_in-act system frames at f v h (Peek reg) named port fits =
+    ap (λ b. if b then timed (below frames f) (below (lines system false) v) (below 227 h) (peek_with (register_named (hex_text 3 reg.offset))) else None) named
+    ∙ (λ i. timed (below frames f) (below (lines system false) v) (below 227 h) (peek_with (register_named-hex_text reg i)))
+event_in-act system frames at f v h (Joy port word) named low fits =
+    ap (λ b. if b then timed (below frames f) (below (lines system false) v) (below 227 h) (joy_with (below 2 (decimal port)) (hex_number 4 (hex_text 4 word))) else None) named
+    ∙ (λ i. timed (below frames f) (below (lines system false) v) (below 227 h)
     (joy_with (below-decimal 2 port (omega (arith, low)) (omega (arith, low)) i)
     (hex_number-hex_text 4 word (omega arith) (omega arith) (omega (arith, fits)) i)))
-event_in-act frames at f v h (Fire port true) named low fits =
-    ap (λ b. if b then timed (below frames f) (below 312 v) (below 227 h) (fire_with (below 2 (decimal port)) (below 2 (decimal 1))) else None) named
-    ∙ (λ i. timed (below frames f) (below 312 v) (below 227 h)
+event_in-act system frames at f v h (Fire port true) named low fits =
+    ap (λ b. if b then timed (below frames f) (below (lines system false) v) (below 227 h) (fire_with (below 2 (decimal port)) (below 2 (decimal 1))) else None) named
+    ∙ (λ i. timed (below frames f) (below (lines system false) v) (below 227 h)
     (fire_with (below-decimal 2 port (omega (arith, low)) (omega (arith, low)) i) (below-decimal 2 1 (omega arith) (omega arith) i)))
-event_in-act frames at f v h (Fire port false) named low fits =
-    ap (λ b. if b then timed (below frames f) (below 312 v) (below 227 h) (fire_with (below 2 (decimal port)) (below 2 (decimal 0))) else None) named
-    ∙ (λ i. timed (below frames f) (below 312 v) (below 227 h)
+event_in-act system frames at f v h (Fire port false) named low fits =
+    ap (λ b. if b then timed (below frames f) (below (lines system false) v) (below 227 h) (fire_with (below 2 (decimal port)) (below 2 (decimal 0))) else None) named
+    ∙ (λ i. timed (below frames f) (below (lines system false) v) (below 227 h)
     (fire_with (below-decimal 2 port (omega (arith, low)) (omega (arith, low)) i) (below-decimal 2 0 (omega arith) (omega arith) i)))
-event_in-act frames at f v h (Key code) named port fits =
-    ap (λ b. if b then timed (below frames f) (below 312 v) (below 227 h) (key_with (hex_number 2 (hex_text 2 code))) else None) named
-    ∙ (λ i. timed (below frames f) (below 312 v) (below 227 h) (key_with (hex_number-hex_text 2 code (omega arith) (omega arith) (omega (arith, fits)) i)))
+event_in-act system frames at f v h (Key code) named port fits =
+    ap (λ b. if b then timed (below frames f) (below (lines system false) v) (below 227 h) (key_with (hex_number 2 (hex_text 2 code))) else None) named
+    ∙ (λ i. timed (below frames f) (below (lines system false) v) (below 227 h) (key_with (hex_number-hex_text 2 code (omega arith) (omega arith) (omega (arith, fits)) i)))
 
 abbrev event_line : At → List ℕ
 event_line at = line_of (codes "at") (time_words at)
 
-event_of-line : (frames : ℕ) (at : At) → frames ≤ 1000 → IsInLimits frames at → HasWords at.act → event_of frames (event_line at) ≡ Some at
+event_of-line : (system : System) (frames : ℕ) (at : At) → frames ≤ 1000 → IsInLimits system frames at → HasWords at.act
+    → event_of system frames (event_line at) ≡ Some at
 unfolding event_of
-event_of-line frames at most limits fits =
-    ap (event_in frames) (words_of-line (codes "at") (time_words at) refl (AreAbove-time frames at most limits))
-    ∙ event_in-act frames (codes "at") (decimal at.frame) (decimal at.v) (decimal at.h) at.act refl limits.port fits
+event_of-line system frames at most limits fits =
+    ap (event_in system frames) (words_of-line (codes "at") (time_words at) refl (AreAbove-time system frames at most limits))
+    ∙ event_in-act system frames (codes "at") (decimal at.frame) (decimal at.v) (decimal at.h) at.act refl limits.port fits
     ∙ (λ i. timed (below-decimal frames at.frame limits.frame (omega (arith, limits.frame)) i)
-    (below-decimal 312 at.v (omega (arith, limits.line)) (omega (arith, limits.line)) i)
+    (below-decimal (lines system false) at.v limits.line (omega (arith, limits.line, lines-few system)) i)
     (below-decimal 227 at.h (omega (arith, limits.clock)) (omega (arith, limits.clock)) i) (Some at.act))
 
 no_end : (at : At) → bytes_eq (event_line at) (codes "end") ≡ false
 unfolding line_of
 no_end at = refl
 
--- the lines after the third
+-- the lines after the head
 
-body-events : (head : ScriptValue) (events : List At) (number before : ℕ) → head.frames ≤ 1000 → head.events ≡ [] → AreInLimits head.frames events
+body-events : (head : ScriptValue) (events : List At) (number before : ℕ) → head.frames ≤ 1000 → head.events ≡ [] → AreInLimits head.system head.frames events
     → AllHaveWords events → AreFrom before events → AreInOrder events → number + length events ≤ 100000
     → body_of head number before (map event_line events ++ codes "end" ∷ []) ≡ Good (record head { events = events })
 unfolding body_of body_line
@@ -221,14 +231,14 @@ body-events head [] number before most none limits words from order few =
     ∙ ap (λ events. Good (record head { events = events })) none
 body-events head (at ∷ events) number before most none limits words from order few =
     ap (λ b. from_line (if b then Err Lines else
-    (if bytes_eq (event_line at) (codes "end") then Ok None else in_order before (event_of head.frames (event_line at)))) number
+    (if bytes_eq (event_line at) (codes "end") then Ok None else in_order before (event_of head.system head.frames (event_line at)))) number
     (after_end head (number + 1) (map event_line events ++ codes "end" ∷ []))
     (λ e. body_of head (number + 1) (time_of e) (map event_line events ++ codes "end" ∷ []))) (le-ltb 100000 number (omega arith))
-    ∙ ap (λ b. from_line (if b then Ok None else in_order before (event_of head.frames (event_line at))) number
+    ∙ ap (λ b. from_line (if b then Ok None else in_order before (event_of head.system head.frames (event_line at))) number
     (after_end head (number + 1) (map event_line events ++ codes "end" ∷ []))
     (λ e. body_of head (number + 1) (time_of e) (map event_line events ++ codes "end" ∷ []))) (no_end at)
     ∙ ap (λ event. from_line (in_order before event) number (after_end head (number + 1) (map event_line events ++ codes "end" ∷ []))
-    (λ e. body_of head (number + 1) (time_of e) (map event_line events ++ codes "end" ∷ []))) (event_of-line head.frames at most limits.0 words.0)
+    (λ e. body_of head (number + 1) (time_of e) (map event_line events ++ codes "end" ∷ []))) (event_of-line head.system head.frames at most limits.0 words.0)
     ∙ ap (λ b. from_line (if b then Err Order else Ok (Some at)) number (after_end head (number + 1) (map event_line events ++ codes "end" ∷ []))
     (λ e. body_of head (number + 1) (time_of e) (map event_line events ++ codes "end" ∷ []))) (le-ltb (time_of at) before from.0)
     ∙ ap (with_event at) (body-events head events (number + 1) (time_of at) most none limits.1 words.1 order.0 order.1 (omega arith))
@@ -238,14 +248,14 @@ unfolding AreAbove line_of line_text spaced
 lines-end = ap lines_of (sym (append-nil (line_text (codes "end") []))) ∙ lines_of-text (codes "end") [] [] refl tt
     ∙ ap (λ lines. codes "end" ∷ lines) lines-empty
 
-lines-events : (frames : ℕ) (events : List At) → frames ≤ 1000 → AreInLimits frames events
+lines-events : (system : System) (frames : ℕ) (events : List At) → frames ≤ 1000 → AreInLimits system frames events
     → lines_of (flat_map event_text events ++ line_text (codes "end") []) ≡ map event_line events ++ codes "end" ∷ []
 unfolding event_text
-lines-events frames [] most limits = lines-end
-lines-events frames (at ∷ events) most limits =
+lines-events system frames [] most limits = lines-end
+lines-events system frames (at ∷ events) most limits =
     ap lines_of (append_assoc (event_text at) (flat_map event_text events) (line_text (codes "end") []))
-    ∙ lines_of-text (codes "at") (time_words at) (flat_map event_text events ++ line_text (codes "end") []) refl (AreAbove-time frames at most limits.0)
-    ∙ ap (λ lines. event_line at ∷ lines) (lines-events frames events most limits.1)
+    ∙ lines_of-text (codes "at") (time_words at) (flat_map event_text events ++ line_text (codes "end") []) refl (AreAbove-time system frames at most limits.0)
+    ∙ ap (λ lines. event_line at ∷ lines) (lines-events system frames events most limits.1)
 
 -- the size: 29 bytes an event at most
 
@@ -285,9 +295,9 @@ size-act (Fire port down) low =
     digit_small false = omega arith
 size-act (Key code) port = omega (arith, length-append (hex_text 2 code) [], length-hex_text 2 code)
 
-size-event : (frames : ℕ) (at : At) → frames ≤ 1000 → IsInLimits frames at → length (event_text at) ≤ 29
+size-event : (system : System) (frames : ℕ) (at : At) → frames ≤ 1000 → IsInLimits system frames at → length (event_text at) ≤ 29
 unfolding event_text line_text line_of spaced
-size-event frames at most limits =
+size-event system frames at most limits =
     let f = decimal at.frame in let v = decimal at.v in let h = decimal at.h in let s = spaced (act_words at.act) in
     omega (
       arith,
@@ -296,86 +306,172 @@ size-event frames at most limits =
       length-append v (32 ∷ (h ++ s)),
       length-append h s,
       short-decimal at.frame (omega (arith, limits.frame)),
-      short-decimal at.v (omega (arith, limits.line)),
+      short-decimal at.v (omega (arith, limits.line, lines-few system)),
       short-decimal at.h (omega (arith, limits.clock)),
       size-act at.act limits.port,
     )
 
-size-events : (frames : ℕ) (events : List At) → frames ≤ 1000 → AreInLimits frames events → length (flat_map event_text events) ≤ 29 * length events
-size-events frames [] most limits = omega arith
-size-events frames (at ∷ events) most limits =
-    omega (arith, length-append (event_text at) (flat_map event_text events), size-event frames at most limits.0, size-events frames events most limits.1)
+size-events : (system : System) (frames : ℕ) (events : List At) → frames ≤ 1000 → AreInLimits system frames events
+    → length (flat_map event_text events) ≤ 29 * length events
+size-events system frames [] most limits = omega arith
+size-events system frames (at ∷ events) most limits =
+    omega (arith, length-append (event_text at) (flat_map event_text events), size-event system frames at most limits.0, size-events system frames events most limits.1)
 
-size-head : (cpu : Bool) (frames : ℕ) → frames ≤ 1000 → length (head_text cpu frames) ≤ 30
-unfolding head_text line_text line_of spaced
-size-head true frames most =
+-- 12 bytes a line of the head at most
+size-part : (script : ScriptValue) (part : HeadLine) → script.frames ≤ 1000 → length (head_line script part) ≤ 12
+unfolding line_text line_of spaced
+size-part script CpuLine most = cpu_small script.cpu
+  where
+    on_size : length (line_text (codes "cpu") (codes "on" ∷ [])) ≡ 7
+    on_size = refl
+
+    off_size : length (line_text (codes "cpu") (codes "off" ∷ [])) ≡ 8
+    off_size = refl
+
+    cpu_small : (b : Bool) → length (line_text (codes "cpu") (cpu_word b ∷ [])) ≤ 12
+    cpu_small true = omega (arith, on_size)
+    cpu_small false = omega (arith, off_size)
+size-part script FramesLine most =
     omega (
       arith,
-      length-append ((102 ∷ 114 ∷ 97 ∷ 109 ∷ 101 ∷ 115 ∷ 32 ∷ (decimal frames ++ []))) (10 ∷ []),
-      length-append (decimal frames) [],
-      length-decimal-le 4 frames (omega arith) (omega arith) (omega arith),
+      length-append ((102 ∷ 114 ∷ 97 ∷ 109 ∷ 101 ∷ 115 ∷ 32 ∷ (decimal script.frames ++ []))) (10 ∷ []),
+      length-append (decimal script.frames) [],
+      length-decimal-le 4 script.frames (omega arith) (omega arith) (omega (arith, most)),
     )
-size-head false frames most =
+size-part script ChipLine most = omega (arith, chip_size)
+  where
+    chip_size : length (line_text (codes "chip") (codes "512" ∷ [])) ≡ 9
+    chip_size = refl
+size-part script SystemLine most = system_small script.system
+  where
+    pal_size : length (line_text (codes "system") (codes "pal" ∷ [])) ≡ 11
+    pal_size = refl
+
+    ntsc_size : length (line_text (codes "system") (codes "ntsc" ∷ [])) ≡ 12
+    ntsc_size = refl
+
+    system_small : (system : System) → length (line_text (codes "system") (system_word system ∷ [])) ≤ 12
+    system_small Pal = omega (arith, pal_size)
+    system_small Ntsc = omega (arith, ntsc_size)
+
+size-parts : (script : ScriptValue) (parts : List HeadLine) → script.frames ≤ 1000 → length (flat_map (head_line script) parts) ≤ 12 * length parts
+size-parts script [] most = omega arith
+size-parts script (part ∷ parts) most =
     omega (
       arith,
-      length-append ((102 ∷ 114 ∷ 97 ∷ 109 ∷ 101 ∷ 115 ∷ 32 ∷ (decimal frames ++ []))) (10 ∷ []),
-      length-append (decimal frames) [],
-      length-decimal-le 4 frames (omega arith) (omega arith) (omega arith),
+      length-append (head_line script part) (flat_map (head_line script) parts),
+      size-part script part most,
+      size-parts script parts most,
+    )
+
+size-version : (version : Version) → length (line_text (codes "ocs") (version_word version ∷ [])) ≡ 6
+unfolding line_text line_of spaced
+size-version One = refl
+size-version Two = refl
+size-version Three = refl
+
+few_lines : (version : Version) → length (head_lines version) ≤ 4
+few_lines One = omega arith
+few_lines Two = omega arith
+few_lines Three = omega arith
+
+size-head : (version : Version) (script : ScriptValue) → script.frames ≤ 1000 → length (head_text version script) ≤ 54
+unfolding head_text
+size-head version script most =
+    omega (
+      arith,
+      length-append (line_text (codes "ocs") (version_word version ∷ [])) (flat_map (head_line script) (head_lines version)),
+      size-version version,
+      size-parts script (head_lines version) most,
+      few_lines version,
     )
 
 size-end : length (line_text (codes "end") []) ≡ 4
 unfolding line_text line_of spaced
 size-end = refl
 
-size-script : (script : ScriptValue) → IsRunnable script → length script.events ≤ 99996 → length (script_text script) ≤ 4194304
+size-script : (script : ScriptValue) → IsRunnable script → length script.events ≤ 100000 → length (script_text script) ≤ 4194304
 unfolding script_text
 size-script script runnable few =
     omega (
       arith,
-      length-append (head_text script.cpu script.frames) (flat_map event_text script.events ++ line_text (codes "end") []),
+      length-append (head_text (lowest script.system) script) (flat_map event_text script.events ++ line_text (codes "end") []),
       length-append (flat_map event_text script.events) (line_text (codes "end") []),
-      size-head script.cpu script.frames runnable.most,
-      size-events script.frames script.events runnable.most runnable.limits,
+      size-head (lowest script.system) script runnable.most,
+      size-events script.system script.frames script.events runnable.most runnable.limits,
       size-end,
     )
 
--- the whole text
+-- the head
 
-AreFrom-zero : (events : List At) → AreFrom 0 events
-AreFrom-zero [] = tt
-AreFrom-zero (at ∷ events) = (omega arith, AreFrom-zero events)
+abbrev version_line : Version → List ℕ
+version_line version = line_of (codes "ocs") (version_word version ∷ [])
 
-ocs_line : line_of (codes "ocs") (codes "1" ∷ []) ≡ codes "ocs 1"
-unfolding line_of spaced
-ocs_line = refl
+abbrev part_line : ScriptValue → HeadLine → List ℕ
+part_line script part = line_of (kind_name (kind_of part)) (head_word script part ∷ [])
 
-lines-head : (cpu : Bool) (frames : ℕ) (rest : List ℕ) → frames ≤ 1000
-    → lines_of (head_text cpu frames ++ rest)
-    ≡ codes "ocs 1" ∷ line_of (codes "cpu") (cpu_word cpu ∷ []) ∷ line_of (codes "frames") (decimal frames ∷ []) ∷ lines_of rest
-unfolding head_text AreAbove
-lines-head cpu frames rest most =
-    ap lines_of (append_assoc (line_text (codes "ocs") (codes "1" ∷ []))
-    (line_text (codes "cpu") (cpu_word cpu ∷ []) ++ line_text (codes "frames") (decimal frames ∷ [])) rest)
-    ∙ lines_of-text (codes "ocs") (codes "1" ∷ [])
-    ((line_text (codes "cpu") (cpu_word cpu ∷ []) ++ line_text (codes "frames") (decimal frames ∷ [])) ++ rest) refl (refl, tt)
-    ∙ ap (λ lines. line_of (codes "ocs") (codes "1" ∷ []) ∷ lines)
-    (ap lines_of (append_assoc (line_text (codes "cpu") (cpu_word cpu ∷ [])) (line_text (codes "frames") (decimal frames ∷ [])) rest)
-    ∙ lines_of-text (codes "cpu") (cpu_word cpu ∷ []) (line_text (codes "frames") (decimal frames ∷ []) ++ rest) refl (plain_cpu cpu, tt)
-    ∙ ap (λ lines. line_of (codes "cpu") (cpu_word cpu ∷ []) ∷ lines)
-    (lines_of-text (codes "frames") (decimal frames ∷ []) rest refl (above-decimal frames (omega arith), tt)))
-    ∙ ap (λ line. line ∷ line_of (codes "cpu") (cpu_word cpu ∷ []) ∷ line_of (codes "frames") (decimal frames ∷ []) ∷ lines_of rest) first_line
+plain_name : (part : HeadLine) → above 32 (kind_name (kind_of part)) ≡ true
+plain_name CpuLine = refl
+plain_name FramesLine = refl
+plain_name ChipLine = refl
+plain_name SystemLine = refl
+
+plain_word : (script : ScriptValue) (part : HeadLine) → script.frames ≤ 1000 → above 32 (head_word script part) ≡ true
+plain_word script CpuLine most = plain_cpu script.cpu
   where
     plain_cpu : (b : Bool) → above 32 (cpu_word b) ≡ true
     plain_cpu true = refl
     plain_cpu false = refl
+plain_word script FramesLine most = above-decimal script.frames (fits_64 script.frames most)
+plain_word script ChipLine most = refl
+plain_word script SystemLine most = plain_system script.system
+  where
+    plain_system : (system : System) → above 32 (system_word system) ≡ true
+    plain_system Pal = refl
+    plain_system Ntsc = refl
 
-    first_line : line_of (codes "ocs") (codes "1" ∷ []) ≡ codes "ocs 1"
-    first_line = ocs_line
+plain_version : (version : Version) → above 32 (version_word version) ≡ true
+plain_version One = refl
+plain_version Two = refl
+plain_version Three = refl
+
+lines-parts : (script : ScriptValue) (parts : List HeadLine) (rest : List ℕ) → script.frames ≤ 1000
+    → lines_of (flat_map (head_line script) parts ++ rest) ≡ map (part_line script) parts ++ lines_of rest
+unfolding AreAbove
+lines-parts script [] rest most = refl
+lines-parts script (part ∷ parts) rest most =
+    ap lines_of (append_assoc (head_line script part) (flat_map (head_line script) parts) rest)
+    ∙ lines_of-text (kind_name (kind_of part)) (head_word script part ∷ []) (flat_map (head_line script) parts ++ rest) (plain_name part)
+    (plain_word script part most, tt)
+    ∙ ap (λ lines. part_line script part ∷ lines) (lines-parts script parts rest most)
+
+lines-head : (version : Version) (script : ScriptValue) (rest : List ℕ) → script.frames ≤ 1000
+    → lines_of (head_text version script ++ rest) ≡ version_line version ∷ (map (part_line script) (head_lines version) ++ lines_of rest)
+unfolding head_text AreAbove
+lines-head version script rest most =
+    ap lines_of (append_assoc (line_text (codes "ocs") (version_word version ∷ [])) (flat_map (head_line script) (head_lines version)) rest)
+    ∙ lines_of-text (codes "ocs") (version_word version ∷ []) (flat_map (head_line script) (head_lines version) ++ rest) refl (plain_version version, tt)
+    ∙ ap (λ lines. version_line version ∷ lines) (lines-parts script (head_lines version) rest most)
+
+version_in-line : (version : Version) → version_in (version_line version) ≡ Some version
+unfolding version_in line_of spaced
+version_in-line One = refl
+version_in-line Two = refl
+version_in-line Three = refl
 
 cpu_in-line : (cpu : Bool) → cpu_in (line_of (codes "cpu") (cpu_word cpu ∷ [])) ≡ Some cpu
 unfolding cpu_in line_of spaced
 cpu_in-line true = refl
 cpu_in-line false = refl
+
+chip_in-line : chip_in (line_of (codes "chip") (codes "512" ∷ [])) ≡ Some chip_span
+unfolding chip_in line_of spaced
+chip_in-line = refl
+
+system_in-line : (system : System) → system_in (line_of (codes "system") (system_word system ∷ [])) ≡ Some system
+unfolding system_in line_of spaced
+system_in-line Pal = refl
+system_in-line Ntsc = refl
 
 frames_in-line : (frames : ℕ) → 1 ≤ frames → frames ≤ 1000 → frames_in (words_of (line_of (codes "frames") (decimal frames ∷ []))) ≡ Some frames
 unfolding frames_in AreAbove
@@ -384,19 +480,68 @@ frames_in-line frames least most =
     ∙ ap kept_frames (dec_of-decimal frames (omega arith))
     ∙ (λ i. if le-leb 1 frames least i && le-leb frames 1000 most i then Some frames else None)
 
--- the text that is printed of a script is read as the script
-pub script_of-script_text : (script : ScriptValue) → IsRunnable script → length script.events ≤ 99996 → AllHaveWords script.events
-    → script_of (script_text script) ≡ Good script
-unfolding script_of from_header from_cpu from_frames script_text
-script_of-script_text script runnable few words =
-    ap (λ b. if b then Bad 0 Long else from_header (lines_of (script_text script)))
-    (le-ltb 4194304 (length (script_text script)) (size-script script runnable few))
-    ∙ ap from_header (lines-head script.cpu script.frames (flat_map event_text script.events ++ line_text (codes "end") []) runnable.most)
-    ∙ ap (with_cpu (line_of (codes "frames") (decimal script.frames ∷ []) ∷ lines_of (flat_map event_text script.events ++ line_text (codes "end") [])))
+pal_said : (system : System) → says One system ≡ true → Pal ≡ system
+pal_said Pal said = refl
+pal_said Ntsc said = absurd (cc said)
+
+second_pal : (system : System) → says Two system ≡ true → Pal ≡ system
+second_pal Pal said = refl
+second_pal Ntsc said = absurd (cc said)
+
+-- the script that a head says, before its events
+abbrev bare : ScriptValue → System → ScriptValue
+bare script system = record { cpu = script.cpu; frames = script.frames; system = system; events = [] }
+
+head-later : (version : Version) (script : ScriptValue) (rest : List (List ℕ)) → says version script.system ≡ true
+    → head_of (later_lines version) 4 (bare script Pal) (map (part_line script) (later_lines version) ++ rest)
+    ≡ body_of (bare script script.system) (head_size version + 1) 0 rest
+unfolding head_of
+head-later One script rest said = ap (λ system. body_of (bare script system) 4 0 rest) (pal_said script.system said)
+head-later Two script rest said =
+    ap (λ size. from_head (with_chip (bare script Pal) size) 4 Chip (λ next. body_of next 5 0 rest)) chip_in-line
+    ∙ ap (λ system. body_of (bare script system) 5 0 rest) (second_pal script.system said)
+head-later Three script rest said =
+    ap (λ size. from_head (with_chip (bare script Pal) size) 4 Chip (λ next. head_of (SystemLine ∷ []) 5 next (part_line script SystemLine ∷ rest)))
+    chip_in-line
+    ∙ ap (λ system. from_head (with_system (bare script Pal) system) 5 BadSystem (λ next. body_of next 6 0 rest)) (system_in-line script.system)
+
+-- a head that says a script is read as it
+head-read : (version : Version) (script : ScriptValue) (rest : List (List ℕ)) → 1 ≤ script.frames → script.frames ≤ 1000
+    → says version script.system ≡ true
+    → head_of (head_lines version) 2 blank (map (part_line script) (head_lines version) ++ rest)
+    ≡ body_of (bare script script.system) (head_size version + 1) 0 rest
+unfolding head_of
+head-read version script rest least most said =
+    ap (λ cpu. from_head (with_cpu blank cpu) 2 Cpu
+    (λ next. head_of (FramesLine ∷ later_lines version) 3 next (map (part_line script) (FramesLine ∷ later_lines version) ++ rest)))
     (cpu_in-line script.cpu)
-    ∙ ap (with_frames script.cpu (lines_of (flat_map event_text script.events ++ line_text (codes "end") [])))
-    (frames_in-line script.frames runnable.least runnable.most)
-    ∙ ap (body_of (record { cpu = script.cpu; frames = script.frames; events = [] }) 4 0)
-    (lines-events script.frames script.events runnable.most runnable.limits)
-    ∙ body-events (record { cpu = script.cpu; frames = script.frames; events = [] }) script.events 4 0 runnable.most refl runnable.limits words
-    (AreFrom-zero script.events) runnable.order (omega arith)
+    ∙ ap (λ count. from_head (with_frames (record blank { cpu = script.cpu }) count) 3 Frames
+    (λ next. head_of (later_lines version) 4 next (map (part_line script) (later_lines version) ++ rest))) (frames_in-line script.frames least most)
+    ∙ head-later version script rest said
+
+lowest-says : (system : System) → says (lowest system) system ≡ true
+lowest-says Pal = refl
+lowest-says Ntsc = refl
+
+-- the whole text
+
+AreFrom-zero : (events : List At) → AreFrom 0 events
+AreFrom-zero [] = tt
+AreFrom-zero (at ∷ events) = (omega arith, AreFrom-zero events)
+
+-- the text that is printed of a script is read as the script
+pub script_of-script_text : (script : ScriptValue) → IsPrintable script → AllHaveWords script.events → script_of (script_text script) ≡ Good script
+unfolding script_of from_header script_text
+script_of-script_text script printable words =
+    let runnable = printable.runnable in let version = lowest script.system in
+    ap (λ b. if b then Bad 0 Long else from_header (lines_of (script_text script)))
+    (le-ltb 4194304 (length (script_text script)) (size-script script runnable (omega (arith, printable.lines))))
+    ∙ ap from_header (lines-head version script (flat_map event_text script.events ++ line_text (codes "end") []) runnable.most)
+    ∙ ap (λ v. from_version v (map (part_line script) (head_lines version) ++ lines_of (flat_map event_text script.events ++ line_text (codes "end") [])))
+    (version_in-line version)
+    ∙ head-read version script (lines_of (flat_map event_text script.events ++ line_text (codes "end") [])) runnable.least runnable.most
+    (lowest-says script.system)
+    ∙ ap (body_of (bare script script.system) (head_size version + 1) 0)
+    (lines-events script.system script.frames script.events runnable.most runnable.limits)
+    ∙ body-events (bare script script.system) script.events (head_size version + 1) 0 runnable.most refl runnable.limits words
+    (AreFrom-zero script.events) runnable.order (omega (arith, printable.lines))

@@ -1,19 +1,25 @@
 -- A script that is read is one that a run takes.
-use Rattle.std.proofs.Common.{◌≡◌, ℕ, ◌+◌, ◌<◌, ◌≤◌, Bool, true, false, ◌&&◌, List, [], ◌∷◌, length, refl, sym, subst, Option, Some, None, IfSome, Result, Ok, Err, IfOk, arith, nat_lt, nat_le, if◌then◌else◌, bytes_eq, codes}
+use Rattle.std.proofs.Common.{◌≡◌, ℕ, ◌+◌, ◌<◌, ◌≤◌, Bool, true, false, ◌&&◌, List, [], ◌∷◌, length, refl, sym, ap, subst, Option, Some, None, IfSome, Result, Ok, Err, IfOk, arith, nat_lt, nat_le, if◌then◌else◌, bytes_eq, codes}
 use borrow.Author.Tests.{ltb-true, ltb-false, leb-true}
 use Rattle.ocs_base.specs.Limits.{time_of, HasPort, IsInLimits, AreInLimits, AreFrom, AreInOrder}
 use Rattle.ocs_base.specs.Script.{ScriptValue}
 use Rattle.ocs_base.specs.declared.reg.Reg.{Reg}
 use Rattle.ocs_base.specs.declared.script.Act.{Act}
 use Rattle.ocs_base.specs.declared.script.At.{At}
+use Rattle.ocs_base.specs.declared.system.System.{System}
+use Rattle.ocs_base.specs.declared.system.System.TheVariants.{Pal, Ntsc}
+use Rattle.ocs_base.specs.Systems.{lines}
 use Rattle.ocs_io.specs.Numbers.{dec_of}
 use Rattle.script_read.specs.Split.{lines_of, words_of}
 use Rattle.script_read.specs.Words.{below, kept_below, hex_number, register_named, poke_with, peek_with, joy_with, fire_with, key_with, poke_of, peek_of, joy_of, fire_of, key_of, act_of, timed, event_in, event_of}
-use Rattle.script_read.specs.Grammar.{Verdict, Good, Bad, in_order, body_line, body_of, after_end, with_event, from_line, with_frames, from_frames, kept_frames, frames_in, with_cpu, cpu_in, from_cpu, from_header, script_of}
+use Rattle.script_read.specs.Grammar.{Verdict, Good, Bad, in_order, body_line, body_of, after_end, with_event, from_line, from_head, head_of, with_frames, kept_frames, frames_in, with_cpu, cpu_in, with_chip, chip_in, with_system, system_in, version_in, from_version, from_header, script_of}
+use Rattle.script_read.specs.Versions.{HeadLine, FramesLine, ChipLine, SystemLine, later_lines, head_lines, head_size, lowest, blank}
 use Rattle.script_read.specs.Printable.{IsPrintable}
 use Rattle.script_read.specs.Verdict.{ReadsAs}
 use Rattle.script_read.specs.declared.fault.BadKind.{BadKind}
-use Rattle.script_read.specs.declared.fault.BadKind.TheVariants.{Lines, Order, Header, Long}
+use Rattle.script_read.specs.declared.fault.BadKind.TheVariants.{Lines, Order, Long, Cpu, Frames, Chip, System as BadSystem}
+use Rattle.script_read.specs.declared.version.Version.{Version}
+use Rattle.script_read.specs.declared.version.Version.TheVariants.{One, Two, Three}
 use Rattle.script_read.specs.declared.fault.ScriptFault.{ScriptFault}
 
 either : {A : Type 0} (P : A → Type 0) (b : Bool) (x y : Option A) → IfSome x P → IfSome y P → IfSome (if b then x else y) P
@@ -97,55 +103,57 @@ HasPort-act verb words =
     (either HasPort (bytes_eq verb (codes "fire")) _ _ (HasPort-fire words)
     (either HasPort (bytes_eq verb (codes "key")) (key_of words) None (HasPort-key words) tt))))
 
-IsInLimits-timed : (frames : ℕ) (f v h : Option ℕ) (act : Option Act) → IfSome f (λ n. n < frames) → IfSome v (λ n. n < 312) → IfSome h (λ n. n < 227)
-    → IfSome act HasPort → IfSome (timed f v h act) (IsInLimits frames)
-IsInLimits-timed frames None v h act ff vv hh aa = tt
-IsInLimits-timed frames (Some f) None h act ff vv hh aa = tt
-IsInLimits-timed frames (Some f) (Some v) None act ff vv hh aa = tt
-IsInLimits-timed frames (Some f) (Some v) (Some h) None ff vv hh aa = tt
-IsInLimits-timed frames (Some f) (Some v) (Some h) (Some act) ff vv hh aa =
-    record { frame = ff; line = omega (arith, vv); clock = omega (arith, hh); port = aa }
+IsInLimits-timed : (system : System) (frames : ℕ) (f v h : Option ℕ) (act : Option Act) → IfSome f (λ n. n < frames)
+    → IfSome v (λ n. n < lines system false) → IfSome h (λ n. n < 227) → IfSome act HasPort → IfSome (timed f v h act) (IsInLimits system frames)
+IsInLimits-timed system frames None v h act ff vv hh aa = tt
+IsInLimits-timed system frames (Some f) None h act ff vv hh aa = tt
+IsInLimits-timed system frames (Some f) (Some v) None act ff vv hh aa = tt
+IsInLimits-timed system frames (Some f) (Some v) (Some h) None ff vv hh aa = tt
+IsInLimits-timed system frames (Some f) (Some v) (Some h) (Some act) ff vv hh aa = record { frame = ff; line = vv; clock = omega (arith, hh); port = aa }
 
-IsInLimits-words : (frames : ℕ) (words : List (List ℕ)) → IfSome (event_in frames words) (IsInLimits frames)
+IsInLimits-words : (system : System) (frames : ℕ) (words : List (List ℕ)) → IfSome (event_in system frames words) (IsInLimits system frames)
 unfolding event_in
-IsInLimits-words frames [] = tt
-IsInLimits-words frames (a ∷ []) = tt
-IsInLimits-words frames (a ∷ b ∷ []) = tt
-IsInLimits-words frames (a ∷ b ∷ c ∷ []) = tt
-IsInLimits-words frames (a ∷ b ∷ c ∷ d ∷ []) = tt
-IsInLimits-words frames (a ∷ b ∷ c ∷ d ∷ e ∷ words) =
-    either (IsInLimits frames) (bytes_eq a (codes "at")) (timed (below frames b) (below 312 c) (below 227 d) (act_of e words)) None
-    (IsInLimits-timed frames (below frames b) (below 312 c) (below 227 d) (act_of e words) (below-lt frames b) (below-lt 312 c) (below-lt 227 d)
-    (HasPort-act e words)) tt
+IsInLimits-words system frames [] = tt
+IsInLimits-words system frames (a ∷ []) = tt
+IsInLimits-words system frames (a ∷ b ∷ []) = tt
+IsInLimits-words system frames (a ∷ b ∷ c ∷ []) = tt
+IsInLimits-words system frames (a ∷ b ∷ c ∷ d ∷ []) = tt
+IsInLimits-words system frames (a ∷ b ∷ c ∷ d ∷ e ∷ words) =
+    either (IsInLimits system frames) (bytes_eq a (codes "at"))
+    (timed (below frames b) (below (lines system false) c) (below 227 d) (act_of e words)) None
+    (IsInLimits-timed system frames (below frames b) (below (lines system false) c) (below 227 d) (act_of e words) (below-lt frames b)
+    (below-lt (lines system false) c) (below-lt 227 d) (HasPort-act e words)) tt
 
 -- a line that gives an event gives one in the limits that is no earlier
-record IsNext (frames before : ℕ) (at : At) : Type 0 where
-  limits : IsInLimits frames at
+record IsNext (system : System) (frames before : ℕ) (at : At) : Type 0 where
+  limits : IsInLimits system frames at
   later : before ≤ time_of at
 
-some_next : (frames number before : ℕ) → Result (Option At) BadKind → Type 0
-some_next frames number before (Ok (Some at)) = IsNext frames before at
-some_next frames number before (Ok None) = number ≤ 100000
-some_next frames number before (Err kind) = Unit {0}
+some_next : (system : System) (frames number before : ℕ) → Result (Option At) BadKind → Type 0
+some_next system frames number before (Ok (Some at)) = IsNext system frames before at
+some_next system frames number before (Ok None) = number ≤ 100000
+some_next system frames number before (Err kind) = Unit {0}
 
-IsNext-line : (frames number before : ℕ) (line : List ℕ) → some_next frames number before (body_line frames number before line)
+IsNext-line : (system : System) (frames number before : ℕ) (line : List ℕ)
+    → some_next system frames number before (body_line system frames number before line)
 unfolding body_line event_of some_next
-IsNext-line frames number before line = first (nat_lt 100000 number) (bytes_eq line (codes "end")) refl
+IsNext-line system frames number before line = first (nat_lt 100000 number) (bytes_eq line (codes "end")) refl
   where
-    tested : (at : At) (b : Bool) → nat_lt (time_of at) before ≡ b → IsInLimits frames at
-        → some_next frames number before (if b then Err Order else Ok (Some at))
+    tested : (at : At) (b : Bool) → nat_lt (time_of at) before ≡ b → IsInLimits system frames at
+        → some_next system frames number before (if b then Err Order else Ok (Some at))
     tested at true e limits = tt
     tested at false e limits = record { limits = limits; later = ltb-false (time_of at) before e }
 
-    ordered : (event : Option At) → IfSome event (IsInLimits frames) → some_next frames number before (in_order before event)
+    ordered : (event : Option At) → IfSome event (IsInLimits system frames) → some_next system frames number before (in_order before event)
     ordered None limits = tt
     ordered (Some at) limits = tested at (nat_lt (time_of at) before) refl limits
 
     first : (past ended : Bool) → nat_lt 100000 number ≡ past
-        → some_next frames number before (if past then Err Lines else (if ended then Ok None else in_order before (event_in frames (words_of line))))
+        → some_next system frames number before
+        (if past then Err Lines else (if ended then Ok None else in_order before (event_in system frames (words_of line))))
     first true ended e = tt
     first false true e = ltb-false 100000 number e
-    first false false e = ordered (event_in frames (words_of line)) (IsInLimits-words frames (words_of line))
+    first false false e = ordered (event_in system frames (words_of line)) (IsInLimits-words system frames (words_of line))
 
 AreFrom-lower : (low high : ℕ) (events : List At) → low ≤ high → AreFrom high events → AreFrom low events
 AreFrom-lower low high [] le from = tt
@@ -154,7 +162,8 @@ AreFrom-lower low high (at ∷ events) le from = (omega (arith, from.0), AreFrom
 -- the events of the lines that are left
 record Follows (head : ScriptValue) (number before : ℕ) (script : ScriptValue) : Type 0 where
   frames : script.frames ≡ head.frames
-  limits : AreInLimits head.frames script.events
+  system : script.system ≡ head.system
+  limits : AreInLimits head.system head.frames script.events
   from : AreFrom before script.events
   order : AreInOrder script.events
   count : number + length script.events ≤ 100000
@@ -168,29 +177,30 @@ Follows-body : (head : ScriptValue) (number before : ℕ) (lines : List (List �
 unfolding body_of good_follows some_next
 Follows-body head number before [] none = tt
 Follows-body head number before (line ∷ lines) none =
-    by_line (body_line head.frames number before line) (IsNext-line head.frames number before line)
+    by_line (body_line head.system head.frames number before line) (IsNext-line head.system head.frames number before line)
     (λ at. Follows-body head (number + 1) (time_of at) lines none)
   where
     empty : (events : List At) → events ≡ [] → number ≤ 100000 → Follows head number before (record head { events = events })
-    empty [] e few = record { frames = refl; limits = tt; from = tt; order = tt; count = omega arith }
+    empty [] e few = record { frames = refl; system = refl; limits = tt; from = tt; order = tt; count = omega arith }
     empty (at ∷ events) e few = absurd (cc e)
 
     ended : (rest : List (List ℕ)) → number ≤ 100000 → good_follows head number before (after_end head (number + 1) rest)
     ended [] few = empty head.events none few
     ended (extra ∷ rest) few = tt
 
-    more : (at : At) (verdict : Verdict) → IsNext head.frames before at → good_follows head (number + 1) (time_of at) verdict
+    more : (at : At) (verdict : Verdict) → IsNext head.system head.frames before at → good_follows head (number + 1) (time_of at) verdict
         → good_follows head number before (with_event at verdict)
     more at (Bad n kind) next follows = tt
     more at (Good script) next follows = record {
       frames = follows.frames;
+      system = follows.system;
       limits = (next.limits, follows.limits);
       from = (next.later, AreFrom-lower before (time_of at) script.events next.later follows.from);
       order = (follows.from, follows.order);
       count = omega (arith, follows.count);
     }
 
-    by_line : (answer : Result (Option At) BadKind) → some_next head.frames number before answer
+    by_line : (answer : Result (Option At) BadKind) → some_next head.system head.frames number before answer
         → ((at : At) → good_follows head (number + 1) (time_of at) (body_of head (number + 1) (time_of at) lines))
         → good_follows head number before (from_line answer number (after_end head (number + 1) lines) (λ at. body_of head (number + 1) (time_of at) lines))
     by_line (Err kind) next rest = tt
@@ -201,64 +211,128 @@ good_runnable : Verdict → Type 0
 good_runnable (Good script) = IsPrintable script
 good_runnable (Bad number kind) = Unit {0}
 
-IsRunnable-body : (cpu : Bool) (frames : ℕ) (verdict : Verdict) → 1 ≤ frames → frames ≤ 1000
-    → good_follows (record { cpu = cpu; frames = frames; events = [] }) 4 0 verdict → good_runnable verdict
+-- a head that was read: its numbers, and no more lines than the version of it, which says its system
+record IsHead (number : ℕ) (head : ScriptValue) : Type 0 where
+  least : 1 ≤ head.frames
+  most : head.frames ≤ 1000
+  size : head_size (lowest head.system) < number
+  none : head.events ≡ []
+
+IsRunnable-follows : (number : ℕ) (head : ScriptValue) (verdict : Verdict) → IsHead number head → good_follows head number 0 verdict → good_runnable verdict
 unfolding good_follows good_runnable
-IsRunnable-body cpu frames (Bad number kind) least most follows = tt
-IsRunnable-body cpu frames (Good script) least most follows = record {
+IsRunnable-follows number head (Bad line kind) is follows = tt
+IsRunnable-follows number head (Good script) is follows = record {
   runnable = record {
-    least = omega (arith, follows.frames);
-    most = omega (arith, follows.frames);
-    limits = subst (λ n. AreInLimits n script.events) (sym follows.frames) follows.limits;
+    least = omega (arith, follows.frames, is.least);
+    most = omega (arith, follows.frames, is.most);
+    limits = subst (λ n. AreInLimits script.system n script.events) (sym follows.frames)
+        (subst (λ system. AreInLimits system head.frames script.events) (sym follows.system) follows.limits);
     order = follows.order;
   };
-  lines = omega (arith, follows.count);
+  lines = omega (arith, follows.count, is.size, ap (λ s. head_size (lowest s)) follows.system);
 }
 
-IsRunnable-count : (count : Option ℕ) (cpu : Bool) (lines : List (List ℕ)) → good_runnable (with_frames cpu lines (kept_frames count))
-unfolding good_runnable
-IsRunnable-count None cpu lines = tt
-IsRunnable-count (Some n) cpu lines = tested (nat_le 1 n) (nat_le n 1000) refl refl
+IsRunnable-body : (number : ℕ) (head : ScriptValue) (lines : List (List ℕ)) → IsHead number head → good_runnable (body_of head number 0 lines)
+IsRunnable-body number head lines is = IsRunnable-follows number head (body_of head number 0 lines) is (Follows-body head number 0 lines is.none)
+
+IsRunnable-none : (number : ℕ) (head : ScriptValue) (lines : List (List ℕ)) → IsHead number head → good_runnable (head_of [] number head lines)
+unfolding head_of
+IsRunnable-none = IsRunnable-body
+
+-- the fifth line
+IsRunnable-system : (cpu : Bool) (frames : ℕ) (lines : List (List ℕ)) → 1 ≤ frames → frames ≤ 1000
+    → good_runnable (head_of (SystemLine ∷ []) 5 (record { cpu = cpu; frames = frames; system = Pal; events = [] }) lines)
+unfolding good_runnable head_of
+IsRunnable-system cpu frames [] least most = tt
+IsRunnable-system cpu frames (line ∷ lines) least most = named (system_in line)
   where
-    tested : (a b : Bool) → nat_le 1 n ≡ a → nat_le n 1000 ≡ b → good_runnable (with_frames cpu lines (if a && b then Some n else None))
-    tested true true e f = IsRunnable-body cpu n (body_of (record { cpu = cpu; frames = n; events = [] }) 4 0 lines) (leb-true 1 n e) (leb-true n 1000 f)
-        (Follows-body (record { cpu = cpu; frames = n; events = [] }) 4 0 lines refl)
+    few : (system : System) → head_size (lowest system) < 6
+    few Pal = omega arith
+    few Ntsc = omega arith
+
+    named : (system : Option System)
+        → good_runnable (from_head (with_system (record { cpu = cpu; frames = frames; system = Pal; events = [] }) system) 5 BadSystem (λ next. body_of next 6 0 lines))
+    named None = tt
+    named (Some system) = IsRunnable-body 6 (record { cpu = cpu; frames = frames; system = system; events = [] }) lines
+        (record { least = least; most = most; size = few system; none = refl })
+
+-- the fourth line
+IsRunnable-chip : (parts : List HeadLine) (head : ScriptValue) (lines : List (List ℕ))
+    → ((rest : List (List ℕ)) → good_runnable (head_of parts 5 head rest)) → good_runnable (head_of (ChipLine ∷ parts) 4 head lines)
+unfolding good_runnable head_of
+IsRunnable-chip parts head [] more = tt
+IsRunnable-chip parts head (line ∷ lines) more = named (chip_in line)
+  where
+    named : (size : Option ℕ) → good_runnable (from_head (with_chip head size) 4 Chip (λ next. head_of parts 5 next lines))
+    named None = tt
+    named (Some size) = more lines
+
+IsRunnable-later : (version : Version) (cpu : Bool) (frames : ℕ) (lines : List (List ℕ)) → 1 ≤ frames → frames ≤ 1000
+    → good_runnable (head_of (later_lines version) 4 (record { cpu = cpu; frames = frames; system = Pal; events = [] }) lines)
+IsRunnable-later One cpu frames lines least most = IsRunnable-none 4 (record { cpu = cpu; frames = frames; system = Pal; events = [] }) lines
+    (record { least = least; most = most; size = omega arith; none = refl })
+IsRunnable-later Two cpu frames lines least most = IsRunnable-chip [] (record { cpu = cpu; frames = frames; system = Pal; events = [] }) lines
+    (λ rest. IsRunnable-none 5 (record { cpu = cpu; frames = frames; system = Pal; events = [] }) rest
+    (record { least = least; most = most; size = omega arith; none = refl }))
+IsRunnable-later Three cpu frames lines least most =
+    IsRunnable-chip (SystemLine ∷ []) (record { cpu = cpu; frames = frames; system = Pal; events = [] }) lines
+    (λ rest. IsRunnable-system cpu frames rest least most)
+
+-- the third line
+IsInRange : ℕ → Type 0
+IsInRange n = (1 ≤ n) × (n ≤ 1000)
+
+kept-range : (count : Option ℕ) → IfSome (kept_frames count) IsInRange
+unfolding IsInRange
+kept-range None = tt
+kept-range (Some n) = tested (nat_le 1 n) (nat_le n 1000) refl refl
+  where
+    tested : (a b : Bool) → nat_le 1 n ≡ a → nat_le n 1000 ≡ b → IfSome (if a && b then Some n else None) IsInRange
+    tested true true e f = (leb-true 1 n e, leb-true n 1000 f)
     tested true false e f = tt
     tested false b e f = tt
 
-IsRunnable-third : (words : List (List ℕ)) (cpu : Bool) (lines : List (List ℕ)) → good_runnable (with_frames cpu lines (frames_in words))
-unfolding good_runnable frames_in
-IsRunnable-third [] cpu lines = tt
-IsRunnable-third (a ∷ []) cpu lines = tt
-IsRunnable-third (a ∷ b ∷ []) cpu lines = tested (bytes_eq a (codes "frames"))
+frames-range : (words : List (List ℕ)) → IfSome (frames_in words) IsInRange
+unfolding frames_in
+frames-range [] = tt
+frames-range (a ∷ []) = tt
+frames-range (a ∷ b ∷ []) = tested (bytes_eq a (codes "frames"))
   where
-    tested : (t : Bool) → good_runnable (with_frames cpu lines (if t then kept_frames (dec_of b) else None))
-    tested true = IsRunnable-count (dec_of b) cpu lines
+    tested : (t : Bool) → IfSome (if t then kept_frames (dec_of b) else None) IsInRange
+    tested true = kept-range (dec_of b)
     tested false = tt
-IsRunnable-third (a ∷ b ∷ c ∷ words) cpu lines = tt
+frames-range (a ∷ b ∷ c ∷ words) = tt
 
-IsRunnable-frames : (cpu : Bool) (lines : List (List ℕ)) → good_runnable (from_frames cpu lines)
-unfolding good_runnable from_frames
-IsRunnable-frames cpu [] = tt
-IsRunnable-frames cpu (line ∷ lines) = IsRunnable-third (words_of line) cpu lines
-
-IsRunnable-cpu : (lines : List (List ℕ)) → good_runnable (from_cpu lines)
-unfolding good_runnable from_cpu
-IsRunnable-cpu [] = tt
-IsRunnable-cpu (line ∷ lines) = named (cpu_in line)
+IsRunnable-frames : (version : Version) (cpu : Bool) (lines : List (List ℕ))
+    → good_runnable (head_of (FramesLine ∷ later_lines version) 3 (record blank { cpu = cpu }) lines)
+unfolding good_runnable head_of IsInRange
+IsRunnable-frames version cpu [] = tt
+IsRunnable-frames version cpu (line ∷ lines) = named (frames_in (words_of line)) (frames-range (words_of line))
   where
-    named : (cpu : Option Bool) → good_runnable (with_cpu lines cpu)
+    named : (count : Option ℕ) → IfSome count IsInRange
+        → good_runnable (from_head (with_frames (record blank { cpu = cpu }) count) 3 Frames (λ next. head_of (later_lines version) 4 next lines))
+    named None range = tt
+    named (Some n) range = IsRunnable-later version cpu n lines range.0 range.1
+
+-- the second line
+IsRunnable-cpu : (version : Version) (lines : List (List ℕ)) → good_runnable (head_of (head_lines version) 2 blank lines)
+unfolding good_runnable head_of
+IsRunnable-cpu version [] = tt
+IsRunnable-cpu version (line ∷ lines) = named (cpu_in line)
+  where
+    named : (cpu : Option Bool)
+        → good_runnable (from_head (with_cpu blank cpu) 2 Cpu (λ next. head_of (FramesLine ∷ later_lines version) 3 next lines))
     named None = tt
-    named (Some cpu) = IsRunnable-frames cpu lines
+    named (Some cpu) = IsRunnable-frames version cpu lines
 
 IsRunnable-header : (lines : List (List ℕ)) → good_runnable (from_header lines)
 unfolding good_runnable from_header
 IsRunnable-header [] = tt
-IsRunnable-header (line ∷ lines) = tested (bytes_eq line (codes "ocs 1"))
+IsRunnable-header (line ∷ lines) = named (version_in line)
   where
-    tested : (b : Bool) → good_runnable (if b then from_cpu lines else Bad 1 Header)
-    tested true = IsRunnable-cpu lines
-    tested false = tt
+    named : (version : Option Version) → good_runnable (from_version version lines)
+    named None = tt
+    named (Some version) = IsRunnable-cpu version lines
 
 -- the script of a text is one that a run takes and that can be printed
 pub IsPrintable-script_of : (text : List ℕ) (script : ScriptValue) → script_of text ≡ Good script → IsPrintable script

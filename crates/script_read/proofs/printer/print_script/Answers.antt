@@ -9,4 +9,4 @@ on_ok (Err refused) P Q holds gives = tt
 pub returns-else-is_err-clause-reads : goal.returns-else-is_err-clause-reads
 returns-else-is_err-clause-reads c =
     on_ok c.put_script-printed.result _ _ c.put_script-printed.ensures.words
-    (λ words. script_of-script_text c.args.script.now c.requires.runnable c.requires.lines words)
+    (λ words. script_of-script_text c.args.script.now c.requires words)

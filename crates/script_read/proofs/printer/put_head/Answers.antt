@@ -1,9 +1,13 @@
 use Rattle.std.proofs.Common.{◌++◌, ◌∷◌, [], ap, ◌∙◌, decimal}
-use Rattle.script_read.proofs.PrintLaws.{steps-3, head-text}
+use Rattle.script_read.specs.Canonical.{first_text, last_text, cpu_text}
+use Rattle.script_read.proofs.PrintLaws.{steps-4, head-text}
 use Rattle.script_read.proofs.printer.put_head.Goals as goal
 
 pub returns-clause-ok : goal.returns-clause-ok
 returns-clause-ok c =
-    steps-3 _ _ _ _ _ _ _ c.in_ok-extend_from_slice.ensures.items c.in_ok-put_number.ensures.ok c.in_ok-push.ensures.items
-    ∙ ap (λ start. c.args.into.now.items ++ (start ++ ((32 ∷ decimal c.args.frames) ++ 10 ∷ []))) c.head.ensures
-    ∙ ap (λ text. c.args.into.now.items ++ text) (head-text c.args.cpu c.args.frames)
+    let script = c.args.script.now in
+    steps-4 _ _ _ _ _ _ _ _ _ c.in_ok-extend_from_slice.ensures.items c.in_ok-extend_from_slice-2.ensures.items c.in_ok-put_number.ensures.ok
+    c.in_ok-extend_from_slice-3.ensures.items
+    ∙ (λ i. c.args.into.now.items ++ ((c.first_line.ensures ∙ ap first_text c.system.ensures) i ++ ((c.cpu_line.ensures ∙ ap cpu_text c.cpu.ensures) i
+    ++ ((32 ∷ decimal (c.frames.ensures i)) ++ (c.last_lines.ensures ∙ ap last_text c.system-2.ensures) i))))
+    ∙ ap (λ text. c.args.into.now.items ++ text) (head-text script.cpu script.frames script.system script.events)

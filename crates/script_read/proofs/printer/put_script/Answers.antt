@@ -1,10 +1,12 @@
 use Rattle.std.proofs.Common.{◌++◌, ap, ◌∙◌, flat_map, codes}
 use Rattle.script_read.specs.Canonical.{head_text, event_text}
+use Rattle.script_read.specs.Versions.{lowest}
 use Rattle.script_read.proofs.PrintLaws.{steps-3, script-text}
 use Rattle.script_read.proofs.printer.put_script.Goals as goal
 
 pub returns-clause-ok : goal.returns-clause-ok
 returns-clause-ok c =
+    let script = c.args.script.now in
     steps-3 _ _ _ _ _ _ _ c.in_ok-put_head.ensures.ok c.in_ok-put_events.ensures.ok c.in_ok-extend_from_slice.ensures.items
-    ∙ (λ i. c.args.into.now.items ++ (head_text (c.cpu.ensures i) (c.frames.ensures i) ++ (flat_map event_text (c.events.ensures i) ++ codes "end\n")))
-    ∙ ap (λ text. c.args.into.now.items ++ text) (script-text c.args.script.now)
+    ∙ (λ i. c.args.into.now.items ++ (head_text (lowest script.system) script ++ (flat_map event_text (c.events.ensures i) ++ codes "end\n")))
+    ∙ ap (λ text. c.args.into.now.items ++ text) (script-text script)
