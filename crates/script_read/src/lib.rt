@@ -11,6 +11,3 @@ mod reader;
 pub use fault::{BadKind, ScriptFault};
 pub use printer::print_script;
 pub use reader::read_script;
-
-#[cfg(test)]
-mod tests;
