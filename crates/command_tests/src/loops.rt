@@ -1,9 +1,9 @@
 //! Programs of the processor that go on for long: one that waits for interrupts, and one that reads CLXDAT
 //! again and again.
 
-use crate::case::{image, script};
-use crate::place::{holds, run_words, shelf, status};
 use ocs_io::Shelf;
+use run_cases::case::{image, script};
+use run_cases::place::{holds, run_words, shelf, status};
 use std::alloc::Global;
 use std::process::Abort;
 use std::sync::Wait;

@@ -1,7 +1,7 @@
 //! What `gen` says of a scene.
 
-use crate::place::{run_words, status};
 use ocs_io::Shelf;
+use run_cases::place::{run_words, status};
 use scene_gen::scene;
 use script_read::print_script;
 use std::alloc::Global;

@@ -1,11 +1,10 @@
 //! Commands on files in memory.
 
+use crate::fault::CaseFault;
 use ocs_io::Shelf;
 use ocs_run::{NoGate, ocs_main};
 use std::alloc::Global;
-use std::process::Abort;
 use std::sync::Wait;
-use std::test::Fail;
 use std::thread::Threads;
 
 /// The words of a run of the files `image` and `script`, in bands of so many lines, by so many workers.
@@ -16,12 +15,12 @@ pub fn run_words<'a>(band: &'a str, workers: &'a str) -> [&'a str; 8] {
 }
 
 /// The status of the command with these words.
-pub fn status<R: Threads + Wait + Abort + Clone + Drop + Send + Sync + 'static>(
+pub fn status<R: Threads + Wait + Clone + Drop + Send + Sync + 'static>(
     rt: &R,
     alloc: Global,
     words: &[&str],
     shelf: &mut Shelf,
-) -> Result<u8, Fail> {
+) -> Result<u8, CaseFault> {
     let mut owned = Vec::new(alloc);
     for word in words {
         owned.push(String::from_str(alloc, word)?)?;
@@ -30,7 +29,7 @@ pub fn status<R: Threads + Wait + Abort + Clone + Drop + Send + Sync + 'static>(
 }
 
 /// A shelf with the two input files.
-pub fn shelf(alloc: Global, image: &[u8], script: &str) -> Result<Shelf, Fail> {
+pub fn shelf(alloc: Global, image: &[u8], script: &str) -> Result<Shelf, CaseFault> {
     let mut shelf = Shelf::new(alloc);
     shelf.put("image", image)?;
     shelf.put("script", script.as_bytes())?;

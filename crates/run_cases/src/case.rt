@@ -1,11 +1,10 @@
 //! A run that is told as a text, and what of it is not as it should be.
 
+use crate::fault::CaseFault;
 use crate::place::{holds, run_words, shelf, status};
 use crate::told::{bytes, colour, first, number, told, word};
 use std::alloc::Global;
-use std::process::Abort;
 use std::sync::Wait;
-use std::test::Fail;
 use std::thread::Threads;
 
 fn heading() -> &'static [u8] {
@@ -24,31 +23,45 @@ struct Part {
 }
 
 /// Runs of each table are as they are told.
-pub fn check<R: Threads + Wait + Abort + Clone + Drop + Send + Sync + 'static>(
+pub fn check<R: Threads + Wait + Clone + Drop + Send + Sync + 'static>(
     rt: &R,
     alloc: Global,
     runs: &[&str],
-) -> Result<(), Fail> {
+) -> Result<(), CaseFault> {
     for run in runs {
         for band in first(run, "bands", "313").split_whitespace() {
             for workers in first(run, "workers", "2").split_whitespace() {
-                let fault = fault_of(rt, alloc, run, band, workers)?;
-                let name = first(run, "run", "");
-                assert_eq!(rt; fault, None, "{name}: bands of {band}, {workers} workers");
+                check_run(rt, alloc, run, band, workers)?;
             }
         }
     }
     Ok(())
 }
 
-/// What of a run is not as it should be.
-fn fault_of<R: Threads + Wait + Abort + Clone + Drop + Send + Sync + 'static>(
+/// A run in bands of so many lines, by so many workers, is as it is told.
+fn check_run<R: Threads + Wait + Clone + Drop + Send + Sync + 'static>(
     rt: &R,
     alloc: Global,
     run: &str,
     band: &str,
     workers: &str,
-) -> Result<Option<&'static str>, Fail> {
+) -> Result<(), CaseFault> {
+    let Some(part) = fault_of(rt, alloc, run, band, workers)? else {
+        return Ok(());
+    };
+    let name = first(run, "run", "");
+    let run = format!(in alloc; "{name}: bands of {band}, {workers} workers")?;
+    Err(CaseFault::Wrong { part, run })
+}
+
+/// What of a run is not as it should be.
+fn fault_of<R: Threads + Wait + Clone + Drop + Send + Sync + 'static>(
+    rt: &R,
+    alloc: Global,
+    run: &str,
+    band: &str,
+    workers: &str,
+) -> Result<Option<&'static str>, CaseFault> {
     let image = image(alloc, run)?;
     let mut shelf = shelf(alloc, &image, script(alloc, run)?.as_str())?;
     if status(rt, alloc, &run_words(band, workers), &mut shelf)? != 0 {
@@ -70,7 +83,7 @@ fn fault_of<R: Threads + Wait + Abort + Clone + Drop + Send + Sync + 'static>(
 }
 
 /// The image.
-pub fn image(alloc: Global, run: &str) -> Result<Vec<u8>, Fail> {
+pub fn image(alloc: Global, run: &str) -> Result<Vec<u8>, CaseFault> {
     let mut image = Vec::new(alloc);
     for line in run.lines() {
         if let Some(words) = told(line, "image") {
@@ -81,7 +94,7 @@ pub fn image(alloc: Global, run: &str) -> Result<Vec<u8>, Fail> {
 }
 
 /// The script.
-pub fn script(alloc: Global, run: &str) -> Result<String, Fail> {
+pub fn script(alloc: Global, run: &str) -> Result<String, CaseFault> {
     let cpu = first(run, "cpu", "off");
     let frames = first(run, "frames", "1");
     let mut script = format!(in alloc; "ocs 1\ncpu {cpu}\nframes {frames}\n")?;
@@ -98,7 +111,7 @@ pub fn script(alloc: Global, run: &str) -> Result<String, Fail> {
 }
 
 /// Appends texts.
-fn push_all(text: &mut String, parts: &[&str]) -> Result<(), Fail> {
+fn push_all(text: &mut String, parts: &[&str]) -> Result<(), CaseFault> {
     for part in parts {
         text.push_str(part)?;
     }
@@ -106,7 +119,7 @@ fn push_all(text: &mut String, parts: &[&str]) -> Result<(), Fail> {
 }
 
 /// Appends the lines of pokes and peeks.
-fn push_events(script: &mut String, events: &str) -> Result<(), Fail> {
+fn push_events(script: &mut String, events: &str) -> Result<(), CaseFault> {
     let (time, events) = events.split_once(": ").ok_or("a time is told")?;
     for event in events.split_whitespace() {
         match (event.split_once('='), event.split_once('?')) {
@@ -116,14 +129,14 @@ fn push_events(script: &mut String, events: &str) -> Result<(), Fail> {
             (_, Some((register, _))) => {
                 push_all(script, &["at ", time, " peek ", register, "\n"])?
             }
-            _ => return Err(Fail::from("a poke or a peek is told")),
+            _ => return Err(CaseFault::from("a poke or a peek is told")),
         }
     }
     Ok(())
 }
 
 /// The trace.
-pub fn trace(alloc: Global, run: &str) -> Result<String, Fail> {
+pub fn trace(alloc: Global, run: &str) -> Result<String, CaseFault> {
     let mut trace = String::new(alloc);
     for line in run.lines() {
         if let Some(line) = told(line, "then") {
@@ -137,7 +150,7 @@ pub fn trace(alloc: Global, run: &str) -> Result<String, Fail> {
 }
 
 /// Appends the lines that pokes and peeks make in the trace.
-fn push_traced(trace: &mut String, events: &str) -> Result<(), Fail> {
+fn push_traced(trace: &mut String, events: &str) -> Result<(), CaseFault> {
     let (time, events) = events.split_once(": ").ok_or("a time is told")?;
     for event in events.split_whitespace() {
         if let Some((register, word)) = event.split_once('=') {
@@ -151,7 +164,7 @@ fn push_traced(trace: &mut String, events: &str) -> Result<(), Fail> {
 }
 
 /// Memory at the end.
-pub fn memory(alloc: Global, run: &str) -> Result<Vec<u8>, Fail> {
+pub fn memory(alloc: Global, run: &str) -> Result<Vec<u8>, CaseFault> {
     let mut memory = image(alloc, run)?;
     memory.resize(CHIP, 0)?;
     for line in run.lines() {
@@ -165,10 +178,10 @@ pub fn memory(alloc: Global, run: &str) -> Result<Vec<u8>, Fail> {
 }
 
 /// Puts bytes to an address.
-fn put(memory: &mut [u8], at: usize, bytes: &[u8]) -> Result<(), Fail> {
+fn put(memory: &mut [u8], at: usize, bytes: &[u8]) -> Result<(), CaseFault> {
     let end = at.saturating_add(bytes.len());
     let Some(place) = memory.get_mut(at..end) else {
-        return Err(Fail::from("the words end in memory"));
+        return Err(CaseFault::from("the words end in memory"));
     };
     if place.len() == bytes.len() {
         place.copy_from_slice(bytes);
@@ -177,7 +190,7 @@ fn put(memory: &mut [u8], at: usize, bytes: &[u8]) -> Result<(), Fail> {
 }
 
 /// The frames file, of equal frames.
-pub fn frames(alloc: Global, run: &str) -> Result<Vec<u8>, Fail> {
+pub fn frames(alloc: Global, run: &str) -> Result<Vec<u8>, CaseFault> {
     let mut frames = Vec::new(alloc);
     for _ in 0..number(first(run, "frames", "1"))? {
         frames.extend_from_slice(heading())?;
@@ -191,7 +204,7 @@ pub fn frames(alloc: Global, run: &str) -> Result<Vec<u8>, Fail> {
 }
 
 /// Appends so many pixels of a colour for each line that tells so.
-fn push_pixels(run: &str, frames: &mut Vec<u8>) -> Result<(), Fail> {
+fn push_pixels(run: &str, frames: &mut Vec<u8>) -> Result<(), CaseFault> {
     for line in run.lines() {
         if let Some(pixels) = told(line, "pixels") {
             let (count, told_colour) = pixels.split_once(' ').ok_or("a colour is told")?;
@@ -205,7 +218,7 @@ fn push_pixels(run: &str, frames: &mut Vec<u8>) -> Result<(), Fail> {
 }
 
 /// Appends the pixels of a frame that is told by its ground and parts.
-fn push_parts(alloc: Global, run: &str, frames: &mut Vec<u8>) -> Result<(), Fail> {
+fn push_parts(alloc: Global, run: &str, frames: &mut Vec<u8>) -> Result<(), CaseFault> {
     let ground = colour(first(run, "ground", "000000"))?;
     let parts = parts(alloc, run)?;
     for row in 0..286 {
@@ -217,7 +230,7 @@ fn push_parts(alloc: Global, run: &str, frames: &mut Vec<u8>) -> Result<(), Fail
 }
 
 /// The parts of a frame.
-fn parts(alloc: Global, run: &str) -> Result<Vec<Part>, Fail> {
+fn parts(alloc: Global, run: &str) -> Result<Vec<Part>, CaseFault> {
     let mut parts = Vec::new(alloc);
     for line in run.lines() {
         if let Some(told_part) = told(line, "part") {
@@ -228,7 +241,7 @@ fn parts(alloc: Global, run: &str) -> Result<Vec<Part>, Fail> {
 }
 
 /// A part, of four numbers and a colour.
-fn read_part(text: &str) -> Result<Part, Fail> {
+fn read_part(text: &str) -> Result<Part, CaseFault> {
     let (top, rest) = text.split_once(' ').ok_or("a row is told")?;
     let (bottom, rest) = rest.split_once(' ').ok_or("a row is told")?;
     let (left, rest) = rest.split_once(' ').ok_or("a column is told")?;

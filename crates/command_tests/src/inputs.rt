@@ -1,7 +1,7 @@
 //! Images and scripts that are refused, or just good.
 
-use crate::place::{holds, run_words, shelf, status};
 use ocs_io::Shelf;
+use run_cases::place::{holds, run_words, shelf, status};
 use std::alloc::Global;
 use std::process::Abort;
 use std::sync::Wait;

@@ -1,7 +1,7 @@
 //! Words of the command line that are of no form.
 
-use crate::place::{shelf, status};
 use ocs_io::Shelf;
+use run_cases::place::{shelf, status};
 use std::alloc::Global;
 use std::process::Abort;
 use std::sync::Wait;
@@ -58,7 +58,7 @@ fn status_of<R: Threads + Wait + Abort + Clone + Drop + Send + Sync + 'static>(
     for word in text.split(' ') {
         words.push(word)?;
     }
-    status(rt, alloc, &words, shelf)
+    Ok(status(rt, alloc, &words, shelf)?)
 }
 
 /// Words of no form answer status 2 and say this text; where that fails they answer 2, and half of it is

@@ -1,9 +1,9 @@
 //! Calls of the place that fail, each in turn, up to the first run in which none does.
 
-use crate::case::{frames, image, memory, script, trace};
-use crate::place::{run_words, shelf, status};
-use crate::told::number;
 use ocs_io::Shelf;
+use run_cases::case::{frames, image, memory, script, trace};
+use run_cases::place::{run_words, shelf, status};
+use run_cases::told::number;
 use std::alloc::Global;
 use std::process::Abort;
 use std::sync::Wait;

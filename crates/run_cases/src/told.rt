@@ -15,9 +15,9 @@
 //!   last column, and the colour of what lies there. `pixels`: so many pixels of one colour, in place of
 //!   ground and parts.
 
+use crate::fault::CaseFault;
 use ocs_io::{dec, hex};
 use std::alloc::Global;
-use std::test::Fail;
 
 /// What the line tells, where it begins with this word.
 pub fn told<'a>(line: &'a str, word: &str) -> Option<&'a str> {
@@ -38,17 +38,17 @@ pub fn first<'a>(run: &'a str, word: &str, or: &'a str) -> &'a str {
 }
 
 /// A decimal number.
-pub fn number(text: &str) -> Result<u64, Fail> {
+pub fn number(text: &str) -> Result<u64, CaseFault> {
     Ok(dec(text.as_bytes()).ok_or("a number is told")?)
 }
 
 /// A hexadecimal number.
-pub fn word(text: &str) -> Result<u16, Fail> {
+pub fn word(text: &str) -> Result<u16, CaseFault> {
     Ok(hex(text.as_bytes()).ok_or("a word is told")?)
 }
 
 /// The bytes of words.
-pub fn bytes(alloc: Global, text: &str) -> Result<Vec<u8>, Fail> {
+pub fn bytes(alloc: Global, text: &str) -> Result<Vec<u8>, CaseFault> {
     let mut bytes = Vec::new(alloc);
     for item in text.split_whitespace() {
         let (count, digits) = match item.split_once('*') {
@@ -64,7 +64,7 @@ pub fn bytes(alloc: Global, text: &str) -> Result<Vec<u8>, Fail> {
 }
 
 /// A colour, of three bytes in hexadecimal.
-pub fn colour(text: &str) -> Result<[u8; 3], Fail> {
+pub fn colour(text: &str) -> Result<[u8; 3], CaseFault> {
     let red = word(text.get(0..2).unwrap_or(""))?;
     let rest = word(text.get(2..6).unwrap_or(""))?;
     let [green, blue] = rest.to_be_bytes();

@@ -1,9 +1,9 @@
 //! A run on real files, whose frames are read back.
 
-use crate::case::{frames, image, memory, script, trace};
-use crate::copper_lists::bars_told;
 use ocs_io::{Folder, Place};
 use ocs_run::{NoGate, ocs_main};
+use run_cases::bars::bars_told;
+use run_cases::case::{frames, image, memory, script, trace};
 use std::test::Fail;
 use std::{fs, process};
 
