@@ -14,6 +14,3 @@ pub use board::Board;
 pub use front::{Collected, Front};
 pub use hand::{Claim, Hand, Look};
 pub use work::Work;
-
-#[cfg(test)]
-mod tests;

@@ -13,6 +13,3 @@ pub mod touch;
 
 pub use band::draw;
 pub use direct::Direct;
-
-#[cfg(test)]
-mod tests;

@@ -1,11 +1,9 @@
-//! Tests of the crates of the clock loop: numbers and script, beam, registers, slots, Copper, fetches, blits
-//! and the memory with versions, a module a crate.
+//! Tests of the crates of the clock loop: numbers and script, beam, registers, slots, Copper, fetches and
+//! the memory with versions, a module a crate.
 //!
 //! A crate with tests is proved twice, so these crates have none of their own, and this one has nothing else.
 #![tactic(auto)]
 
-#[cfg(test)]
-mod area_blits;
 #[cfg(test)]
 mod base_values;
 #[cfg(test)]
@@ -13,11 +11,7 @@ mod beam_places;
 #[cfg(test)]
 mod bitplane_lines;
 #[cfg(test)]
-mod blits;
-#[cfg(test)]
 mod copper_steps;
-#[cfg(test)]
-mod line_blits;
 #[cfg(test)]
 mod memory_views;
 #[cfg(test)]

@@ -18,6 +18,3 @@ pub use crew::Crew;
 pub use gate::{Gate, NoGate};
 pub use hands::hand_loop;
 pub use start::with_crew;
-
-#[cfg(test)]
-mod tests;

@@ -11,5 +11,3 @@ pub mod Fore
 pub mod Cuts
 pub mod Steps
 pub mod RunTo
-pub mod Recorder
-pub mod TestRasters

@@ -61,7 +61,7 @@ impl<S: Side> Fore<S> {
 
     /// Whether the script reads CLXDAT in this clock.
     #[inline(always)]
-    pub(crate) fn script_reads(&self) -> bool
+    pub fn script_reads(&self) -> bool
         requires script { HasScript (over S.seen self.now).run self.now.machine.beam self.now.next }
         requires screen { IsOnScreen self.now.machine.beam }
         ensures { result ≡ has_clx_read

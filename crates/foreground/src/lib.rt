@@ -21,6 +21,3 @@ pub mod shown_count;
 pub mod touches;
 
 pub use fore::Fore;
-
-#[cfg(test)]
-mod tests;

@@ -7,13 +7,10 @@ pub mod numbers;
 pub mod place;
 pub mod shelf;
 pub mod sure_shelf;
-mod whole;
+pub mod whole;
 
 pub use folder::Folder;
 pub use numbers::{dec, hex, put_dec, put_hex};
 pub use place::{Place, ReadRefusal, WriteRefusal};
 pub use shelf::Shelf;
 pub use sure_shelf::SureShelf;
-
-#[cfg(test)]
-mod tests;

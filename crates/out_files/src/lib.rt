@@ -11,6 +11,3 @@ mod words;
 pub use fault::{OutFile, WriteFault};
 pub use files::OutFiles;
 pub use serial_model::{Source, TraceLine};
-
-#[cfg(test)]
-mod tests;

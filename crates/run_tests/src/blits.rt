@@ -1,6 +1,6 @@
 //! Blits: while a picture is shown, over frames, filled, and lines; and the words of the interrupts.
 
-use crate::case::check;
+use run_cases::case::check;
 use std::test::Fail;
 
 fn blits_in_a_picture() -> [&'static str; 3] {
@@ -115,35 +115,35 @@ at 1 0 0: 01e?0060",
 
 #[test]
 fn in_a_picture(rt: HostRuntime) -> Result<(), Fail> {
-    check(&rt, rt.alloc(), &blits_in_a_picture())
+    Ok(check(&rt, rt.alloc(), &blits_in_a_picture())?)
 }
 
 #[test]
 fn over_frames(rt: HostRuntime) -> Result<(), Fail> {
-    check(&rt, rt.alloc(), &blits_over_frames())
+    Ok(check(&rt, rt.alloc(), &blits_over_frames())?)
 }
 
 #[test]
 fn fills(rt: HostRuntime) -> Result<(), Fail> {
-    check(&rt, rt.alloc(), &filled_blits())
+    Ok(check(&rt, rt.alloc(), &filled_blits())?)
 }
 
 #[test]
 fn lines(rt: HostRuntime) -> Result<(), Fail> {
-    check(&rt, rt.alloc(), &line_blits())
+    Ok(check(&rt, rt.alloc(), &line_blits())?)
 }
 
 #[test]
 fn busy(rt: HostRuntime) -> Result<(), Fail> {
-    check(&rt, rt.alloc(), &busy_blits())
+    Ok(check(&rt, rt.alloc(), &busy_blits())?)
 }
 
 #[test]
 fn copper_waits(rt: HostRuntime) -> Result<(), Fail> {
-    check(&rt, rt.alloc(), &waits_for_the_blitter())
+    Ok(check(&rt, rt.alloc(), &waits_for_the_blitter())?)
 }
 
 #[test]
 fn interrupts(rt: HostRuntime) -> Result<(), Fail> {
-    check(&rt, rt.alloc(), &interrupt_words())
+    Ok(check(&rt, rt.alloc(), &interrupt_words())?)
 }

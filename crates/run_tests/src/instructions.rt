@@ -2,7 +2,7 @@
 //! `examples/instructions`. What it leaves was worked out by `tools/instructions-check`, a processor that
 //! shares nothing with this one.
 
-use crate::case::check;
+use run_cases::case::check;
 use std::test::Fail;
 
 /// The program lies from address 0 on. From 1e00 on it leaves the words that it works on, the user's stack
@@ -114,5 +114,5 @@ pixels 123836 bb3344"
 
 #[test]
 fn all_instructions(rt: HostRuntime) -> Result<(), Fail> {
-    check(&rt, rt.alloc(), &[program_told()])
+    Ok(check(&rt, rt.alloc(), &[program_told()])?)
 }

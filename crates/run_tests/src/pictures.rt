@@ -1,6 +1,6 @@
 //! Pictures with bitplanes: fetched and poked words, scrolls, the window, and the colour modes.
 
-use crate::case::check;
+use run_cases::case::check;
 use std::test::Fail;
 
 fn fetched_planes() -> [&'static str; 4] {
@@ -63,10 +63,10 @@ part 74 74 74 81 ff0000",
 
 #[test]
 fn fetched(rt: HostRuntime) -> Result<(), Fail> {
-    check(&rt, rt.alloc(), &fetched_planes())
+    Ok(check(&rt, rt.alloc(), &fetched_planes())?)
 }
 
 #[test]
 fn colour_modes(rt: HostRuntime) -> Result<(), Fail> {
-    check(&rt, rt.alloc(), &modes_of_colour())
+    Ok(check(&rt, rt.alloc(), &modes_of_colour())?)
 }

@@ -1,6 +1,6 @@
 //! Pokes of a script, peeks of the beam, and inputs.
 
-use crate::case::check;
+use run_cases::case::check;
 use std::test::Fail;
 
 fn pokes_told() -> [&'static str; 3] {
@@ -64,15 +64,15 @@ input 0 0 0 key 45",
 
 #[test]
 fn pokes(rt: HostRuntime) -> Result<(), Fail> {
-    check(&rt, rt.alloc(), &pokes_told())
+    Ok(check(&rt, rt.alloc(), &pokes_told())?)
 }
 
 #[test]
 fn peeks(rt: HostRuntime) -> Result<(), Fail> {
-    check(&rt, rt.alloc(), &peeks_told())
+    Ok(check(&rt, rt.alloc(), &peeks_told())?)
 }
 
 #[test]
 fn inputs(rt: HostRuntime) -> Result<(), Fail> {
-    check(&rt, rt.alloc(), &inputs_told())
+    Ok(check(&rt, rt.alloc(), &inputs_told())?)
 }

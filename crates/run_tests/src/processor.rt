@@ -1,8 +1,8 @@
 //! Programs of the processor, with exceptions, a CIA and inputs.
 
-use crate::case::check;
-use crate::place::{run_words, shelf, status};
-use crate::told::bytes;
+use run_cases::case::check;
+use run_cases::place::{run_words, shelf, status};
+use run_cases::told::bytes;
 use std::test::Fail;
 
 fn programs_told() -> [&'static str; 8] {
@@ -58,7 +58,7 @@ left 100 0100",
 
 #[test]
 fn programs(rt: HostRuntime) -> Result<(), Fail> {
-    check(&rt, rt.alloc(), &programs_told())
+    Ok(check(&rt, rt.alloc(), &programs_told())?)
 }
 
 /// Instructions that begin an exception whose handler is at 0: a shift of a register by an immediate count,

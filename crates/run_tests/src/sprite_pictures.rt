@@ -1,6 +1,6 @@
 //! Pictures with sprites: by register and by DMA, attached, before and behind a playfield; and collisions.
 
-use crate::case::check;
+use run_cases::case::check;
 use std::test::Fail;
 
 fn sprites_told() -> [&'static str; 3] {
@@ -59,15 +59,15 @@ at 0 50 62: 00e?0001 00e?0000",
 
 #[test]
 fn shown(rt: HostRuntime) -> Result<(), Fail> {
-    check(&rt, rt.alloc(), &sprites_told())
+    Ok(check(&rt, rt.alloc(), &sprites_told())?)
 }
 
 #[test]
 fn priorities(rt: HostRuntime) -> Result<(), Fail> {
-    check(&rt, rt.alloc(), &priorities_told())
+    Ok(check(&rt, rt.alloc(), &priorities_told())?)
 }
 
 #[test]
 fn collisions(rt: HostRuntime) -> Result<(), Fail> {
-    check(&rt, rt.alloc(), &collisions_told())
+    Ok(check(&rt, rt.alloc(), &collisions_told())?)
 }

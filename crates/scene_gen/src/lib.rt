@@ -30,6 +30,3 @@ pub fn scene(alloc: Global, n: u32) -> Result<(Vec<u8>, Script), OutOfMemory>
     let script = inputs::make_script(alloc, n)?;
     Ok((image, script))
 }
-
-#[cfg(test)]
-mod tests;

@@ -12,8 +12,3 @@ mod version;
 pub use fault::{BadKind, ScriptFault};
 pub use printer::print_script;
 pub use reader::read_script;
-
-#[cfg(test)]
-mod tests;
-#[cfg(test)]
-mod version_tests;

@@ -1,0 +1,178 @@
+//! Calls of the place that fail, each in turn, up to the first run in which none does.
+
+use ocs_io::Shelf;
+use run_cases::case::{frames, image, memory, script, trace};
+use run_cases::place::{run_words, shelf, status};
+use run_cases::told::number;
+use std::alloc::Global;
+use std::process::Abort;
+use std::sync::Wait;
+use std::test::Fail;
+use std::thread::Threads;
+
+/// COLOR00 becomes red in line 100.
+fn run_told() -> &'static str {
+    "run COLOR00 becomes red.
+image 4*0000
+at 0 100 100: 180=0f00
+part 74 74 212 719 ff0000
+part 75 285 0 719 ff0000"
+}
+
+/// The number of the call that fails, the status, how many bytes the files frames, trace and memory have
+/// then (`-` where the file is not there), and what is said. The beam passes what is pending on at every
+/// 32nd line. The line of the trace stands there from line 128 on, and the frame at the end.
+fn faults_in_bands_of_313() -> &'static str {
+    "
+0 5 - - - cannot read image
+1 5 - - - cannot read script
+2 6 - - - cannot write frames
+3 6 0 - - cannot write trace
+4 6 0 0 - cannot write memory
+5 6 0 11 0 cannot write trace
+6 6 308887 23 0 cannot write frames
+7 6 617775 23 262144 cannot write memory
+8 0 617775 23 524288 "
+}
+
+/// Of bands of one line 16 are not collected yet, so that line 64 finds the heading and the rows of the
+/// lines 26 to 46, and each 32nd line then 32 rows more; the frame's end finds the rows up to line 295, and
+/// the last flush the others.
+fn faults_in_bands_of_1() -> &'static str {
+    "
+0 5 - - - cannot read image
+1 5 - - - cannot read script
+2 6 - - - cannot write frames
+3 6 0 - - cannot write trace
+4 6 0 0 - cannot write memory
+5 6 22687 0 0 cannot write frames
+6 6 79935 0 0 cannot write frames
+7 6 149055 0 0 cannot write frames
+8 6 183615 11 0 cannot write trace
+9 6 218175 23 0 cannot write frames
+10 6 287295 23 0 cannot write frames
+11 6 356415 23 0 cannot write frames
+12 6 425535 23 0 cannot write frames
+13 6 494655 23 0 cannot write frames
+14 6 556215 23 0 cannot write frames
+15 6 600495 23 0 cannot write frames
+16 6 617775 23 262144 cannot write memory
+17 0 617775 23 524288 "
+}
+
+/// The words of a line, and what is behind them.
+#[derive(Drop)]
+struct Fault<'a> {
+    call: &'a str,
+    status: &'a str,
+    counts: [&'a str; 3],
+    said: &'a str,
+}
+
+/// What a line tells.
+fn read_fault(line: &str) -> Option<Fault<'_>> {
+    let (call, rest) = line.split_once(' ')?;
+    let (status, rest) = rest.split_once(' ')?;
+    let (frames, rest) = rest.split_once(' ')?;
+    let (trace, rest) = rest.split_once(' ')?;
+    let (memory, said) = rest.split_once(' ')?;
+    Some(Fault {
+        call,
+        status,
+        counts: [frames, trace, memory],
+        said,
+    })
+}
+
+/// Whether the file has so many bytes, the first of the whole, or is not there where no number is told.
+fn has_part(shelf: &Shelf, name: &str, whole: &[u8], count: &str) -> Result<bool, Fail> {
+    let Some(file) = shelf.file(name) else {
+        return Ok(count == "-");
+    };
+    Ok(count != "-" && file.len() as u64 == number(count)? && whole.starts_with(file))
+}
+
+/// What of the three files is not as it should be.
+fn wrong_file(
+    alloc: Global,
+    shelf: &Shelf,
+    counts: &[&str; 3],
+) -> Result<Option<&'static str>, Fail> {
+    let [frames_count, trace_count, memory_count] = counts;
+    if !has_part(shelf, "frames", &frames(alloc, run_told())?, frames_count)? {
+        return Ok(Some("frames"));
+    }
+    if !has_part(
+        shelf,
+        "trace",
+        trace(alloc, run_told())?.as_bytes(),
+        trace_count,
+    )? {
+        return Ok(Some("trace"));
+    }
+    if !has_part(shelf, "memory", &memory(alloc, run_told())?, memory_count)? {
+        return Ok(Some("memory"));
+    }
+    Ok(None)
+}
+
+/// What of the run with the failing call of a line is not as it should be.
+fn wrong<R: Threads + Wait + Abort + Clone + Drop + Send + Sync + 'static>(
+    rt: &R,
+    alloc: Global,
+    band: &str,
+    fault: &Fault<'_>,
+) -> Result<Option<&'static str>, Fail> {
+    let mut shelf = shelf(
+        alloc,
+        &image(alloc, run_told())?,
+        script(alloc, run_told())?.as_str(),
+    )?;
+    shelf.fail_at(number(fault.call)?)?;
+    let ended = status(rt, alloc, &run_words(band, "2"), &mut shelf)?;
+    if ended as u64 != number(fault.status)? {
+        return Ok(Some("status"));
+    }
+    if said_line(shelf.said()) != fault.said.as_bytes() {
+        return Ok(Some("said"));
+    }
+    wrong_file(alloc, &shelf, &fault.counts)
+}
+
+/// What was said without the end of its line.
+fn said_line(said: &[u8]) -> &[u8] {
+    match said {
+        [line @ .., b'\n'] => line,
+        _ => said,
+    }
+}
+
+/// Each line of a table is as it is told, and they are in order.
+fn check_faults<R: Threads + Wait + Abort + Clone + Drop + Send + Sync + 'static>(
+    rt: &R,
+    alloc: Global,
+    band: &str,
+    table: &str,
+) -> Result<(), Fail> {
+    let mut calls = 0u64;
+    for line in table.lines() {
+        if let Some(fault) = read_fault(line) {
+            assert_eq!(rt; number(fault.call)?, calls);
+            calls = calls.saturating_add(1);
+            assert_eq!(rt;
+                wrong(rt, alloc, band, &fault)?,
+                None,
+                "bands of {band}: {line}"
+            );
+        }
+    }
+    assert!(rt; calls > 8);
+    Ok(())
+}
+
+#[test]
+fn each_call_fails_once(rt: HostRuntime) -> Result<(), Fail> {
+    let alloc = rt.alloc();
+    check_faults(&rt, alloc, "313", faults_in_bands_of_313())?;
+    check_faults(&rt, alloc, "1", faults_in_bands_of_1())
+}

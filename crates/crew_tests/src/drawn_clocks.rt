@@ -1,0 +1,142 @@
+//! Single clocks worked by hand, and rasters without bands.
+
+ghost use Rattle.std.specs.Prelude.{◌≡◌, [], true, IfOk};
+
+use band_draw::Direct;
+use band_draw::band_painter::BandPainter;
+use band_draw::clock::show_clock;
+use band_draw::touch::bus_count;
+use band_log::{Denise, Event, Raster, Reset};
+use mem_versions::{Chip, MemView};
+use ocs_base::{Beam, Clock, OutOfMemory, Reg};
+use serial_model::{NoSide, Side, SideAsk};
+use std::alloc::Global;
+
+/// The script writes f00 to COLOR00 at clock 100 of line 100: the clock before is black, and from
+/// that one on the picture is red.
+#[test]
+fn a_colour_shows_from_its_clock_on(rt: HostRuntime) -> Result<(), OutOfMemory> {
+    let view = small_view(rt.alloc())?;
+    let mut room = [7; 30];
+    let mut clx = 0;
+    let mut before = fresh(&place(100, 99));
+    let filled = show_clock(
+        &mut before,
+        &place(100, 99),
+        &[],
+        Clock(22_799),
+        &view,
+        &mut room,
+        0,
+        &mut clx,
+    );
+    assert_eq!(rt; filled, 12);
+    let event = Event::Set {
+        at: Clock(22_800),
+        reg: Reg::masked(0x180),
+        word: 0x0f00,
+    };
+    let mut after = fresh(&place(100, 100));
+    let filled = show_clock(
+        &mut after,
+        &place(100, 100),
+        &[event],
+        Clock(22_800),
+        &view,
+        &mut room,
+        12,
+        &mut clx,
+    );
+    assert_eq!(rt; filled, 24);
+    assert_eq!(rt; after.close().palette[0], 0x0f00);
+    assert_eq!(rt;
+        room,
+        [
+            0, 0, 0, 0, 0, 0, 0, 0, 0, 0, 0, 0, 255, 0, 0, 255, 0, 0, 255, 0, 0, 255, 0, 0, 7, 7,
+            7, 7, 7, 7,
+        ]
+    );
+    Ok(())
+}
+
+/// A fetch belongs to its own clock, and a write to the access where the script's follow behind it.
+#[test]
+fn the_event_of_an_access(rt: HostRuntime) {
+    let write = Event::Set {
+        at: Clock(6),
+        reg: Reg::masked(0x180),
+        word: 1,
+    };
+    assert_eq!(rt; bus_count(5, 0, &[write]), 1);
+    assert_eq!(rt; bus_count(5, 1, &[write]), 0);
+    assert_eq!(rt; bus_count(5, 1, &[write, write]), 1);
+    assert_eq!(rt; bus_count(6, 0, &[write]), 0);
+    assert_eq!(rt; bus_count(5, 0, &[]), 0);
+}
+
+#[test]
+fn a_raster_without_bands(rt: HostRuntime) -> Result<(), OutOfMemory> {
+    let raster = Direct::<NoSide>::new(rt.alloc())?;
+    assert_eq!(rt; raster.outstanding(), 0);
+    Ok(())
+}
+
+#[test]
+fn a_raster_over_a_side_without_bands(rt: HostRuntime) -> Result<(), OutOfMemory> {
+    let raster = Direct::<Steady>::new(rt.alloc())?;
+    assert_eq!(rt; raster.outstanding(), 0);
+    Ok(())
+}
+
+/// A side that requests the same bits of INTREQ at each clock and asks for nothing.
+#[derive(Drop)]
+struct Steady {
+    bits: u16,
+}
+
+impl Side for Steady {
+    ghost use Rattle.serial_model.specs.declared.bus.SideAsk.TheVariants.{Nothing};
+
+    ghost seen = { λ side. record {
+      bits = λ later b dmacon. side.bits;
+      ask = λ later b dmacon. Nothing;
+      shows = λ later. [];
+    } };
+
+    fn poke(&mut self, _reg: Reg, _word: u16) {}
+
+    fn tick(&mut self, _beam: &Beam, _dmacon: u16) -> u16 {
+        self.bits
+    }
+
+    fn ask(&self, _beam: &Beam, _dmacon: u16) -> SideAsk {
+        SideAsk::Nothing
+    }
+
+    fn give(&mut self, _word: u16) {}
+}
+
+fn fresh(beam: &Beam) -> BandPainter
+    ensures { result.keeps ≡ true }
+{
+    BandPainter::open(&Denise::reset(), beam)
+}
+
+fn place(v: u16, h: u16) -> Beam
+    ensures { result.h ≡ h }
+{
+    Beam {
+        frame: 0,
+        v,
+        h,
+        lof: true,
+    }
+}
+
+/// A view of the clocks up to 30,000.
+fn small_view(alloc: Global) -> Result<MemView, OutOfMemory>
+    ensures { IfOk result (λ view. (view.from ≡ 0) × (view.to ≡ 30000)) }
+{
+    let mut chip = Chip::new(alloc, &[7; 8])?;
+    chip.cut(Clock(30_000))
+}

@@ -1,7 +1,0 @@
--- A side fits chip memory, whatever it is.
-use Rattle.serial_model.proofs.SideLaws.{each_side_fits}
-use Rattle.foreground.specs.Recorder.{recorder}
-use Rattle.foreground.proofs.tests.side_runs.run_over_a_side.Goals as goal
-
-pub over-requires-clause-fits : goal.over-requires-clause-fits
-over-requires-clause-fits c = each_side_fits (recorder c.fresh_side.result.written c.fresh_side.result.given)

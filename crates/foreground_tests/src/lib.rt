@@ -1,0 +1,14 @@
+//! Tests of the foreground: whole runs over rasters that draw at once, reads of CLXDAT, a run over a side. They stand here
+//! and not beside the code, so that the foreground is proved once.
+#![tactic(auto)]
+
+#[cfg(test)]
+mod copies;
+#[cfg(test)]
+mod rasters;
+#[cfg(test)]
+mod reads;
+#[cfg(test)]
+mod runs;
+#[cfg(test)]
+mod side_runs;

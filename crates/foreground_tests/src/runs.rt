@@ -1,0 +1,90 @@
+//! Whole runs of the foreground over a raster that draws at once.
+
+ghost use Rattle.std.specs.Prelude.{◌≡◌, ◌≤◌, ℕ, [], None, false, IfOk};
+ghost use Rattle.ocs_base.specs.Limits.{IsRunnable};
+ghost use Rattle.foreground.specs.Fore.{over, IsUnderway};
+
+use band_log::{Raster, Run};
+use foreground::Fore;
+use ocs_base::{OutOfMemory, Script};
+use ocs_io::Shelf;
+use out_files::OutFiles;
+use script_read::read_script;
+use serial_model::{NoSide, Side};
+use std::alloc::Global;
+use std::sync::Arc;
+use std::test::Fail;
+
+/// More clocks than a frame has.
+pub const CLOCKS: u32 = 72_000;
+
+/// A run of a script of one frame with these lines of events.
+pub fn run_of(
+    alloc: Global,
+    image: &[u8; 8],
+    events: &str,
+    height: u16,
+) -> Result<Arc<Run<NoSide>>, Fail>
+    requires least { 1 ≤ height }
+    requires most { height ≤ 313 }
+{
+    let script = script_of(alloc, events)?;
+    let image = Vec::from_slice(alloc, image)?;
+    Ok(Arc::new(alloc, Run::new(image, script, height))?)
+}
+
+/// A script of one frame with these lines of events.
+pub fn script_of(alloc: Global, events: &str) -> Result<Script, Fail>
+    ensures { IfOk result IsRunnable }
+{
+    let mut text = String::from_str(alloc, "ocs 1\ncpu off\nframes 1\n")?;
+    text.push_str(events)?;
+    text.push_str("end\n")?;
+    Ok(read_script(alloc, text.as_bytes())?)
+}
+
+/// Files named frames, trace and memory.
+pub fn out_files(alloc: Global) -> Result<OutFiles, OutOfMemory> {
+    let frames = String::from_str(alloc, "frames")?;
+    let trace = String::from_str(alloc, "trace")?;
+    let memory = String::from_str(alloc, "memory")?;
+    Ok(OutFiles::new(alloc, frames, trace, memory))
+}
+
+/// Does all clocks of a run of one frame, and gathers the bands that are left.
+pub fn run_clocks<S: Side, Q: Raster<S>>(
+    fore: &mut Fore<S>,
+    raster: &mut Q,
+    out: &mut OutFiles,
+) -> Result<(), OutOfMemory>
+    requires fresh { fore.old.spent ≡ false }
+    requires fits { (first : ℕ) × IsUnderway (over S.seen fore.old) first
+        (Q.seen raster.old) }
+{
+    for _ in 0..CLOCKS {
+        if fore.done() {
+            return fore.settle(raster, out);
+        }
+        fore.advance(raster, out)?;
+    }
+    Ok(())
+}
+
+/// A whole run over a raster that took no band yet: its files, and how many words of memory were read.
+pub fn run_whole<Q: Raster<NoSide>>(
+    alloc: Global,
+    run: Arc<Run<NoSide>>,
+    raster: &mut Q,
+) -> Result<(Shelf, u64), Fail>
+    requires empty { (Q.seen raster.old).outstanding ≡ [] }
+    requires first { (Q.seen raster.old).next ≡ 0 }
+    requires unbound { (Q.seen raster.old).bound ≡ None }
+{
+    let mut fore = Fore::new(alloc, run)?;
+    let mut out = out_files(alloc)?;
+    run_clocks(&mut fore, raster, &mut out)?;
+    let mut shelf = Shelf::new(alloc);
+    out.create(&mut shelf)?;
+    out.flush(&mut shelf)?;
+    Ok((shelf, fore.reads()))
+}

@@ -1,0 +1,125 @@
+//! A run over a side: a disk's word, a sample's word, interrupts and writes of registers. The expected words are worked
+//! by hand.
+
+ghost use Rattle.std.specs.Prelude.{◌≡◌, ◌≤◌, ℕ, [], false, IfOk};
+ghost use Rattle.std.specs.Arc.{arc_value};
+ghost use Rattle.foreground.specs.Fore.{over, IsUnderway};
+
+use crate::runs::{out_files, run_clocks, script_of};
+use band_draw::Direct;
+use band_log::Run;
+use foreground::Fore;
+use ocs_base::{Addr, Beam, Reg};
+use ocs_io::Shelf;
+use out_files::OutFiles;
+use serial_model::{Side, SideAsk};
+use std::alloc::Global;
+use std::sync::Arc;
+use std::test::Fail;
+
+/// A side that keeps the word that was last written to a register, and the one that it was last given. At clock 7 of each
+/// line it stores the one, as a disk, and at clock 13 reads that place, as audio; at clock 20 it requests the other's bits.
+#[derive(Drop)]
+struct Recorder {
+    written: u16,
+    given: u16,
+}
+
+/// Where it stores and reads.
+const PLACE: u32 = 64;
+
+impl Side for Recorder {
+    ghost use Rattle.foreground_tests.specs.Recorder.{recorder};
+
+    ghost seen = { λ side. recorder side.written side.given };
+
+    fn poke(&mut self, _reg: Reg, word: u16) {
+        self.written = word;
+    }
+
+    fn tick(&mut self, beam: &Beam, _dmacon: u16) -> u16 {
+        if beam.h == 20 { self.given } else { 0 }
+    }
+
+    fn ask(&self, beam: &Beam, _dmacon: u16) -> SideAsk {
+        if beam.h == 7 {
+            return SideAsk::Disk {
+                at: Addr::at(PLACE),
+                word: self.written,
+            };
+        }
+        if beam.h == 13 {
+            return SideAsk::Audio {
+                channel: 0,
+                at: Addr::at(PLACE),
+            };
+        }
+        SideAsk::Nothing
+    }
+
+    fn give(&mut self, word: u16) {
+        self.given = word;
+    }
+}
+
+fn fresh_side() -> Recorder
+    ensures written { result.written ≡ 0 }
+    ensures given { result.given ≡ 0 }
+{
+    Recorder {
+        written: 0,
+        given: 0,
+    }
+}
+
+/// A run over a side as it is at reset.
+fn run_over_a_side(alloc: Global) -> Result<Arc<Run<Recorder>>, Fail>
+    ensures written { IfOk result (λ run. (arc_value run).side.written ≡ 0) }
+    ensures given { IfOk result (λ run. (arc_value run).side.given ≡ 0) }
+{
+    let script = script_of(
+        alloc,
+        "at 0 0 0 poke 180 0102\nat 0 0 19 peek 01e\nat 0 0 21 peek 01e\n",
+    )?;
+    let image = Vec::from_slice(alloc, &[0; 8])?;
+    Ok(Arc::new(alloc, Run::over(image, script, 100, fresh_side()))?)
+}
+
+/// That run, whole.
+fn run_whole_over_a_side(alloc: Global) -> Result<(Fore<Recorder>, OutFiles), Fail> {
+    let run = run_over_a_side(alloc)?;
+    let mut fore = Fore::with_side(alloc, run, fresh_side())?;
+    let mut out = out_files(alloc)?;
+    let mut raster = Direct::<Recorder>::new(alloc)?;
+    run_clocks(&mut fore, &mut raster, &mut out)?;
+    Ok((fore, out))
+}
+
+/// What is written of a run: the trace and the memory.
+fn files_of(alloc: Global, fore: Fore<Recorder>, out: OutFiles) -> Result<Shelf, Fail> {
+    let mut out = out;
+    let mut shelf = Shelf::new(alloc);
+    out.create(&mut shelf)?;
+    out.flush(&mut shelf)?;
+    let mut chip = fore.finish();
+    out.memory(&mut chip, &mut shelf)?;
+    Ok(shelf)
+}
+
+/// In line 0 the word 0102 is written to a register before clock 7, at which it is stored; at clock 13 it is read and given
+/// to the side; at clock 20 its bits are requested, beside that of vertical blanking. Each of the 313 lines reads one word,
+/// which counts.
+#[test]
+fn a_side_takes_part_in_the_run(rt: HostRuntime) -> Result<(), Fail> {
+    let (fore, out) = run_whole_over_a_side(rt.alloc())?;
+    assert!(rt; fore.side().written == 0x0102 && fore.side().given == 0x0102);
+    assert_eq!(rt; fore.reads(), 313);
+    let shelf = files_of(rt.alloc(), fore, out)?;
+    let trace: &[u8] = b"0 0 0 W 180 0102 S\n0 0 19 R 01e 0020 S\n0 0 21 R 01e 0122 S\n";
+    assert!(rt; shelf.file("trace") == Some(trace));
+    let memory = shelf.file("memory").ok_or("memory")?;
+    assert!(rt;
+        memory.get(64) == Some(&1) && memory.get(65) == Some(&2) && memory.get(66) == Some(&0)
+    );
+    Ok(())
+}

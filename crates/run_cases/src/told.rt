@@ -1,0 +1,74 @@
+//! How a run is told as a text, a line for each thing that is told; each line begins with a word that says
+//! what.
+//!
+//! - `run`: what the run shows.
+//! - `bands`, `workers`: the heights of bands and the numbers of workers, each with each; 313 and 2 where
+//!   they are not told.
+//! - `cpu`, `frames`: as in the script; `off` and 1 where they are not told.
+//! - `system`: whose beam the machine has, which makes the script one of version 3; it is one of version 1
+//!   where that is not told.
+//! - `image`: words of memory from address 0 on, going on from line to line; `200*ffff` is a word that
+//!   stands so often.
+//! - `at TIME: 180=0f00 002?2240`: pokes, and peeks with the word that is read, all at one time, which stand
+//!   in the trace.
+//! - `input`: an event that is in no trace. `then`: a line of the trace that no event of the script makes.
+//! - `left ADDRESS`: words of memory at the end; all else is as in the image.
+//! - `ground`: the colour of the frames, black where it is not told. `part`: first and last row, first and
+//!   last column, and the colour of what lies there. `pixels`: so many pixels of one colour, in place of
+//!   ground and parts.
+
+use crate::fault::CaseFault;
+use ocs_io::{dec, hex};
+use std::alloc::Global;
+
+/// What the line tells, where it begins with this word.
+pub fn told<'a>(line: &'a str, word: &str) -> Option<&'a str> {
+    match line.split_once(' ') {
+        Some((first, rest)) if first == word => Some(rest),
+        _ => None,
+    }
+}
+
+/// What the first line that begins with this word tells, or what stands for it.
+pub fn first<'a>(run: &'a str, word: &str, or: &'a str) -> &'a str {
+    for line in run.lines() {
+        if let Some(rest) = told(line, word) {
+            return rest;
+        }
+    }
+    or
+}
+
+/// A decimal number.
+pub fn number(text: &str) -> Result<u64, CaseFault> {
+    Ok(dec(text.as_bytes()).ok_or("a number is told")?)
+}
+
+/// A hexadecimal number.
+pub fn word(text: &str) -> Result<u16, CaseFault> {
+    Ok(hex(text.as_bytes()).ok_or("a word is told")?)
+}
+
+/// The bytes of words.
+pub fn bytes(alloc: Global, text: &str) -> Result<Vec<u8>, CaseFault> {
+    let mut bytes = Vec::new(alloc);
+    for item in text.split_whitespace() {
+        let (count, digits) = match item.split_once('*') {
+            Some((count, digits)) => (number(count)?, digits),
+            None => (1, item),
+        };
+        let word = word(digits)?;
+        for _ in 0..count {
+            bytes.extend_from_slice(&word.to_be_bytes())?;
+        }
+    }
+    Ok(bytes)
+}
+
+/// A colour, of three bytes in hexadecimal.
+pub fn colour(text: &str) -> Result<[u8; 3], CaseFault> {
+    let red = word(text.get(0..2).unwrap_or(""))?;
+    let rest = word(text.get(2..6).unwrap_or(""))?;
+    let [green, blue] = rest.to_be_bytes();
+    Ok([red.to_be_bytes()[1], green, blue])
+}
