@@ -1,5 +1,5 @@
 -- The log where a band begins: at reset, with a line, and where CLXDAT was read.
-use Rattle.std.proofs.Common.{◌≡◌, ◌≤◌, ◌<◌, inl, ℕ, suc, ◌+◌, ◌-◌, ◌*◌, Bool, true, false, ◌==◌, nat_le, if◌then◌else◌, List, [], ◌∷◌, ◌++◌, length, map, Option, Some, None, replicate, slice_index, refl, ap, ◌∙◌, sym, subst, arith, true≢false}
+use Rattle.std.proofs.Common.{◌≡◌, ◌≤◌, ◌<◌, inl, ℕ, suc, ◌+◌, ◌-◌, ◌*◌, ◌/◌, ◌%◌, Bool, true, false, ◌==◌, nat_le, if◌then◌else◌, List, [], ◌∷◌, ◌++◌, length, map, Option, Some, None, replicate, slice_index, slice_set, refl, ap, ◌∙◌, sym, subst, arith, true≢false}
 use Rattle.std.proofs.lemmas.Bool.Decides.{nat_tests}
 use Rattle.std.proofs.lemmas.List.{length-map}
 use Rattle.std.specs.Arc.{arc_value}
@@ -15,7 +15,7 @@ use Rattle.serial_model.specs.declared.picture.Touch.{Touch}
 use Rattle.serial_model.specs.declared.picture.Touch.TheVariants as T
 use Rattle.serial_model.specs.Beam.{first_place, is_line_start}
 use Rattle.serial_model.specs.Made.{word_of}
-use Rattle.serial_model.specs.Picture.{reset_picture, clear_line, set_picture, touch_if_any}
+use Rattle.serial_model.specs.Picture.{reset_picture, clear_line, set_picture, touch_if_any, add_load, is_latch, is_sprite, is_colour, set_sprite}
 use Rattle.serial_model.specs.Serial.{state_over}
 use Rattle.serial_model.specs.State.{State, reset}
 use Rattle.serial_model.specs.Tick.{tick}
@@ -250,17 +250,44 @@ next_positions last h next is inner = grind (arith, nat_tests, is, inner)
 abbrev cleared : Denise → Denise
 cleared p = record p { loads = []; runs = replicate 8 None; held = record { 0 = slice_index p.palette 0 } }
 
-either_cleared : (b : Bool) (x y one two : Denise) → cleared x ≡ cleared y → cleared one ≡ cleared two
-    → cleared (if b then x else one) ≡ cleared (if b then y else two)
-either_cleared true x y one two first second = first
-either_cleared false x y one two first second = second
+under : (b : Bool) (x one two : Denise) → cleared one ≡ cleared two → cleared (if b then x else one) ≡ cleared (if b then x else two)
+under true x one two same = refl
+under false x one two same = same
+
+under_six : (a b c d e f : Bool) (u v w x y z one two : Denise) → cleared one ≡ cleared two
+    → cleared (if a then u else if b then v else if c then w else if d then x else if e then y else if f then z else one)
+    ≡ cleared (if a then u else if b then v else if c then w else if d then x else if e then y else if f then z else two)
+under_six a b c d e f u v w x y z one two same =
+    under a u (if b then v else if c then w else if d then x else if e then y else if f then z else one)
+    (if b then v else if c then w else if d then x else if e then y else if f then z else two)
+    (under b v (if c then w else if d then x else if e then y else if f then z else one)
+    (if c then w else if d then x else if e then y else if f then z else two)
+    (under c w (if d then x else if e then y else if f then z else one) (if d then x else if e then y else if f then z else two)
+    (under d x (if e then y else if f then z else one) (if e then y else if f then z else two)
+    (under e y (if f then z else one) (if f then z else two) (under f z one two same)))))
+
+loaded_or : (b : Bool) (h k : ℕ) (p other : Denise) → cleared (if b then add_load h p else other) ≡ cleared (if b then add_load k p else other)
+loaded_or true h k p other = refl
+loaded_or false h k p other = refl
+
+-- what a write to a register behind BPL1DAT's makes
+abbrev written_behind : ℕ → ℕ → Denise → Denise
+written_behind offset word p =
+    if is_latch offset then record p { latches = slice_set p.latches ((offset - 0x110) / 2) word }
+    else if is_sprite offset then set_sprite ((offset - 0x140) / 8) ((offset - 0x140) % 8) word p
+    else if is_colour offset then record p { palette = slice_set p.palette ((offset - 0x180) / 2) (word % 4096) }
+    else p
 
 write_cleared : (h k offset word : ℕ) (p : Denise) → cleared (set_picture h offset word p) ≡ cleared (set_picture k offset word p)
 unfolding set_picture
 write_cleared h k offset word p =
-    either_cleared (offset == 0x08e) _ _ _ _ refl (either_cleared (offset == 0x090) _ _ _ _ refl (either_cleared (offset == 0x098) _ _ _ _ refl
-    (either_cleared (offset == 0x100) _ _ _ _ refl (either_cleared (offset == 0x102) _ _ _ _ refl (either_cleared (offset == 0x104) _ _ _ _ refl
-    (either_cleared (offset == 0x110) _ _ _ _ refl refl))))))
+    let held : Denise = record p { latches = slice_set p.latches 0 word } in
+    under_six (offset == 0x08e) (offset == 0x090) (offset == 0x098) (offset == 0x100) (offset == 0x102) (offset == 0x104)
+    (record p { diwstrt = word }) (record p { diwstop = word }) (record p { clxcon = word })
+    (record p { con0 = word }) (record p { con1 = word }) (record p { con2 = word })
+    (if offset == 0x110 then add_load h held else written_behind offset word p)
+    (if offset == 0x110 then add_load k held else written_behind offset word p)
+    (loaded_or (offset == 0x110) h k held (written_behind offset word p))
 
 touch_cleared : (h k : ℕ) (words : ℕ → ℕ) (touch : Option Touch) (p : Denise)
     → cleared (touch_if_any h words (write_alone touch) p) ≡ cleared (touch_if_any k words (write_alone touch) p)
@@ -293,7 +320,8 @@ write_opens run c h waiting closing opening waits place is true start =
 write_opens run c h waiting closing opening waits place is false inner =
     let b : Beam = beam_at run c in
     let next : Beam = beam_at run (suc c) in
-    let here : h ≡ b.h = place inner in
+    let one : suc c - 1 ≡ c = omega arith in
+    let here : h ≡ b.h = place inner ∙ ap (λ k. (beam_at run k).h) one in
     let made : StandsFor (4 * b.h) opening (with_write run c closing) =
     written waiting c b.h (word_of (run_memory run c)) (bus_touch_at run c) closing opening waits
     (subst (λ x. IsWritten waiting x closing opening) here is) in

@@ -40,7 +40,7 @@ stands_at_access run c bits m0 m1 m2 m3 out given is clx first events timers =
     events start (start_clock s) (λ reads. clx (ap (λ b. has_clx_read (due_events b run.script.events)) place ∙ reads)) begun in
     let script : Stands start m2 given (run_script run.script.events (start_clock s)) =
     subst (λ b. Stands start m2 given (do_events (due_events b run.script.events) (start_clock s))) (sym place) happened in
-    stands_shown start m3 given (count_timers (run_script run.script.events (start_clock s)))
+    stands_shown run.script.system start m3 given (count_timers (run_script run.script.events (start_clock s)))
     (timers given start (run_script run.script.events (start_clock s)) script)
 
 pub tells_at_access : (run : RunValue) (c : ℕ) (m : MachineValue) (out given : OutFilesValue)
