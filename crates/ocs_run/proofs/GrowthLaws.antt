@@ -2,7 +2,7 @@
 use Rattle.std.proofs.Common.{◌≡◌, ℕ, zero, suc, ◌+◌, List, [], ◌++◌, ap, ◌∙◌, sym, append_assoc, append-nil, add-suc, add-zero}
 use Rattle.ocs_base.specs.Script.{ScriptValue}
 use Rattle.ocs_base.specs.declared.script.At.{At}
-use Rattle.ocs_base.specs.declared.system.System.TheVariants.{Pal}
+use Rattle.ocs_base.specs.declared.system.System.{System}
 use Rattle.serial_model.specs.Side.{SideValue}
 use Rattle.serial_model.specs.Serial.{state_over}
 use Rattle.serial_model.specs.State.{State}
@@ -27,17 +27,17 @@ Extends-trans xs ys zs first second = record {
   is = second.is ∙ ap (λ l. l ++ second.more) first.is ∙ append_assoc xs first.more second.more;
 }
 
-pub shown-tick : (events : List At) (s : State) → Extends s.shown (tick Pal events s).shown
-shown-tick events s = record { more = (picture_step Pal events s).bytes; is = shown_next Pal events s }
+pub shown-tick : (system : System) (events : List At) (s : State) → Extends s.shown (tick system events s).shown
+shown-tick system events s = record { more = (picture_step system events s).bytes; is = shown_next system events s }
 
-pub trace-tick : (events : List At) (s : State) → Extends s.trace (tick Pal events s).trace
-trace-tick events s =
-    let b : State = answer_state (before_access Pal events s) in
-    let done : State = make_access (before_access Pal events s) in
+pub trace-tick : (system : System) (events : List At) (s : State) → Extends s.trace (tick system events s).trace
+trace-tick system events s =
+    let b : State = answer_state (before_access system events s) in
+    let done : State = make_access (before_access system events s) in
     record {
       more = event_lines (due_events s.beam events) (start_clock s)
-          ++ (lines_of b.beam b.clx b.chips (made_in Pal events s) ++ taken_lines done.beam (interrupt_of done.chips));
-      is = trace_next Pal events s;
+          ++ (lines_of b.beam b.clx b.chips (made_in system events s) ++ taken_lines done.beam (interrupt_of done.chips));
+      is = trace_next system events s;
     }
 
 pub shown-later : (side : SideValue) (image : List ℕ) (script : ScriptValue) (n k : ℕ) → Extends (state_over side image script n).shown
@@ -45,11 +45,11 @@ pub shown-later : (side : SideValue) (image : List ℕ) (script : ScriptValue) (
 unfolding state_over
 shown-later side image script n zero = rw add-zero (Extends-refl (state_over side image script n).shown)
 shown-later side image script n (suc k) =
-    rw add-suc (Extends-trans _ _ _ (shown-later side image script n k) (shown-tick script.events (state_over side image script (n + k))))
+    rw add-suc (Extends-trans _ _ _ (shown-later side image script n k) (shown-tick script.system script.events (state_over side image script (n + k))))
 
 pub trace-later : (side : SideValue) (image : List ℕ) (script : ScriptValue) (n k : ℕ) → Extends (state_over side image script n).trace
     (state_over side image script (n + k)).trace
 unfolding state_over
 trace-later side image script n zero = rw add-zero (Extends-refl (state_over side image script n).trace)
 trace-later side image script n (suc k) =
-    rw add-suc (Extends-trans _ _ _ (trace-later side image script n k) (trace-tick script.events (state_over side image script (n + k))))
+    rw add-suc (Extends-trans _ _ _ (trace-later side image script n k) (trace-tick script.system script.events (state_over side image script (n + k))))

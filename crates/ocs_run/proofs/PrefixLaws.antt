@@ -2,6 +2,7 @@
 use Rattle.std.proofs.Common.{◌≡◌, ℕ, zero, suc, ◌+◌, ◌-◌, ◌<◌, ◌≤◌, ◌⊎◌, List, [], ◌∷◌, ◌++◌, length, take, Option, Some, None, inl, inr, refl, ap, ◌∙◌, sym, subst, append_assoc, arith}
 use Rattle.std.proofs.lemmas.Grind.{flat_map-append}
 use Rattle.ocs_base.specs.Script.{ScriptValue}
+use Rattle.ocs_base.specs.declared.system.System.{System}
 use Rattle.ocs_io.specs.Place.{Files}
 use Rattle.out_files.specs.Answers.{with_empty, in_order}
 use Rattle.out_files.specs.OutFiles.{OutNames}
@@ -29,12 +30,14 @@ not_later side image script clocks end running is = step (le_or_lt clocks end)
     step (inl le) = le
     step (inr lt) = absurd (let below : (state_over side image script end).beam.frame < script.frames = running end lt in omega (arith, is.ended))
 
-frames-grow : (first more now bytes rest : List ℕ) → now ≡ first ++ more → bytes ++ rest ≡ frames_text first → IsPartOf (frames_text now) (Some bytes)
-frames-grow first more now bytes rest is part = (
-  rest ++ with_headings (0 + length first) more,
-  sym (append_assoc bytes rest (with_headings (0 + length first) more)) ∙ ap (λ t. t ++ with_headings (0 + length first) more) part
-      ∙ sym (with_headings-append 0 first more) ∙ ap (λ l. frames_text l) (sym is),
-)
+frames-grow : (system : System) (first more now bytes rest : List ℕ) → now ≡ first ++ more → bytes ++ rest ≡ frames_text system first
+    → IsPartOf (frames_text system now) (Some bytes)
+frames-grow system first more now bytes rest is part =
+    let added : List ℕ = with_headings system (0 + length first) more in (
+      rest ++ added,
+      sym (append_assoc bytes rest added) ∙ ap (λ t. t ++ added) part ∙ sym (with_headings-append system 0 first more)
+          ∙ ap (λ l. frames_text system l) (sym is),
+    )
 
 trace-grow : (first more now : List TraceLine) (bytes rest : List ℕ) → now ≡ first ++ more → bytes ++ rest ≡ trace_text first
     → IsPartOf (trace_text now) (Some bytes)
@@ -48,14 +51,15 @@ trace-grow first more now bytes rest is part = (
 -- parts of the texts so far are parts of the texts at the end
 frames-part : (side : SideValue) (image : List ℕ) (script : ScriptValue) (clocks end : ℕ) (bytes rest : List ℕ) → HasRun side image script clocks → IsEndOver
     side image script end
-    → bytes ++ rest ≡ frames_text (state_over side image script clocks).shown → IsPartOf (frames_text (state_over side image script end).shown) (Some bytes)
+    → bytes ++ rest ≡ frames_text script.system (state_over side image script clocks).shown
+    → IsPartOf (frames_text script.system (state_over side image script end).shown) (Some bytes)
 frames-part side image script clocks end bytes rest run is part =
     let le : clocks ≤ end = not_later side image script clocks end run.running is in
     let e : clocks + (end - clocks) ≡ end = omega arith in
     let grown : Extends (state_over side image script clocks).shown (state_over side image script (clocks + (end - clocks))).shown =
     shown-later side image script clocks (end - clocks) in
-    subst (λ n. IsPartOf (frames_text (state_over side image script n).shown) (Some bytes)) e
-    (frames-grow (state_over side image script clocks).shown grown.more _ bytes rest grown.is part)
+    subst (λ n. IsPartOf (frames_text script.system (state_over side image script n).shown) (Some bytes)) e
+    (frames-grow script.system (state_over side image script clocks).shown grown.more _ bytes rest grown.is part)
 
 trace-part : (side : SideValue) (image : List ℕ) (script : ScriptValue) (clocks end : ℕ) (bytes rest : List ℕ) → HasRun side image script clocks → IsEndOver
     side image script end

@@ -1,6 +1,7 @@
 -- The run over plain values: its start, its turns, its end and its stops.
 use Rattle.std.proofs.Common.{◌≡◌, ℕ, ◌+◌, ◌-◌, ◌*◌, ◌^◌, ◌<◌, ◌≤◌, Bool, true, false, nat_lt, ◌==◌, List, [], ◌++◌, length, Option, Some, None, Result, Ok, Err, OnErr, IfErr, IsErrAnd, arith, refl, ap, ◌∙◌, sym, subst, append_assoc, append-nil, inl}
 use Rattle.ocs_base.specs.Script.{ScriptValue}
+use Rattle.ocs_base.specs.declared.system.System.{System}
 use Rattle.ocs_io.specs.Place.{Files, Outside, OnlyWrites, Rose}
 use Rattle.out_files.specs.Answers.{CreateAnswers, NamesFile}
 use Rattle.out_files.specs.OutFiles.{OutNames, OutFilesValue, all_given}
@@ -68,19 +69,20 @@ pub IsUnderway-ran : (base files : Option Files) (old new : ForeValue) (seen aft
     → IsUnderway base files new after given
 IsUnderway-ran base files old new seen after out given runs run fresh is =
     let so : HasRunOn old new is.first seen after out given = runs is.first is.stands in
-    let text : AreTogether given base files (bytes_from old.run 0 is.first ++ tinted_range old.run seen.tint is.first so.until)
-    ((state_of old.run old.machine.t).trace ++ so.lines) = so.gives.text.text base files _ _ is.text in
-    let pixels : AreTogether given base files (bytes_from old.run 0 so.until) ((state_of old.run old.machine.t).trace ++ so.lines) =
-    subst (λ bytes. AreTogether given base files bytes ((state_of old.run old.machine.t).trace ++ so.lines))
+    let system : System = old.run.script.system in
+    let text : AreTogether system given base files (bytes_from old.run 0 is.first ++ tinted_range old.run seen.tint is.first so.until)
+    ((state_of old.run old.machine.t).trace ++ so.lines) = so.gives.text.text system base files _ _ is.text in
+    let pixels : AreTogether system given base files (bytes_from old.run 0 so.until) ((state_of old.run old.machine.t).trace ++ so.lines) =
+    subst (λ bytes. AreTogether system given base files bytes ((state_of old.run old.machine.t).trace ++ so.lines))
     (joined old.run seen.tint is.first so.until so.gives.least is.plain) text in
-    let lines : AreTogether given base files (bytes_from old.run 0 so.until) (state_of old.run new.machine.t).trace =
-    subst (λ traced. AreTogether given base files (bytes_from old.run 0 so.until) traced) (sym so.trace) pixels in
+    let lines : AreTogether system given base files (bytes_from old.run 0 so.until) (state_of old.run new.machine.t).trace =
+    subst (λ traced. AreTogether system given base files (bytes_from old.run 0 so.until) traced) (sym so.trace) pixels in
     record {
       first = so.until;
       stands = so.stands;
       plain = so.gives.mark.tint ∙ is.plain;
       fresh = fresh;
-      text = subst (λ r. AreTogether given base files (bytes_from r 0 so.until) (state_of r new.machine.t).trace) (sym run) lines;
+      text = subst (λ (r : RunValue). AreTogether r.script.system given base files (bytes_from r 0 so.until) (state_of r new.machine.t).trace) (sym run) lines;
     }
 
 pub CanRun-ran : (old new : ForeValue) (seen after : RasterValue) (out given : OutFilesValue) → RunsOn old new seen after out given
@@ -98,28 +100,32 @@ IsUnderway-flushed base before after fore seen old new stays is = record {
   stands = is.stands;
   plain = is.plain;
   fresh = is.fresh;
-  text = stays base _ _ is.text;
+  text = stays fore.run.script.system base _ _ is.text;
 }
 
 -- where the run stops, each file has a part of its text
-frames_part : (run : RunValue) (first t : ℕ) (frames rest : List ℕ) → first ≤ t → frames ++ rest ≡ frames_text (bytes_from run 0 first)
-    → frames ++ (rest ++ with_headings (0 + length (bytes_from run 0 first)) (bytes_from run first (t - first))) ≡ frames_text (state_of run t).shown
+abbrev later_text : RunValue → ℕ → ℕ → List ℕ
+later_text run first t = with_headings run.script.system (0 + length (bytes_from run 0 first)) (bytes_from run first (t - first))
+
+frames_part : (run : RunValue) (first t : ℕ) (frames rest : List ℕ) → first ≤ t → frames ++ rest ≡ frames_text run.script.system (bytes_from run 0 first)
+    → frames ++ (rest ++ later_text run first t) ≡ frames_text run.script.system (state_of run t).shown
 frames_part run first t frames rest le part =
     let whole : first + (t - first) ≡ t = omega arith in
     let all : bytes_from run 0 first ++ bytes_from run first (t - first) ≡ (state_of run t).shown =
     two_from run first (t - first) ∙ ap (λ n. bytes_from run 0 n) whole ∙ sym (shown_to run t) in
-    sym (append_assoc frames rest (with_headings (0 + length (bytes_from run 0 first)) (bytes_from run first (t - first))))
-    ∙ ap (λ x. x ++ with_headings (0 + length (bytes_from run 0 first)) (bytes_from run first (t - first))) part
-    ∙ sym (with_headings-append 0 (bytes_from run 0 first) (bytes_from run first (t - first))) ∙ ap (λ bytes. frames_text bytes) all
+    sym (append_assoc frames rest (later_text run first t))
+    ∙ ap (λ x. x ++ later_text run first t) part
+    ∙ sym (with_headings-append run.script.system 0 (bytes_from run 0 first) (bytes_from run first (t - first)))
+    ∙ ap (λ bytes. frames_text run.script.system bytes) all
 
 parts_at : (run : RunValue) (first t : ℕ) (names : OutNames) (base files : Option Files) → first ≤ t
-    → HoldParts names base files (bytes_from run 0 first) (state_of run t).trace []
-    → HoldParts names base files (state_of run t).shown (state_of run t).trace []
+    → HoldParts run.script.system names base files (bytes_from run 0 first) (state_of run t).trace []
+    → HoldParts run.script.system names base files (state_of run t).shown (state_of run t).trace []
 parts_at run first t names base files le has = record {
   frames = has.frames;
   trace = has.trace;
   bytes = has.bytes;
-  frames_rest = has.frames_rest ++ with_headings (0 + length (bytes_from run 0 first)) (bytes_from run first (t - first));
+  frames_rest = has.frames_rest ++ later_text run first t;
   trace_rest = has.trace_rest;
   bytes_rest = has.bytes_rest;
   held = has.held;
@@ -129,9 +135,9 @@ parts_at run first t names base files le has = record {
 }
 
 -- files and pending text are parts of the texts
-parts_together : (out : OutFilesValue) (base files : Option Files) (pixels : List ℕ) (lines : List TraceLine) → AreTogether out base files pixels lines
-    → HoldParts out.names base files pixels lines []
-parts_together out base files pixels lines is = record {
+parts_together : (system : System) (out : OutFilesValue) (base files : Option Files) (pixels : List ℕ) (lines : List TraceLine)
+    → AreTogether system out base files pixels lines → HoldParts system out.names base files pixels lines []
+parts_together system out base files pixels lines is = record {
   frames = is.frames;
   trace = is.trace;
   bytes = [];
@@ -153,7 +159,7 @@ pub HasParts-now : (base files : Option Files) (fore : ForeValue) (seen : Raster
 HasParts-now base files fore seen out is = record {
   run = run_so_far fore is.first seen is.stands;
   parts = parts_at fore.run is.first fore.machine.t out.names base files (gathered_before fore is.first seen is.stands)
-      (parts_together out base files _ _ is.text);
+      (parts_together fore.run.script.system out base files _ _ is.text);
 }
 
 pub HasParts-refused : (base before after : Option Files) (fore : ForeValue) (seen : RasterValue) (out : OutFilesValue)
@@ -163,7 +169,7 @@ unfolding LeavesParts
 HasParts-refused base before after fore seen out leaves is = record {
   run = run_so_far fore is.first seen is.stands;
   parts = parts_at fore.run is.first fore.machine.t out.names base after (gathered_before fore is.first seen is.stands)
-      (leaves base _ _ is.text);
+      (leaves fore.run.script.system base _ _ is.text);
 }
 
 -- what a fault leaves
@@ -194,18 +200,19 @@ pub IsSettledRun-settled : (base files : Option Files) (old new : ForeValue) (se
 IsSettledRun-settled base files old new seen after out given settles is =
     let so : HasSettled old new is.first seen after out given = settles is.first is.stands in
     let t : ℕ = old.machine.t in
-    let text : AreTogether given base files (bytes_from old.run 0 is.first ++ tinted_range old.run seen.tint is.first t)
-    ((state_of old.run t).trace ++ []) = so.gives.text.text base files _ _ is.text in
+    let system : System = old.run.script.system in
+    let text : AreTogether system given base files (bytes_from old.run 0 is.first ++ tinted_range old.run seen.tint is.first t)
+    ((state_of old.run t).trace ++ []) = so.gives.text.text system base files _ _ is.text in
     let bytes : bytes_from old.run 0 is.first ++ tinted_range old.run seen.tint is.first t ≡ (state_of old.run t).shown =
     joined old.run seen.tint is.first t so.gives.least is.plain ∙ sym (shown_to old.run t) in
-    let whole : AreTogether given base files (state_of old.run t).shown (state_of old.run t).trace =
-    subst (λ lines. AreTogether given base files (state_of old.run t).shown lines) (append-nil (state_of old.run t).trace)
-    (subst (λ pixels. AreTogether given base files pixels ((state_of old.run t).trace ++ [])) bytes text) in
+    let whole : AreTogether system given base files (state_of old.run t).shown (state_of old.run t).trace =
+    subst (λ lines. AreTogether system given base files (state_of old.run t).shown lines) (append-nil (state_of old.run t).trace)
+    (subst (λ pixels. AreTogether system given base files pixels ((state_of old.run t).trace ++ [])) bytes text) in
     record {
       memory = so.settled.machine.memory;
       end = so.settled.end;
-      text = subst (λ r. AreTogether given base files (state_of r new.machine.t).shown (state_of r new.machine.t).trace) (sym so.same)
-          (subst (λ n. AreTogether given base files (state_of old.run n).shown (state_of old.run n).trace) (sym so.clock) whole);
+      text = subst (λ (r : RunValue). AreTogether r.script.system given base files (state_of r new.machine.t).shown (state_of r new.machine.t).trace)
+          (sym so.same) (subst (λ n. AreTogether system given base files (state_of old.run n).shown (state_of old.run n).trace) (sym so.clock) whole);
     }
 
 HasRun-end : (side : SideValue) (image : List ℕ) (script : ScriptValue) (clocks : ℕ) → IsEndOver side image script clocks → HasRun side image script clocks
@@ -222,8 +229,9 @@ HasFiles-written base mid after fore out some completes is =
       end = is.settled.end;
       run = HasRun-end fore.run.side fore.run.image fore.run.script fore.machine.t is.settled.end;
       shown = frames_are_whole fore.run.side fore.run.image fore.run.script fore.machine.t some is.settled.end;
-      files = completes base s.shown s.trace is.frames is.trace is.settled.text
-          ∙ ap (λ words. three_files out.names base (frames_text s.shown) (trace_text s.trace) (memory_text words)) (sym is.settled.memory);
+      files = completes fore.run.script.system base s.shown s.trace is.frames is.trace is.settled.text
+          ∙ ap (λ words. three_files out.names base (frames_text fore.run.script.system s.shown) (trace_text s.trace) (memory_text words))
+          (sym is.settled.memory);
     }
 
 pub HasParts-flush : (base mid after : Option Files) (fore : ForeValue) (out : OutFilesValue) → LeavesParts out mid after []
@@ -231,7 +239,7 @@ pub HasParts-flush : (base mid after : Option Files) (fore : ForeValue) (out : O
 unfolding LeavesParts
 HasParts-flush base mid after fore out leaves is = record {
   run = HasRun-end fore.run.side fore.run.image fore.run.script fore.machine.t is.end;
-  parts = leaves base _ _ is.text;
+  parts = leaves fore.run.script.system base _ _ is.text;
 }
 
 pub HasEndParts-written : (base mid after : Option Files) (fore : ForeValue) (out : OutFilesValue)
@@ -243,8 +251,8 @@ HasEndParts-written base mid after fore out leaves is =
     record {
       end = is.settled.end;
       run = HasRun-end fore.run.side fore.run.image fore.run.script fore.machine.t is.settled.end;
-      parts = subst (λ words. HoldParts out.names base after s.shown s.trace (memory_text words)) (sym is.settled.memory)
-          (leaves base s.shown s.trace is.settled.text);
+      parts = subst (λ words. HoldParts fore.run.script.system out.names base after s.shown s.trace (memory_text words)) (sym is.settled.memory)
+          (leaves fore.run.script.system base s.shown s.trace is.settled.text);
     }
 
 -- the start: a foreground at reset, a raster without bands, and files that were created
@@ -256,16 +264,20 @@ CanRun-start run fore seen new empty = record {
   fresh = new.fresh;
 }
 
-pub IsUnderway-start : (base files : Option Files) (run : RunValue) (fore : ForeValue) (seen : RasterValue) (out : OutFilesValue) → IsFresh out
-    → Begins out base files → IsNew run fore → IsEmpty run seen → IsUnderway base files fore seen out
+pub IsUnderway-start : (base files : Option Files) (run : RunValue) (fore : ForeValue) (seen : RasterValue) (out : OutFilesValue)
+    → IsFresh run.script.system out → Begins out base files → IsNew run fore → IsEmpty run seen → IsUnderway base files fore seen out
 unfolding Begins bytes_from state_over reset
-IsUnderway-start base files run fore seen out fresh begins new empty = record {
-  first = 0;
-  stands = new.fits seen empty.outstanding empty.next empty.bound;
-  plain = empty.plain;
-  fresh = new.fresh;
-  text = subst (λ t. AreTogether out base files [] (state_of fore.run t).trace) (sym new.clock) (begins fresh.frames fresh.trace fresh.given);
-}
+IsUnderway-start base files run fore seen out fresh begins new empty =
+    let same : out.system ≡ fore.run.script.system = fresh.kind ∙ ap (λ (r : RunValue). r.script.system) (sym new.run_of) in
+    let text : AreTogether fore.run.script.system out base files [] [] =
+    subst (λ system. AreTogether system out base files [] []) same (begins fresh.frames fresh.trace fresh.given) in
+    record {
+      first = 0;
+      stands = new.fits seen empty.outstanding empty.next empty.bound;
+      plain = empty.plain;
+      fresh = new.fresh;
+      text = subst (λ t. AreTogether fore.run.script.system out base files [] (state_of fore.run t).trace) (sym new.clock) text;
+    }
 
 -- a run that was cut, at each place
 pub IsCut-clocks : (fore : ForeValue) (seen : RasterValue) (out : OutFilesValue) (before after : Option Files) → IsStopped fore seen out before after
@@ -312,7 +324,7 @@ IsCut-flush old new seen last out settled before mid after so leaves base is =
 -- a flush that has nothing to append
 pub StayTogether-none : (out : OutFilesValue) (files : Option Files) → StayTogether out out files files
 unfolding StayTogether
-StayTogether-none out files base pixels lines so_far = so_far
+StayTogether-none out files system base pixels lines so_far = so_far
 
 -- all is appended
 pub Ends-flushed : (old new : ForeValue) (seen last : RasterValue) (out settled given : OutFilesValue) (before mid after : Option Files)
@@ -322,7 +334,7 @@ unfolding StayTogether
 Ends-flushed old new seen last out settled given before mid after so stays empty base is =
     let at : IsSettledRun base mid new settled = so.settled base is in
     record {
-      settled = record { memory = at.memory; end = at.end; text = stays base _ _ at.text };
+      settled = record { memory = at.memory; end = at.end; text = stays new.run.script.system base _ _ at.text };
       frames = ap (λ o. o.frames) empty;
       trace = ap (λ o. o.trace) empty;
     }
@@ -381,13 +393,13 @@ LeavesPrefixes-create_refused side image script names old new (Failed file) made
     LeavesPrefixes-all side image script names old.files new.files (inl (made.0, made.3))
 LeavesPrefixes-create_refused side image script names old new NoRoomToWrite made = LeavesPrefixes-all side image script names old.files new.files (inl made)
 
-begins_created : (base mid : Option Files) (run : RunValue) (fore : ForeValue) (out created : OutFilesValue) → IsFresh out → created ≡ out
-    → Begins created base mid → IsNew run fore → StartsRun run base mid fore created
+begins_created : (base mid : Option Files) (run : RunValue) (fore : ForeValue) (out created : OutFilesValue) → IsFresh run.script.system out
+    → created ≡ out → Begins created base mid → IsNew run fore → StartsRun run base mid fore created
 begins_created base mid run fore out created fresh same begins new seen empty =
-    IsUnderway-start base mid run fore seen created (subst IsFresh (sym same) fresh) begins new empty
+    IsUnderway-start base mid run fore seen created (subst (IsFresh run.script.system) (sym same) fresh) begins new empty
 
 pub HasFiles-run : (base mid now after : Option Files) (run : RunValue) (fore last : ForeValue) (out created given : OutFilesValue)
-    → IsFresh out → created ≡ out → Begins created base mid → IsNew run fore → 1 ≤ run.script.frames
+    → IsFresh run.script.system out → created ≡ out → Begins created base mid → IsNew run fore → 1 ≤ run.script.frames
     → EndsFromStart run fore last created given mid now → last.run ≡ fore.run → given.names ≡ created.names
     → Completes given now after (memory_text last.machine.chip.words) → HasFilesOver run.side run.image run.script out.names base after
 HasFiles-run base mid now after run fore last out created given fresh same begins new some ends kept names completes =
@@ -398,13 +410,13 @@ HasFiles-run base mid now after run fore last out created given fresh same begin
     subst (λ ns. RunFiles run ns base after) (names ∙ ap (λ o. o.names) same) (subst (λ r. RunFiles r given.names base after) is has)
 
 pub LeavesPrefixes-run : (base mid after : Option Files) (run : RunValue) (fore : ForeValue) (out created : OutFilesValue)
-    → IsFresh out → created ≡ out → Begins created base mid → IsNew run fore → IsCutFromStart run fore created mid after
+    → IsFresh run.script.system out → created ≡ out → Begins created base mid → IsNew run fore → IsCutFromStart run fore created mid after
     → LeavesPrefixesOver run.side run.image run.script out.names base after
 LeavesPrefixes-run base mid after run fore out created fresh same begins new cut =
     subst (λ o. CutParts run o.names base after) same (cut base (begins_created base mid run fore out created fresh same begins new))
 
 pub LeavesPrefixes-memory : (base mid now after : Option Files) (run : RunValue) (fore last : ForeValue) (out created given : OutFilesValue)
-    → IsFresh out → created ≡ out → Begins created base mid → IsNew run fore
+    → IsFresh run.script.system out → created ≡ out → Begins created base mid → IsNew run fore
     → EndsFromStart run fore last created given mid now → last.run ≡ fore.run → given.names ≡ created.names
     → LeavesParts given now after (memory_text last.machine.chip.words) → LeavesPrefixesOver run.side run.image run.script out.names base after
 LeavesPrefixes-memory base mid now after run fore last out created given fresh same begins new ends kept names leaves =
@@ -444,14 +456,13 @@ few_clocks fore seen done can is not =
     clock_below fore can.first seen can.stands (not_done _ _ can.stands.frame (sym is ∙ not))
 
 pub room_for_clocks : (fore : ForeValue) (seen : RasterValue) (done : Bool) → CanRun fore seen → done ≡ is_done fore → done ≡ false
-    → fore.machine.t + 227 < 2 ^ 64
+    → fore.machine.t + 228 < 2 ^ 64
 room_for_clocks fore seen done can is not =
     omega (arith, few_clocks fore seen done can is not, can.stands.good.script.most)
 
 -- the next line is later
-pub line_is_later : (fore : ForeValue) (seen : RasterValue) (next : ℕ) → CanRun fore seen → next ≡ fore.machine.t + (226 - fore.machine.beam.h) + 1
-    → fore.machine.t < next
-line_is_later fore seen next can is = omega (arith, can.stands.screen.clock, is)
+pub line_is_later : (fore : ForeValue) (next rest : ℕ) → next ≡ fore.machine.t + rest + 1 → fore.machine.t < next
+line_is_later fore next rest is = omega (arith, is)
 
 same_clock : (old new : ForeValue) (first until : ℕ) (seen after : RasterValue) → IsForeUnderway old first seen → IsForeUnderway new until after
     → new.run ≡ old.run → new.machine.t ≡ old.machine.t → is_done new ≡ is_done old

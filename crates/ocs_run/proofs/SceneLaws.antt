@@ -5,7 +5,9 @@ use Rattle.std.proofs.lemmas.List.{length-set}
 use Rattle.std.specs.FinMap.{get, insert, empty}
 use Rattle.ocs_base.specs.Image.{is_image}
 use Rattle.ocs_base.specs.Script.{ScriptValue}
-use Rattle.ocs_base.specs.declared.system.System.TheVariants.{Pal}
+use Rattle.ocs_base.specs.Systems.{frame_bytes}
+use Rattle.ocs_base.specs.declared.system.System.{System}
+use Rattle.ocs_base.specs.declared.system.System.TheVariants.{Pal, Ntsc}
 use Rattle.ocs_io.specs.Place.{Files, with_file}
 use Rattle.ocs_io.proofs.MapLaws.{get_inserted}
 use Rattle.mem_versions.proofs.WordsLaws.{length-memory_of}
@@ -15,7 +17,7 @@ use Rattle.scene_gen.proofs.ImageLaws.{is_image-scene}
 use Rattle.serial_model.specs.Laws.{made_in}
 use Rattle.serial_model.specs.Made.{memory_after}
 use Rattle.serial_model.specs.MemoryText.{memory_text}
-use Rattle.serial_model.specs.Outputs.{heading, heading_at, with_headings, frames_text, frame_bytes}
+use Rattle.serial_model.specs.Outputs.{heading, heading_at, with_headings, frames_text}
 use Rattle.serial_model.specs.Side.{SideValue, no_side}
 use Rattle.serial_model.specs.Serial.{state_at, state_over}
 use Rattle.serial_model.specs.State.{State, reset}
@@ -34,18 +36,19 @@ four_lines t0 t1 t2 t3 first picture trace memory begin e f g =
 
 -- ---- how long the texts are
 
-heading_fits : (b : Bool) → length (if b then heading else []) ≤ 15
+heading_fits : (system : System) (b : Bool) → length (if b then heading system else []) ≤ 15
 unfolding heading
-heading_fits true = omega arith
-heading_fits false = omega arith
+heading_fits Pal true = omega arith
+heading_fits Ntsc true = omega arith
+heading_fits system false = omega arith
 
-length-with_headings : (n : ℕ) (bytes : List ℕ) → length (with_headings n bytes) ≤ 16 * length bytes
+length-with_headings : (system : System) (n : ℕ) (bytes : List ℕ) → length (with_headings system n bytes) ≤ 16 * length bytes
 unfolding with_headings
-length-with_headings n [] = omega arith
-length-with_headings n (byte ∷ bytes) =
-    let first : length (heading_at n) ≤ 15 = heading_fits (n % frame_bytes == 0) in
-    let rest : length (with_headings (n + 1) bytes) ≤ 16 * length bytes = length-with_headings (n + 1) bytes in
-    omega (arith, first, rest, length-append (heading_at n) (byte ∷ with_headings (n + 1) bytes))
+length-with_headings system n [] = omega arith
+length-with_headings system n (byte ∷ bytes) =
+    let first : length (heading_at system n) ≤ 15 = heading_fits system (n % frame_bytes system == 0) in
+    let rest : length (with_headings system (n + 1) bytes) ≤ 16 * length bytes = length-with_headings system (n + 1) bytes in
+    omega (arith, first, rest, length-append (heading_at system n) (byte ∷ with_headings system (n + 1) bytes))
 
 length-memory_after : (made : Made) (memory : List ℕ) → length (memory_after made memory) ≡ length memory
 length-memory_after M.Nothing memory = refl
@@ -60,8 +63,8 @@ length-memory : (side : SideValue) (image : List ℕ) (script : ScriptValue) (n 
 unfolding state_over reset
 length-memory side image script zero fits = length-memory_of image fits
 length-memory side image script (suc n) fits =
-    ap length (memory_next Pal script.events (state_over side image script n))
-    ∙ length-memory_after (made_in Pal script.events (state_over side image script n)) (state_over side image script n).memory
+    ap length (memory_next script.system script.events (state_over side image script n))
+    ∙ length-memory_after (made_in script.system script.events (state_over side image script n)) (state_over side image script n).memory
     ∙ length-memory side image script n fits
 
 length-memory_text : (words : List ℕ) → length (memory_text words) ≡ 2 * length words
@@ -106,10 +109,10 @@ pub frames_fit : (number : ℕ) (files : Files) (bytes : List ℕ) → HasSceneF
 unfolding scene_script
 frames_fit number files bytes has is =
     let s : State = state_at (scene_image number) (scene_script number) has.clocks in
-    let same : bytes ≡ frames_text s.shown = is ∙ frames_held files _ _ _ has.files in
-    let count : length bytes ≡ length (frames_text s.shown) = ap length same in
-    let most : length (frames_text s.shown) ≤ 16 * length s.shown = length-with_headings 0 s.shown in
-    let shown : length s.shown ≡ 10 * frame_bytes = has.shown in
+    let same : bytes ≡ frames_text Pal s.shown = is ∙ frames_held files _ _ _ has.files in
+    let count : length bytes ≡ length (frames_text Pal s.shown) = ap length same in
+    let most : length (frames_text Pal s.shown) ≤ 16 * length s.shown = length-with_headings Pal 0 s.shown in
+    let shown : length s.shown ≡ 10 * frame_bytes Pal = has.shown in
     omega (arith, count, most, shown)
 
 pub memory_fits : (number : ℕ) (files : Files) (bytes : List ℕ) → HasSceneFiles number files → bytes ≡ unwrap_or (get files (codes "memory")) []
@@ -122,17 +125,22 @@ memory_fits number files bytes has is =
     length-memory no_side (scene_image number) (scene_script number) has.clocks (image_fits (scene_image number) (is_image-scene number)) in
     omega (arith, count, length-memory_text s.memory, words)
 
+scene_is_pal : (number : ℕ) → (scene_script number).system ≡ Pal
+unfolding scene_script
+scene_is_pal number = refl
+
 pub is_summary : (number : ℕ) (files : Files) (frames trace memory text : List ℕ) → HasSceneFiles number files
     → frames ≡ unwrap_or (get files (codes "frames")) [] → trace ≡ unwrap_or (get files (codes "trace")) []
     → memory ≡ unwrap_or (get files (codes "memory")) [] → text ≡ summary_text frames trace memory → IsSummary number text
 is_summary number files frames trace memory text has first second third is =
     let s : State = state_at (scene_image number) (scene_script number) has.clocks in
-    let f : frames ≡ frames_text s.shown = first ∙ frames_held files _ _ _ has.files in
+    let f : frames ≡ frames_text Pal s.shown =
+    first ∙ frames_held files _ _ _ has.files ∙ ap (λ system. frames_text system s.shown) (scene_is_pal number) in
     let t : trace ≡ trace_text s.trace = second ∙ trace_held files _ _ _ has.files in
     let m : memory ≡ memory_text s.memory = third ∙ memory_held files _ _ _ has.files in
     record {
       clocks = has.clocks;
       end = has.end;
-      is = is ∙ ap (λ x. summary_text x trace memory) f ∙ ap (λ x. summary_text (frames_text s.shown) x memory) t
-          ∙ ap (λ x. summary_text (frames_text s.shown) (trace_text s.trace) x) m;
+      is = is ∙ ap (λ x. summary_text x trace memory) f ∙ ap (λ x. summary_text (frames_text Pal s.shown) x memory) t
+          ∙ ap (λ x. summary_text (frames_text Pal s.shown) (trace_text s.trace) x) m;
     }

@@ -1,6 +1,7 @@
 -- What stands after a command.
 use Rattle.std.specs.Prelude.{◌≡◌, ℕ, List, [], Option, Some, Result, Ok, Err}
 use Rattle.ocs_base.specs.Script.{ScriptValue}
+use Rattle.ocs_base.specs.declared.system.System.{System}
 use Rattle.ocs_io.specs.Answers.{WhereTold}
 use Rattle.ocs_io.specs.Place.{Files, Outside, Rose}
 use Rattle.out_files.specs.OutFiles.{OutNames, OutFilesValue}
@@ -16,9 +17,10 @@ use Rattle.ocs_run.specs.Verdict.{Verdict, Usage as UsageVerdict, Absent, BadIma
 abbrev pub out_names : OrderValue → OutNames
 out_names order = record { frames = order.frames; trace = order.trace; memory = order.memory }
 
--- new output files of these names
-pub record IsOutOf (names : OutNames) (out : OutFilesValue) : Type 0 where
+-- new output files of these names, of a machine of this system
+pub record IsOutOf (names : OutNames) (system : System) (out : OutFilesValue) : Type 0 where
   pub named : out.names ≡ names
+  pub kind : out.system ≡ system
   pub frames : out.frames ≡ []
   pub trace : out.trace ≡ []
   pub given : out.given ≡ 0

@@ -26,7 +26,7 @@ pub record LeavesPrefixesOver (side : SideValue) (image : List ℕ) (script : Sc
   pub trace : Option (List ℕ)
   pub memory : Option (List ℕ)
   pub held : new ≡ with_part (with_part (with_part base names.frames frames) names.trace trace) names.memory memory
-  pub frames_part : (end : ℕ) → IsEndOver side image script end → IsPartOf (frames_text (state_over side image script end).shown) frames
+  pub frames_part : (end : ℕ) → IsEndOver side image script end → IsPartOf (frames_text script.system (state_over side image script end).shown) frames
   pub trace_part : (end : ℕ) → IsEndOver side image script end → IsPartOf (trace_text (state_over side image script end).trace) trace
   pub memory_part : (end : ℕ) → IsEndOver side image script end → IsPartOf (memory_text (state_over side image script end).memory) memory
 

@@ -1,12 +1,13 @@
 -- A run of the machine over a side, and its files.
 use Rattle.std.specs.Prelude.{◌≡◌, ℕ, ◌*◌, ◌<◌, length, List, [], ◌⊎◌, take, Option}
 use Rattle.ocs_base.specs.Script.{ScriptValue}
+use Rattle.ocs_base.specs.Systems.{frame_bytes}
 use Rattle.ocs_io.specs.Place.{Files}
 use Rattle.out_files.specs.OutFiles.{OutNames}
 use Rattle.out_files.specs.Answers.{with_empty, in_order}
 use Rattle.out_files.specs.Together.{three_files, HoldParts}
 use Rattle.serial_model.specs.MemoryText.{memory_text}
-use Rattle.serial_model.specs.Outputs.{frames_text, frame_bytes}
+use Rattle.serial_model.specs.Outputs.{frames_text}
 use Rattle.serial_model.specs.Serial.{state_over, IsEndOver}
 use Rattle.serial_model.specs.Side.{SideValue, no_side}
 use Rattle.serial_model.specs.TraceText.{trace_text}
@@ -21,9 +22,9 @@ pub record HasFilesOver (side : SideValue) (image : List ℕ) (script : ScriptVa
   pub end : IsEndOver side image script clocks
   pub run : HasRun side image script clocks
   -- all pixel bytes of the script's frames were shown, so that the frames file has a heading before each of them
-  pub shown : length (state_over side image script clocks).shown ≡ script.frames * frame_bytes
+  pub shown : length (state_over side image script clocks).shown ≡ script.frames * frame_bytes script.system
   pub files : new ≡ (let s = state_over side image script clocks in
-      three_files names base (frames_text s.shown) (trace_text s.trace) (memory_text s.memory))
+      three_files names base (frames_text script.system s.shown) (trace_text s.trace) (memory_text s.memory))
 
 -- the same of the machine without a side
 abbrev pub HasFiles : List ℕ → ScriptValue → OutNames → Option Files → Option Files → Type 0
@@ -33,13 +34,13 @@ HasFiles image script names base new = HasFilesOver no_side image script names b
 -- first byte on, and the memory file nothing; every other file is as before
 pub record HasParts (side : SideValue) (image : List ℕ) (script : ScriptValue) (names : OutNames) (base new : Option Files) (clocks : ℕ) : Type 0 where
   pub run : HasRun side image script clocks
-  pub parts : (let s = state_over side image script clocks in HoldParts names base new s.shown s.trace [])
+  pub parts : (let s = state_over side image script clocks in HoldParts script.system names base new s.shown s.trace [])
 
 -- the same at the end of the run, where the memory file holds a part of its text too
 pub record HasEndParts (side : SideValue) (image : List ℕ) (script : ScriptValue) (names : OutNames) (base new : Option Files) (clocks : ℕ) : Type 0 where
   pub end : IsEndOver side image script clocks
   pub run : HasRun side image script clocks
-  pub parts : (let s = state_over side image script clocks in HoldParts names base new s.shown s.trace (memory_text s.memory))
+  pub parts : (let s = state_over side image script clocks in HoldParts script.system names base new s.shown s.trace (memory_text s.memory))
 
 -- the first so many of the three files were created, and nothing else was done
 abbrev pub HasCreated : OutNames → Option Files → Option Files → Type 0

@@ -1,5 +1,6 @@
 -- The summary of a scene's run.
 use Rattle.std.specs.Prelude.{◌≡◌, ℕ, ◌==◌, List, ◌++◌, codes, decimal, sum, count_by}
+use Rattle.ocs_base.specs.declared.system.System.TheVariants.{Pal}
 use Rattle.scene_gen.specs.Scene.{scene_image, scene_script}
 use Rattle.serial_model.specs.MemoryText.{memory_text}
 use Rattle.serial_model.specs.Outputs.{frames_text}
@@ -23,9 +24,9 @@ summary_text frames trace memory =
     ++ (number_line (codes "trace ") (line_count trace)
     ++ number_line (codes "memory ") (sum memory)))
 
--- the text is the summary of the serial run of the scene of this number
+-- the text is the summary of the serial run of the scene of this number, which is for a PAL machine
 pub record IsSummary (number : ℕ) (text : List ℕ) : Type 0 where
   pub clocks : ℕ
   pub end : IsEnd (scene_image number) (scene_script number) clocks
   pub is : text ≡ (let s = state_at (scene_image number) (scene_script number) clocks in
-      summary_text (frames_text s.shown) (trace_text s.trace) (memory_text s.memory))
+      summary_text (frames_text Pal s.shown) (trace_text s.trace) (memory_text s.memory))

@@ -1,5 +1,6 @@
 -- What a run keeps from clock to clock: the foreground, the raster that draws its bands, and the files.
 use Rattle.std.specs.Prelude.{◌≡◌, ℕ, false, [], Option}
+use Rattle.ocs_base.specs.declared.system.System.{System}
 use Rattle.ocs_io.specs.Place.{Files}
 use Rattle.out_files.specs.OutFiles.{OutFilesValue}
 use Rattle.out_files.specs.Together.{AreTogether}
@@ -26,7 +27,7 @@ pub record IsUnderway (base files : Option Files) (fore : ForeValue) (seen : Ras
   pub stands : IsForeUnderway fore first seen
   pub plain : seen.tint ≡ 0
   pub fresh : fore.spent ≡ false
-  pub text : AreTogether out base files (bytes_from fore.run 0 first) (state_of fore.run fore.machine.t).trace
+  pub text : AreTogether fore.run.script.system out base files (bytes_from fore.run 0 first) (state_of fore.run fore.machine.t).trace
 
 -- what a run needs: the foreground stands somewhere in it, and the raster has no tint
 pub record CanRun (fore : ForeValue) (seen : RasterValue) : Type 0 where
@@ -46,8 +47,9 @@ IsStopped fore seen out before after =
     (base : Option Files) → IsUnderway base before fore seen out →
     (clocks : ℕ) × HasParts fore.run.side fore.run.image fore.run.script out.names base after clocks
 
--- output files that nothing was given to yet
-pub record IsFresh (out : OutFilesValue) : Type 0 where
+-- output files of a machine of this system that nothing was given to yet
+pub record IsFresh (system : System) (out : OutFilesValue) : Type 0 where
+  pub kind : out.system ≡ system
   pub frames : out.frames ≡ []
   pub trace : out.trace ≡ []
   pub given : out.given ≡ 0
@@ -63,7 +65,7 @@ pub record IsEmpty (run : RunValue) (seen : RasterValue) : Type 0 where
 pub record IsSettledRun (base files : Option Files) (fore : ForeValue) (out : OutFilesValue) : Type 0 where
   pub memory : (state_of fore.run fore.machine.t).memory ≡ fore.machine.chip.words
   pub end : IsEndOf fore.run fore.machine.t
-  pub text : AreTogether out base files (state_of fore.run fore.machine.t).shown (state_of fore.run fore.machine.t).trace
+  pub text : AreTogether fore.run.script.system out base files (state_of fore.run fore.machine.t).shown (state_of fore.run fore.machine.t).trace
 
 -- and nothing is pending
 pub record IsWritten (base files : Option Files) (fore : ForeValue) (out : OutFilesValue) : Type 0 where

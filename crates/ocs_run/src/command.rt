@@ -12,7 +12,7 @@ use crate::order::Order;
 use crate::run::{Drawing, run_files};
 use band_log::Run;
 use crew::Gate;
-use ocs_base::Script;
+use ocs_base::{Script, System};
 use ocs_io::Place;
 use out_files::OutFiles;
 use std::alloc::Global;
@@ -64,7 +64,7 @@ fn run_inputs<
         (P.outside place.new) result }
     ensures said { KeepsSaid (P.outside place.old) (P.outside place.new) }
 {
-    let out = out_files(alloc, order)?;
+    let out = out_files(alloc, order, script.system())?;
     let run = Run::new(image, script, order.band as u16);
     let drawing = Drawing {
         workers: order.workers as u8,
@@ -74,16 +74,16 @@ fn run_inputs<
     Ok(())
 }
 
-/// Output files of the order's names.
-fn out_files(alloc: Global, order: &Order<'_>) -> Result<OutFiles, Fault>
+/// Output files of the order's names, of a machine of this system.
+fn out_files(alloc: Global, order: &Order<'_>, system: System) -> Result<OutFiles, Fault>
     requires { AreApart order.now }
-    ensures files { IfOk result (λ out. IsOutOf (out_names (value_of order.now)) out) }
+    ensures files { IfOk result (λ out. IsOutOf (out_names (value_of order.now)) system out) }
     ensures memory { IfErr result (λ fault. fault ≡ Fault.OutOfMemory) }
 {
     let frames = owned(alloc, order.frames)?;
     let trace = owned(alloc, order.trace)?;
     let memory = owned(alloc, order.memory)?;
-    Ok(OutFiles::new(alloc, frames, trace, memory))
+    Ok(OutFiles::made(alloc, frames, trace, memory, system))
 }
 
 /// The text in a string of its own.

@@ -49,7 +49,7 @@ pub fn run_files<
     place: &mut P,
 ) -> Result<(), WriteFault>
     requires workers { drawing.workers ≤ 32 }
-    requires fresh { IsFresh out }
+    requires fresh { IsFresh run.script.system out }
     ensures done { OnOk result (HasFiles run.image run.script out.names (P.outside place.old).files
         (P.outside place.new).files) }
     ensures stopped { OnErr result (LeavesPrefixes run.image run.script out.names

@@ -15,7 +15,7 @@ use crate::run::{Drawing, run_files};
 use crate::words::SceneOrder;
 use band_log::Run;
 use crew::Gate;
-use ocs_base::OutOfMemory;
+use ocs_base::{OutOfMemory, System};
 use ocs_io::{Place, SureShelf, WriteRefusal, put_dec};
 use out_files::OutFiles;
 use scene_gen::scene;
@@ -74,7 +74,7 @@ fn run_on_shelf<
     ensures memory { IfErr result (λ fault. fault ≡ Fault.OutOfMemory) }
 {
     let (image, script) = scene(alloc, order.number)?;
-    let out = out_files(alloc)?;
+    let out = out_files(alloc, script.system())?;
     let mut shelf = SureShelf::new(alloc);
     let run = Run::new(image, script, order.band as u16);
     let drawing = Drawing {
@@ -86,14 +86,14 @@ fn run_on_shelf<
 }
 
 /// The output files of a scene's run.
-fn out_files(alloc: Global) -> Result<OutFiles, Fault>
-    ensures files { IfOk result (λ out. IsOutOf scene_names out) }
+fn out_files(alloc: Global, system: System) -> Result<OutFiles, Fault>
+    ensures files { IfOk result (λ out. IsOutOf scene_names system out) }
     ensures memory { IfErr result (λ fault. fault ≡ Fault.OutOfMemory) }
 {
     let frames = owned(alloc, "frames")?;
     let trace = owned(alloc, "trace")?;
     let memory = owned(alloc, "memory")?;
-    Ok(OutFiles::new(alloc, frames, trace, memory))
+    Ok(OutFiles::made(alloc, frames, trace, memory, system))
 }
 
 /// The bytes of a file, none where it is not there.
