@@ -20,7 +20,7 @@ fn good(alloc: Global, text: &[u8]) -> Result<Script, Fail> {
 
 /// Whether a text is printed of the script of another.
 fn prints(alloc: Global, text: &[u8], printed: &[u8]) -> Result<bool, Fail> {
-    let script = good(alloc, text)?;
+    let script = read_script(alloc, text).ok().ok_or("it is good")?;
     let mut into = Vec::new(alloc);
     print_script(&script, &mut into)?;
     Ok(into.as_slice() == printed)

@@ -1,4 +1,4 @@
-use Rattle.std.proofs.Common.{◌++◌, ◌∷◌, [], ap, ◌∙◌, decimal}
+use Rattle.std.proofs.Common.{◌++◌, ◌∷◌, ap, ◌∙◌, decimal}
 use Rattle.script_read.specs.Canonical.{first_text, last_text, cpu_text}
 use Rattle.script_read.proofs.PrintLaws.{steps-4, head-text}
 use Rattle.script_read.proofs.printer.put_head.Goals as goal
