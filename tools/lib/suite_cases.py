@@ -51,9 +51,9 @@ class Case:
 
     def kept(self) -> dict[str, str]:
         """The kept files of what the run must give."""
-        folder = os.path.join(self.folder, "kept")
         if "kept" not in self.files:
             return {}
+        folder = os.path.join(self.folder, "kept")
         names = set(os.listdir(folder))
         found = {kind: [name for name in (kind, kind + ".xz") if name in names] for kind in KINDS}
         return {kind: os.path.join(folder, there[0]) for kind, there in found.items() if there}

@@ -4,21 +4,19 @@ from __future__ import annotations
 import json
 import lzma
 import os
-import select
 import shutil
 import signal
-import subprocess
-import time
 from dataclasses import dataclass, field
 
 from faults import BadFile
-from suite_cases import KINDS, Case, Golden, read_golden, same_bytes, sum_of, unpack
+from suite_cases import KINDS, Case, Golden, read_golden, read_text, same_bytes, sum_of, unpack
+from suite_command import run_command
 
 PASSED, ACCEPTED, DIFFERS, NEW, FAILED = "passed", "accepted", "differs", "new", "failed"
 GOOD = (PASSED, ACCEPTED)
 RESULT, STORED = "result.json", "stored.json"
-# of a program's text so many bytes are read, and so many lines kept
-MOST_READ, MOST_SAID = 1 << 16, 20
+# of a program's text so many lines are kept
+MOST_SAID = 20
 # where each name of a command stands for a file of the run
 NAMES = {kind.upper(): kind for kind in KINDS}
 
@@ -108,7 +106,7 @@ def run_case(suite: Suite, case: Case) -> Result:
     before = read_result(suite, case)
     result = Result(case.name, stored=dict(before.stored) if before else read_stored(suite, case))
     try:
-        make_folders(suite, case)
+        clear(suite.place(case, "now"))
         run_program(suite, case, result)
         if result.verdict != FAILED:
             judge(suite, case, result)
@@ -124,12 +122,16 @@ def run_case(suite: Suite, case: Case) -> Result:
     return result
 
 
-def make_folders(suite: Suite, case: Case) -> None:
-    """The folders of what comes out."""
-    for name in ("now", "passed"):
-        place = suite.place(case, name)
-        if not os.path.isdir(place):
-            os.makedirs(place)
+def clear(folder: str) -> None:
+    """The folder of what comes out of a run, without what came out of an earlier one."""
+    try:
+        names = os.listdir(folder)
+    except FileNotFoundError:
+        os.makedirs(folder)
+        return
+    for name in KINDS:
+        if name in names:
+            os.remove(os.path.join(folder, name))
 
 
 def fault_text(fault: Exception) -> str:
@@ -145,7 +147,7 @@ def ready(suite: Suite, case: Case, name: str) -> str:
     if place is None:
         raise BadFile(case.folder, f"has no {name}")
     if not place.endswith(".xz"):
-        return os.path.abspath(place)
+        return os.path.join(os.getcwd(), place)
     made = suite.place(case, name)
     if not os.path.exists(made) or os.stat(made).st_mtime_ns != os.stat(place).st_mtime_ns:
         unpack(place, made)
@@ -170,59 +172,60 @@ def words_of(suite: Suite, case: Case) -> list[str]:
 def run_program(suite: Suite, case: Case, result: Result) -> None:
     """Runs a case's command in its folder; puts status, times and what was said into the result."""
     words = words_of(suite, case)
-    for kind in KINDS:
-        remove(suite.place(case, "now", kind))
-    spoken = os.memfd_create("said")
-    try:
-        process = start(case, words, spoken)
-        in_time = wait(suite, process, result)
-        lines = os.pread(spoken, MOST_READ, 0).decode("utf-8", "backslashreplace").splitlines()
-    finally:
-        os.close(spoken)
+    ended = run_command(words, case.folder, suite.limit)
+    lines = ended.text.splitlines()
+    result.status, result.seconds, result.program = ended.status, ended.seconds, ended.processor
     result.spoken = lines[:MOST_SAID]
-    if not in_time:
+    if not ended.in_time:
         result.said = [f"took more than {suite.limit:g} seconds, and was ended"]
-    elif result.status < 0:
-        result.said = [f"was ended by {signal.Signals(-result.status).name}", *lines[-3:]]
+    elif ended.status < 0:
+        result.said = [f"was ended by {signal.Signals(-ended.status).name}", *lines[-3:]]
     else:
         result.verdict = DIFFERS
 
 
-def start(case: Case, words: list[str], said: int) -> subprocess.Popen:
-    """Starts a command, in a group of its own, so that all of it can be ended."""
-    quiet, both = subprocess.DEVNULL, subprocess.STDOUT
-    try:
-        return subprocess.Popen(words, cwd=case.folder, stdin=quiet, stdout=said, stderr=both, start_new_session=True)
-    except OSError as fault:
-        raise BadFile(words[0], f"cannot be run: {(fault.strerror or str(fault)).lower()}") from None
-
-
-def wait(suite: Suite, process: subprocess.Popen, result: Result) -> bool:
-    """Waits until a command ends, and notes its status and times; False where its time was over before. Whatever ends
-    this, nothing of the command runs on.
-    """
-    begun = time.monotonic()
-    handle, in_time = os.pidfd_open(process.pid), False
-    try:
-        in_time = bool(select.select([handle], [], [], suite.limit)[0])
-    finally:
-        os.close(handle)
-        if not in_time:
-            os.killpg(process.pid, signal.SIGKILL)
-        _, status, used = os.wait4(process.pid, 0)
-        process.returncode = os.waitstatus_to_exitcode(status)
-    result.status, result.seconds = process.returncode, time.monotonic() - begun
-    result.program = used.ru_utime + used.ru_stime
-    return in_time
-
-
 def judge(suite: Suite, case: Case, result: Result) -> None:
     """Compares what came out with what must come out, and keeps or removes it."""
+    came = files_in(suite, case, "now")
+    kept = {kind: old for kind, old in result.stored.items() if is_as_stored(suite.place(case, "passed", kind), old)}
+    result.sums = {kind: sum_by_store(suite, case, kind, size, kept.get(kind)) for kind, size in came.items()}
+    golden = None
+    if met_at_once(case, result):
+        result.verdict = PASSED
+    else:
+        golden = golden_of(case)
+        compare(suite, case, result, golden)
+    if suite.accepts and (suite.keeps or result.verdict != PASSED):
+        accept(suite, case, result, golden)
+    if result.verdict in GOOD:
+        store(suite, case, result, came, kept)
+
+
+def files_in(suite: Suite, case: Case, folder: str) -> dict[str, int]:
+    """The files of a run that are in a folder of what comes out, with their bytes."""
+    found = {}
     for kind in KINDS:
-        place = suite.place(case, "now", kind)
-        if os.path.exists(place):
-            result.sums[kind] = sum_by_store(suite, case, kind, place, result.stored)
-    golden = golden_of(case)
+        try:
+            found[kind] = os.stat(suite.place(case, folder, kind)).st_size
+        except FileNotFoundError:
+            pass
+    return found
+
+
+def met_at_once(case: Case, result: Result) -> bool:
+    """Whether the golden says exactly what came, word for word; where not, it may still be met."""
+    if "golden" not in case.files or "kept" in case.files:
+        return False
+    return read_text(os.path.join(case.folder, "golden")) == came_of(result).text()
+
+
+def came_of(result: Result) -> Golden:
+    """What came out, as a golden says it."""
+    return Golden(result.status, result.spoken, result.sums)
+
+
+def compare(suite: Suite, case: Case, result: Result, golden: Golden | None) -> None:
+    """Puts into the result whether what came out is what must come, and where not what differs."""
     if golden is None:
         result.verdict, result.said = NEW, ["has no golden"]
     elif golden.is_met(result.status, result.spoken, result.sums):
@@ -231,10 +234,6 @@ def judge(suite: Suite, case: Case, result: Result) -> None:
         from suite_differences import differences
 
         result.said = differences(expected(suite, case, golden, result), result, suite.place(case))
-    if suite.accepts and (suite.keeps or result.verdict != PASSED):
-        accept(suite, case, result, golden)
-    if result.verdict in GOOD:
-        store(suite, case, result)
 
 
 def golden_of(case: Case) -> Golden | None:
@@ -265,11 +264,11 @@ def is_as_stored(place: str, stored: Stored) -> bool:
     return (found.st_size, found.st_mtime_ns) == (stored.size, stored.time)
 
 
-def sum_by_store(suite: Suite, case: Case, kind: str, place: str, stored: dict[str, Stored]) -> str:
+def sum_by_store(suite: Suite, case: Case, kind: str, size: int, kept: Stored | None) -> str:
     """The SHA-256 of a file: that of the stored one where both have the same bytes, which is quicker to find out."""
-    kept, old = suite.place(case, "passed", kind), stored.get(kind)
-    if old and os.path.getsize(place) == old.size and is_as_stored(kept, old) and same_bytes(place, kept):
-        return old.sum
+    place = suite.place(case, "now", kind)
+    if kept and size == kept.size and same_bytes(place, suite.place(case, "passed", kind)):
+        return kept.sum
     return sum_of(place)
 
 
@@ -279,26 +278,32 @@ def stored_file(suite: Suite, case: Case, kind: str, golden: Golden, stored: dic
     return place if old and old.sum == golden.sums.get(kind) and is_as_stored(place, old) else None
 
 
-def store(suite: Suite, case: Case, result: Result) -> None:
-    """Moves the files of a passing run to where the next run is compared with them, where they are not too long."""
-    now = {kind: suite.place(case, "now", kind) for kind in result.sums}
-    keeps = sum(map(os.path.getsize, now.values())) <= suite.most_stored
+def store(suite: Suite, case: Case, result: Result, came: dict[str, int], kept: dict[str, Stored]) -> None:
+    """Moves the files of a passing run to where the next run is compared with them, where they are not too long; those that
+    stand there already, as `kept` says, stay.
+    """
+    keeps = sum(came.values()) <= suite.most_stored
     before = dict(result.stored)
     for kind in KINDS:
-        old, kept = result.stored.get(kind), suite.place(case, "passed", kind)
-        if keeps and kind in now and old and old.sum == result.sums[kind] and is_as_stored(kept, old):
-            os.remove(now[kind])
-            continue
-        result.stored.pop(kind, None)
-        if keeps and kind in now:
-            os.replace(now[kind], kept)
-            found = os.stat(kept)
-            result.stored[kind] = Stored(result.sums[kind], found.st_size, found.st_mtime_ns)
-        else:
-            remove(kept)
-            remove(now.get(kind, kept))
+        place, stays = suite.place(case, "now", kind), kind in kept and kept[kind].sum == result.sums.get(kind)
+        if keeps and stays:
+            os.remove(place)
+        elif keeps and kind in came:
+            result.stored[kind] = move(place, suite.place(case, "passed", kind), result.sums[kind])
+        elif kind in came or kind in result.stored:
+            result.stored.pop(kind, None)
+            remove(suite.place(case, "passed", kind))
+            remove(place)
     if result.stored != before:
         write_json(suite.place(case, "passed", STORED), {kind: vars(one) for kind, one in result.stored.items()})
+
+
+def move(place: str, to: str, sum: str) -> Stored:
+    """Moves a file of a passing run; gives what is known of it then."""
+    os.makedirs(os.path.dirname(to), exist_ok=True)
+    os.replace(place, to)
+    found = os.stat(to)
+    return Stored(sum, found.st_size, found.st_mtime_ns)
 
 
 def remove(place: str) -> None:

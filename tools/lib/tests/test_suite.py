@@ -16,7 +16,7 @@ from runs import TOOLS, Tools, frame
 
 # a program of the same words as ours: what it gives is told by its image's first bytes
 PROGRAM = """#!/usr/bin/env python3
-import sys, time
+import os, sys, time
 sys.path[:0] = {folders!r}
 from runs import frame
 image, script = open(sys.argv[2], "rb").read(), open(sys.argv[3]).read()
@@ -26,8 +26,11 @@ if "slow" in script:
 if "bad" in script:
     sys.exit(print("bad script: line 4: event") or 4)
 if "killed" in script:
-    import os
     os.kill(os.getpid(), 9)
+if "killer" in script:
+    os.kill(os.getppid(), 9)
+if "loud" in script:
+    sys.stdout.buffer.write(b"\\xff" * 70000)
 open(sys.argv[4], "wb").write(frame({{}}) + frame({{(212, 74): bytes(image[:3])}}))
 open(sys.argv[5], "w").write("0 44 100 W 180 %04x C\\n" % image[3])
 open(sys.argv[6], "wb").write(image + bytes(524288 - len(image)))
@@ -196,6 +199,32 @@ class SuiteTest(Tools):
         status, said = self.suite("--jobs", "5")
         self.assertEqual((status, len(said)), (0, 1))
         self.assertEqual(self.ran(), sorted(names))
+
+    def test_a_process_that_is_killed(self) -> None:
+        """Its case has failed, and the other process runs the rest."""
+        self.case("aa killer", script="killer")
+        for number in range(9):
+            self.case(f"case {number}")
+            self.golden(f"case {number}")
+        status, said = self.suite("--jobs", "2")
+        self.assertEqual((status, len(said)), (1, 3), said)
+        self.assertEqual(said[0], "failed    aa killer: its process was ended")
+        self.assertTrue(said[1].startswith("10 cases: 9 pass, 1 failed; "), said)
+
+    def test_a_case_that_says_much(self) -> None:
+        self.case("one", script="loud")
+        self.assertEqual(self.suite("--accept")[0], 0)
+        self.assertEqual(self.read("cases/one/golden").splitlines()[1], "# said " + "\\xff" * 65536)
+        self.assertEqual(self.suite()[0], 0)
+
+    def test_goldens_in_other_words(self) -> None:
+        """Order, comments and a status that need not be said change nothing."""
+        self.case("one")
+        self.golden("one", kinds=("memory", "frames"))
+        self.case("two")
+        self.golden("two")
+        self.write("cases/two/golden", "# a comment\n\n" + self.read("cases/two/golden"))
+        self.assertEqual(self.suite()[0], 0)
 
     def test_unusable(self) -> None:
         self.assertIn("suite: cases: is not there", self.refused("suite", "cases"))
