@@ -5,6 +5,7 @@ import os
 import subprocess
 import tempfile
 import unittest
+from unittest import mock
 
 from frames import PAL, ROW_BYTES, System
 
@@ -44,6 +45,12 @@ class Tools(unittest.TestCase):
         self.write(f"{name}/frames", frames)
         self.write(f"{name}/trace", trace)
         self.write(f"{name}/memory", memory)
+
+    def name_program(self, place: str) -> None:
+        """Lets the environment's OCS name a program, until the test's end."""
+        named = mock.patch.dict(os.environ, OCS=place)
+        named.start()
+        self.addCleanup(named.stop)
 
     def run_tool(self, tool: str, *words: str) -> subprocess.CompletedProcess[str]:
         return subprocess.run([os.path.join(TOOLS, tool), *words], cwd=self.folder, capture_output=True, text=True)

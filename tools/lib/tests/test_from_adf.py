@@ -1,7 +1,6 @@
 """A disk that fs-uae boots, and its picture beside that of a run."""
 from __future__ import annotations
 
-import os
 import struct
 import unittest
 import zlib
@@ -12,6 +11,7 @@ from frames import FramesFile
 from fs_uae import absent_programs
 from png import SIGNATURE, chunk
 from png_read import Picture, read_png
+from program import program
 from runs import Tools, frame
 from save_states import written
 
@@ -106,7 +106,9 @@ class FromAdfTest(Tools):
 
     @unittest.skipIf(absent_programs(), absent_programs())
     def test_a_disk_is_booted(self) -> None:
-        """Where other work slows the emulator down, the state is taken later."""
+        """Where other work slows the emulator down, the state is taken later. The state that is kept goes on to the same image
+        and script.
+        """
         self.write("disk.adf", disk())
         for seconds in ("15", "60", "240"):
             done = self.run_tool("from-adf", "disk.adf", "image", "script", "--after", seconds, "--force", "--state", "kept.uss")
@@ -114,7 +116,28 @@ class FromAdfTest(Tools):
                 break
         self.assertEqual(done.returncode, 0, done.stderr)
         self.assertIn("image and script: the state goes on at frame 1, line 0, clock 0, for 50 frames", done.stdout)
-        with open(self.place("image"), "rb") as file:
-            image = file.read()
+        image = self.read("image")
         self.assertEqual(image[PROGRAM_AT:][:CHANGED].hex(), BOOT[PROGRAM:][:CHANGED].hex())
-        self.assertTrue(os.path.getsize(self.place("kept.uss")) > 10_000)
+        self.run_tool("from-uae", "kept.uss", "other image", "other script", "--frames", "50")
+        self.assertEqual((self.read("other image"), self.read("other script")), (image, self.read("script")))
+
+    @unittest.skipIf(absent_programs(), absent_programs())
+    def test_a_picture_beside_ours(self) -> None:
+        """fs-uae's picture of a field is that of a frame of the run, pixel by pixel."""
+        try:
+            self.name_program(program())
+        except BadFile as fault:
+            self.skipTest(str(fault))
+        self.write("disk.adf", disk())
+        for seconds in ("15", "60", "240"):
+            done = self.run_tool("from-adf", "disk.adf", "image", "script", "--after", seconds, "--force", "--check", "-o", "page")
+            if "they are the same" in done.stdout:
+                break
+        self.assertEqual((done.returncode, done.stdout.count("\n")), (0, 3), done.stdout + done.stderr)
+        self.assertIn("check: at its clock the machine is the state's", done.stdout)
+        self.assertRegex(done.stdout, r"page: fs-uae's picture is beside frame \d+ of the run: they are the same")
+        self.assertIn(b"disk.adf: fs-uae and ocs", self.read("page"))
+
+    def read(self, name: str) -> bytes:
+        with open(self.place(name), "rb") as file:
+            return file.read()

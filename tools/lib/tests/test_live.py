@@ -116,10 +116,9 @@ class LiveTest(Tools):
         self.assertEqual(refused.exception.code, 403)
 
     def test_unusable(self) -> None:
-        os.environ["OCS"] = self.program
-        self.addCleanup(os.environ.pop, "OCS")
+        self.name_program(self.program)
         self.assertEqual(self.refused("live", "absent.copper"), "live: absent.copper: is not there")
-        os.environ["OCS"] = self.place("nothing")
+        self.name_program(self.place("nothing"))
         self.write("list.copper", "move COLOR00 f00\n")
         self.assertIn("nothing: is no program", self.refused("live", "list.copper"))
 

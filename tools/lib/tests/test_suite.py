@@ -58,8 +58,7 @@ class SuiteTest(Tools):
         folders = [tests, os.path.dirname(tests)]
         self.program = self.write("program", PROGRAM.format(folders=folders, log=self.log))
         os.chmod(self.program, 0o755)
-        os.environ["OCS"] = self.program
-        self.addCleanup(os.environ.pop, "OCS")
+        self.name_program(self.program)
 
     def case(self, name: str, colour: bytes = RED, word: int = 7, script: str = "", **files: str) -> None:
         self.write(f"cases/{name}/image", colour + bytes([word]) + bytes(4))
@@ -231,7 +230,7 @@ class SuiteTest(Tools):
         os.mkdir(self.place("cases"))
         self.assertIn("suite: cases: has no case", self.refused("suite", "cases"))
         self.case("one")
-        os.environ["OCS"] = self.place("nothing")
+        self.name_program(self.place("nothing"))
         self.assertIn("nothing: is no program", self.refused("suite", "cases"))
 
     def test_the_keyboard_ends_it(self) -> None:
