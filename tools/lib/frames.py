@@ -16,13 +16,33 @@ PIXELS_A_CLOCK = 4
 
 @dataclass(frozen=True)
 class System:
-    """What the height of a frame tells of the machine that drew it."""
+    """What the height of a frame tells of the machine that drew it: its lines are those of a long field, its clocks those of
+    its longest lines.
+    """
 
     name: str
     height: int
     first_line: int
     lines: int
     clocks: int
+
+    @property
+    def last_line(self) -> int:
+        """The last line that each field has, and a script can name: a short field has one line less than a long one."""
+        return self.lines - 2
+
+    def line_start(self, line: int) -> int:
+        """The colour clocks from a field's start to that of a line. Where lines of 227 and 228 clocks take turns, the odd
+        ones have 228.
+        """
+        return 227 * line + (line // 2 if self.clocks == 228 else 0)
+
+    def beam(self, clock: int) -> tuple[int, int]:
+        """Line and clock of the beam so many clocks after a field's start."""
+        line = clock // 227
+        while self.line_start(line) > clock:
+            line -= 1
+        return line, clock - self.line_start(line)
 
     @property
     def heading(self) -> bytes:

@@ -1,13 +1,19 @@
-"""Reads a script of version 1 as the emulator does, and says of each line that it would refuse why it does."""
+"""Reads a script as the emulator does, and says of each line that it would refuse why it does."""
 from __future__ import annotations
 
 from dataclasses import dataclass
 from typing import Callable
 
+from frames import PAL, SYSTEMS, System
 from registers import all_registers
 
 MOST_BYTES, MOST_LINES, MOST_FRAMES = 4_194_304, 100_000, 1000
-LINES, CLOCKS = 312, 227
+# of each line, whatever system it is of
+CLOCKS = 227
+# the first lines, by which the versions are known, and the lines of each one's head
+VERSIONS = {"ocs 1": 3, "ocs 2": 4, "ocs 3": 5}
+CHIPS = ("chip 512",)
+NAMED_SYSTEMS = {f"system {system.name.lower()}": system for system in SYSTEMS}
 DIGITS, HEXADECIMAL = "0123456789", "0123456789abcdef"
 REGISTERS = {register.name: register.offset for register in all_registers()}
 COMMENTS = ("#", ";", "//", "*", "|")
@@ -95,7 +101,16 @@ def check_spaces(line: str) -> None:
         raise Wrong("two spaces stand side by side")
 
 
-def event_time(line: str, frames: int) -> int:
+@dataclass
+class Head:
+    """What the head of a script says: its lines, how many frames there are, and which system."""
+
+    lines: int = 3
+    frames: int = MOST_FRAMES
+    system: System = PAL
+
+
+def event_time(line: str, head: Head) -> int:
     """When an event happens, as one number; Wrong where the line is none."""
     check_spaces(line)
     words = line.split(" ")
@@ -104,8 +119,8 @@ def event_time(line: str, frames: int) -> int:
         raise Wrong(f"it begins with {shown(words[0])}: an event is 'at FRAME LINE CLOCK {words[0] if known else 'poke'} ..'")
     if len(words) < 5:
         raise Wrong(f"it has {len(words)} words: an event is 'at FRAME LINE CLOCK' and what happens")
-    frame = number(words[1], "frame", frames)
-    place = frame * 313 + number(words[2], "line", LINES)
+    frame = number(words[1], "frame", head.frames)
+    place = frame * head.system.lines + number(words[2], "line", head.system.last_line + 1)
     time = place * CLOCKS + number(words[3], "clock", CLOCKS)
     check_act(words[4], words[5:])
     return time
@@ -129,7 +144,7 @@ def frame_count(line: str) -> int:
     """The number of frames of the third line."""
     words = line.split(" ")
     if len(words) != 2 or words[0] != "frames":
-        raise Wrong(f"the third line is 'frames N', N from 1 to {MOST_FRAMES}")
+        raise Wrong(f"the third line is 'frames N', N from 1 to {MOST_FRAMES}{but_for(line)}")
     count = number(words[1], "number of frames", MOST_FRAMES + 1)
     if count == 0:
         raise Wrong("the number of frames is 0")
@@ -141,35 +156,65 @@ def but_for(line: str) -> str:
     return ": a carriage return stands before the line's end" if line.endswith("\r") else f", and not {shown(line)}"
 
 
-def head_faults(lines: list[str]) -> tuple[list[Fault], int]:
-    """What is wrong with the first three lines, and the number of frames."""
-    found = []
-    if lines and lines[0] != "ocs 1":
-        found.append(Fault(1, "header", f"the first line is 'ocs 1'{but_for(lines[0])}"))
-    if len(lines) > 1 and lines[1] not in ("cpu on", "cpu off"):
-        found.append(Fault(2, "cpu", f"the second line is 'cpu on' or 'cpu off'{but_for(lines[1])}"))
-    try:
-        return found, frame_count(lines[2]) if len(lines) > 2 else MOST_FRAMES
-    except Wrong as fault:
-        return [*found, Fault(3, "frames", str(fault))], MOST_FRAMES
+def one_of(texts: list[str]) -> str:
+    """The texts that a line can be."""
+    named = [f"'{text}'" for text in texts]
+    return " or ".join([", ".join(named[:-1]), named[-1]] if len(named) > 1 else named)
+
+
+def version_of(lines: list[str]) -> int:
+    """The lines of the head; where the first line names no version they are told by what stands there."""
+    if lines and lines[0] in VERSIONS:
+        return VERSIONS[lines[0]]
+    wanted = ("chip", "system")
+    there = [line.split(" ")[0] == word for line, word in zip(lines[3:], wanted)]
+    return 3 + (there[0] + all(there) if there else 0)
+
+
+def head_of(lines: list[str]) -> tuple[list[Fault], Head]:
+    """What is wrong with the head's lines, and what it says."""
+    head, found = Head(version_of(lines)), []
+    forms = [("header", "first", list(VERSIONS)), ("cpu", "second", ["cpu on", "cpu off"]), ("frames", "third", []),
+             ("chip", "fourth", list(CHIPS)), ("system", "fifth", list(NAMED_SYSTEMS))]
+    for at, (line, (kind, which, texts)) in enumerate(zip(lines[: head.lines], forms), 1):
+        if texts and line not in texts:
+            found.append(Fault(at, kind, f"the {which} line is {one_of(texts)}{but_for(line)}"))
+        elif not texts:
+            try:
+                head.frames = frame_count(line)
+            except Wrong as fault:
+                found.append(Fault(at, kind, str(fault)))
+    if head.lines == 5:
+        head.system = NAMED_SYSTEMS.get(lines[4] if len(lines) > 4 else "", PAL)
+    return found, head
+
+
+def lines_of(data: bytes) -> list[str]:
+    """The lines of a text; the last may lack its line feed."""
+    lines = data.decode("latin-1").split("\n")
+    return lines[:-1] if lines[-1] == "" else lines
+
+
+def event_count(data: bytes) -> int:
+    """The number of events of a good script."""
+    lines = lines_of(data)
+    return len(lines) - head_of(lines)[1].lines - 1
 
 
 def faults_of(data: bytes) -> list[Fault]:
     """The lines that are refused, in order; the first is the one that the emulator names. None for a good script."""
     if len(data) > MOST_BYTES:
         return [Fault(0, "long", f"it has {len(data):,} bytes, more than {MOST_BYTES:,}")]
-    lines = data.decode("latin-1").split("\n")
-    if lines[-1] == "":
-        lines.pop()
-    found, frames = head_faults(lines)
+    lines = lines_of(data)
+    found, head = head_of(lines)
     before = 0
-    for at, line in enumerate(lines[3:], 4):
+    for at, line in enumerate(lines[head.lines :], head.lines + 1):
         if at > MOST_LINES:
             return [*found, Fault(at, "lines", f"there are more than {MOST_LINES:,} lines")]
         if line == "end":
             return [*found, *after_end(lines, at)]
         try:
-            time = event_time(line, frames)
+            time = event_time(line, head)
         except Wrong as fault:
             found.append(Fault(at, "event", str(fault)))
             continue

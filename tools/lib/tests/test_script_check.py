@@ -9,6 +9,8 @@ from script_reader import faults_of
 from program import program
 
 HEAD = "ocs 1\ncpu off\nframes 3\n"
+HEAD_2 = "ocs 2\ncpu off\nframes 3\nchip 512\n"
+HEAD_PAL, HEAD_NTSC = (f"ocs 3\ncpu on\nframes 3\nchip 512\nsystem {name}\n" for name in ("pal", "ntsc"))
 # an event that is refused, and a part of the reason
 EVENTS = {
     "": "the line is empty",
@@ -48,7 +50,8 @@ GOOD = ["poke 180 0f00", "peek 1fe", "joy 1 0300", "fire 0 1", "key 75"]
 TEXTS = {
     "": (1, "missing"),
     "ocs 1": (2, "missing"),
-    "ocs 2\n" + HEAD: (1, "header"),
+    "ocs 4\n" + HEAD: (1, "header"),
+    "ocs 4\ncpu on\nframes 3\nchip 512\nsystem ntsc\nat 0 261 0 peek 002\nend\n": (1, "header"),
     "ocs 1\r\ncpu off\nframes 3\nend\n": (1, "header"),
     "ocs 1\ncpu\nframes 3\nend\n": (2, "cpu"),
     "ocs 1\ncpu on\nframes 1001\nend\n": (3, "frames"),
@@ -63,6 +66,30 @@ TEXTS = {
     HEAD + "at 0 0 0 peek 002\n" * 99_997 + "end": (100_001, "lines"),
     HEAD + "at 0 0 0 peek 002\n" * 99_996 + "end\n\n": (100_001, "lines"),
     HEAD + " " * 4_194_304: (0, "long"),
+}
+# the same of the versions with more lines in their heads
+LATER_TEXTS = {
+    "ocs 2\n": (2, "missing"),
+    "ocs 3\ncpu on\nframes 3\n": (4, "missing"),
+    "ocs 3\ncpu on\nframes 3\nchip 512\n": (5, "missing"),
+    "ocs 2\ncpu on\nframes 3\nend\n": (4, "chip"),
+    "ocs 2\ncpu on\nframes 3\nchip 2048\nend\n": (4, "chip"),
+    "ocs 2\ncpu on\nframes 3\nchip  512\nend\n": (4, "chip"),
+    "ocs 3\ncpu on\nframes 3\nchip 512\nend\n": (5, "system"),
+    "ocs 3\ncpu on\nframes 3\nchip 512\nsystem NTSC\nend\n": (5, "system"),
+    "ocs 3\ncpu on\nframes 0\nchip 512\nsystem secam\nend\n": (3, "frames"),
+    HEAD_2 + "system pal\nend\n": (5, "event"),
+    HEAD_2 + "at 2 311 226 peek 002\nend": None,
+    HEAD_PAL + "at 2 311 226 peek 002\nend": None,
+    HEAD_PAL + "at 2 312 0 peek 002\nend": (6, "event"),
+    HEAD_NTSC + "at 2 261 226 peek 002\nend": None,
+    HEAD_NTSC + "at 2 261 227 peek 002\nend": (6, "event"),
+    HEAD_NTSC + "at 0 262 0 poke 180 0f00\nend\n": (6, "event"),
+    HEAD_NTSC + "at 0 261 226 peek 002\nat 1 0 0 peek 002\nend\n": None,
+    HEAD_NTSC + "at 1 0 0 peek 002\nat 0 261 226 peek 002\nend\n": (7, "order"),
+    HEAD_NTSC + "end\nend\n": (7, "extra"),
+    HEAD_NTSC + "at 0 0 0 peek 002\n" * 99_994 + "end": None,
+    HEAD_NTSC + "at 0 0 0 peek 002\n" * 99_995 + "end": (100_001, "lines"),
 }
 
 
@@ -79,15 +106,34 @@ class ScriptCheckTest(Tools):
             self.assertEqual(faults_of(f"{HEAD}at 2 311 226 {event}\nend".encode()), [])
 
     def test_texts(self) -> None:
-        for text, wanted in TEXTS.items():
-            with self.subTest(text=text[:40]):
+        for text, wanted in {**TEXTS, **LATER_TEXTS}.items():
+            with self.subTest(text=text[:60]):
                 found = [(fault.line, fault.kind) for fault in faults_of(text.encode())]
                 self.assertEqual(found[:1], [wanted] if wanted else [])
+
+    def test_heads(self) -> None:
+        """Why a line of a head is refused; what is of a later version is told apart from events."""
+        said = {
+            "ocs 0\ncpu\nframes\nchip 512\nsystem pal\nend\n": [
+                "the first line is 'ocs 1', 'ocs 2' or 'ocs 3', and not 'ocs 0'",
+                "the second line is 'cpu on' or 'cpu off', and not 'cpu'",
+                "the third line is 'frames N', N from 1 to 1000, and not 'frames'",
+            ],
+            "ocs 3\ncpu on\nframes 1\nchip 512\r\nsystem\nend\n": [
+                "the fourth line is 'chip 512': a carriage return stands before the line's end",
+                "the fifth line is 'system pal' or 'system ntsc', and not 'system'",
+            ],
+            HEAD_NTSC + "at 0 262 0 peek 002\nend\n": ["the line '262' is above 261"],
+        }
+        for text, wanted in said.items():
+            self.assertEqual([fault.why for fault in faults_of(text.encode())], wanted)
 
     def test_tool(self) -> None:
         self.write("good", HEAD + "at 0 0 0 peek 002\nend\n")
         done = self.run_tool("script-check", "good")
         self.assertEqual((done.returncode, done.stdout), (0, "good: a script of 1 event\n"))
+        self.write("ntsc", HEAD_NTSC + "at 0 0 0 peek 002\nat 0 0 0 peek 002\nend")
+        self.assertEqual(self.run_tool("script-check", "ntsc").stdout, "ntsc: a script of 2 events\n")
         self.write("bad", HEAD + "at 0 0 0 peek 3\nat 0 0 0 peek 002\nframes\n")
         done = self.run_tool("script-check", "bad")
         said = done.stdout.splitlines()
@@ -105,6 +151,8 @@ class ScriptCheckTest(Tools):
         if self.said_by(place, "") != "bad script: line 1: missing":
             self.skipTest(f"{place} is no ocs that names a script's first bad line")
         texts = [*TEXTS, *(f"{HEAD}{event}\nend\n" for event in EVENTS)]
+        if self.said_by(place, "ocs 3\n") != "bad script: line 1: header":
+            texts += LATER_TEXTS
         for text in texts:
             with self.subTest(text=text[:60]):
                 found = faults_of(text.encode())
