@@ -7,9 +7,11 @@ from typing import Iterator, Union
 
 from copper_words import Names, decimal, hexadecimal, is_hexadecimal, is_name, register, split
 from faults import BadFile
+from frames import PAL, SYSTEMS, System
+from script_reader import head_lines
 
 LIST_AT, MEMORY = 0x100, 0x80000
-LAST_LINE, LAST_CLOCK = 312, 226
+LAST_CLOCK = 226
 # the last wait of line 255, behind which the line's low eight bits begin again
 LINE_255, END = (0xFFDF, 0xFFFE), (0xFFFF, 0xFFFE)
 COMPARED, SKIPS, ANY_LINE, ANY_CLOCK, FOR_BLITTER = 0xFFFE, 0x0001, 0x80FE, 0xFF00, 0x7FFF
@@ -53,6 +55,7 @@ class CopperText:
     path: str
     # the line that is read
     number: int = 0
+    system: System = PAL
     frames: int = 1
     at: int = LIST_AT
     start: int | None = None
@@ -183,7 +186,7 @@ class CopperText:
             if len(words) < 2:
                 raise ValueError(f"'{words[0]}' wants a clock behind it")
             return (0x8000 if words[0] == "any+128" else 0) | clock | 1, ANY_LINE
-        number = decimal(words[0], "line", LAST_LINE, line.names)
+        number = decimal(words[0], "line", self.system.lines - 1, line.names)
         if number > 255 and not self.past_255:
             if not waits:
                 raise ValueError(f"the line {number} is compared by its low eight bits: wait for one above 255 first")
@@ -254,6 +257,14 @@ class CopperText:
         if self.frames == 0:
             raise ValueError("the number of frames is 0")
 
+    def take_system(self, line: Line, words: list[str]) -> None:
+        names = {system.name.lower(): system for system in SYSTEMS}
+        if words[0] not in names:
+            raise ValueError(f"the system '{words[0]}' is none of {', '.join(names)}")
+        if self.made:
+            raise ValueError("the system stands before all that becomes words in memory")
+        self.system = names[words[0]]
+
     def word(self, word: Word, line: Line) -> int:
         """A word of the image."""
         if isinstance(word, int):
@@ -281,8 +292,8 @@ class CopperText:
         assert self.start is not None
         high = [f"poke 080 {self.start >> 16:04x}"] if self.start >> 16 else []
         pokes = [*high, f"poke 082 {self.start & 0xFFFF:04x}", "poke 088 0000", "poke 096 8280"]
-        lines = ["ocs 1", "cpu off", f"frames {self.frames}", *(f"at 0 0 0 {poke}" for poke in pokes), "end"]
-        return "\n".join(lines) + "\n"
+        head = head_lines("off", self.frames, self.system)
+        return "\n".join([*head, *(f"at 0 0 0 {poke}" for poke in pokes), "end"]) + "\n"
 
     def listing(self) -> Iterator[str]:
         """What each line became, two words a line."""
@@ -306,6 +317,7 @@ WAYS = {
     "at": (1, 1, "at ADDRESS", CopperText.take_at),
     "file": (1, 1, "file NAME", CopperText.take_file),
     "frames": (1, 1, "frames N", CopperText.take_frames),
+    "system": (1, 1, "system pal|ntsc", CopperText.take_system),
 }
 
 

@@ -8,7 +8,9 @@ from dataclasses import dataclass, field
 
 from copper_text import read_copper
 from faults import BadFile
+from frames import System
 from program import TOP
+from script_reader import head_lines
 
 CROSS = "m68k-linux-gnu-"
 PACKAGES = {"as": "binutils-m68k-linux-gnu", "gcc": "gcc-m68k-linux-gnu"}
@@ -20,11 +22,12 @@ MOST_TOLD = 20
 
 @dataclass
 class Source:
-    """A file that is run, and how: the script that is named for it, and the frames of one that is made."""
+    """A file that is run, and how: the script that is named for it, or frames and system of one that is made."""
 
     path: str
     script: str | None
     frames: int
+    system: System
     # the other files that the last build read
     read: list[str] = field(default_factory=list)
 
@@ -38,7 +41,7 @@ def build(source: Source, folder: str) -> tuple[str, str]:
     """Makes image and script in a folder; gives their places. BadFile says what is wrong with the source."""
     end = os.path.splitext(source.path)[1]
     image, made = os.path.join(folder, "image"), os.path.join(folder, "script")
-    text = f"ocs 1\ncpu on\nframes {source.frames}\nend\n"
+    text = "\n".join([*head_lines("on", source.frames, source.system), "end"]) + "\n"
     source.read = []
     if end in COPPER_ENDS:
         copper = read_copper(source.path)

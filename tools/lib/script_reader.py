@@ -156,6 +156,12 @@ def but_for(line: str) -> str:
     return ": a carriage return stands before the line's end" if line.endswith("\r") else f", and not {shown(line)}"
 
 
+def head_lines(cpu: str, frames: int, system: System) -> list[str]:
+    """The head of a script, of the lowest version that can say it."""
+    lines = [f"cpu {cpu}", f"frames {frames}"]
+    return ["ocs 1", *lines] if system == PAL else ["ocs 3", *lines, CHIPS[0], f"system {system.name.lower()}"]
+
+
 def one_of(texts: list[str]) -> str:
     """The texts that a line can be."""
     named = [f"'{text}'" for text in texts]

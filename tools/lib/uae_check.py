@@ -13,7 +13,8 @@ from dataclasses import dataclass, field
 
 from faults import BadFile, plural
 from program import program
-from uae_setup import CIA_ADDRESS, LINE, SET_UP, Event, SetUp, after_fetches, counts_ticks, line_starts, poke, script
+from uae_beam import Beam
+from uae_setup import CIA_ADDRESS, SetUp, counts_ticks, script
 from uae_state import MEMORY_BYTES, Cia, State
 
 PLACES = (0x3000, 0x4000, 0x5000, 0x6000)
@@ -34,6 +35,7 @@ class Report:
 
     base: int
     clock: int
+    beam: Beam
     code: list[int] = field(default_factory=list)
     clocks: list[int] = field(default_factory=list)
 
@@ -43,6 +45,7 @@ class Report:
         self.code += [0x40F9, *halves(data + 64)]  # move.w sr,data+64
         self.code += [0x4E68, 0x23C8, *halves(data + 66)]  # move.l usp,a0 and move.l a0,data+66
         # fetched words and the words that are written or read first: 32, then 2, then 2
+        after_fetches = self.beam.after_fetches
         clock = after_fetches(self.clock, 4 + 32 + 3 + 2 + 1 + 3 + 2)
         for number in range(2 * len(CIA_REGISTERS)):
             chip, register = divmod(number, len(CIA_REGISTERS))
@@ -66,19 +69,23 @@ def halves(value: int) -> tuple[int, int]:
 
 
 def run(runner: str, state: State, base: int) -> tuple[Report, bytes, dict[int, int]]:
-    """Runs the set-up by the program `runner` with a report at `base`; gives memory at the end, and the words that the script read."""
+    """Runs the set-up by the program `runner` with a report at `base`; gives memory at the end, and the words that the
+    script read.
+    """
     made = SetUp(state, (base, QUIET | state.sr & CONDITION_CODES))
-    report = Report(base, made.clock - 1)
+    report = Report(base, made.clock - 1, made.beam)
     report.put(made.image)
     events = made.events()
-    events += [Event(made.clock, f"peek {register:03x}") for register in READ_WORDS]
-    events += [Event(made.clock, poke(0x09A, 0x7FFF)), Event(made.clock, poke(0x096, 0x07FF))]
+    events += [made.event(0, f"peek {register:03x}") for register in READ_WORDS]
+    events += [*made.at(0, (0x09A, 0x7FFF), (0x096, 0x07FF))]
+    # the report takes some lines
+    frames = 2 if state.line < state.system.last_line - 11 else 3
     with tempfile.TemporaryDirectory() as folder:
         names = [os.path.join(folder, name) for name in ("image", "script", "frames", "trace", "memory")]
         with open(names[0], "wb") as file:
             file.write(made.image)
         with open(names[1], "w", encoding="ascii") as file:
-            file.write(script(2 if state.line < 300 else 3, events))
+            file.write(script(frames, events, made.beam))
         done = subprocess.run([runner, "run", *names, "20", "0"], capture_output=True, text=True)
         if done.returncode != 0:
             raise BadFile(runner, f"ended with status {done.returncode}: {(done.stderr + done.stdout).strip()}")
@@ -146,7 +153,8 @@ def of_cias(state: State, report: Report, memory: bytes) -> list[str]:
 
 def cia_byte(state: State, chip: int, register: int, clock: int) -> int:
     """What a read of a CIA's register gives at a clock after the state's."""
-    cia, begin = state.cias[chip], SET_UP + state.line * LINE + state.clock
+    cia, beam = state.cias[chip], Beam(state.system, state.long_field)
+    begin = beam.clock_of(state.line, state.clock)
     if register < 2:
         return cia.ports[register] & cia.ports[register + 2] | ~cia.ports[register + 2] & 0xFF
     if register < 4:
@@ -156,7 +164,7 @@ def cia_byte(state: State, chip: int, register: int, clock: int) -> int:
         ticks = clock // 5 - (begin - 1) // 5
         return counter_after(cia, timer, ticks) >> 8 * (register % 2) & 0xFF
     if register < 11:
-        counts = line_starts(begin - 1, clock) if chip else int(begin == SET_UP)
+        counts = (beam.line_starts if chip else beam.frame_starts)(begin - 1, clock)
         tod = cia.tod + counts if cia.tod_runs else cia.tod
         return tod >> 8 * (register - 8) & 0xFF
     control = cia.controls[register - 14] & 0xEF

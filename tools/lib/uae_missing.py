@@ -4,8 +4,9 @@ from __future__ import annotations
 from typing import Iterator
 
 from faults import BadFile
+from frames import NTSC
 from uae_setup import counts_ticks
-from uae_state import ALARM, FLAG, INTEN, MEMORY_BYTES, SUPERVISOR, State
+from uae_state import ALARM, BEAMCON0, FLAG, INTEN, MEMORY_BYTES, SUPERVISOR, State
 
 # the bits of INTENA that ask for each level
 LEVELS = {1: 0x0007, 2: 0x0008, 3: 0x0070, 4: 0x0780, 5: 0x1800, 6: 0x2000}
@@ -14,7 +15,7 @@ DISK_ON, AUDIO_ON, DISK_DMA = 0x8000, 0x000F, 0x0010
 ROM = range(0xF80000, 0x1000000)
 STACK_LONGS = 32
 SYSTEM_BASE, BASE_CHECK = 4, 0x26
-PAL, VARIABLE_BEAM = 0x0020, 0xFF80
+VARIABLE_BEAM = 0xFF80
 # more ticks than a timer counts in the set-up before the state's clock
 SET_UP_TICKS = 140
 
@@ -33,7 +34,7 @@ def refuse(state: State) -> None:
         raise BadFile(state.path, said)
     if ssp < 14:
         raise BadFile(state.path, f"the supervisor stack is at {ssp:06x}, where no six bytes are free below it")
-    if state.line > 311:
+    if state.line > state.system.last_line:
         raise BadFile(state.path, f"lies in line {state.line}, which a script cannot name: take another state")
 
 
@@ -81,11 +82,12 @@ def of_machine(state: State) -> Iterator[str]:
         yield f"{name} is in use, which is not there: it reads 0"
     if state.chip_set:
         yield "the machine has later chips than the original set: what they add is not there"
-    beam = state.word(0x1DC)
+    beam = state.word(BEAMCON0)
     if state.chip_set and beam & VARIABLE_BEAM:
-        yield f"BEAMCON0 is {beam:04x}: the beam runs otherwise than PAL, and will run as PAL"
-    elif not beam & PAL:
-        yield "the beam runs as NTSC, and will run as PAL: 313 lines of 227 clocks"
+        name = state.system.name
+        yield f"BEAMCON0 is {beam:04x}: the beam runs otherwise than {name}, and will run as {name}"
+    if state.system == NTSC:
+        yield "lines of 228 and 227 clocks take turns: here the odd ones are the longer, in the emulator they may be the shorter"
     if state.word(0x100) >> 12 & 7 == 7:
         yield "BPLCON0 asks for seven bitplanes, a trick that is not there"
 

@@ -11,12 +11,10 @@ from __future__ import annotations
 from dataclasses import dataclass, field
 from typing import Iterator
 
+from script_reader import head_lines
+from uae_beam import LAST_CLOCK, Beam
 from uae_state import SERIAL, VERTB, Cia, State
 
-LINE = 227
-# frame 0 has a short field, since a script cannot name line 312
-SET_UP = 312 * LINE
-REFRESH = (1, 3, 5, 225)
 MOST_FRAMES = 999
 # clocks before the state's at which the parts of the set-up begin
 FIRST_WORDS, SECOND_PART, SECOND_WORDS, RETURN, LAST_WORD, COPPER = 3400, 700, 480, 18, 3, 2
@@ -35,20 +33,21 @@ class Event:
 
     clock: int
     text: str
+    beam: Beam
 
     def __str__(self) -> str:
-        frame, rest = (0, self.clock) if self.clock < SET_UP else (1, self.clock - SET_UP)
-        return f"at {frame} {rest // LINE} {rest % LINE} {self.text}"
+        frame, line, clock = self.beam.place(self.clock)
+        return f"at {frame} {line} {clock} {self.text}"
 
 
 def poke(register: int, word: int) -> str:
     return f"poke {register:03x} {word & 0xFFFF:04x}"
 
 
-def script(frames: int, events: list[Event]) -> str:
+def script(frames: int, events: list[Event], beam: Beam) -> str:
     """A script of so many frames; events of one clock stay in their order."""
     lines = [str(event) for event in sorted(events, key=lambda event: event.clock)]
-    return "\n".join(["ocs 1", "cpu on", f"frames {frames}", *lines, "end"]) + "\n"
+    return "\n".join([*head_lines("on", frames, beam.system), *lines, "end"]) + "\n"
 
 
 @dataclass
@@ -68,16 +67,6 @@ class Code:
         """move.b #byte to a CIA's register: 13 clocks with no refresh between."""
         self.add(0x13FC, byte & 0xFF)
         self.add(0x00BF, (CIA_ADDRESS[chip] + 0x100 * register) & 0xFFFF)
-
-
-def after_fetches(clock: int, count: int) -> int:
-    """The clock after so many words from a clock on: each wants a clock, and then a slot that is not refresh."""
-    for _ in range(count):
-        clock += 1
-        while clock % LINE in REFRESH:
-            clock += 1
-        clock += 1
-    return clock
 
 
 def early_writes(cia: Cia, tod: int) -> Iterator[tuple[int, int]]:
@@ -109,17 +98,13 @@ def counts_ticks(cia: Cia, timer: int) -> bool:
     return cia.controls[timer] & (0x61 if timer else 0x21) == 0x01
 
 
-def line_starts(clock: int, until: int) -> int:
-    """The starts of lines after a clock, up to and with another."""
-    return until // LINE - clock // LINE
-
-
 class SetUp:
     """The way into a state. `target` replaces the program's place and status where a check wants its own."""
 
     def __init__(self, state: State, target: tuple[int, int] | None = None) -> None:
         self.state = state
-        self.clock = SET_UP + state.line * LINE + state.clock
+        self.beam = Beam(state.system, state.long_field)
+        self.clock = self.beam.clock_of(state.line, state.clock)
         self.pc, self.sr = target or (state.pc, state.sr)
         self.frame = state.ssp - 6
         self.base = 0x2000 if 0x1000 - 6 < state.ssp < 0x2000 else 0x1000
@@ -142,15 +127,15 @@ class SetUp:
     def late_clocks(self) -> list[int]:
         """The clocks at which the late writes are made."""
         # the blit of four words holds the processor off, which then fetches the NOP and goes on
-        clock = self.clock - SECOND_PART
+        clock = self.beam.named(self.clock - SECOND_PART)
         for _ in range(8):
-            while clock % LINE in REFRESH:
+            while self.beam.is_refresh(clock):
                 clock += 1
             clock += 1
-        clock = after_fetches(clock - 1, 1)
+        clock = self.beam.after_fetches(clock - 1, 1)
         clocks = []
         for _ in self.late:
-            clock = after_fetches(clock, 4) + 5
+            clock = self.beam.after_fetches(clock, 4) + 5
             clocks.append(clock - 1)
         return clocks
 
@@ -185,9 +170,9 @@ class SetUp:
     def tod_at(self, chip: int, clock: int) -> int:
         """The time of day that is started at a clock so that it is the state's just before the state's clock."""
         if chip == 0:
-            counts = int(clock < SET_UP < self.clock)
+            counts = self.beam.frame_starts(clock, self.clock - 1)
         else:
-            counts = line_starts(clock, self.clock - 1)
+            counts = self.beam.line_starts(clock, self.clock - 1)
         return (self.state.cias[chip].tod - counts) & 0xFFFFFF
 
     def make_image(self, words: list[int]) -> bytearray:
@@ -204,10 +189,14 @@ class SetUp:
         """The whole way in, from reset to the state's clock."""
         return [*self.blits(), *self.registers()]
 
+    def event(self, before: int, text: str) -> Event:
+        """An event so many clocks before the state's, or one more where a script cannot name that one."""
+        return Event(self.beam.named(self.clock - before), text, self.beam)
+
     def at(self, before: int, *pokes: tuple[int, int]) -> Iterator[Event]:
         """Pokes so many clocks before the state's."""
         for register, word in pokes:
-            yield Event(self.clock - before, poke(register, word))
+            yield self.event(before, poke(register, word))
 
     def old_words(self, begin: int, places: list[int], step: int) -> Iterator[Event]:
         """Blits that put the state's words back at these addresses, from so many clocks before the state's on."""
@@ -226,7 +215,7 @@ class SetUp:
 
     def blits(self) -> Iterator[Event]:
         """What changes memory: the trampoline's way on, and the state's own words over it."""
-        yield Event(0, poke(0x02A, 0))
+        yield self.event(self.clock, poke(0x02A, 0))
         places = [self.base + 2 * number for number in range(self.length)]
         first, second = self.loops
         masks = ((0x040, 0x01F0), (0x042, 0), (0x044, 0xFFFF), (0x046, 0xFFFF), (0x066, 0))
@@ -253,9 +242,9 @@ class SetUp:
         yield from self.at(0, (0x02A, 0x8000 if state.long_field else 0), *self.custom_words())
         for port, word in enumerate(state.mice):
             if word:
-                yield Event(self.clock, f"joy {port} {word:04x}")
+                yield self.event(0, f"joy {port} {word:04x}")
         if state.cias[0].pending & SERIAL:
-            yield Event(self.clock, f"key {state.cias[0].serial:02x}")
+            yield self.event(0, f"key {state.cias[0].serial:02x}")
         yield from self.at(0, *self.control_words())
 
     def custom_words(self) -> Iterator[tuple[int, int]]:
@@ -286,7 +275,10 @@ class SetUp:
 
 
 def place_for_set_up(state: State) -> None:
-    """Moves a state whose clock is too near to its line's begin: to the begin of line 0, else to a later clock."""
+    """Moves a state whose clock is too near to its line's begin: to the begin of line 0, else to a later clock. One at a clock
+    that a script cannot name is moved to the clock before.
+    """
+    state.clock = min(state.clock, LAST_CLOCK)
     if not 0 < state.clock < LEAST_CLOCK:
         return
     if state.line == 0:

@@ -3,6 +3,8 @@ from __future__ import annotations
 
 from dataclasses import dataclass, field
 
+from frames import NTSC, PAL, System
+
 MEMORY_BYTES = 0x80000
 SUPERVISOR = 0x2000
 STOP_OPCODE = 0x4E72
@@ -10,6 +12,8 @@ STOP_OPCODE = 0x4E72
 TIMERS, ALARM, SERIAL, FLAG = 0x03, 0x04, 0x08, 0x10
 # bits of INTREQ and INTENA
 VERTB, BLIT, INTEN = 0x0020, 0x0040, 0x4000
+# a register of later chips, whose bit for PAL the emulators keep for the original ones too
+BEAMCON0, PAL_BEAM = 0x1DC, 0x0020
 
 
 @dataclass
@@ -55,6 +59,11 @@ class State:
     # what is missing here and stands in the emulator: the chip set's number, and memory that is in use elsewhere
     chip_set: int = 0
     other_memory: tuple[str, ...] = ()
+
+    @property
+    def system(self) -> System:
+        """The system that the emulator's beam runs by."""
+        return PAL if self.words.get(BEAMCON0, PAL_BEAM) & PAL_BEAM else NTSC
 
     def word(self, register: int) -> int:
         """A custom register's word; 0 for one that was never told."""

@@ -4,11 +4,15 @@ the set-up and of its check, with their clocks. It is written from docs/machine.
 As a program it takes the words of a run, and writes the memory and the lines of the script's reads."""
 from __future__ import annotations
 
+import bisect
+import itertools
 import re
 import sys
 from typing import Generator
 
-LINE, SHORT_FIELD = 227, 312 * 227
+# the clocks of each line of a short field: 312 lines, or 262 of which the odd ones are longer
+FIELDS = {"pal": [227] * 312, "ntsc": [227, 228] * 131}
+HEADS = {"ocs 1": 3, "ocs 3": 5}
 REFRESH = (1, 3, 5, 225)
 EVENT = re.compile(r"at (\d+) (\d+) (\d+) (.*)")
 # what the processor asks for: a word at an address, a store there with its size above it, a CIA's register with a byte
@@ -131,12 +135,24 @@ class Model:
 
     def read_script(self, script: str) -> dict[int, list[str]]:
         events: dict[int, list[str]] = {}
-        for line in script.splitlines()[3:-1]:
+        lines = script.splitlines()
+        head = HEADS[lines[0]]
+        system = lines[4].split()[1] if head == 5 else "pal"
+        self.lines = FIELDS[system]
+        # the clocks at which the lines of three fields begin
+        self.starts = [0, *itertools.accumulate(3 * self.lines)]
+        for line in lines[head:-1]:
             match = EVENT.fullmatch(line)
             assert match, line
             frame, v, h = (int(part) for part in match.group(1, 2, 3))
-            events.setdefault(frame * SHORT_FIELD + v * LINE + h, []).append(match.group(4))
+            assert v < len(self.lines) and h < 227, line
+            events.setdefault(self.starts[frame * len(self.lines) + v] + h, []).append(match.group(4))
         return events
+
+    def place(self) -> tuple[int, int]:
+        """Line and clock of the beam, the lines counted from reset."""
+        line = bisect.bisect(self.starts, self.clock) - 1
+        return line, self.clock - self.starts[line]
 
     def word(self, address: int) -> int:
         return int.from_bytes(self.memory[address : address + 2], "big")
@@ -147,7 +163,8 @@ class Model:
             self.step()
 
     def step(self) -> None:
-        line_starts, frame_starts = self.clock % LINE == 0, self.clock in (0, SHORT_FIELD)
+        line, h = self.place()
+        line_starts, frame_starts = h == 0, h == 0 and line % len(self.lines) == 0
         for cia, counts in zip(self.cias, (frame_starts, line_starts)):
             if counts:
                 cia.count_tod()
@@ -156,7 +173,7 @@ class Model:
         if self.clock % 5 == 0:
             for cia in self.cias:
                 cia.tick()
-        self.slot(self.clock % LINE in REFRESH)
+        self.slot(h in REFRESH)
         self.clock += 1
 
     def happen(self, event: str) -> None:
@@ -172,7 +189,7 @@ class Model:
             self.poke(int(rest[0], 16), int(rest[1], 16), event)
 
     def peek(self, register: int) -> int:
-        beam = self.clock % SHORT_FIELD // LINE
+        beam = self.place()[0] % len(self.lines)
         lof = self.words.get(0x02A, 0) & 0x8000
         return {
             0x002: self.kept[0x096],

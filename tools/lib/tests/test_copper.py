@@ -43,6 +43,9 @@ ROUND = {
 FAULTS = {
     "wait 50 41": "line 1: the clock 41 is odd",
     "\nwait 313": "line 2: the line 313 is 313, not 0 to 312",
+    "system ntsc\nwait 263": "line 2: the line 263 is 263, not 0 to 262",
+    "system NTSC": "line 1: the system 'NTSC' is none of pal, ntsc",
+    "wait 1\nsystem ntsc": "line 2: the system stands before all that becomes words",
     "wait 50 228": "the clock 228 is 228, not 0 to 226",
     "wait f0": "the line 'f0' is no decimal number",
     "wait any": "'any' wants a clock",
@@ -124,6 +127,14 @@ class CopperTest(Tools):
         self.assertEqual(words_at(image, 0x3000)[:4], "1234")
         head = SCRIPT.replace("at 0 0 0 poke 082 0100", "at 0 0 0 poke 080 0001\nat 0 0 0 poke 082 2000")
         self.assertEqual(made.script(), head)
+
+    def test_ntsc(self) -> None:
+        """A long field of NTSC ends with line 262; a script of version 3 names the system."""
+        made = read("system ntsc\nwait 262 2\nmove COLOR00 f00")
+        self.assertEqual(words_at(made.image(), 0x100), f"ffdf fffe 0603 fffe 0180 0f00 {END}")
+        head = "ocs 3\ncpu off\nframes 1\nchip 512\nsystem ntsc\n"
+        self.assertEqual(made.script(), SCRIPT.replace("ocs 1\ncpu off\nframes 1\n", head))
+        self.assertEqual(read("system pal\nwait 312").script(), SCRIPT)
 
     def test_tool(self) -> None:
         self.write("list", "frames 3\nwait 50 40\nmove COLOR00 f00\n")

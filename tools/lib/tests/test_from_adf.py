@@ -2,6 +2,7 @@
 from __future__ import annotations
 
 import struct
+import subprocess
 import unittest
 import zlib
 
@@ -102,16 +103,17 @@ class FromAdfTest(Tools):
         self.write("image", b"")
         self.assertIn("image: is there already; --force overwrites it", self.refused("from-adf", "disk.adf", *words))
         self.assertIn("'0' is not a number from 1", self.refused("from-adf", "disk.adf", "i", "s", "--after", "0"))
-        self.assertIn("absent.rom: no such file", self.refused("from-adf", "disk.adf", "i", "s", "--after", "1", "--kickstart", "absent.rom"))
+        said = self.refused("from-adf", "disk.adf", "i", "s", "--after", "1", "--kickstart", "absent.rom")
+        self.assertIn("absent.rom: no such file", said)
 
     @unittest.skipIf(absent_programs(), absent_programs())
     def test_a_disk_is_booted(self) -> None:
-        """Where other work slows the emulator down, the state is taken later. The state that is kept goes on to the same image
-        and script.
+        """Where other work slows the emulator down, the state is taken later. The state that is kept goes on to the same
+        image and script.
         """
         self.write("disk.adf", disk())
         for seconds in ("15", "60", "240"):
-            done = self.run_tool("from-adf", "disk.adf", "image", "script", "--after", seconds, "--force", "--state", "kept.uss")
+            done = self.boot("--after", seconds, "--state", "kept.uss")
             if done.returncode == 0:
                 break
         self.assertEqual(done.returncode, 0, done.stderr)
@@ -130,13 +132,16 @@ class FromAdfTest(Tools):
             self.skipTest(str(fault))
         self.write("disk.adf", disk())
         for seconds in ("15", "60", "240"):
-            done = self.run_tool("from-adf", "disk.adf", "image", "script", "--after", seconds, "--force", "--check", "-o", "page")
+            done = self.boot("--after", seconds, "--check", "-o", "page")
             if "they are the same" in done.stdout:
                 break
         self.assertEqual((done.returncode, done.stdout.count("\n")), (0, 3), done.stdout + done.stderr)
         self.assertIn("check: at its clock the machine is the state's", done.stdout)
         self.assertRegex(done.stdout, r"page: fs-uae's picture is beside frame \d+ of the run: they are the same")
         self.assertIn(b"disk.adf: fs-uae and ocs", self.read("page"))
+
+    def boot(self, *words: str) -> subprocess.CompletedProcess[str]:
+        return self.run_tool("from-adf", "disk.adf", "image", "script", "--force", *words)
 
     def read(self, name: str) -> bytes:
         with open(self.place(name), "rb") as file:

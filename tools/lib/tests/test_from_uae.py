@@ -9,9 +9,11 @@ from unittest import mock
 
 import set_up_model
 from faults import BadFile
+from frames import NTSC
 from runs import Tools
 from save_states import bodies, kept, written
 from set_up_model import Model
+from uae_beam import Beam
 from uae_dump import read_dump
 from uae_file import read_save_state
 from uae_missing import missing, refuse
@@ -104,7 +106,7 @@ class SetUpTest(Tools):
         place_for_set_up(found)
         made = SetUp(found)
         events = [event for event in made.events() if event.clock < made.clock]
-        model = Model(bytes(made.image), script(2, events))
+        model = Model(bytes(made.image), script(2, events, made.beam))
         model.run(made.clock)
         frame = range(found.ssp - 6, found.ssp)
         differing = [at for at in range(len(model.memory)) if model.memory[at] != found.memory[at] and at not in frame]
@@ -134,6 +136,31 @@ class SetUpTest(Tools):
                 found = state("busy")
                 found.line, found.clock = line, clock
                 self.set_up(found)
+
+    def test_places_in_a_field_of_ntsc(self) -> None:
+        """Odd lines have 228 clocks, of which a script cannot name the last."""
+        for line, clock in ((0, 9), (1, 3), (6, 24), (57, 100), (131, 0), (131, 227), (261, 226), (261, 225)):
+            with self.subTest(line=line, clock=clock):
+                found = state("busy")
+                found.words[0x1DC] = 0
+                found.line, found.clock = line, clock
+                self.set_up(found)
+
+    def test_events_of_ntsc(self) -> None:
+        """A short field of NTSC is 131 times 227 and 228 clocks; line 3 begins after 227, 228 and 227."""
+        beam = Beam(NTSC)
+        clocks = (0, 226, 227, 454, 455, 682, 59604, 59605, 59605 + 454)
+        places = [(0, 0, 0), (0, 0, 226), (0, 1, 0), (0, 1, 227), (0, 2, 0), (0, 3, 0), (0, 261, 227), (1, 0, 0), (1, 1, 227)]
+        self.assertEqual([beam.place(clock) for clock in clocks], places)
+        self.assertEqual(beam.line_starts(226, 59605), 262)
+        # a long field has one more line, of 227 clocks
+        self.assertEqual([Beam(NTSC, long).place(2 * 59605 + 227) for long in (False, True)], [(2, 1, 0), (2, 0, 0)])
+        found = state("busy")
+        found.words[0x1DC], found.line, found.clock = 0, 0, 0
+        made = SetUp(found)
+        lines = script(4, made.events(), made.beam).splitlines()
+        self.assertEqual(lines[:6], ["ocs 3", "cpu on", "frames 4", "chip 512", "system ntsc", "at 0 0 0 poke 02a 0000"])
+        self.assertIn("at 0 261 226 poke 080 0000", lines)
 
     def test_each_part_of_a_cia(self) -> None:
         for cia in (0, 1):
@@ -263,7 +290,7 @@ class WarningTest(Tools):
         self.said(found, "a disk transfer", "sound is being played", "interrupts of sound", "serial port")
         self.said(found, "alarm of CIA A", "FLAG", "timer A of CIA A is near to ffff")
         found.chip_set, found.words[0x1DC] = 0, 0
-        self.said(found, "NTSC")
+        self.said(found, "here the odd ones are the longer")
 
 
 class CommandTest(Tools):

@@ -10,6 +10,8 @@ import urllib.error
 import urllib.request
 
 from browser import Browser, BrowserFault, find_browser
+from frames import NTSC, PAL
+from live_build import Source, build
 from runs import TOOLS, Tools
 
 EXAMPLES = os.path.join(os.path.dirname(TOOLS), "examples")
@@ -107,6 +109,19 @@ class LiveTest(Tools):
         with open(os.path.join(EXAMPLES, "solid", "image"), "rb") as file:
             word = file.read()[0x102:0x104].hex()
         self.wait_for(self.start("solid.c"), f"0 44 100 W 180 {word} C")
+
+    def test_script_of_a_program(self) -> None:
+        """By its system; a text for Copper lists names its own."""
+        self.write("bytes", bytes(8))
+        head = "ocs 3\ncpu {}\nframes {}\nchip 512\nsystem ntsc\n"
+        cases = {("bytes", PAL): "ocs 1\ncpu on\nframes 7\nend\n", ("bytes", NTSC): head.format("on", 7) + "end\n"}
+        self.write("list.copper", "system ntsc\nmove COLOR00 f00\n")
+        start = "".join(f"at 0 0 0 poke {poke}\n" for poke in ("082 0100", "088 0000", "096 8280"))
+        cases["list.copper", PAL] = head.format("off", 1) + start + "end\n"
+        for (name, system), wanted in cases.items():
+            _, script = build(Source(self.place(name), None, 7, system), self.folder)
+            with open(script, encoding="ascii") as file:
+                self.assertEqual(file.read(), wanted)
 
     def test_only_this_machine_asks(self) -> None:
         self.write("list.copper", "move COLOR00 f00\n")
