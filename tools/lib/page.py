@@ -53,7 +53,8 @@ def frame_data(frame: Frame) -> dict[str, object]:
 
 def system_data(system: System) -> dict[str, object]:
     """The machine's numbers, by the names that the scripts use."""
-    return {"height": system.height, "firstLine": system.first_line, "lines": system.lines, "clocks": system.clocks}
+    numbers = {"height": system.height, "firstLine": system.first_line, "lines": system.lines, "clocks": system.clocks}
+    return {**numbers, "evenClocks": system.line_start(1)}
 
 
 def frames_data(file: FramesFile, numbers: Iterable[int]) -> list[dict[str, object]]:

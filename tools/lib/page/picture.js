@@ -13,7 +13,7 @@ function stepOf(size, room) {
 }
 
 class Picture {
-  /** `system` is the machine's: height, firstLine, lines, clocks. `trace` gives the places of marks. */
+  /** `system` is the machine's: height, firstLine, lines, clocks, and evenClocks, those of a line with an even number. `trace` gives the places of marks. */
   constructor(parts, system, trace, colours) {
     Object.assign(this, parts);
     this.system = system;

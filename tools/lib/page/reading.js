@@ -67,12 +67,17 @@ class Reading {
     byId("column").textContent = inside ? `${column}, ${row}` : "off the picture";
     byId("swatch").style.background = colour === null ? "none" : cssColour(colour);
     if (colour === null) {
-      byId("colour").textContent = inside ? "not in the file" : "blanked";
+      byId("colour").textContent = inside ? "not in the file" : this.isClock() ? "blanked" : "no such clock";
       byId("held").textContent = NOTHING;
       return;
     }
     byId("colour").textContent = `${hex(colour, 3)}  (${colour >> 8}, ${(colour >> 4) & 15}, ${colour & 15})`;
     this.drawHeld(colour);
+  }
+
+  /** Whether the beam comes there: with NTSC even lines have a clock less than odd ones. */
+  isClock() {
+    return this.place.line % 2 === 1 || this.clock < this.system.evenClocks;
   }
 
   /** The colour registers that hold the pixel's colour, each with a way to the write that made it so. */
