@@ -36,6 +36,16 @@ class CompareTest(Tools):
         with open(self.place("page.html"), encoding="utf-8") as file:
             self.assertIn(first, file.read())
 
+    def test_first_difference_in_ntsc(self) -> None:
+        """Line 100 is row 80, and a frame has 242 rows."""
+        self.write_run("a", frame({}, NTSC) + frame({(212, 80): RED, (719, 241): RED}, NTSC))
+        self.write_run("b", frame({}, NTSC) + frame({(212, 80): GREEN}, NTSC))
+        status, said = self.compared("a", "b", "-o", "page.html")
+        first = "frame 1, line 100, clock 100 (column 212, row 80): f00 and 0f0"
+        self.assertEqual((status, said[1]), (1, f"frames: first at {first}; 2 pixels in 1 of 2 frames"))
+        with open(self.place("page.html"), encoding="utf-8") as file:
+            self.assertIn('"height":242,"firstLine":20', file.read())
+
     def test_one_is_longer(self) -> None:
         self.write_run("a", frame({}))
         self.write_run("b", frame({}) * 2, TRACE + "1 11 0 I 6\n")

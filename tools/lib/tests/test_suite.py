@@ -18,6 +18,7 @@ from runs import TOOLS, Tools, frame
 PROGRAM = """#!/usr/bin/env python3
 import os, sys, time
 sys.path[:0] = {folders!r}
+from frames import NTSC, PAL
 from runs import frame
 image, script = open(sys.argv[2], "rb").read(), open(sys.argv[3]).read()
 open({log!r}, "a").write(sys.argv[2] + "\\n")
@@ -31,7 +32,8 @@ if "killer" in script:
     os.kill(os.getppid(), 9)
 if "loud" in script:
     sys.stdout.buffer.write(b"\\xff" * 70000)
-open(sys.argv[4], "wb").write(frame({{}}) + frame({{(212, 74): bytes(image[:3])}}))
+system = NTSC if "ntsc" in script else PAL
+open(sys.argv[4], "wb").write(frame({{}}, system) + frame({{(212, 74): bytes(image[:3])}}, system))
 open(sys.argv[5], "w").write("0 44 100 W 180 %04x C\\n" % image[3])
 open(sys.argv[6], "wb").write(image + bytes(524288 - len(image)))
 """
@@ -122,6 +124,15 @@ class SuiteTest(Tools):
         self.assertEqual((cases.get("tests"), cases.get("failures"), cases.get("errors")), ("2", "1", "0"))
         self.assertIn(place, cases.find("testcase[@name='one']/failure").get("message"))
         self.assertEqual(len(cases.find("testcase[@name='two']")), 0)
+
+    def test_ntsc(self) -> None:
+        """Row 74 is line 94; a case that becomes PAL differs in its system."""
+        self.case("one", script="ntsc")
+        self.assertEqual(self.suite("--accept")[0], 0)
+        self.case("one", GREEN, script="ntsc")
+        self.assertIn("frames: first at frame 1, line 94, clock 100 (column 212, row 74): f00 and 0f0", self.suite()[1][0])
+        self.case("one")
+        self.assertEqual(self.suite()[1][0], "differs   one: frames: NTSC and PAL")
 
     def test_what_passed_is_known_without_the_result(self) -> None:
         self.case("one")
