@@ -40,6 +40,12 @@ SayAnswers old new piece (Ok done) = new.said ≡ said_more old.said piece
 SayAnswers old new piece (Err Failed) = (n : ℕ) × (new.said ≡ said_more old.said (take n piece))
 SayAnswers old new piece (Err OutOfMemory) = new.said ≡ old.said
 
+-- the call had the memory that it wanted
+abbrev pub HadMemory : Result (Unit {0}) WriteRefusal → Type 0
+HadMemory (Ok done) = Unit {0}
+HadMemory (Err Failed) = Unit {0}
+HadMemory (Err OutOfMemory) = ⊥
+
 -- a name that may be grown after the answer done
 abbrev pub GrowsIfOk : Type 0 → Result (Unit {0}) WriteRefusal → Type 0
 GrowsIfOk growable (Ok done) = growable

@@ -5,6 +5,7 @@ pub mod Files
 pub mod KeptFiles
 pub mod Shelf
 pub mod Halves
+pub mod Said
 pub mod SureShelf
 pub mod Folder
 pub mod Whole

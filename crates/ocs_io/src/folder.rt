@@ -51,7 +51,7 @@ impl<'a, R: Files + Print> Folder<'a, R> {
 
 impl<'a, R: Files + Print> Place for Folder<'a, R> {
     ghost use Rattle.ocs_io.specs.Place.{Rose, OnlyReads, OnlyWrites, OnlySays, KeepsNames};
-    ghost use Rattle.ocs_io.specs.Answers.{ReadAnswers, CreateAnswers, AppendAnswers, SayAnswers, GrowsIfOk};
+    ghost use Rattle.ocs_io.specs.Answers.{ReadAnswers, CreateAnswers, AppendAnswers, SayAnswers, GrowsIfOk, HadMemory};
     ghost use Rattle.ocs_io.specs.Shelf.{IsAnyName};
     ghost use Rattle.ocs_io.specs.Folder.{CountsRead, CountsWrite, CountsSay};
 
@@ -60,6 +60,8 @@ impl<'a, R: Files + Print> Place for Folder<'a, R> {
     ghost readable = { λ f name. IsAnyName name };
 
     ghost growable = { λ f name. IsAnyName name };
+
+    ghost says_freely = { λ f piece. Unit {0} };
 
     fn read(&mut self, name: &str, cap: usize, into: &mut Vec<u8>) -> Result<(), ReadRefusal>
         requires { into.old.items ≡ [] }
@@ -116,6 +118,7 @@ impl<'a, R: Files + Print> Place for Folder<'a, R> {
     fn say(&mut self, piece: &[u8]) -> Result<(), WriteRefusal>
         ensures counts { CountsSay self.old self.new result }
         ensures answer { SayAnswers self.old self.new piece.now result }
+        ensures freely { HadMemory result }
         ensures kept { OnlySays self.old self.new }
         ensures cause { result ≡ Err WriteRefusal.Failed
             → Rose self.old.say_faults self.new.say_faults }

@@ -5,6 +5,7 @@ mod files;
 pub mod folder;
 pub mod numbers;
 pub mod place;
+mod said;
 pub mod shelf;
 pub mod sure_shelf;
 pub mod whole;

@@ -2,7 +2,7 @@
 
 ghost use Rattle.std.specs.Prelude.{◌≡◌, ℕ, List, []};
 ghost use Rattle.ocs_io.specs.Place.{Outside, Rose, OnlyReads, OnlyWrites, OnlySays, KeepsNames};
-ghost use Rattle.ocs_io.specs.Answers.{ReadAnswers, CreateAnswers, AppendAnswers, SayAnswers, GrowsIfOk};
+ghost use Rattle.ocs_io.specs.Answers.{ReadAnswers, CreateAnswers, AppendAnswers, SayAnswers, GrowsIfOk, HadMemory};
 
 use thiserror::Error;
 
@@ -31,13 +31,16 @@ pub enum WriteRefusal {
 /// The outside: files by name, and one text that is said. Its meaning is an `Outside`: the files
 /// and the said text, where the place tells them, and three counts of faults that never fall. A
 /// name is `readable` where the place lets it be read, and `growable` where it lets it be appended
-/// to; no call makes such a name cease to be one.
+/// to; no call makes such a name cease to be one. It says a piece `freely` where it wants no memory
+/// of its own for it.
 pub trait Place {
     ghost outside: { Self → Outside };
 
     ghost readable: { Self → List ℕ → Type 0 };
 
     ghost growable: { Self → List ℕ → Type 0 };
+
+    ghost says_freely: { Self → List ℕ → Type 0 };
 
     /// Reads the whole file into the empty `into`, at most `cap` bytes of it. After a refusal
     /// `into` is empty.
@@ -79,6 +82,7 @@ pub trait Place {
     /// Says a piece of text. A failed say may leave a part of the piece said.
     fn say(&mut self, piece: &[u8]) -> Result<(), WriteRefusal>
         ensures answer { SayAnswers (outside self.old) (outside self.new) piece.now result }
+        ensures freely { says_freely self.old piece.now → HadMemory result }
         ensures kept { OnlySays (outside self.old) (outside self.new) }
         ensures cause { result ≡ Err WriteRefusal.Failed
             → Rose (outside self.old).say_faults (outside self.new).say_faults }

@@ -6,6 +6,7 @@ ghost use Rattle.ocs_io.specs.Halves.{half};
 
 use crate::files::FilesInMemory;
 use crate::place::{Place, ReadRefusal, WriteRefusal};
+use crate::said::Said;
 use ocs_base::OutOfMemory;
 use std::alloc::Global;
 use std::marker::Model;
@@ -14,7 +15,7 @@ use std::marker::Model;
 #[derive(Drop)]
 pub struct Shelf {
     files: FilesInMemory,
-    said: Vec<u8>,
+    said: Said,
     read_faults: u64,
     write_faults: u64,
     say_faults: u64,
@@ -31,7 +32,7 @@ impl Model for Shelf {
 
     ghost view = { λ s. record {
       files = s.files;
-      said = s.said.items;
+      said = s.said;
       read_faults = s.read_faults;
       write_faults = s.write_faults;
       say_faults = s.say_faults;
@@ -45,6 +46,8 @@ impl Model for Shelf {
 
 impl Shelf {
     ghost use Rattle.ocs_io.specs.Shelf.{with_bytes, called, is_to_fail, AreCounts, IsHeld, ShelfReads, ShelfCreates, ShelfAppends, ShelfSays};
+    ghost use Rattle.ocs_io.specs.Answers.{HadMemory};
+    ghost use Rattle.ocs_io.specs.Said.{IsShort};
 
     /// A place without files in which nothing was said.
     pub fn new(alloc: Global) -> Shelf
@@ -60,7 +63,7 @@ impl Shelf {
     {
         Shelf {
             files: FilesInMemory::new(alloc),
-            said: Vec::new(alloc),
+            said: Said::new(alloc),
             read_faults: 0,
             write_faults: 0,
             say_faults: 0,
@@ -94,7 +97,7 @@ impl Shelf {
     pub fn said(&self) -> &[u8]
         ensures { result.now ≡ self.now.said }
     {
-        self.said.as_slice()
+        self.said.bytes()
     }
 
     /// The bytes of a file; None exactly where no such file is there.
@@ -168,13 +171,10 @@ impl Shelf {
     fn say_piece(&mut self, piece: &[u8]) -> Result<(), WriteRefusal>
         ensures exact { ShelfSays self.old self.new piece.now result }
         ensures fits { self.old.say_faults < 2 ^ 64 }
+        ensures freely { IsShort self.old.said piece.now → HadMemory result }
     {
         let fails = self.begin_call();
-        if self
-            .said
-            .extend_from_slice(kept_part(fails, piece))
-            .is_err()
-        {
+        if self.said.add(kept_part(fails, piece)).is_err() {
             return Err(WriteRefusal::OutOfMemory);
         }
         if fails {
@@ -198,7 +198,8 @@ fn kept_part(fails: bool, piece: &[u8]) -> &[u8]
 
 impl Place for Shelf {
     ghost use Rattle.ocs_io.specs.Place.{Rose, OnlyReads, OnlyWrites, OnlySays, KeepsNames};
-    ghost use Rattle.ocs_io.specs.Answers.{ReadAnswers, CreateAnswers, AppendAnswers, SayAnswers, GrowsIfOk};
+    ghost use Rattle.ocs_io.specs.Answers.{ReadAnswers, CreateAnswers, AppendAnswers, SayAnswers, GrowsIfOk, HadMemory};
+    ghost use Rattle.ocs_io.specs.Said.{IsShort};
     ghost use Rattle.ocs_io.specs.Shelf.{outside_of, IsHeld, IsAnyName, ShelfReads, ShelfCreates, ShelfAppends, ShelfSays};
 
     ghost outside = { outside_of };
@@ -206,6 +207,8 @@ impl Place for Shelf {
     ghost readable = { λ s name. IsAnyName name };
 
     ghost growable = { λ s name. IsHeld s.files name };
+
+    ghost says_freely = { λ s piece. IsShort s.said piece };
 
     /// Fails where the call is to fail, and where the file is not there.
     #[tactic(auto, using(crate::proofs::ShelfLaws::read_laws))]
@@ -257,11 +260,13 @@ impl Place for Shelf {
         self.append_piece(name.as_bytes(), piece)
     }
 
-    /// A failed say keeps the first half of the piece, rounded down.
+    /// A failed say keeps the first half of the piece, rounded down. What stays short wants no
+    /// memory.
     #[tactic(auto, using(crate::proofs::ShelfLaws::say_laws))]
     fn say(&mut self, piece: &[u8]) -> Result<(), WriteRefusal>
         ensures exact { ShelfSays self.old self.new piece.now result }
         ensures answer { SayAnswers (outside_of self.old) (outside_of self.new) piece.now result }
+        ensures freely { IsShort self.old.said piece.now → HadMemory result }
         ensures kept { OnlySays (outside_of self.old) (outside_of self.new) }
         ensures cause { result ≡ Err WriteRefusal.Failed
             → Rose self.old.say_faults self.new.say_faults }

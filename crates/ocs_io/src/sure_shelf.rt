@@ -5,6 +5,7 @@ ghost use Rattle.std.specs.FinMap.{empty, get};
 
 use crate::files::FilesInMemory;
 use crate::place::{Place, ReadRefusal, WriteRefusal};
+use crate::said::Said;
 use ocs_base::OutOfMemory;
 use std::alloc::Global;
 use std::marker::Model;
@@ -14,7 +15,7 @@ use std::marker::Model;
 #[derive(Drop)]
 pub struct SureShelf {
     files: FilesInMemory,
-    said: Vec<u8>,
+    said: Said,
 }
 
 impl Model for SureShelf {
@@ -24,10 +25,12 @@ impl Model for SureShelf {
 
     ghost coded = { sure_shelf_code };
 
-    ghost view = { λ s. record { files = s.files; said = s.said.items } };
+    ghost view = { λ s. record { files = s.files; said = s.said } };
 }
 
 impl SureShelf {
+    ghost use Rattle.ocs_io.specs.Answers.{HadMemory};
+    ghost use Rattle.ocs_io.specs.Said.{IsShort};
     ghost use Rattle.ocs_io.specs.Shelf.{IsHeld};
     ghost use Rattle.ocs_io.specs.SureShelf.{set_file, after_saying, SureReads, SureWrites};
 
@@ -37,7 +40,7 @@ impl SureShelf {
     {
         SureShelf {
             files: FilesInMemory::new(alloc),
-            said: Vec::new(alloc),
+            said: Said::new(alloc),
         }
     }
 
@@ -54,7 +57,7 @@ impl SureShelf {
     pub fn said(&self) -> &[u8]
         ensures { result.now ≡ self.now.said }
     {
-        self.said.as_slice()
+        self.said.bytes()
     }
 
     /// The bytes of a file; None exactly where no such file is there.
@@ -94,9 +97,10 @@ impl SureShelf {
     }
 
     fn say_piece(&mut self, piece: &[u8]) -> Result<(), WriteRefusal>
-        ensures { SureWrites self.old (after_saying self.old piece.now) self.new result }
+        ensures exact { SureWrites self.old (after_saying self.old piece.now) self.new result }
+        ensures freely { IsShort self.old.said piece.now → HadMemory result }
     {
-        match self.said.extend_from_slice(piece) {
+        match self.said.add(piece) {
             Ok(()) => Ok(()),
             Err(_) => Err(WriteRefusal::OutOfMemory),
         }
@@ -105,7 +109,8 @@ impl SureShelf {
 
 impl Place for SureShelf {
     ghost use Rattle.ocs_io.specs.Place.{Rose, OnlyReads, OnlyWrites, OnlySays, KeepsNames};
-    ghost use Rattle.ocs_io.specs.Answers.{ReadAnswers, CreateAnswers, AppendAnswers, SayAnswers, GrowsIfOk};
+    ghost use Rattle.ocs_io.specs.Answers.{ReadAnswers, CreateAnswers, AppendAnswers, SayAnswers, GrowsIfOk, HadMemory};
+    ghost use Rattle.ocs_io.specs.Said.{IsShort};
     ghost use Rattle.ocs_io.specs.Shelf.{IsHeld};
     ghost use Rattle.ocs_io.specs.SureShelf.{sure_outside, set_file, after_saying, SureReads, SureWrites};
 
@@ -114,6 +119,8 @@ impl Place for SureShelf {
     ghost readable = { λ s name. IsHeld s.files name };
 
     ghost growable = { λ s name. IsHeld s.files name };
+
+    ghost says_freely = { λ s piece. IsShort s.said piece };
 
     #[tactic(auto, using(crate::proofs::SureShelfLaws::read_laws))]
     fn read(&mut self, name: &str, cap: usize, into: &mut Vec<u8>) -> Result<(), ReadRefusal>
@@ -168,6 +175,7 @@ impl Place for SureShelf {
         ensures exact { SureWrites self.old (after_saying self.old piece.now) self.new result }
         ensures answer { SayAnswers (sure_outside self.old)
             (sure_outside self.new) piece.now result }
+        ensures freely { IsShort self.old.said piece.now → HadMemory result }
         ensures kept { OnlySays (sure_outside self.old) (sure_outside self.new) }
         ensures cause { result ≡ Err WriteRefusal.Failed → Rose 0 0 }
         ensures wanting { result ≡ Err WriteRefusal.OutOfMemory
