@@ -58,7 +58,7 @@ shift_row c d z i t r s row =
     let X : Bool → ℕ = λ b. (if b then data_of s.regs c else eight_if_zero c) % 64 in
     let row : Instr = I.ShiftRegister c d z i t r in
     let source : Bool → Source = λ b. if b then F.Operand (M.Dn c) else F.Number (eight_if_zero c) in
-    let M : Bool → Type 0 = λ b. Holds (With s (X b)) 0 1 0
+    let M : Bool → Type 0 = λ b. Holds s.taking (With s (X b)) 0 1 0
     (if is_operand (source b) then place s S.Long (source_mode_of (source b)) (λ p t. G.with_source row p t) else G.dest row (constant_of (source b)) s) in
     let split : (b : Bool) → M b = (λ b. elim b as M [
       | true ↦ subst (λ y. Takes (number (clocks_at s.opcode) y) 1 (number (clocks_at s.opcode) (data_of s.regs c % 64))) (sym (cut_count (data_of s.regs c)))
@@ -91,7 +91,7 @@ counted false v sr = refl
 
 -- the source is known
 multiplied : (P : ℕ → ℕ → ℕ → Type 0) (k l : ℕ) (w r : ℕ) (m : Mode) (value : ℕ) (s : Run) → P k l (number (clocks_at s.opcode) (multiply_count w value))
-    → Holds P 0 k l (G.dest (I.MuluMuls w r m) value s)
+    → Holds s.taking P 0 k l (G.dest (I.MuluMuls w r m) value s)
 unfolding G.dest G.with_dest G.compute G.completed place at_place place_of stepped load store general_row count_by trap_by
 multiplied P k l w r m value s h = subst (λ x. P k l (number (clocks_at s.opcode) x)) (counted (w == 0) value s.regs.sr) h
 
@@ -110,18 +110,18 @@ by_last_end s w (v ∷ ws) t h =
     subst (λ x. Takes t (more (length (v ∷ ws)) 1) (number (clocks_at s.opcode) (multiply_count w x))) (sym (last_is v ws)) h.0
 
 lawful_by_last : (w r : ℕ) (m : Mode) (s : Run) (p : Prog) → ((ws : List ℕ) → source_word m s.regs ws ≡ last_word ws)
-    → Holds (ByLast s w) 0 1 0 p → Lawful (I.MuluMuls w r m) s p
+    → Holds s.taking (ByLast s w) 0 1 0 p → Lawful (I.MuluMuls w r m) s p
 unfolding general_row trap_ea_by
 lawful_by_last w r m s p is_last h =
     record {
       ends = λ ws t q u words here. subst (λ x. Takes t (more (length ws) 1) (number (clocks_at s.opcode) (multiply_count w x))) (sym (is_last ws))
-          (by_last_end s w ws t (at_end (ByLast s w) 0 1 0 p ws t q u h words here));
-      begins = λ ws q u words here. at_begin (ByLast s w) 0 1 0 p ws q u h words here;
+          (by_last_end s w ws t (at_end s.taking (ByLast s w) 0 1 0 p ws t q u h words here));
+      begins = λ ws q u words here. at_begin s.taking (ByLast s w) 0 1 0 p ws q u h words here;
     }
 
 -- a word in memory is read, and nothing else
 load_last : (P : ℕ → ℕ → ℕ → Type 0) (k l : ℕ) (s : Run) (program : Bool) (p : Place68) (c : ℕ → Prog) → words_at p S.Word ≡ 1
-    → ((v : ℕ) → v < 65536 → Holds P 0 (suc k) v (c v)) → Holds P 0 k l (load s S.Word program p c)
+    → ((v : ℕ) → v < 65536 → Holds s.taking P 0 (suc k) v (c v)) → Holds s.taking P 0 k l (load s S.Word program p c)
 unfolding load read
 load_last P k l s program (D.Data r) c one h = absurd (omega (arith, one))
 load_last P k l s program (D.Address r) c one h = absurd (omega (arith, one))
@@ -133,7 +133,7 @@ at_least n = let e : more n 1 ≡ n + 1 = more_sum n 1 in omega (arith, e)
 
 memory_product : (w r : ℕ) (m : Mode) (s : Run) → loads m S.Word ≡ 1
     → counted_serves (more (loads m S.Word) (more (extensions m S.Word) 1)) 0 (clocks_at s.opcode) ≡ true
-    → Holds (ByLast s w) 0 1 0 (G.general (I.MuluMuls w r m) s)
+    → Holds s.taking (ByLast s w) 0 1 0 (G.general (I.MuluMuls w r m) s)
 unfolding G.general G.with_source general_row
 memory_product w r m s one fits =
     let enough : counted_serves (suc (more (extensions m S.Word) 1)) 0 (clocks_at s.opcode) ≡ true =
@@ -143,7 +143,7 @@ memory_product w r m s one fits =
     (λ value below. multiplied (ByLast s w) (suc (more (extensions m S.Word) 1)) value w r m value (with_regs s regs)
     (counted_at (suc (more (extensions m S.Word) 1)) (clocks_at s.opcode) enough (multiply_count w value), at_least (extensions m S.Word))))
 
-immediate_product : (w r : ℕ) (s : Run) → counted_serves 2 0 (clocks_at s.opcode) ≡ true → Holds (ByLast s w) 0 1 0 (G.general (I.MuluMuls w r M.Imm) s)
+immediate_product : (w r : ℕ) (s : Run) → counted_serves 2 0 (clocks_at s.opcode) ≡ true → Holds s.taking (ByLast s w) 0 1 0 (G.general (I.MuluMuls w r M.Imm) s)
 unfolding G.general G.with_source place at_place place_of stepped load general_row
 immediate_product w r s fits =
     fetch_holds (ByLast s w) 0 1 0 s _ (λ value below.

@@ -1,5 +1,5 @@
 -- What holds at the ends of a program, by the accesses and the last answer before them.
-use Rattle.std.proofs.Common.{◌≡◌, ℕ, zero, suc, ◌+◌, ◌*◌, ◌/◌, ◌%◌, ◌<◌, ◌≤◌, true, List, [], ◌∷◌, length, refl, subst, arith}
+use Rattle.std.proofs.Common.{◌≡◌, ℕ, zero, suc, ◌+◌, ◌*◌, ◌/◌, ◌%◌, ◌<◌, ◌≤◌, Bool, true, List, [], ◌∷◌, length, refl, subst, arith}
 use Rattle.std.proofs.lemmas.Bool.Decides.{nat_tests}
 use Rattle.m68k_decode.specs.declared.regs.CpuRegs.{CpuRegs}
 use Rattle.m68k_decode.specs.declared.trap.Trap.{Trap}
@@ -20,17 +20,22 @@ BeginsWith e k T.Trace ea = ⊥
 BeginsWith e k (T.Interrupt level) ea = ⊥
 BeginsWith e k kind ea = (ea ≡ 0) × (k ≡ 1)
 
-abbrev pub Begins : ℕ → ℕ → Under → Type 0
-Begins e k (U.Entry kind ea taking) = BeginsWith e k kind ea
-Begins e k _ = Unit {0}
+-- what a program begins where it is broken off: an exception, or the halt while an address error is being taken
+abbrev pub Begins : Bool → ℕ → ℕ → Under → Type 0
+Begins taking e k (U.Entry kind ea still) = BeginsWith e k kind ea
+Begins taking e k U.Halted = taking ≡ true
+Begins taking e k U.Reset = ⊥
+Begins taking e k (U.Instruction still) = ⊥
+Begins taking e k U.Stopped = ⊥
 
 -- After k accesses, the last answered with l, a program has only ends with P, and only exceptions begin that count the
--- accesses before them and have e as the clocks of the operand's mode.
-abbrev pub Holds : (ℕ → ℕ → ℕ → Type 0) → ℕ → ℕ → ℕ → Prog → Type 0
-Holds P e k l (Ask a c) = (w : ℕ) → w < 65536 → Holds P e (suc k) w (c w)
-Holds P e k l (End t r u) = P k l t
-Holds P e k l (Enter r u) = Begins e k u
-Holds P e k l Halt = Unit {0}
+-- accesses before them and have e as the clocks of the operand's mode; and the halt only while an address error is being
+-- taken.
+abbrev pub Holds : Bool → (ℕ → ℕ → ℕ → Type 0) → ℕ → ℕ → ℕ → Prog → Type 0
+Holds taking P e k l (Ask a c) = (w : ℕ) → w < 65536 → Holds taking P e (suc k) w (c w)
+Holds taking P e k l (End t r u) = P k l t
+Holds taking P e k l (Enter r u) = Begins taking e k u
+Holds taking P e k l Halt = Unit {0}
 
 -- of each end
 abbrev pub Anything : ℕ → ℕ → ℕ → Type 0
@@ -42,21 +47,21 @@ last_of l [] = l
 last_of l (w ∷ ws) = last_of w ws
 
 -- so it holds at each end that it comes to
-pub at_end : (P : ℕ → ℕ → ℕ → Type 0) (e k l : ℕ) (p : Prog) (ws : List ℕ) (t : ℕ) (r : CpuRegs) (u : Under)
-    → Holds P e k l p → AreWords ws → ComesTo p ws (End t r u) → P (more (length ws) k) (last_of l ws) t
-at_end P e k l p [] t r u h words here = subst (λ q. Holds P e k l q) here h
-at_end P e k l (Ask a c) (w ∷ ws) t r u h words here = at_end P e (suc k) w (c w) ws t r u (h w words.0) words.1 here
-at_end P e k l (End t' r' u') (w ∷ ws) t r u h words here = absurd here
-at_end P e k l (Enter r' u') (w ∷ ws) t r u h words here = absurd here
-at_end P e k l Halt (w ∷ ws) t r u h words here = absurd here
+pub at_end : (taking : Bool) (P : ℕ → ℕ → ℕ → Type 0) (e k l : ℕ) (p : Prog) (ws : List ℕ) (t : ℕ) (r : CpuRegs) (u : Under)
+    → Holds taking P e k l p → AreWords ws → ComesTo p ws (End t r u) → P (more (length ws) k) (last_of l ws) t
+at_end taking P e k l p [] t r u h words here = subst (λ q. Holds taking P e k l q) here h
+at_end taking P e k l (Ask a c) (w ∷ ws) t r u h words here = at_end taking P e (suc k) w (c w) ws t r u (h w words.0) words.1 here
+at_end taking P e k l (End t' r' u') (w ∷ ws) t r u h words here = absurd here
+at_end taking P e k l (Enter r' u') (w ∷ ws) t r u h words here = absurd here
+at_end taking P e k l Halt (w ∷ ws) t r u h words here = absurd here
 
-pub at_begin : (P : ℕ → ℕ → ℕ → Type 0) (e k l : ℕ) (p : Prog) (ws : List ℕ) (r : CpuRegs) (u : Under)
-    → Holds P e k l p → AreWords ws → ComesTo p ws (Enter r u) → Begins e (more (length ws) k) u
-at_begin P e k l p [] r u h words here = subst (λ q. Holds P e k l q) here h
-at_begin P e k l (Ask a c) (w ∷ ws) r u h words here = at_begin P e (suc k) w (c w) ws r u (h w words.0) words.1 here
-at_begin P e k l (End t' r' u') (w ∷ ws) r u h words here = absurd here
-at_begin P e k l (Enter r' u') (w ∷ ws) r u h words here = absurd here
-at_begin P e k l Halt (w ∷ ws) r u h words here = absurd here
+pub at_begin : (taking : Bool) (P : ℕ → ℕ → ℕ → Type 0) (e k l : ℕ) (p : Prog) (ws : List ℕ) (r : CpuRegs) (u : Under)
+    → Holds taking P e k l p → AreWords ws → ComesTo p ws (Enter r u) → Begins taking e (more (length ws) k) u
+at_begin taking P e k l p [] r u h words here = subst (λ q. Holds taking P e k l q) here h
+at_begin taking P e k l (Ask a c) (w ∷ ws) r u h words here = at_begin taking P e (suc k) w (c w) ws r u (h w words.0) words.1 here
+at_begin taking P e k l (End t' r' u') (w ∷ ws) r u h words here = absurd here
+at_begin taking P e k l (Enter r' u') (w ∷ ws) r u h words here = absurd here
+at_begin taking P e k l Halt (w ∷ ws) r u h words here = absurd here
 
 pub more_sum : (n k : ℕ) → more n k ≡ n + k
 more_sum zero k = omega arith

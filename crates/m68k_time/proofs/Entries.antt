@@ -30,7 +30,7 @@ each_word [] k = k
 each_word (w ∷ ws) k = each_word ws (suc k)
 
 pushes_hold : (P : ℕ → ℕ → ℕ → Type 0) (k l : ℕ) (kind : Trap) (ea at : ℕ) (ws : List ℕ) (s : Run)
-    → ((w : ℕ) → P (suc (suc (each_word ws k))) w (entry_clocks kind ea)) → Holds P 0 k l (pushes kind ea at ws s)
+    → ((w : ℕ) → P (suc (suc (each_word ws k))) w (entry_clocks kind ea)) → Holds s.taking P 0 k l (pushes kind ea at ws s)
 unfolding pushes vectored handled
 pushes_hold P k l kind ea at [] s h = read_holds P 0 k l _ S.Long false _ _ (λ pc w. h w)
 pushes_hold P k l kind ea at (w ∷ ws) s h =
@@ -60,7 +60,7 @@ pub entry_end : (r : CpuRegs) (kind : Trap) (ea : ℕ) (taking : Bool) (ws : Lis
 unfolding program entry
 entry_end r kind ea taking ws t r' u words here =
     let P : ℕ → ℕ → ℕ → Type 0 = λ k l x. (k ≡ entry_accesses kind) × (x ≡ entry_clocks kind ea) in
-    let h : P (more (length ws) 0) (last_of 0 ws) t = at_end P 0 0 0 _ ws t r' u
+    let h : P (more (length ws) 0) (last_of 0 ws) t = at_end taking P 0 0 0 _ ws t r' u
     (pushes_hold P 0 0 kind ea _ (frame_of kind r) _ (λ w. (accesses_are kind r, refl))) words here in
     let counted : more (length ws) 0 ≡ length ws + 0 = more_sum (length ws) 0 in
     let first : more (length ws) 0 ≡ entry_accesses kind = h.0 in
@@ -154,7 +154,7 @@ pub reset_takes : (r : CpuRegs) (ws : List ℕ) (t : ℕ) (r' : CpuRegs) (u : Un
 unfolding program reset reset_stack reset_done
 reset_takes r ws t r' u words here =
     let P : ℕ → ℕ → ℕ → Type 0 = λ k l x. Takes x k 40 in
-    let h : P (more (length ws) 0) (last_of 0 ws) t = at_end P 0 0 0 _ ws t r' u
+    let h : P (more (length ws) 0) (last_of 0 ws) t = at_end false P 0 0 0 _ ws t r' u
     (read_holds P 0 0 0 _ S.Long false 0 _ (λ ssp v. read_holds P 0 2 v _ S.Long false 4 _ (λ pc w. serves_takes 4 40 refl))) words here in
     let counted : more (length ws) 0 ≡ length ws + 0 = more_sum (length ws) 0 in
     let same : more (length ws) 0 ≡ length ws = omega (arith, counted) in

@@ -35,7 +35,7 @@ same_at : (k l : ℕ) (s : Run) → always_serves k (clocks_at s.opcode) ≡ tru
 same_at k l s h x = always_takes k (clocks_at s.opcode) h 0 x
 
 -- the end of such a row
-same_finish : (e k l : ℕ) (s : Run) → always_serves k (clocks_at s.opcode) ≡ true → Holds (Same s) e k l (finish 0 s)
+same_finish : (e k l : ℕ) (s : Run) → always_serves k (clocks_at s.opcode) ≡ true → Holds s.taking (Same s) e k l (finish 0 s)
 same_finish e k l s h = finish_holds (Same s) e k l 0 s (same_at k l s h)
 
 pub quiet_row : (i : Instr) (s : Run) (regs : CpuRegs) (t : ℕ) → clocks_at s.opcode ≡ Always t → serves 1 t ≡ true → Lawful i s (finish 0 (with_regs s regs))
@@ -51,16 +51,16 @@ entered_row i s regs kind h = lawful_same i s (Enter regs (U.Entry kind 0 false)
 fewer : (k : ℕ) (c : Clocks) → always_serves (suc (suc k)) c ≡ true → always_serves k c ≡ true
 fewer k c h = let less : k ≤ suc (suc k) = omega arith in always_fewer k (suc (suc k)) c less h
 
-call_ends : (P : ℕ → ℕ → ℕ → Type 0) (k l at : ℕ) (s : Run) → ((w : ℕ) → P (suc (suc k)) w (number (clocks_at s.opcode) 0)) → Holds P 0 k l (call at s)
+call_ends : (P : ℕ → ℕ → ℕ → Type 0) (k l at : ℕ) (s : Run) → ((w : ℕ) → P (suc (suc k)) w (number (clocks_at s.opcode) 0)) → Holds s.taking P 0 k l (call at s)
 unfolding call
 call_ends P k l at s h = write_holds P 0 k l _ S.Long _ _ _ (λ w. finish_holds P 0 (suc (suc k)) w 0 _ (h w))
 
-call_holds : (k l at : ℕ) (s : Run) → always_serves (suc (suc k)) (clocks_at s.opcode) ≡ true → Holds (Same s) 0 k l (call at s)
+call_holds : (k l at : ℕ) (s : Run) → always_serves (suc (suc k)) (clocks_at s.opcode) ≡ true → Holds s.taking (Same s) 0 k l (call at s)
 call_holds k l at s h = call_ends (Same s) k l at s (λ w. same_at (suc (suc k)) w s h)
 
 -- a place that holds an address, or none
 addressed_holds : (i : Instr) (k l : ℕ) (p : Place68) (s : Run) → always_serves k (clocks_at s.opcode) ≡ true
-    → ((at : ℕ) → Holds (Same s) 0 k l (addressed_at i at s)) → Holds (Same s) 0 k l (addressed i p s)
+    → ((at : ℕ) → Holds s.taking (Same s) 0 k l (addressed_at i at s)) → Holds s.taking (Same s) 0 k l (addressed i p s)
 unfolding addressed
 addressed_holds i k l (D.Memory at) s few h = h at
 addressed_holds i k l (D.Data r) s few h = same_finish 0 k l s few
@@ -93,7 +93,7 @@ jumps_serve true k c h = fewer k c h
 jumps_serve false k c h = h
 
 jumps_hold : (b : Bool) (k l at : ℕ) (s : Run) (regs : CpuRegs) → always_serves (if b then suc (suc k) else k) (clocks_at s.opcode) ≡ true
-    → Holds (Same s) 0 k l (if b then call at s else finish 0 (with_regs s regs))
+    → Holds s.taking (Same s) 0 k l (if b then call at s else finish 0 (with_regs s regs))
 jumps_hold true k l at s regs h = call_holds k l at s h
 jumps_hold false k l at s regs h = same_finish 0 k l _ h
 
@@ -115,7 +115,7 @@ pub link_row : (which r : ℕ) (s : Run) → clocks_at s.opcode ≡ timing (I.Li
 unfolding own_word own link unlink unlinked general_row trap_ea_by
 link_row which r s row =
     let M : Bool → Type 0 = λ b. clocks_at s.opcode ≡ Always (if b then 16 else 12)
-    → Holds (Same s) 0 1 0 (if b then own_word (I.LinkUnlk which r) s else unlink (I.LinkUnlk which r) r s) in
+    → Holds s.taking (Same s) 0 1 0 (if b then own_word (I.LinkUnlk which r) s else unlink (I.LinkUnlk which r) r s) in
     let split : (b : Bool) → M b = (λ b. elim b as M [
       | true ↦ λ now. fetch_holds (Same s) 0 1 0 s _ (λ w below. write_holds (Same s) 0 2 w _ S.Long _ _ _
           (λ v. same_finish 0 4 v _ (subst (λ c. always_serves 4 c ≡ true) (sym now) refl)))
@@ -126,7 +126,7 @@ link_row which r s row =
 
 -- ---- returns, and the rows of one word
 
-resume_holds : (i : Instr) (s : Run) → ((word pc w : ℕ) → Holds (Same s) 0 4 w (resumed i word pc s)) → Holds (Same s) 0 1 0 (resume i s)
+resume_holds : (i : Instr) (s : Run) → ((word pc w : ℕ) → Holds s.taking (Same s) 0 4 w (resumed i word pc s)) → Holds s.taking (Same s) 0 1 0 (resume i s)
 unfolding resume resuming
 resume_holds i s h = read_holds (Same s) 0 1 0 s S.Word false _ _ (λ word v. read_holds (Same s) 0 2 v s S.Long false _ _ (λ pc w. h (word % 65536) pc w))
 
@@ -152,7 +152,7 @@ returning_row zero s row h =
     lawful_same (I.RtsTrapvRtr 0) s _ (read_holds (Same s) 0 1 0 s S.Long false _ _ (λ pc w.
     same_finish 0 3 w _ (subst (λ c. always_serves 3 c ≡ true) (sym row) refl)))
 returning_row (suc zero) s row h =
-    lawful_same (I.RtsTrapvRtr 1) s _ (choice (Same s) 0 1 0 (flags_of s.regs.sr).v _ _ (λ e. (refl, refl))
+    lawful_same (I.RtsTrapvRtr 1) s _ (choice s.taking (Same s) 0 1 0 (flags_of s.regs.sr).v _ _ (λ e. (refl, refl))
     (λ e. same_finish 0 1 0 s (subst (λ c. always_serves 1 c ≡ true) (sym row) refl)))
 returning_row (suc (suc zero)) s row h =
     lawful_same (I.RtsTrapvRtr 2) s _ (resume_holds (I.RtsTrapvRtr 2) s (λ word pc w.
@@ -162,7 +162,7 @@ returning_row (suc (suc (suc n))) s row h = absurd (grind (arith, nat_tests, h))
 -- ---- DBcc and branches, by their outcomes
 
 -- the end of a row with this outcome
-with_finish : (x k l : ℕ) (s : Run) (c : Clocks) → clocks_at s.opcode ≡ c → (y : ℕ) → Takes (number c y) k (number c x) → Holds (With s x) 0 k l (finish y s)
+with_finish : (x k l : ℕ) (s : Run) (c : Clocks) → clocks_at s.opcode ≡ c → (y : ℕ) → Takes (number c y) k (number c x) → Holds s.taking (With s x) 0 k l (finish y s)
 with_finish x k l s c row y h =
     finish_holds (With s x) 0 k l y s (subst (λ d. Takes (number d y) k (number d x)) (sym row) h)
 
@@ -171,7 +171,7 @@ abbrev dbcc_clocks : Clocks
 dbcc_clocks = Outcomes (12 ∷ 10 ∷ 14 ∷ [])
 
 counted_holds : (holds over : Bool) (l : ℕ) (s : Run) (a b c : CpuRegs) → clocks_at s.opcode ≡ dbcc_clocks
-    → Holds (With s (dbcc_outcome holds over)) 0 2 l
+    → Holds s.taking (With s (dbcc_outcome holds over)) 0 2 l
     (if holds then finish 0 (with_regs s a) else (if over then finish 2 (with_regs s b) else finish 1 (with_regs s c)))
 counted_holds true over l s a b c row = with_finish 0 2 l (with_regs s a) dbcc_clocks row 0 (serves_takes 2 12 refl)
 counted_holds false true l s a b c row = with_finish 2 2 l (with_regs s b) dbcc_clocks row 2 (serves_takes 2 14 refl)
@@ -220,7 +220,7 @@ long_call false = refl
 
 branched_holds : (calls bra bsr holds long : Bool) (l at : ℕ) (s : Run) (regs : CpuRegs) → clocks_at s.opcode ≡ branch_clocks bra bsr
     → (if calls then not bra && bsr else true) ≡ true
-    → Holds (With s (branch_outcome holds long)) 0 (if long then 2 else 1) l
+    → Holds s.taking (With s (branch_outcome holds long)) 0 (if long then 2 else 1) l
     (if calls then call at s else (if holds then finish 0 (with_regs s regs) else finish (if long then 2 else 1) s))
 branched_holds true bra bsr holds long l at s regs row h =
     call_ends (With s (branch_outcome holds long)) (if long then 2 else 1) l at s (λ w.
@@ -237,7 +237,7 @@ pub branch_row : (which c d : ℕ) (s : Run) → clocks_at s.opcode ≡ timing (
 unfolding fits branch own_word own branched general_row trap_ea_by
 branch_row which c d s row h =
     let holds : Bool = condition c (flags_of s.regs.sr) in
-    let M : Bool → Type 0 = λ long. Holds (With s (branch_outcome holds long)) 0 1 0
+    let M : Bool → Type 0 = λ long. Holds s.taking (With s (branch_outcome holds long)) 0 1 0
     (if long then own_word (I.Branch which c d) s else branched which c (extended_byte d) 1 s) in
     let split : (long : Bool) → M long = (λ long. elim long as M [
       | true ↦ fetch_holds (With s (branch_outcome holds true)) 0 1 0 s _ (λ w below.

@@ -20,29 +20,29 @@ use Rattle.m68k_time.proofs.Counting.{Begins, Holds, at_end, at_begin, served, s
 pub record Lawful (i : Instr) (s : Run) (p : Prog) : Type 0 where
   pub ends : (ws : List ℕ) (t : ℕ) (r : CpuRegs) (u : Under) → AreWords ws → ComesTo p ws (End t r u)
       → Takes t (more (length ws) 1) (number (clocks_at s.opcode) (outcome i s.regs ws))
-  pub begins : (ws : List ℕ) (r : CpuRegs) (u : Under) → AreWords ws → ComesTo p ws (Enter r u) → Begins (trap_ea i) (more (length ws) 1) u
+  pub begins : (ws : List ℕ) (r : CpuRegs) (u : Under) → AreWords ws → ComesTo p ws (Enter r u) → Begins s.taking (trap_ea i) (more (length ws) 1) u
 
 -- clocks that depend on nothing
 abbrev pub Same : Run → ℕ → ℕ → ℕ → Type 0
 Same s k l t = (x : ℕ) → Takes t k (number (clocks_at s.opcode) x)
 
-pub lawful_same : (i : Instr) (s : Run) (p : Prog) → Holds (Same s) (trap_ea i) 1 0 p → Lawful i s p
+pub lawful_same : (i : Instr) (s : Run) (p : Prog) → Holds s.taking (Same s) (trap_ea i) 1 0 p → Lawful i s p
 lawful_same i s p h =
     record {
-      ends = λ ws t r u words here. at_end (Same s) (trap_ea i) 1 0 p ws t r u h words here (outcome i s.regs ws);
-      begins = λ ws r u words here. at_begin (Same s) (trap_ea i) 1 0 p ws r u h words here;
+      ends = λ ws t r u words here. at_end s.taking (Same s) (trap_ea i) 1 0 p ws t r u h words here (outcome i s.regs ws);
+      begins = λ ws r u words here. at_begin s.taking (Same s) (trap_ea i) 1 0 p ws r u h words here;
     }
 
 -- clocks of one outcome
 abbrev pub With : Run → ℕ → ℕ → ℕ → ℕ → Type 0
 With s x k l t = Takes t k (number (clocks_at s.opcode) x)
 
-pub lawful_with : (i : Instr) (s : Run) (p : Prog) (x : ℕ) → ((ws : List ℕ) → outcome i s.regs ws ≡ x) → Holds (With s x) (trap_ea i) 1 0 p → Lawful i s p
+pub lawful_with : (i : Instr) (s : Run) (p : Prog) (x : ℕ) → ((ws : List ℕ) → outcome i s.regs ws ≡ x) → Holds s.taking (With s x) (trap_ea i) 1 0 p → Lawful i s p
 lawful_with i s p x all h =
     record {
       ends = λ ws t r u words here. subst (λ y. Takes t (more (length ws) 1) (number (clocks_at s.opcode) y)) (sym (all ws))
-          (at_end (With s x) (trap_ea i) 1 0 p ws t r u h words here);
-      begins = λ ws r u words here. at_begin (With s x) (trap_ea i) 1 0 p ws r u h words here;
+          (at_end s.taking (With s x) (trap_ea i) 1 0 p ws t r u h words here);
+      begins = λ ws r u words here. at_begin s.taking (With s x) (trap_ea i) 1 0 p ws r u h words here;
     }
 
 pub lawful_choice : (i : Instr) (s : Run) (b : Bool) (p q : Prog) → (b ≡ true → Lawful i s p) → (b ≡ false → Lawful i s q) → Lawful i s (if b then p else q)

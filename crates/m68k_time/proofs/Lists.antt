@@ -58,19 +58,19 @@ numbers_count (suc k) mask =
     grind (arith, nat_tests, e)
 
 ended_holds : (P : ℕ → ℕ → ℕ → Type 0) (k l : ℕ) (i : Instr) (mask at : ℕ) (s : Run) → P k l (number (clocks_at s.opcode) (ones 16 mask))
-    → Holds P 0 k l (list_ended i mask at s)
+    → Holds s.taking P 0 k l (list_ended i mask at s)
 unfolding list_ended
 ended_holds P k l i mask at s h = finish_holds P 0 k l (ones 16 mask) _ h
 
 stores_holds : (P : ℕ → ℕ → ℕ → Type 0) (k l : ℕ) (i : Instr) (mask at : ℕ) (ns : List ℕ) (s : Run)
-    → ((w : ℕ) → P (for_each (words (list_size i)) ns k) w (number (clocks_at s.opcode) (ones 16 mask))) → Holds P 0 k l (stores i mask at ns s)
+    → ((w : ℕ) → P (for_each (words (list_size i)) ns k) w (number (clocks_at s.opcode) (ones 16 mask))) → Holds s.taking P 0 k l (stores i mask at ns s)
 unfolding stores
 stores_holds P k l i mask at [] s h = ended_holds P k l i mask at s (h l)
 stores_holds P k l i mask at (n ∷ ns) s h =
     write_holds P 0 k l s (list_size i) _ _ _ (λ w. stores_holds P (more (words (list_size i)) k) w i mask (stored_next (list_mode i) (list_size i) at) ns s h)
 
 loads_holds : (P : ℕ → ℕ → ℕ → Type 0) (k l : ℕ) (i : Instr) (mask at : ℕ) (ns : List ℕ) (s : Run)
-    → ((w : ℕ) → P (for_each (words (list_size i)) ns k) w (number (clocks_at s.opcode) (ones 16 mask))) → Holds P 0 k l (loads i mask at ns s)
+    → ((w : ℕ) → P (for_each (words (list_size i)) ns k) w (number (clocks_at s.opcode) (ones 16 mask))) → Holds s.taking P 0 k l (loads i mask at ns s)
 unfolding loads
 loads_holds P k l i mask at [] s h = ended_holds P k l i mask at s (h l)
 loads_holds P k l i mask at (n ∷ ns) s h =
@@ -88,7 +88,7 @@ abbrev Listed : (ℕ → ℕ → ℕ → Type 0) → ℕ → Size → ℕ → Ru
 Listed P k z mask s = (w : ℕ) → P (for_each (words z) (numbers 16 mask) k) w (number (clocks_at s.opcode) (ones 16 mask))
 
 stored_holds : (P : ℕ → ℕ → ℕ → Type 0) (k l : ℕ) (z : Size) (m : Mode) (mask : ℕ) (p : Place68) (s : Run) → words_at p z ≡ words z
-    → Listed P k z mask s → Holds P 0 k l (listing (I.MovemToMemory z m) mask p s)
+    → Listed P k z mask s → Holds s.taking P 0 k l (listing (I.MovemToMemory z m) mask p s)
 unfolding listing list_size
 stored_holds P k l z m mask (D.Memory at) s in_memory h = stores_holds P k l (I.MovemToMemory z m) mask at (numbers 16 mask) s h
 stored_holds P k l z m mask (D.Data r) s in_memory h = absurd (some_words z in_memory)
@@ -96,7 +96,7 @@ stored_holds P k l z m mask (D.Address r) s in_memory h = absurd (some_words z i
 stored_holds P k l z m mask (D.Value v) s in_memory h = absurd (some_words z in_memory)
 
 loaded_holds : (P : ℕ → ℕ → ℕ → Type 0) (k l : ℕ) (z : Size) (m : Mode) (mask : ℕ) (p : Place68) (s : Run) → words_at p z ≡ words z
-    → Listed P k z mask s → Holds P 0 k l (listing (I.MovemToRegisters z m) mask p s)
+    → Listed P k z mask s → Holds s.taking P 0 k l (listing (I.MovemToRegisters z m) mask p s)
 unfolding listing list_size
 loaded_holds P k l z m mask (D.Memory at) s in_memory h = loads_holds P k l (I.MovemToRegisters z m) mask at (numbers 16 mask) s h
 loaded_holds P k l z m mask (D.Data r) s in_memory h = absurd (some_words z in_memory)
@@ -142,7 +142,7 @@ to_registers_mode M.Imm S.Word h = cc
 to_registers_mode M.Imm S.Long h = cc
 
 to_memory_holds : (P : ℕ → ℕ → ℕ → Type 0) (k l : ℕ) (z : Size) (m : Mode) (mask : ℕ) (s : Run) → InMemory m z
-    → Listed P (more (extensions m z) k) z mask s → Holds P 0 k l (several (I.MovemToMemory z m) mask s)
+    → Listed P (more (extensions m z) k) z mask s → Holds s.taking P 0 k l (several (I.MovemToMemory z m) mask s)
 unfolding several list_size list_mode
 to_memory_holds P k l z m mask s mode h =
     place_holds P 0 k l s z (unstepped m) _ (λ p regs w placed.
@@ -150,7 +150,7 @@ to_memory_holds P k l z m mask s mode h =
     (subst (λ n. Listed P (more n k) z mask s) (sym mode.1) h))
 
 to_registers_holds : (P : ℕ → ℕ → ℕ → Type 0) (k l : ℕ) (z : Size) (m : Mode) (mask : ℕ) (s : Run) → InMemory m z
-    → Listed P (more (extensions m z) k) z mask s → Holds P 0 k l (several (I.MovemToRegisters z m) mask s)
+    → Listed P (more (extensions m z) k) z mask s → Holds s.taking P 0 k l (several (I.MovemToRegisters z m) mask s)
 unfolding several list_size list_mode
 to_registers_holds P k l z m mask s mode h =
     place_holds P 0 k l s z (unstepped m) _ (λ p regs w placed.
@@ -169,13 +169,13 @@ listed_takes k j c mask h =
 masked : (i : Instr) (s : Run) (p : ℕ → Run → Prog) → trap_ea i ≡ 0 → ((ws : List ℕ) (mask : ℕ) → outcome i s.regs (mask ∷ ws) ≡ ones 16 mask)
     → ((P : ℕ → ℕ → ℕ → Type 0) (mask : ℕ)
     → ((k : ℕ) (w : ℕ) → Takes (number (clocks_at s.opcode) (ones 16 mask)) k (number (clocks_at s.opcode) (ones 16 mask))
-    → P k w (number (clocks_at s.opcode) (ones 16 mask))) → Holds P 0 2 mask (p mask (moved s)))
+    → P k w (number (clocks_at s.opcode) (ones 16 mask))) → Holds s.taking P 0 2 mask (p mask (moved s)))
     → Lawful i s (fetch s p)
 masked i s p none counts h =
     record {
       ends = masked_ends;
-      begins = λ ws r u words here. subst (λ e. Begins e (more (length ws) 1) u) (sym none)
-          (at_begin Anything 0 1 0 (fetch s p) ws r u (fetch_holds Anything 0 1 0 s p (λ mask below. h Anything mask (λ k w x. tt))) words here);
+      begins = λ ws r u words here. subst (λ e. Begins s.taking e (more (length ws) 1) u) (sym none)
+          (at_begin s.taking Anything 0 1 0 (fetch s p) ws r u (fetch_holds Anything 0 1 0 s p (λ mask below. h Anything mask (λ k w x. tt))) words here);
     }
   where
     masked_ends : (ws : List ℕ) (t : ℕ) (r : CpuRegs) (u : Under) → AreWords ws → ComesTo (fetch s p) ws (End t r u)
@@ -183,7 +183,7 @@ masked i s p none counts h =
     masked_ends [] t r u words here = absurd (fetch_no_end s p t r u here)
     masked_ends (mask ∷ ws) t r u words here =
         subst (λ x. Takes t (more (length (mask ∷ ws)) 1) (number (clocks_at s.opcode) x)) (sym (counts ws mask))
-        (at_end (With s (ones 16 mask)) 0 2 mask (p mask (moved s)) ws t r u (h (With s (ones 16 mask)) mask (λ k w x. x)) words.1
+        (at_end s.taking (With s (ones 16 mask)) 0 2 mask (p mask (moved s)) ws t r u (h (With s (ones 16 mask)) mask (λ k w x. x)) words.1
         (fetch_comes s p mask ws (End t r u) here))
 
 pub to_memory_row : (z : Size) (m : Mode) (s : Run) → clocks_at s.opcode ≡ timing (I.MovemToMemory z m) → fits (I.MovemToMemory z m) ≡ true
@@ -207,14 +207,14 @@ to_registers_row z m s row h =
 -- ---- MOVEP
 
 scatter_holds : (P : ℕ → ℕ → ℕ → Type 0) (k l n at value : ℕ) (s : Run) → ((w : ℕ) → P (more n k) w (number (clocks_at s.opcode) 0))
-    → Holds P 0 k l (scatter n at value s)
+    → Holds s.taking P 0 k l (scatter n at value s)
 unfolding scatter
 scatter_holds P k l zero at value s h = finish_holds P 0 k l 0 s (h l)
 scatter_holds P k l (suc n) at value s h =
     write_holds P 0 k l s S.Byte at _ _ (λ w. scatter_holds P (suc k) w n (word32 (at + 2)) (word32 (value * 256)) s h)
 
 gather_holds : (P : ℕ → ℕ → ℕ → Type 0) (k l r o a n at value : ℕ) (s : Run) → ((w : ℕ) → P (more n k) w (number (clocks_at s.opcode) 0))
-    → Holds P 0 k l (gather (I.Movep r o a) n at value s)
+    → Holds s.taking P 0 k l (gather (I.Movep r o a) n at value s)
 unfolding gather gathered
 gather_holds P k l r o a zero at value s h = finish_holds P 0 k l 0 _ (h l)
 gather_holds P k l r o a (suc n) at value s h =
@@ -238,16 +238,16 @@ long_to o h = grind (arith, nat_tests, h)
 long_from : (o : ℕ) → o == 0 ≡ false → o == 2 ≡ false → (o == 0) || (o == 2) ≡ false
 long_from o h g = grind (arith, nat_tests, h, g)
 
-bytes_hold : (r o a l at : ℕ) (s : Run) → clocks_at s.opcode ≡ two_or_four ((o == 0) || (o == 2)) → Holds (Same s) 0 2 l (bytes_moved (I.Movep r o a) r o at s)
+bytes_hold : (r o a l at : ℕ) (s : Run) → clocks_at s.opcode ≡ two_or_four ((o == 0) || (o == 2)) → Holds s.taking (Same s) 0 2 l (bytes_moved (I.Movep r o a) r o at s)
 bytes_hold r o a l at s row =
     let c : Clocks = clocks_at s.opcode in
     let back : (k : ℕ) → always_serves k (two_or_four ((o == 0) || (o == 2))) ≡ true → always_serves k c ≡ true =
     (λ k h. subst (λ x. always_serves k x ≡ true) (sym row) h) in
     let two : always_serves 4 c ≡ true = back 4 (two_bytes ((o == 0) || (o == 2))) in
-    choice (Same s) 0 2 l (o == 0) _ _ (λ e. gather_holds (Same s) 2 l r o a 2 at 0 s (λ w x. always_takes 4 c two 0 x)) (λ not_0.
-    choice (Same s) 0 2 l (o == 1) _ _ (λ e. gather_holds (Same s) 2 l r o a 4 at 0 s (λ w x.
+    choice s.taking (Same s) 0 2 l (o == 0) _ _ (λ e. gather_holds (Same s) 2 l r o a 2 at 0 s (λ w x. always_takes 4 c two 0 x)) (λ not_0.
+    choice s.taking (Same s) 0 2 l (o == 1) _ _ (λ e. gather_holds (Same s) 2 l r o a 4 at 0 s (λ w x.
     always_takes 6 c (back 6 (four_bytes ((o == 0) || (o == 2)) (long_to o e))) 0 x)) (λ not_1.
-    choice (Same s) 0 2 l (o == 2) _ _ (λ e. scatter_holds (Same s) 2 l 2 at _ s (λ w x. always_takes 4 c two 0 x)) (λ not_2.
+    choice s.taking (Same s) 0 2 l (o == 2) _ _ (λ e. scatter_holds (Same s) 2 l 2 at _ s (λ w x. always_takes 4 c two 0 x)) (λ not_2.
     scatter_holds (Same s) 2 l 4 at _ s (λ w x. always_takes 6 c (back 6 (four_bytes ((o == 0) || (o == 2)) (long_from o not_0 not_2))) 0 x))))
 
 pub bytes_row : (r o a : ℕ) (s : Run) → clocks_at s.opcode ≡ timing (I.Movep r o a) → Lawful (I.Movep r o a) s (own_word (I.Movep r o a) s)

@@ -130,5 +130,5 @@ reset_time = reset_takes
 
 pub stopped_time : StoppedTime
 unfolding program
-stopped_time r [] t r' u here = subst (λ q. Holds (λ k l x. Takes x k 2) 0 0 0 q) here (serves_takes 0 2 refl)
+stopped_time r [] t r' u here = subst (λ q. Holds false (λ k l x. Takes x k 2) 0 0 0 q) here (serves_takes 0 2 refl)
 stopped_time r (w ∷ ws) t r' u here = absurd here
