@@ -29,7 +29,7 @@ use Rattle.m68k_decode.specs.RowData.{is_operand, source_mode_of, constant_of}
 use Rattle.m68k_decode.specs.General as G
 use Rattle.m68k_time.specs.Time.{Takes, source_word, last_word, multiply_count}
 use Rattle.m68k_time.proofs.Fits.{more, loads, counted_serves, fits}
-use Rattle.m68k_time.proofs.Counting.{Holds, last_of, at_end, at_begin, more_sum, serves_takes}
+use Rattle.m68k_time.proofs.Counting.{Holds, last_of, at_end, goes_on_at_end, at_begin, more_sum, serves_takes}
 use Rattle.m68k_time.proofs.Parts.{words_at, fetch_holds, read_word_holds, place_holds}
 use Rattle.m68k_time.proofs.Lawful.{Lawful, With, lawful_with, counted_takes}
 
@@ -61,9 +61,9 @@ shift_row c d z i t r s row =
     let M : Bool → Type 0 = λ b. Holds s.taking (With s (X b)) 0 1 0
     (if is_operand (source b) then place s S.Long (source_mode_of (source b)) (λ p t. G.with_source row p t) else G.dest row (constant_of (source b)) s) in
     let split : (b : Bool) → M b = (λ b. elim b as M [
-      | true ↦ subst (λ y. Takes (number (clocks_at s.opcode) y) 1 (number (clocks_at s.opcode) (data_of s.regs c % 64))) (sym (cut_count (data_of s.regs c)))
-          (counted_at 1 (clocks_at s.opcode) serves_it (data_of s.regs c % 64))
-      | false ↦ counted_at 1 (clocks_at s.opcode) serves_it (eight_if_zero c % 64)
+      | true ↦ (subst (λ y. Takes (number (clocks_at s.opcode) y) 1 (number (clocks_at s.opcode) (data_of s.regs c % 64))) (sym (cut_count (data_of s.regs c)))
+          (counted_at 1 (clocks_at s.opcode) serves_it (data_of s.regs c % 64)), tt)
+      | false ↦ (counted_at 1 (clocks_at s.opcode) serves_it (eight_if_zero c % 64), tt)
     ]) in
     lawful_with row s (G.general row s) (X (i == 1)) (λ ws. refl) (split (i == 1))
 
@@ -79,7 +79,7 @@ unfolding G.general G.with_source G.dest G.with_dest G.compute G.completed place
 scc_row c r s row =
     let x : ℕ = one_if (condition c (flags_of s.regs.sr)) in
     lawful_with (I.Scc c (M.Dn r)) s (G.general (I.Scc c (M.Dn r)) s) x (λ ws. refl)
-    (subst (λ k. Takes (number k x) 1 (number k x)) (sym row) (scc_takes (condition c (flags_of s.regs.sr))))
+    (subst (λ k. Takes (number k x) 1 (number k x)) (sym row) (scc_takes (condition c (flags_of s.regs.sr))), tt)
 
 -- ---- MULU and MULS
 
@@ -93,7 +93,7 @@ counted false v sr = refl
 multiplied : (P : ℕ → ℕ → ℕ → Type 0) (k l : ℕ) (w r : ℕ) (m : Mode) (value : ℕ) (s : Run) → P k l (number (clocks_at s.opcode) (multiply_count w value))
     → Holds s.taking P 0 k l (G.dest (I.MuluMuls w r m) value s)
 unfolding G.dest G.with_dest G.compute G.completed place at_place place_of stepped load store general_row count_by trap_by
-multiplied P k l w r m value s h = subst (λ x. P k l (number (clocks_at s.opcode) x)) (counted (w == 0) value s.regs.sr) h
+multiplied P k l w r m value s h = (subst (λ x. P k l (number (clocks_at s.opcode) x)) (counted (w == 0) value s.regs.sr) h, tt)
 
 -- the source is the last word that was read
 abbrev pub ByLast : Run → ℕ → ℕ → ℕ → ℕ → Type 0
@@ -116,6 +116,7 @@ lawful_by_last w r m s p is_last h =
     record {
       ends = λ ws t q u words here. subst (λ x. Takes t (more (length ws) 1) (number (clocks_at s.opcode) (multiply_count w x))) (sym (is_last ws))
           (by_last_end s w ws t (at_end s.taking (ByLast s w) 0 1 0 p ws t q u h words here));
+      goes_on = λ ws t q u words here. goes_on_at_end s.taking (ByLast s w) 0 1 0 p ws t q u h words here;
       begins = λ ws q u words here. at_begin s.taking (ByLast s w) 0 1 0 p ws q u h words here;
     }
 

@@ -7,7 +7,7 @@ use Rattle.m68k_decode.specs.declared.trap.Trap.TheVariants as T
 use Rattle.m68k_decode.specs.declared.under.Under.{Under}
 use Rattle.m68k_decode.specs.declared.under.Under.TheVariants as U
 use Rattle.m68k_decode.specs.Access.{Prog, Ask, End, Enter, Halt}
-use Rattle.m68k_time.specs.Time.{ComesTo, AreWords, Takes}
+use Rattle.m68k_time.specs.Time.{ComesTo, AreWords, Takes, GoesOn}
 use Rattle.m68k_time.proofs.Fits.{more, serves}
 
 -- An exception begins after the accesses that its clocks count: with the clocks of the operand's mode where it has them. No
@@ -28,12 +28,13 @@ Begins taking e k U.Reset = ⊥
 Begins taking e k (U.Instruction still) = ⊥
 Begins taking e k U.Stopped = ⊥
 
--- After k accesses, the last answered with l, a program has only ends with P, and only exceptions begin that count the
+-- After k accesses, the last answered with l, a program has only ends with P, behind which an instruction or STOP's wait is
+-- under way, and only exceptions begin that count the
 -- accesses before them and have e as the clocks of the operand's mode; and the halt only while an address error is being
 -- taken.
 abbrev pub Holds : Bool → (ℕ → ℕ → ℕ → Type 0) → ℕ → ℕ → ℕ → Prog → Type 0
 Holds taking P e k l (Ask a c) = (w : ℕ) → w < 65536 → Holds taking P e (suc k) w (c w)
-Holds taking P e k l (End t r u) = P k l t
+Holds taking P e k l (End t r u) = P k l t × GoesOn u
 Holds taking P e k l (Enter r u) = Begins taking e k u
 Holds taking P e k l Halt = Unit {0}
 
@@ -49,11 +50,20 @@ last_of l (w ∷ ws) = last_of w ws
 -- so it holds at each end that it comes to
 pub at_end : (taking : Bool) (P : ℕ → ℕ → ℕ → Type 0) (e k l : ℕ) (p : Prog) (ws : List ℕ) (t : ℕ) (r : CpuRegs) (u : Under)
     → Holds taking P e k l p → AreWords ws → ComesTo p ws (End t r u) → P (more (length ws) k) (last_of l ws) t
-at_end taking P e k l p [] t r u h words here = subst (λ q. Holds taking P e k l q) here h
+at_end taking P e k l p [] t r u h words here = (subst (λ q. Holds taking P e k l q) here h).0
 at_end taking P e k l (Ask a c) (w ∷ ws) t r u h words here = at_end taking P e (suc k) w (c w) ws t r u (h w words.0) words.1 here
 at_end taking P e k l (End t' r' u') (w ∷ ws) t r u h words here = absurd here
 at_end taking P e k l (Enter r' u') (w ∷ ws) t r u h words here = absurd here
 at_end taking P e k l Halt (w ∷ ws) t r u h words here = absurd here
+
+pub goes_on_at_end : (taking : Bool) (P : ℕ → ℕ → ℕ → Type 0) (e k l : ℕ) (p : Prog) (ws : List ℕ) (t : ℕ) (r : CpuRegs) (u : Under)
+    → Holds taking P e k l p → AreWords ws → ComesTo p ws (End t r u) → GoesOn u
+goes_on_at_end taking P e k l p [] t r u h words here = (subst (λ q. Holds taking P e k l q) here h).1
+goes_on_at_end taking P e k l (Ask a c) (w ∷ ws) t r u h words here =
+    goes_on_at_end taking P e (suc k) w (c w) ws t r u (h w words.0) words.1 here
+goes_on_at_end taking P e k l (End t' r' u') (w ∷ ws) t r u h words here = absurd here
+goes_on_at_end taking P e k l (Enter r' u') (w ∷ ws) t r u h words here = absurd here
+goes_on_at_end taking P e k l Halt (w ∷ ws) t r u h words here = absurd here
 
 pub at_begin : (taking : Bool) (P : ℕ → ℕ → ℕ → Type 0) (e k l : ℕ) (p : Prog) (ws : List ℕ) (r : CpuRegs) (u : Under)
     → Holds taking P e k l p → AreWords ws → ComesTo p ws (Enter r u) → Begins taking e (more (length ws) k) u

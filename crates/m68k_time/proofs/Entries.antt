@@ -19,9 +19,9 @@ use Rattle.m68k_decode.specs.Access.{End}
 use Rattle.m68k_decode.specs.Run.{Run, address_before}
 use Rattle.m68k_decode.specs.Entries.{exception_clocks, entry_clocks, handled, vectored, pushes, entry, reset_done, reset_stack, reset}
 use Rattle.m68k_decode.specs.Walk.{program}
-use Rattle.m68k_time.specs.Time.{ComesTo, AreWords, Takes, colour_clocks, is_address_error, EntryTakes, AddressErrorTime, TraceTime, InterruptTime}
+use Rattle.m68k_time.specs.Time.{ComesTo, AreWords, Takes, GoesOn, colour_clocks, is_address_error, EntryTakes, AddressErrorTime, TraceTime, InterruptTime}
 use Rattle.m68k_time.proofs.Fits.{more}
-use Rattle.m68k_time.proofs.Counting.{BeginsWith, Holds, last_of, at_end, more_sum, serves_takes}
+use Rattle.m68k_time.proofs.Counting.{BeginsWith, Holds, Anything, last_of, at_end, goes_on_at_end, more_sum, serves_takes}
 use Rattle.m68k_time.proofs.Parts.{read_holds, write_word_holds}
 
 -- one more for each word
@@ -29,10 +29,10 @@ abbrev each_word : List ℕ → ℕ → ℕ
 each_word [] k = k
 each_word (w ∷ ws) k = each_word ws (suc k)
 
-pushes_hold : (P : ℕ → ℕ → ℕ → Type 0) (k l : ℕ) (kind : Trap) (ea at : ℕ) (ws : List ℕ) (s : Run)
+pub pushes_hold : (P : ℕ → ℕ → ℕ → Type 0) (k l : ℕ) (kind : Trap) (ea at : ℕ) (ws : List ℕ) (s : Run)
     → ((w : ℕ) → P (suc (suc (each_word ws k))) w (entry_clocks kind ea)) → Holds s.taking P 0 k l (pushes kind ea at ws s)
 unfolding pushes vectored handled
-pushes_hold P k l kind ea at [] s h = read_holds P 0 k l _ S.Long false _ _ (λ pc w. h w)
+pushes_hold P k l kind ea at [] s h = read_holds P 0 k l _ S.Long false _ _ (λ pc w. (h w, tt))
 pushes_hold P k l kind ea at (w ∷ ws) s h =
     write_word_holds P 0 k l s (address_before S.Word at) w _ (λ v. pushes_hold P (suc k) v kind ea (address_before S.Word at) ws s h)
 
@@ -155,7 +155,15 @@ unfolding program reset reset_stack reset_done
 reset_takes r ws t r' u words here =
     let P : ℕ → ℕ → ℕ → Type 0 = λ k l x. Takes x k 40 in
     let h : P (more (length ws) 0) (last_of 0 ws) t = at_end false P 0 0 0 _ ws t r' u
-    (read_holds P 0 0 0 _ S.Long false 0 _ (λ ssp v. read_holds P 0 2 v _ S.Long false 4 _ (λ pc w. serves_takes 4 40 refl))) words here in
+    (read_holds P 0 0 0 _ S.Long false 0 _ (λ ssp v. read_holds P 0 2 v _ S.Long false 4 _ (λ pc w. (serves_takes 4 40 refl, tt)))) words here in
     let counted : more (length ws) 0 ≡ length ws + 0 = more_sum (length ws) 0 in
     let same : more (length ws) 0 ≡ length ws = omega (arith, counted) in
     subst (λ k. Takes t k 40) same h
+
+-- an instruction is under way behind it
+pub reset_goes_on : (r : CpuRegs) (ws : List ℕ) (t : ℕ) (r' : CpuRegs) (u : Under) → AreWords ws
+    → ComesTo (program r U.Reset) ws (End t r' u) → GoesOn u
+unfolding program reset reset_stack reset_done
+reset_goes_on r ws t r' u words here =
+    goes_on_at_end false Anything 0 0 0 _ ws t r' u
+    (read_holds Anything 0 0 0 _ S.Long false 0 _ (λ ssp v. read_holds Anything 0 2 v _ S.Long false 4 _ (λ pc w. (tt, tt)))) words here

@@ -138,7 +138,7 @@ system_row zero s row h = lawful_same (I.ResetNopStopRte 0) s _ (same_finish 0 1
 system_row (suc zero) s row h = lawful_same (I.ResetNopStopRte 1) s _ (same_finish 0 1 0 s (subst (λ c. always_serves 1 c ≡ true) (sym row) refl))
 system_row (suc (suc zero)) s row h =
     lawful_same (I.ResetNopStopRte 2) s _ (fetch_holds (Same s) 0 1 0 s _ (λ w below.
-    same_at 2 w s (subst (λ c. always_serves 2 c ≡ true) (sym row) refl)))
+    (same_at 2 w s (subst (λ c. always_serves 2 c ≡ true) (sym row) refl), tt)))
 system_row (suc (suc (suc zero))) s row h =
     lawful_same (I.ResetNopStopRte 3) s _ (resume_holds (I.ResetNopStopRte 3) s (λ word pc w.
     same_finish 0 4 w _ (subst (λ c. always_serves 4 c ≡ true) (sym row) refl)))

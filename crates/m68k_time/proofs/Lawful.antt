@@ -11,15 +11,16 @@ use Rattle.m68k_decode.specs.declared.under.Under.{Under}
 use Rattle.m68k_decode.specs.Access.{Prog, End, Enter}
 use Rattle.m68k_decode.specs.Run.{Run}
 use Rattle.m68k_decode.specs.RowData.{trap_ea}
-use Rattle.m68k_time.specs.Time.{ComesTo, AreWords, Takes, outcome}
+use Rattle.m68k_time.specs.Time.{ComesTo, AreWords, Takes, GoesOn, outcome}
 use Rattle.m68k_time.proofs.Fits.{more, serves, always_serves, counted_serves}
-use Rattle.m68k_time.proofs.Counting.{Begins, Holds, at_end, at_begin, served, serves_takes, takes}
+use Rattle.m68k_time.proofs.Counting.{Begins, Holds, at_end, goes_on_at_end, at_begin, served, serves_takes, takes}
 
--- What follows the opcode of a run takes the clocks of the opcode's row at each end, and exceptions begin after the accesses
--- that their clocks count.
+-- What follows the opcode of a run takes the clocks of the opcode's row at each end, an instruction or STOP's wait is under way
+-- behind it, and exceptions begin after the accesses that their clocks count.
 pub record Lawful (i : Instr) (s : Run) (p : Prog) : Type 0 where
   pub ends : (ws : List ℕ) (t : ℕ) (r : CpuRegs) (u : Under) → AreWords ws → ComesTo p ws (End t r u)
       → Takes t (more (length ws) 1) (number (clocks_at s.opcode) (outcome i s.regs ws))
+  pub goes_on : (ws : List ℕ) (t : ℕ) (r : CpuRegs) (u : Under) → AreWords ws → ComesTo p ws (End t r u) → GoesOn u
   pub begins : (ws : List ℕ) (r : CpuRegs) (u : Under) → AreWords ws → ComesTo p ws (Enter r u) → Begins s.taking (trap_ea i) (more (length ws) 1) u
 
 -- clocks that depend on nothing
@@ -30,6 +31,7 @@ pub lawful_same : (i : Instr) (s : Run) (p : Prog) → Holds s.taking (Same s) (
 lawful_same i s p h =
     record {
       ends = λ ws t r u words here. at_end s.taking (Same s) (trap_ea i) 1 0 p ws t r u h words here (outcome i s.regs ws);
+      goes_on = λ ws t r u words here. goes_on_at_end s.taking (Same s) (trap_ea i) 1 0 p ws t r u h words here;
       begins = λ ws r u words here. at_begin s.taking (Same s) (trap_ea i) 1 0 p ws r u h words here;
     }
 
@@ -42,6 +44,7 @@ lawful_with i s p x all h =
     record {
       ends = λ ws t r u words here. subst (λ y. Takes t (more (length ws) 1) (number (clocks_at s.opcode) y)) (sym (all ws))
           (at_end s.taking (With s x) (trap_ea i) 1 0 p ws t r u h words here);
+      goes_on = λ ws t r u words here. goes_on_at_end s.taking (With s x) (trap_ea i) 1 0 p ws t r u h words here;
       begins = λ ws r u words here. at_begin s.taking (With s x) (trap_ea i) 1 0 p ws r u h words here;
     }
 

@@ -11,3 +11,8 @@ pub mod Flow
 pub mod Entries
 pub mod Whole
 pub mod Stages
+pub mod EndTime
+pub mod Back
+pub mod LevelLaws
+pub mod Twins
+pub mod HaltLaws

@@ -31,7 +31,7 @@ use Rattle.m68k_decode.specs.Flow.{own, own_word}
 use Rattle.m68k_time.specs.Time.{AreWords, ComesTo, Takes, outcome}
 use Rattle.m68k_time.proofs.Fits as F
 use Rattle.m68k_time.proofs.Fits.{more, words, counted_serves, always_serves, fits}
-use Rattle.m68k_time.proofs.Counting.{Begins, Holds, Anything, at_end, at_begin, more_sum}
+use Rattle.m68k_time.proofs.Counting.{Begins, Holds, Anything, at_end, goes_on_at_end, at_begin, more_sum}
 use Rattle.m68k_time.proofs.Parts.{words_at, choice, finish_holds, fetch_holds, fetch_comes, fetch_no_end, read_holds, write_holds, place_holds}
 use Rattle.m68k_time.proofs.Lawful.{Lawful, Same, lawful_same, With, counted_takes, always_takes}
 
@@ -174,6 +174,8 @@ masked : (i : Instr) (s : Run) (p : ℕ → Run → Prog) → trap_ea i ≡ 0 �
 masked i s p none counts h =
     record {
       ends = masked_ends;
+      goes_on = λ ws t r u words here.
+          goes_on_at_end s.taking Anything 0 1 0 (fetch s p) ws t r u (fetch_holds Anything 0 1 0 s p (λ mask below. h Anything mask (λ k w x. tt))) words here;
       begins = λ ws r u words here. subst (λ e. Begins s.taking e (more (length ws) 1) u) (sym none)
           (at_begin s.taking Anything 0 1 0 (fetch s p) ws r u (fetch_holds Anything 0 1 0 s p (λ mask below. h Anything mask (λ k w x. tt))) words here);
     }

@@ -29,7 +29,7 @@ choice taking P e k l false p q x y = y refl
 -- the end of an instruction
 pub finish_holds : (P : ℕ → ℕ → ℕ → Type 0) (e k l : ℕ) (extra : ℕ) (s : Run) → P k l (row_clocks extra s) → Holds s.taking P e k l (finish extra s)
 unfolding finish
-finish_holds P e k l extra s h = h
+finish_holds P e k l extra s h = (h, tt)
 
 -- an address error
 pub fault_holds : (P : ℕ → ℕ → ℕ → Type 0) (e k l : ℕ) (s : Run) (at : ℕ) (reads program : Bool) → Holds s.taking P e k l (fault s at reads program)
@@ -190,7 +190,7 @@ load_holds P e k l s z program (D.Memory at) c h = read_holds P e k l s z progra
 pub store_holds : (P : ℕ → ℕ → ℕ → Type 0) (e k l : ℕ) (s : Run) (z : Size) (p : Place68) (value clocks : ℕ)
     → ((w : ℕ) → P (more (words_at p z) k) w clocks) → Holds s.taking P e k l (store s z p value clocks)
 unfolding store
-store_holds P e k l s z (D.Data r) value clocks h = h l
-store_holds P e k l s z (D.Address r) value clocks h = h l
-store_holds P e k l s z (D.Value v) value clocks h = h l
-store_holds P e k l s z (D.Memory at) value clocks h = write_holds P e k l s z at value _ h
+store_holds P e k l s z (D.Data r) value clocks h = (h l, tt)
+store_holds P e k l s z (D.Address r) value clocks h = (h l, tt)
+store_holds P e k l s z (D.Value v) value clocks h = (h l, tt)
+store_holds P e k l s z (D.Memory at) value clocks h = write_holds P e k l s z at value _ (λ w. (h w, tt))

@@ -9,7 +9,7 @@ use Rattle.m68k_decode.specs.Access.{Access, Prog, Ask, End, Enter, Halt, after,
 use Rattle.m68k_decode.specs.Walk.{Stage, stage, program, next, replaced, begin_again, begin, taking_of, is_traced, boundary, settled, answered, advance}
 use Rattle.m68k_time.specs.Time.{ComesTo, AreWords, WalkEnds, WalkBreaksOff, IsExact, WalkBegins, WalkGoesOn}
 
-comes_after : (p : Prog) (ws : List ℕ) (q : Prog) → ComesTo p ws q → after p ws ≡ q
+pub comes_after : (p : Prog) (ws : List ℕ) (q : Prog) → ComesTo p ws q → after p ws ≡ q
 comes_after (Ask a k) [] q here = here
 comes_after (End t r u) [] q here = here
 comes_after (Enter r u) [] q here = here
@@ -29,14 +29,14 @@ walk_breaks_off r u ws r' u' here = ap (λ q. next_of q (length ws)) (comes_afte
 
 -- ---- one more answer
 
-comes_on : (p : Prog) (ws : List ℕ) (w : ℕ) (a : Access) (k : ℕ → Prog) → ComesTo p ws (Ask a k) → ComesTo p (ws ++ w ∷ []) (k w)
+pub comes_on : (p : Prog) (ws : List ℕ) (w : ℕ) (a : Access) (k : ℕ → Prog) → ComesTo p ws (Ask a k) → ComesTo p (ws ++ w ∷ []) (k w)
 comes_on p [] w a k here = subst (λ q. ComesTo q (w ∷ []) (k w)) (sym here) refl
 comes_on (Ask b j) (v ∷ ws) w a k here = comes_on (j v) ws w a k here
 comes_on (End t r u) (v ∷ ws) w a k here = absurd here
 comes_on (Enter r u) (v ∷ ws) w a k here = absurd here
 comes_on Halt (v ∷ ws) w a k here = absurd here
 
-more_words : (ws : List ℕ) (w : ℕ) → AreWords ws → w < 65536 → AreWords (ws ++ w ∷ [])
+pub more_words : (ws : List ℕ) (w : ℕ) → AreWords ws → w < 65536 → AreWords (ws ++ w ∷ [])
 more_words [] w words below = (below, tt)
 more_words (v ∷ ws) w words below = (words.0, more_words ws w words.1 below)
 

@@ -10,6 +10,7 @@ use Rattle.m68k_opcodes.proofs.Whole.{timed_at}
 use Rattle.m68k_decode.specs.declared.regs.CpuRegs.{CpuRegs}
 use Rattle.m68k_decode.specs.declared.trap.Trap.{Trap}
 use Rattle.m68k_decode.specs.declared.trap.Trap.TheVariants as T
+use Rattle.m68k_decode.specs.declared.under.Under.{Under}
 use Rattle.m68k_decode.specs.declared.under.Under.TheVariants as U
 use Rattle.m68k_decode.specs.Registers.{has_supervisor, data_of}
 use Rattle.m68k_decode.specs.Status.{needs_supervisor}
@@ -19,10 +20,11 @@ use Rattle.m68k_decode.specs.Rows.{general_row}
 use Rattle.m68k_decode.specs.RowResults.{trap_ea_by}
 use Rattle.m68k_decode.specs.RowData.{trap_ea}
 use Rattle.m68k_decode.specs.Walk.{refused, permitted, execute, opcode_read, instruction, begun, program}
-use Rattle.m68k_time.specs.Time.{ComesTo, Takes, outcome, InstructionTime, ExceptionTime, ResetTime, StoppedTime, is_address_error}
+use Rattle.m68k_time.specs.Time.{ComesTo, AreWords, Takes, GoesOn, outcome, InstructionTime, ExceptionTime, ResetTime, StoppedTime, is_address_error}
+use Rattle.m68k_time.specs.Boundaries.{still_taking}
 use Rattle.m68k_time.proofs.Fits.{more, fits}
 use Rattle.m68k_time.proofs.AllFit.{fits_at}
-use Rattle.m68k_time.proofs.Counting.{BeginsWith, Holds, more_sum, serves_takes}
+use Rattle.m68k_time.proofs.Counting.{BeginsWith, Begins, Holds, more_sum, serves_takes}
 use Rattle.m68k_time.proofs.Parts.{fetch_comes, fetch_no_end, fetch_begins}
 use Rattle.m68k_time.proofs.Lawful.{Lawful, lawful_choice}
 use Rattle.m68k_time.proofs.Rows.{same_row}
@@ -82,6 +84,25 @@ outcome_of_moved i r pc ws = refl
 one_more : (ws : List ℕ) → more (length ws) 1 ≡ suc (length ws)
 one_more ws = let e : more (length ws) 1 ≡ length ws + 1 = more_sum (length ws) 1 in omega (arith, e)
 
+-- behind its end an instruction or STOP's wait is under way
+pub instruction_goes_on : (r : CpuRegs) (taking : Bool) (ws : List ℕ) (t : ℕ) (r' : CpuRegs) (u : Under) → AreWords ws
+    → ComesTo (program r (U.Instruction taking)) ws (End t r' u) → GoesOn u
+unfolding program instruction opcode_read
+instruction_goes_on r taking [] t r' u words here = absurd (fetch_no_end (begun r taking) (λ opcode s. opcode_read opcode s) t r' u here)
+instruction_goes_on r taking (opcode ∷ ws) t r' u words here =
+    (opcode_lawful r taking opcode words.0).goes_on ws t r' u words.1
+    (fetch_comes (begun r taking) (λ opcode s. opcode_read opcode s) opcode ws (End t r' u) here)
+
+-- what takes its place is an exception, or the halt before the opcode was read
+pub instruction_begins : (r : CpuRegs) (taking : Bool) (ws : List ℕ) (r' : CpuRegs) (u : Under) → AreWords ws
+    → ComesTo (program r (U.Instruction taking)) ws (Enter r' u) → (e : ℕ) × (k : ℕ) × Begins (still_taking (U.Instruction taking) ws) e k u
+unfolding program instruction opcode_read
+instruction_begins r taking [] r' u words here =
+    (0, 0, fetch_begins 0 0 (begun r taking) (λ opcode s. opcode_read opcode s) r' u here)
+instruction_begins r taking (opcode ∷ ws) r' u words here =
+    (trap_ea (decode_of opcode), _, (opcode_lawful r taking opcode words.0).begins ws r' u words.1
+    (fetch_comes (begun r taking) (λ opcode s. opcode_read opcode s) opcode ws (Enter r' u) here))
+
 pub instruction_time : InstructionTime
 unfolding program instruction opcode_read
 instruction_time r taking [] t r' u words here = fetch_no_end (begun r taking) (λ opcode s. opcode_read opcode s) t r' u here
@@ -130,5 +151,5 @@ reset_time = reset_takes
 
 pub stopped_time : StoppedTime
 unfolding program
-stopped_time r [] t r' u here = subst (λ q. Holds false (λ k l x. Takes x k 2) 0 0 0 q) here (serves_takes 0 2 refl)
+stopped_time r [] t r' u here = (subst (λ q. Holds false (λ k l x. Takes x k 2) 0 0 0 q) here (serves_takes 0 2 refl, tt)).0
 stopped_time r (w ∷ ws) t r' u here = absurd here

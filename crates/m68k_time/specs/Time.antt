@@ -179,3 +179,22 @@ WalkBegins = (r : CpuRegs) (u : Under) → IsExact (begin r u)
 abbrev pub WalkGoesOn : Type 0
 WalkGoesOn = (r : CpuRegs) (u : Under) (ws : List ℕ) (w level : ℕ) → w < 65536 →
     IsExact (stage r u ws) → IsExact (advance r u ws w level)
+
+-- what is under way next after the end of an instruction: the next one, or the wait of STOP. Else it was broken off.
+abbrev pub GoesOn : Under → Type 0
+GoesOn U.Reset = ⊥
+GoesOn (U.Instruction taking) = Unit {0}
+GoesOn (U.Entry kind ea taking) = ⊥
+GoesOn U.Stopped = Unit {0}
+GoesOn U.Halted = ⊥
+
+-- An instruction's end, by the walk alone: four clocks for each answer and two for each idle clock are its number.
+abbrev pub EndTakes : CpuRegs → List ℕ → ℕ → Type 0
+EndTakes r [] idle = ⊥
+EndTakes r (opcode ∷ ws) idle =
+    4 * length (opcode ∷ ws) + 2 * idle ≡ number (clocks_at opcode) (outcome (decode_of opcode) r ws)
+
+abbrev pub WalkTime : Type 0
+WalkTime = (r : CpuRegs) (taking : Bool) (ws : List ℕ) (r' : CpuRegs) (idle : ℕ) (u : Under) →
+    IsExact (stage r (U.Instruction taking) ws) →
+    next r (U.Instruction taking) ws ≡ Ends r' idle u → GoesOn u → EndTakes r ws idle
