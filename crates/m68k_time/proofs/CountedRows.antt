@@ -61,8 +61,11 @@ shift_row c d z i t r s row =
     let M : Bool → Type 0 = λ b. Holds s.taking (With s (X b)) 0 1 0
     (if is_operand (source b) then place s S.Long (source_mode_of (source b)) (λ p t. G.with_source row p t) else G.dest row (constant_of (source b)) s) in
     let split : (b : Bool) → M b = (λ b. elim b as M [
-      | true ↦ (subst (λ y. Takes (number (clocks_at s.opcode) y) 1 (number (clocks_at s.opcode) (data_of s.regs c % 64))) (sym (cut_count (data_of s.regs c)))
-          (counted_at 1 (clocks_at s.opcode) serves_it (data_of s.regs c % 64)), tt)
+      | true ↦ (
+        subst (λ y. Takes (number (clocks_at s.opcode) y) 1 (number (clocks_at s.opcode) (data_of s.regs c % 64))) (sym (cut_count (data_of s.regs c)))
+            (counted_at 1 (clocks_at s.opcode) serves_it (data_of s.regs c % 64)),
+        tt,
+      )
       | false ↦ (counted_at 1 (clocks_at s.opcode) serves_it (eight_if_zero c % 64), tt)
     ]) in
     lawful_with row s (G.general row s) (X (i == 1)) (λ ws. refl) (split (i == 1))
@@ -144,7 +147,8 @@ memory_product w r m s one fits =
     (λ value below. multiplied (ByLast s w) (suc (more (extensions m S.Word) 1)) value w r m value (with_regs s regs)
     (counted_at (suc (more (extensions m S.Word) 1)) (clocks_at s.opcode) enough (multiply_count w value), at_least (extensions m S.Word))))
 
-immediate_product : (w r : ℕ) (s : Run) → counted_serves 2 0 (clocks_at s.opcode) ≡ true → Holds s.taking (ByLast s w) 0 1 0 (G.general (I.MuluMuls w r M.Imm) s)
+immediate_product : (w r : ℕ) (s : Run) → counted_serves 2 0 (clocks_at s.opcode) ≡ true
+    → Holds s.taking (ByLast s w) 0 1 0 (G.general (I.MuluMuls w r M.Imm) s)
 unfolding G.general G.with_source place at_place place_of stepped load general_row
 immediate_product w r s fits =
     fetch_holds (ByLast s w) 0 1 0 s _ (λ value below.

@@ -162,7 +162,8 @@ returning_row (suc (suc (suc n))) s row h = absurd (grind (arith, nat_tests, h))
 -- ---- DBcc and branches, by their outcomes
 
 -- the end of a row with this outcome
-with_finish : (x k l : ℕ) (s : Run) (c : Clocks) → clocks_at s.opcode ≡ c → (y : ℕ) → Takes (number c y) k (number c x) → Holds s.taking (With s x) 0 k l (finish y s)
+with_finish : (x k l : ℕ) (s : Run) (c : Clocks) → clocks_at s.opcode ≡ c → (y : ℕ) → Takes (number c y) k (number c x)
+    → Holds s.taking (With s x) 0 k l (finish y s)
 with_finish x k l s c row y h =
     finish_holds (With s x) 0 k l y s (subst (λ d. Takes (number d y) k (number d x)) (sym row) h)
 

@@ -39,7 +39,8 @@ lawful_same i s p h =
 abbrev pub With : Run → ℕ → ℕ → ℕ → ℕ → Type 0
 With s x k l t = Takes t k (number (clocks_at s.opcode) x)
 
-pub lawful_with : (i : Instr) (s : Run) (p : Prog) (x : ℕ) → ((ws : List ℕ) → outcome i s.regs ws ≡ x) → Holds s.taking (With s x) (trap_ea i) 1 0 p → Lawful i s p
+pub lawful_with : (i : Instr) (s : Run) (p : Prog) (x : ℕ) → ((ws : List ℕ) → outcome i s.regs ws ≡ x)
+    → Holds s.taking (With s x) (trap_ea i) 1 0 p → Lawful i s p
 lawful_with i s p x all h =
     record {
       ends = λ ws t r u words here. subst (λ y. Takes t (more (length ws) 1) (number (clocks_at s.opcode) y)) (sym (all ws))

@@ -135,16 +135,18 @@ way_given r u ws w t r' u' level least above (inr now) = gives_way r u (ws ++ w 
 interrupted : (r : CpuRegs) (u : Under) (ws : List ℕ) (w level l : ℕ) → level ≤ 7 → Ended r u ws w level l
     → (l ≡ level) × Interrupted r u ws w level
 interrupted r u ws w level l least e =
-    let taken = boundary_begins (is_traced r u) e.regs e.under level l e.begins in
-    (taken.0, record {
-      clocks = e.clocks;
-      regs = e.regs;
-      under = e.under;
-      ended = e.ended;
-      gives_way = way_given r u ws w e.clocks e.regs e.under level least taken.2 e.ended;
-      untraced = taken.1;
-      above = taken.2;
-    })
+    let taken = boundary_begins (is_traced r u) e.regs e.under level l e.begins in (
+      taken.0,
+      record {
+        clocks = e.clocks;
+        regs = e.regs;
+        under = e.under;
+        ended = e.ended;
+        gives_way = way_given r u ws w e.clocks e.regs e.under level least taken.2 e.ended;
+        untraced = taken.1;
+        above = taken.2;
+      },
+    )
 
 -- ---- and where something ends, an answer is what follows the end
 

@@ -240,7 +240,8 @@ long_to o h = grind (arith, nat_tests, h)
 long_from : (o : ℕ) → o == 0 ≡ false → o == 2 ≡ false → (o == 0) || (o == 2) ≡ false
 long_from o h g = grind (arith, nat_tests, h, g)
 
-bytes_hold : (r o a l at : ℕ) (s : Run) → clocks_at s.opcode ≡ two_or_four ((o == 0) || (o == 2)) → Holds s.taking (Same s) 0 2 l (bytes_moved (I.Movep r o a) r o at s)
+bytes_hold : (r o a l at : ℕ) (s : Run) → clocks_at s.opcode ≡ two_or_four ((o == 0) || (o == 2))
+    → Holds s.taking (Same s) 0 2 l (bytes_moved (I.Movep r o a) r o at s)
 bytes_hold r o a l at s row =
     let c : Clocks = clocks_at s.opcode in
     let back : (k : ℕ) → always_serves k (two_or_four ((o == 0) || (o == 2))) ≡ true → always_serves k c ≡ true =

@@ -102,16 +102,18 @@ run r regs instruction taking = record { start = r; regs = regs; opcode = 0; tak
 fault_twins : (r regs : CpuRegs) (instruction : Bool) (at : ℕ) (reads program_space : Bool)
     → Twins r (fault (run r regs instruction true) at reads program_space) (fault (run r regs instruction false) at reads program_space)
 unfolding fault
-fault_twins r regs instruction at reads program_space =
-    (refl, record {
-      at = at;
-      opcode = 0;
-      read = reads;
-      program_space = program_space;
-      instruction = instruction;
-      regs = record r { pc = regs.pc };
-      same = refl;
-    })
+fault_twins r regs instruction at reads program_space = (
+  refl,
+  record {
+    at = at;
+    opcode = 0;
+    read = reads;
+    program_space = program_space;
+    instruction = instruction;
+    regs = record r { pc = regs.pc };
+    same = refl;
+  },
+)
 
 odd_twins : (odd : Bool) (r : CpuRegs) (p q : Prog) (a : Access) (k j : ℕ → Prog) → Twins r p q → ((w : ℕ) → Twins r (k w) (j w))
     → Twins r (if odd then p else Ask a k) (if odd then q else Ask a j)

@@ -99,9 +99,12 @@ pub instruction_begins : (r : CpuRegs) (taking : Bool) (ws : List ℕ) (r' : Cpu
 unfolding program instruction opcode_read
 instruction_begins r taking [] r' u words here =
     (0, 0, fetch_begins 0 0 (begun r taking) (λ opcode s. opcode_read opcode s) r' u here)
-instruction_begins r taking (opcode ∷ ws) r' u words here =
-    (trap_ea (decode_of opcode), _, (opcode_lawful r taking opcode words.0).begins ws r' u words.1
-    (fetch_comes (begun r taking) (λ opcode s. opcode_read opcode s) opcode ws (Enter r' u) here))
+instruction_begins r taking (opcode ∷ ws) r' u words here = (
+  trap_ea (decode_of opcode),
+  _,
+  (opcode_lawful r taking opcode words.0).begins ws r' u words.1
+      (fetch_comes (begun r taking) (λ opcode s. opcode_read opcode s) opcode ws (Enter r' u) here),
+)
 
 pub instruction_time : InstructionTime
 unfolding program instruction opcode_read
