@@ -8,7 +8,7 @@ use Rattle.ocs_run.specs.Command.{OrderAnswers, IsUnwritten, IsWanting, KeepsSai
 use Rattle.ocs_run.specs.Fault.{status_of}
 use Rattle.ocs_run.specs.Order.{OrderValue}
 use Rattle.ocs_run.specs.SceneAnswers.{SceneAnswers, SaysSummaryPart}
-use Rattle.ocs_run.specs.Texts.{fault_text, text_of, Says}
+use Rattle.ocs_run.specs.Texts.{usage_text, fault_text, text_of, Says, SaysSurely}
 use Rattle.ocs_run.specs.Top.{UsageAnswers, CommandAnswers, SaysNothingElse, IsEarly, IsScene, IsRefused, HasBadScript, Completed, IsToldOfRun, IsTold, SaysFault, SaysOwn, SaysStatus}
 use Rattle.ocs_run.specs.Verdict.{Verdict, Usage as UsageVerdict, Absent, BadImage as BadImageVerdict, BadScript as BadScriptVerdict, Good, Scene, of_order, of_command, of_image, of_text, of_script}
 use Rattle.ocs_run.specs.Words.{CommandValue, Run, Gen, command_of}
@@ -283,10 +283,41 @@ told order old mid Unsaid is = absurd is
 told order old mid OutOfMemory is = tt
 
 says_from : (text : List ℕ) (old mid new : Outside) → KeepsSaid old mid → Says text mid new → Says text old new
-says_from text old mid new kept (inl all) = inl (all ∙ ap (λ t. said_more t text) kept.said)
-says_from text old mid new kept (inr (inl part)) =
-    inr (inl (part.0, part.1 ∙ ap (λ t. said_more t (take part.0 text)) kept.said, subst (λ n. Rose n new.say_faults) kept.faults part.2))
-says_from text old mid new kept (inr (inr none)) = inr (inr (none ∙ kept.said))
+says_from text old mid new kept (inl (inl all)) = inl (inl (all ∙ ap (λ t. said_more t text) kept.said))
+says_from text old mid new kept (inl (inr part)) =
+    inl (inr (part.0, part.1 ∙ ap (λ t. said_more t (take part.0 text)) kept.said, subst (λ n. Rose n new.say_faults) kept.faults part.2))
+says_from text old mid new kept (inr none) = inr (none ∙ kept.said)
+
+-- at status 2 the words are of no form, and their form is told
+order_no_usage : (order : OrderValue) (old mid : Outside) (fault : Fault) (s : ℕ) → OrderAnswers order old mid (Err fault) → s ≡ status_of fault
+    → s ≡ 2 → ⊥
+order_no_usage order old mid Usage s is e two = is
+order_no_usage order old mid BadImage s is e two = omega arith
+order_no_usage order old mid (BadScript line kind) s is e two = omega arith
+order_no_usage order old mid (Unread input) s is e two = omega arith
+order_no_usage order old mid (Unwritten file) s is e two = omega arith
+order_no_usage order old mid Unsaid s is e two = is
+order_no_usage order old mid OutOfMemory s is e two = omega arith
+
+usage_of : (command : Option CommandValue) (old mid : Outside) (fault : Fault) (s : ℕ) → CommandAnswers command old mid (Err fault)
+    → s ≡ status_of fault → s ≡ 2 → (command ≡ None) × (fault ≡ Usage)
+usage_of None old mid fault s is e two = (refl, (usage_fault old mid fault is).0)
+usage_of (Some (Run order)) old mid fault s is e two = absurd (order_no_usage order old mid fault s is e two)
+usage_of (Some (Gen scene)) old mid fault s is e two =
+    absurd (let more : 6 ≤ s = scene_status scene.number old mid fault s is.0 e in omega arith)
+
+-- no call of the place comes before it is said
+pub usage_clause : {V : Type 0} (outside : V → Outside) (freely : V → List ℕ → Type 0) (before mid : V) (new : Outside) (words : List (List ℕ))
+    (fault : Fault) (s : ℕ)
+    → CommandAnswers (command_of words) (outside before) (outside mid) (Err fault) → s ≡ status_of fault
+    → (command_of words ≡ None → mid ≡ before)
+    → (fault ≡ Usage → freely mid (usage_text words) → SaysSurely (usage_text words) (outside mid) new)
+    → s ≡ 2 → freely before (usage_text words) → SaysSurely (usage_text words) (outside before) new
+usage_clause outside freely before mid new words fault s is e same says two free =
+    let usage = usage_of (command_of words) (outside before) (outside mid) fault s is e two in
+    let back : mid ≡ before = same usage.0 in
+    subst (λ p. SaysSurely (usage_text words) (outside p) new) back
+    (says usage.1 (subst (λ p. freely p (usage_text words)) (sym back) free))
 
 -- an empty text adds nothing
 said_nothing : (said : Option (List ℕ)) → said_more said [] ≡ said
@@ -298,9 +329,9 @@ taken_nothing zero = refl
 taken_nothing (suc n) = refl
 
 says_no_text : (mid new : Outside) → Says [] mid new → new.said ≡ mid.said
-says_no_text mid new (inl all) = all ∙ said_nothing mid.said
-says_no_text mid new (inr (inl part)) = part.1 ∙ ap (said_more mid.said) (taken_nothing part.0) ∙ said_nothing mid.said
-says_no_text mid new (inr (inr none)) = none
+says_no_text mid new (inl (inl all)) = all ∙ said_nothing mid.said
+says_no_text mid new (inl (inr part)) = part.1 ∙ ap (said_more mid.said) (taken_nothing part.0) ∙ said_nothing mid.said
+says_no_text mid new (inr none) = none
 
 no_text : (words : List (List ℕ)) → text_of words Unsaid ≡ []
 unfolding fault_text

@@ -47,9 +47,12 @@ order_or_none (Some order) = order
 abbrev pub text_of : List (List ℕ) → Fault → List ℕ
 text_of words fault = fault_text (usage_text words) (order_or_none (order_of words)) fault
 
--- a text was said: all of it, a part of it where the outside refused, or nothing where memory was wanting
-abbrev pub Says : List ℕ → Outside → Outside → Type 0
-Says text old new =
+-- a text was said: all of it, or a part of it where the outside refused
+abbrev pub SaysSurely : List ℕ → Outside → Outside → Type 0
+SaysSurely text old new =
     (new.said ≡ said_more old.said text)
-    ⊎ (((n : ℕ) × (new.said ≡ said_more old.said (take n text)) × Rose old.say_faults new.say_faults)
-    ⊎ (new.said ≡ old.said))
+    ⊎ ((n : ℕ) × (new.said ≡ said_more old.said (take n text)) × Rose old.say_faults new.say_faults)
+
+-- a text was said so, or nothing where memory was wanting
+abbrev pub Says : List ℕ → Outside → Outside → Type 0
+Says text old new = SaysSurely text old new ⊎ (new.said ≡ old.said)

@@ -3,7 +3,7 @@
 ghost use Rattle.std.specs.Prelude.{◌≡◌, ◌++◌, map, string_bytes, OnOk, codes, decimal};
 ghost use Rattle.ocs_io.specs.Place.{OnlySays};
 ghost use Rattle.ocs_run.specs.Order.{order_of};
-ghost use Rattle.ocs_run.specs.Texts.{text_of, Says, usage_text, order_or_none, input_name as name_of_input, file_name as name_of_file};
+ghost use Rattle.ocs_run.specs.Texts.{text_of, Says, SaysSurely, usage_text, order_or_none, input_name as name_of_input, file_name as name_of_file};
 ghost use Rattle.script_read.specs.KindName.{kind_name};
 
 use crate::fault::{Fault, Input};
@@ -16,11 +16,16 @@ use script_read::BadKind;
 use std::alloc::Global;
 
 /// Says the text of a fault. A text without a name or a place needs no memory; it is said as it stands.
-/// A refusal to say a text, or want of memory for one that is made, changes nothing else.
+/// A refusal to say a text, or want of memory for one that is made, changes nothing else. Where the place
+/// says the form of the words freely, it is never left out for want of memory.
 #[tactic(auto, unfolding(crate::specs::Texts::fault_text))]
 pub fn say_fault<P: Place>(alloc: Global, words: &[String], fault: Fault, place: &mut P)
     ensures says { Says (text_of (map string_bytes words.now) fault)
         (P.outside place.old) (P.outside place.new) }
+    ensures usage { fault ≡ Fault.Usage
+        → P.says_freely place.old (usage_text (map string_bytes words.now))
+        → SaysSurely (usage_text (map string_bytes words.now)) (P.outside place.old)
+        (P.outside place.new) }
     ensures kept { OnlySays (P.outside place.old) (P.outside place.new) }
 {
     match fault {
@@ -37,6 +42,8 @@ pub fn say_fault<P: Place>(alloc: Global, words: &[String], fault: Fault, place:
 /// Says a text as it stands.
 fn say<P: Place>(text: &str, place: &mut P)
     ensures says { Says text.now (P.outside place.old) (P.outside place.new) }
+    ensures freely { P.says_freely place.old text.now
+        → SaysSurely text.now (P.outside place.old) (P.outside place.new) }
     ensures kept { OnlySays (P.outside place.old) (P.outside place.new) }
 {
     let _refused = place.say(text.as_bytes());

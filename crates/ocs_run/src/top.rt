@@ -7,6 +7,7 @@ ghost use Rattle.ocs_run.specs.Words.{command_of};
 ghost use Rattle.ocs_run.specs.Verdict.{of_command};
 ghost use Rattle.ocs_run.specs.Command.{IsDone, IsUnwritten, IsWanting};
 ghost use Rattle.ocs_run.specs.Top.{ReadableInputs, CommandAnswers, SaysNothingElse, SaysStatus, IsEarly, IsScene, IsRefused, HasBadImage, HasBadScript, Completed, HasRunEnd};
+ghost use Rattle.ocs_run.specs.Texts.{SaysSurely, usage_text};
 
 use crate::command::run_order;
 use crate::fault::Fault;
@@ -83,6 +84,13 @@ pub fn ocs_main<
     // said, or a part of it where that was refused.
     ensures said { SaysStatus (map string_bytes words.now) (P.outside place.old)
         (P.outside place.new) result }
+
+    // Words of no form have their usage said, or a part of it where the outside refused, and not nothing
+    // for want of memory, where the place needs none of its own for it.
+    ensures usage_said { result ≡ 2
+        → P.says_freely place.old (usage_text (map string_bytes words.now))
+        → SaysSurely (usage_text (map string_bytes words.now)) (P.outside place.old)
+        (P.outside place.new) }
 {
     match run_words(rt, alloc, words, gate, place) {
         Ok(()) => 0,
@@ -104,6 +112,7 @@ fn run_words<
         (P.outside place.new) result }
     ensures said { SaysNothingElse (command_of (map string_bytes words.now))
         (P.outside place.old) (P.outside place.new) }
+    ensures untouched { command_of (map string_bytes words.now) ≡ None → place.new ≡ place.old }
 {
     match read_command(words) {
         Some(Command::Run(order)) => run_order(rt, alloc, &order, gate, place),

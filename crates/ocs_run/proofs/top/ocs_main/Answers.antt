@@ -1,5 +1,5 @@
 use Rattle.ocs_run.proofs.EndLaws.{ends_where_told}
-use Rattle.ocs_run.proofs.TopLaws.{script_clause, unread_clause, unwritten_clause, kept_clause, apart_clause, complete_clause, refused_clause, said_clause, apart_done_clause, said_done_clause}
+use Rattle.ocs_run.proofs.TopLaws.{script_clause, unread_clause, unwritten_clause, kept_clause, apart_clause, complete_clause, refused_clause, said_clause, usage_clause, apart_done_clause, said_done_clause}
 use Rattle.ocs_run.proofs.top.ocs_main.Goals as goal
 
 pub returns-in-Ok-clause-said : goal.returns-in-Ok-clause-said
@@ -37,3 +37,8 @@ returns-in-Err-clause-said g c =
 
 pub returns-in-Err-clause-ends : goal.returns-in-Err-clause-ends
 returns-in-Err-clause-ends g c = ends_where_told _ _
+
+pub returns-in-Err-clause-usage_said : goal.returns-in-Err-clause-usage_said
+returns-in-Err-clause-usage_said g c two free =
+    usage_clause g.P.Place.outside g.P.Place.says_freely c.args.place.now c.run_words.new.place (g.P.Place.outside c.say_fault.new.place) _ c.in-Err.fault _
+    c.in-Err.ensures.answer c.status.ensures c.in-Err.ensures.untouched c.say_fault.ensures.usage two free
