@@ -1,13 +1,11 @@
 -- The time of an instruction, by the walk alone.
-use Rattle.std.proofs.Common.{◌≡◌, ℕ, ◌+◌, ◌*◌, Bool, List, [], ◌∷◌, length, sym, ap, subst, ◌∙◌, arith}
-use Rattle.m68k_opcodes.specs.Clocks.{number}
-use Rattle.m68k_opcodes.specs.Table.{decode_of, clocks_at}
+use Rattle.std.proofs.Common.{◌≡◌, ℕ, Bool, List, [], ◌∷◌, length, sym, ap, subst, arith}
 use Rattle.m68k_decode.specs.declared.regs.CpuRegs.{CpuRegs}
 use Rattle.m68k_decode.specs.declared.under.Under.{Under}
 use Rattle.m68k_decode.specs.declared.under.Under.TheVariants as U
 use Rattle.m68k_decode.specs.Access.{Prog, Ask, End, Enter, Halt, Next, Asks, Ends, Halts, next_of, idle_clocks}
 use Rattle.m68k_decode.specs.Walk.{program, next}
-use Rattle.m68k_time.specs.Time.{ComesTo, AreWords, GoesOn, EndTakes, InstructionTakes, WalkTime, outcome}
+use Rattle.m68k_time.specs.Time.{ComesTo, AreWords, GoesOn, EndTakes, InstructionTakes, WalkTime}
 use Rattle.m68k_time.proofs.Counting.{Begins}
 use Rattle.m68k_time.proofs.Stages.{comes_after}
 use Rattle.m68k_time.proofs.Whole.{instruction_time, instruction_begins}

@@ -7,12 +7,12 @@ use Rattle.m68k_decode.specs.declared.under.Under.{Under}
 use Rattle.m68k_decode.specs.declared.under.Under.TheVariants as U
 use Rattle.m68k_decode.specs.Frames.{frame_of}
 use Rattle.m68k_decode.specs.Status.{mask_of}
-use Rattle.m68k_decode.specs.Access.{Access, Read, Prog, Ask, End, Enter, Halt, after, idle_clocks}
-use Rattle.m68k_decode.specs.Run.{stack_of, moved, fault, read_word, fetch}
+use Rattle.m68k_decode.specs.Access.{Read, Prog, Ask, End, Enter, Halt, idle_clocks}
+use Rattle.m68k_decode.specs.Run.{moved, fault, read_word, fetch}
 use Rattle.m68k_decode.specs.Entries.{entry}
 use Rattle.m68k_decode.specs.Walk.{Stage, stage, program, instruction, opcode_read, begun, entering, replaced, begin_again, begin, taking_of, is_traced, boundary, settled, answered, advance}
 use Rattle.m68k_time.specs.Time.{ComesTo, AreWords, GoesOn, IsExact}
-use Rattle.m68k_time.specs.Boundaries.{EndsNow, still_taking, HasAddressError, IsDouble, ProgramHalts, at_end, BeginsNow, HaltsAtOnce, IsHaltedBy, WalkHalts}
+use Rattle.m68k_time.specs.Boundaries.{EndsNow, HasAddressError, IsDouble, ProgramHalts, at_end, BeginsNow, HaltsAtOnce, IsHaltedBy, WalkHalts}
 use Rattle.m68k_time.proofs.Counting.{Anything, Begins, at_begin, goes_on_at_end}
 use Rattle.m68k_time.proofs.Entries.{pushes_hold, reset_goes_on}
 use Rattle.m68k_time.proofs.Whole.{instruction_goes_on, instruction_begins}

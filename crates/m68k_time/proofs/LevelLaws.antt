@@ -1,12 +1,12 @@
 -- A level is answered exactly where an instruction, an entry or a clock of STOP ended, and it is above the mask.
-use Rattle.std.proofs.Common.{◌≡◌, ℕ, ◌<◌, ◌≤◌, ◌==◌, ◌⊎◌, Bool, true, false, if◌then◌else◌, nat_lt, List, [], ◌∷◌, ◌++◌, length, Option, Some, None, inl, inr, refl, ap, sym, subst, ◌∙◌, arith}
+use Rattle.std.proofs.Common.{◌≡◌, ℕ, ◌<◌, ◌≤◌, ◌==◌, Bool, true, false, if◌then◌else◌, nat_lt, List, [], ◌∷◌, ◌++◌, length, Option, Some, None, inl, inr, refl, ap, sym, subst, ◌∙◌, arith}
 use Rattle.std.proofs.lemmas.Bool.Decides.{nat_tests}
 use Rattle.m68k_decode.specs.declared.regs.CpuRegs.{CpuRegs}
 use Rattle.m68k_decode.specs.declared.trap.Trap.TheVariants as T
 use Rattle.m68k_decode.specs.declared.under.Under.{Under}
 use Rattle.m68k_decode.specs.declared.under.Under.TheVariants as U
 use Rattle.m68k_decode.specs.Status.{mask_of}
-use Rattle.m68k_decode.specs.Access.{Prog, Ask, End, Enter, Halt, after, idle_clocks}
+use Rattle.m68k_decode.specs.Access.{Prog, Ask, End, Enter, Halt, idle_clocks}
 use Rattle.m68k_decode.specs.Walk.{Stage, stage, program, replaced, begin_again, begin, taking_of, is_traced, boundary, settled, answered, advance}
 use Rattle.m68k_time.specs.Time.{ComesTo, IsExact}
 use Rattle.m68k_time.specs.Boundaries.{EndsNow, GivesWay, Interrupted, WalkInterrupts}

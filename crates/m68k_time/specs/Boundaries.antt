@@ -6,7 +6,7 @@ use Rattle.m68k_decode.specs.declared.under.Under.{Under}
 use Rattle.m68k_decode.specs.declared.under.Under.TheVariants as U
 use Rattle.m68k_decode.specs.Status.{mask_of}
 use Rattle.m68k_decode.specs.Access.{End, Enter, idle_clocks}
-use Rattle.m68k_decode.specs.Walk.{stage, program, begin, advance, is_traced, taking_of}
+use Rattle.m68k_decode.specs.Walk.{stage, program, advance, is_traced, taking_of}
 use Rattle.m68k_time.specs.Time.{ComesTo, AreWords, IsExact}
 
 -- ---- the end of what is under way
