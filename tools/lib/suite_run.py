@@ -282,8 +282,9 @@ def store(suite: Suite, case: Case, result: Result, came: dict[str, int], kept: 
     """Moves the files of a passing run to where the next run is compared with them, where they are not too long; those that
     stand there already, as `kept` says, stay.
     """
-    keeps = sum(came.values()) <= suite.most_stored
-    before = dict(result.stored)
+    keeps, before = sum(came.values()) <= suite.most_stored, dict(result.stored)
+    if not kept:
+        os.makedirs(suite.place(case, "passed"), exist_ok=True)
     for kind in KINDS:
         place, stays = suite.place(case, "now", kind), kind in kept and kept[kind].sum == result.sums.get(kind)
         if keeps and stays:
@@ -300,7 +301,6 @@ def store(suite: Suite, case: Case, result: Result, came: dict[str, int], kept: 
 
 def move(place: str, to: str, sum: str) -> Stored:
     """Moves a file of a passing run; gives what is known of it then."""
-    os.makedirs(os.path.dirname(to), exist_ok=True)
     os.replace(place, to)
     found = os.stat(to)
     return Stored(sum, found.st_size, found.st_mtime_ns)

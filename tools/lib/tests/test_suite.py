@@ -141,6 +141,19 @@ class SuiteTest(Tools):
         self.case("one", GREEN)
         self.assertIn("frames: first at frame 1, line 100, clock 100", self.suite()[1][0])
 
+    def test_stored_files_that_are_gone(self) -> None:
+        """Whoever takes away what passed, or a part of it, takes nothing else with it."""
+        self.case("one")
+        self.assertEqual(self.suite("--accept")[0], 0)
+        for gone in ("passed/frames", "now", ".", "passed"):
+            place = os.path.join(self.place("cases/out/one"), gone)
+            os.remove(place) if os.path.isfile(place) else shutil.rmtree(os.path.normpath(place))
+            self.assertEqual(self.suite("--store", "0" if gone == "passed" else "4")[0], 0, gone)
+            there = sorted(os.listdir(self.place("cases/out/one/passed")))
+            wanted = [] if gone == "passed" else ["frames", "memory", "trace"]
+            self.assertEqual([name for name in there if name != "stored.json"], wanted, gone)
+            self.assertEqual(os.listdir(self.place("cases/out/one/now")), [])
+
     def test_kept_files(self) -> None:
         self.case("one")
         self.assertEqual(self.suite("--accept", "--keep")[0], 0)
