@@ -1,6 +1,9 @@
 //! From an opcode to its instruction.
 
-ghost use Rattle.std.specs.Prelude.{◌≡◌, ◌≤◌};
+ghost use Rattle.std.specs.Prelude.{◌≡◌, ◌≤◌, ◌==◌, if◌then◌else◌};
+ghost use Rattle.m68k_opcodes.specs.declared.class.Class.TheVariants as K;
+ghost use Rattle.m68k_opcodes.specs.declared.instr.Instr.TheVariants as I;
+ghost use Rattle.m68k_opcodes.specs.Parts.{operand_in};
 ghost use Rattle.m68k_opcodes.specs.Table.{decode_of, rows_at};
 ghost use Rattle.m68k_opcodes.specs.Lines as L;
 
@@ -212,23 +215,51 @@ fn unary(opcode: u16, o: u8) -> Instr
 fn swap_and_movem(opcode: u16) -> Instr
     ensures { result ≡ L.swap_and_movem opcode }
 {
-    let r = low_register(opcode);
-    match (size_bits(opcode), mode_bits(opcode)) {
-        (0, _) => match operand(opcode, Class::DataAlterable) {
-            Some(mode) => Instr::Nbcd { mode },
-            None => Instr::Illegal,
-        },
-        (1, 0) => Instr::Swap { r },
-        (1, _) => match operand(opcode, Class::Control) {
-            Some(mode) => Instr::Pea { mode },
-            None => Instr::Illegal,
-        },
-        (bits, 0) => Instr::Ext {
-            size: long_if(bits == 3),
-            r,
-        },
-        (bits, _) => movem_to_memory(opcode, long_if(bits == 3)),
+    match size_bits(opcode) {
+        0 => negate_decimal(opcode),
+        1 => swap_or_address(opcode),
+        bits => extend_or_movem(opcode, long_if(bits == 3)),
     }
+}
+
+/// NBCD.
+fn negate_decimal(opcode: u16) -> Instr
+    ensures { result ≡ L.of_mode (operand_in opcode K.DataAlterable) (λ m. I.Nbcd m) }
+{
+    match operand(opcode, Class::DataAlterable) {
+        Some(mode) => Instr::Nbcd { mode },
+        None => Instr::Illegal,
+    }
+}
+
+/// SWAP and PEA.
+fn swap_or_address(opcode: u16) -> Instr
+    ensures { result ≡ (if L.modes opcode == 0 then I.Swap (L.low opcode)
+        else L.of_mode (operand_in opcode K.Control) (λ m. I.Pea m)) }
+{
+    if mode_bits(opcode) == 0 {
+        return Instr::Swap {
+            r: low_register(opcode),
+        };
+    }
+    match operand(opcode, Class::Control) {
+        Some(mode) => Instr::Pea { mode },
+        None => Instr::Illegal,
+    }
+}
+
+/// EXT and MOVEM to memory.
+fn extend_or_movem(opcode: u16, size: Size) -> Instr
+    ensures { result ≡ (if L.modes opcode == 0 then I.Ext size (L.low opcode)
+        else L.movem_to_memory opcode size) }
+{
+    if mode_bits(opcode) == 0 {
+        return Instr::Ext {
+            size,
+            r: low_register(opcode),
+        };
+    }
+    movem_to_memory(opcode, size)
 }
 
 /// MOVEM to memory.
@@ -392,15 +423,17 @@ fn logic(opcode: u16, which: u8) -> Instr
     if bit_8(opcode) == 0 {
         return logic_to_register(opcode, which);
     }
-    match (mode_bits(opcode), size_bits(opcode)) {
-        (0 | 1, 0) => Instr::SbcdAbcd {
-            which,
-            x: high_register(opcode),
-            m: mode_bits(opcode),
-            y: low_register(opcode),
-        },
-        (0 | 1, _) => exchange(opcode, which),
-        _ => to_memory(opcode, which),
+    if mode_bits(opcode) >= 2 {
+        return to_memory(opcode, which);
+    }
+    if size_bits(opcode) > 0 {
+        return exchange(opcode, which);
+    }
+    Instr::SbcdAbcd {
+        which,
+        x: high_register(opcode),
+        m: mode_bits(opcode),
+        y: low_register(opcode),
     }
 }
 
