@@ -159,25 +159,28 @@ fn rows_up_and_down(rt: HostRuntime) {
     }
 }
 
+/// The registers that a blit of two rows of two words leaves, for BLTCON0.
+fn registers_left(con0: u16) -> BlitRegs {
+    let mut regs = registers();
+    regs.con0 = con0;
+    regs.size = 0x0082;
+    regs.adat = 0x1234;
+    regs.amod = -14;
+    regs.dmod = 4;
+    regs.aptl = 0x0011;
+    let mut blit = AreaBlit::start(&regs);
+    written(&mut blit, &[5, 6, 8, 7]);
+    blit.regs()
+}
+
 #[test]
 fn registers_at_the_end(rt: HostRuntime) {
     for (con0, apt, aptl, adat) in [(0x09f0, 0x7fffc, 0xfffc, 7), (0x01f0, 0x10, 0x0011, 0x1234)] {
-        let mut regs = registers();
-        regs.con0 = con0;
-        regs.size = 0x0082;
-        regs.adat = 0x1234;
-        regs.amod = -14;
-        regs.dmod = 4;
-        regs.aptl = 0x0011;
-        let mut blit = AreaBlit::start(&regs);
-        written(&mut blit, &[5, 6, 8, 7]);
-        let end = blit.regs();
-        assert_eq!(rt; end.apt.raw(), apt, "{con0}");
-        assert_eq!(rt; end.aptl, aptl, "{con0}");
-        assert_eq!(rt; end.adat, adat, "{con0}");
-        assert_eq!(rt; end.bpt.raw(), 0x20, "{con0}");
-        assert_eq!(rt; end.dpt.raw(), 0x50, "{con0}");
-        assert_eq!(rt; end.con0, con0, "{con0}");
+        let end = registers_left(con0);
+        let pointers = [end.apt.raw(), end.bpt.raw(), end.dpt.raw()];
+        assert_eq!(rt; pointers, [apt, 0x20, 0x50], "{con0}");
+        let words = [end.aptl, end.adat, end.con0];
+        assert_eq!(rt; words, [aptl, adat, con0], "{con0}");
     }
 }
 

@@ -2,6 +2,7 @@
 
 use blitter::{Blit, BlitRegs, SlotAsk};
 use ocs_base::Addr;
+use std::process::Abort;
 
 /// A blit of one word from A to D, or of one point from C to D at its address.
 fn registers(con0: u16, con1: u16) -> BlitRegs {
@@ -26,6 +27,23 @@ fn registers(con0: u16, con1: u16) -> BlitRegs {
     }
 }
 
+/// The address and the word of the blit's one write, up to which it has written zeros alone.
+fn write_of(rt: &impl Abort, blit: &mut Blit) -> Option<(u32, u16)> {
+    for _ in 0..5 {
+        assert!(rt; blit.zero());
+        match blit.next() {
+            SlotAsk::Read { .. } => blit.give(0x0420),
+            SlotAsk::Write { at, word } => {
+                blit.give(0);
+                return Some((at.raw(), word));
+            }
+            SlotAsk::Rest => blit.give(0xffff),
+            SlotAsk::Done => break,
+        }
+    }
+    None
+}
+
 #[test]
 fn one_word_and_one_point(rt: HostRuntime) {
     for (con0, con1, at, written, end) in [
@@ -33,21 +51,7 @@ fn one_word_and_one_point(rt: HostRuntime) {
         (0x03ca, 0x0041, 0x30, 0x8420, 0x34),
     ] {
         let mut blit = Blit::start(&registers(con0, con1));
-        let mut last = None;
-        for _ in 0..5 {
-            assert!(rt; blit.zero(), "{con1}");
-            match blit.next() {
-                SlotAsk::Read { .. } => blit.give(0x0420),
-                SlotAsk::Write { at, word } => {
-                    last = Some((at.raw(), word));
-                    blit.give(0);
-                    break;
-                }
-                SlotAsk::Rest => blit.give(0xffff),
-                SlotAsk::Done => break,
-            }
-        }
-        assert_eq!(rt; last, Some((at, written)), "{con1}");
+        assert_eq!(rt; write_of(&rt, &mut blit), Some((at, written)), "{con1}");
         assert!(rt; matches!(blit.next(), SlotAsk::Done), "{con1}");
         assert!(rt; !blit.zero(), "{con1}");
         assert_eq!(rt; blit.regs().dpt.raw(), end, "{con1}");

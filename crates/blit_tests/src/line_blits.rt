@@ -4,6 +4,7 @@ ghost use Rattle.std.specs.Prelude.{◌≡◌};
 
 use blitter_line::{BlitRegs, LineBlit, SlotAsk};
 use ocs_base::Addr;
+use std::process::Abort;
 
 /// A line of four points from bit 15 of word 40: two to the right in its row and two in the next, whose distances
 /// are 3 and 1.
@@ -67,13 +68,16 @@ fn line_of_four_points(rt: HostRuntime) {
     assert_eq!(rt; word_at(&memory, 0x40), 0xc000);
     assert_eq!(rt; word_at(&memory, 0x42), 0x3000);
     assert!(rt; !blit.zero());
-    let end = blit.regs();
-    assert_eq!(rt; end.cpt.raw(), 0x42);
-    assert_eq!(rt; end.dpt.raw(), 0x42);
-    assert_eq!(rt; end.aptl, 2);
-    assert_eq!(rt; end.cdat, 0x2000);
-    assert_eq!(rt; end.adat, 0x8000);
-    assert_eq!(rt; end.apt.raw(), 0);
+    check_left(&rt, &blit.regs());
+}
+
+/// These are the registers that the line of four points leaves.
+fn check_left(rt: &impl Abort, end: &BlitRegs) {
+    assert_eq!(rt;
+        [end.cpt.raw(), end.dpt.raw(), end.apt.raw()],
+        [0x42, 0x42, 0]
+    );
+    assert_eq!(rt; [end.aptl, end.cdat, end.adat], [2, 0x2000, 0x8000]);
 }
 
 #[test]
