@@ -183,24 +183,29 @@ event_in-act system frames at f v h (Poke reg word) named port fits =
     ∙ (λ i. timed (below frames f) (below (lines system false) v) (below 227 h)
     (poke_with (register_named-hex_text reg i) (hex_number-hex_text 4 word (omega arith) (omega arith) (omega (arith, fits)) i)))
 event_in-act system frames at f v h (Peek reg) named port fits =
-    ap (λ b. if b then timed (below frames f) (below (lines system false) v) (below 227 h) (peek_with (register_named (hex_text 3 reg.offset))) else None) named
+    ap (λ b. if b then timed (below frames f) (below (lines system false) v) (below 227 h) (peek_with (register_named (hex_text 3 reg.offset))) else None)
+    named
     ∙ (λ i. timed (below frames f) (below (lines system false) v) (below 227 h) (peek_with (register_named-hex_text reg i)))
 event_in-act system frames at f v h (Joy port word) named low fits =
-    ap (λ b. if b then timed (below frames f) (below (lines system false) v) (below 227 h) (joy_with (below 2 (decimal port)) (hex_number 4 (hex_text 4 word))) else None) named
+    ap (λ b. if b then timed (below frames f) (below (lines system false) v) (below 227 h) (joy_with (below 2 (decimal port))
+    (hex_number 4 (hex_text 4 word))) else None) named
     ∙ (λ i. timed (below frames f) (below (lines system false) v) (below 227 h)
     (joy_with (below-decimal 2 port (omega (arith, low)) (omega (arith, low)) i)
     (hex_number-hex_text 4 word (omega arith) (omega arith) (omega (arith, fits)) i)))
 event_in-act system frames at f v h (Fire port true) named low fits =
-    ap (λ b. if b then timed (below frames f) (below (lines system false) v) (below 227 h) (fire_with (below 2 (decimal port)) (below 2 (decimal 1))) else None) named
+    ap (λ b. if b then timed (below frames f) (below (lines system false) v) (below 227 h) (fire_with (below 2 (decimal port)) (below 2 (decimal 1))) else
+    None) named
     ∙ (λ i. timed (below frames f) (below (lines system false) v) (below 227 h)
     (fire_with (below-decimal 2 port (omega (arith, low)) (omega (arith, low)) i) (below-decimal 2 1 (omega arith) (omega arith) i)))
 event_in-act system frames at f v h (Fire port false) named low fits =
-    ap (λ b. if b then timed (below frames f) (below (lines system false) v) (below 227 h) (fire_with (below 2 (decimal port)) (below 2 (decimal 0))) else None) named
+    ap (λ b. if b then timed (below frames f) (below (lines system false) v) (below 227 h) (fire_with (below 2 (decimal port)) (below 2 (decimal 0))) else
+    None) named
     ∙ (λ i. timed (below frames f) (below (lines system false) v) (below 227 h)
     (fire_with (below-decimal 2 port (omega (arith, low)) (omega (arith, low)) i) (below-decimal 2 0 (omega arith) (omega arith) i)))
 event_in-act system frames at f v h (Key code) named port fits =
     ap (λ b. if b then timed (below frames f) (below (lines system false) v) (below 227 h) (key_with (hex_number 2 (hex_text 2 code))) else None) named
-    ∙ (λ i. timed (below frames f) (below (lines system false) v) (below 227 h) (key_with (hex_number-hex_text 2 code (omega arith) (omega arith) (omega (arith, fits)) i)))
+    ∙ (λ i. timed (below frames f) (below (lines system false) v) (below 227 h) (key_with (hex_number-hex_text 2 code (omega arith) (omega arith)
+    (omega (arith, fits)) i)))
 
 abbrev event_line : At → List ℕ
 event_line at = line_of (codes "at") (time_words at)
@@ -254,7 +259,8 @@ unfolding event_text
 lines-events system frames [] most limits = lines-end
 lines-events system frames (at ∷ events) most limits =
     ap lines_of (append_assoc (event_text at) (flat_map event_text events) (line_text (codes "end") []))
-    ∙ lines_of-text (codes "at") (time_words at) (flat_map event_text events ++ line_text (codes "end") []) refl (AreAbove-time system frames at most limits.0)
+    ∙ lines_of-text (codes "at") (time_words at) (flat_map event_text events ++ line_text (codes "end") []) refl
+    (AreAbove-time system frames at most limits.0)
     ∙ ap (λ lines. event_line at ∷ lines) (lines-events system frames events most limits.1)
 
 -- the size: 29 bytes an event at most
@@ -315,7 +321,13 @@ size-events : (system : System) (frames : ℕ) (events : List At) → frames ≤
     → length (flat_map event_text events) ≤ 29 * length events
 size-events system frames [] most limits = omega arith
 size-events system frames (at ∷ events) most limits =
-    omega (arith, length-append (event_text at) (flat_map event_text events), size-event system frames at most limits.0, size-events system frames events most limits.1)
+    omega (
+      arith,
+      length-append (event_text at) (flat_map event_text events),
+      size-event system frames at most limits.0,
+      size-events system frames events
+          most limits.1,
+    )
 
 -- 12 bytes a line of the head at most
 size-part : (script : ScriptValue) (part : HeadLine) → script.frames ≤ 1000 → length (head_line script part) ≤ 12

@@ -1,5 +1,5 @@
 -- A script that is read is one that a run takes.
-use Rattle.std.proofs.Common.{◌≡◌, ℕ, ◌+◌, ◌<◌, ◌≤◌, Bool, true, false, ◌&&◌, List, [], ◌∷◌, length, refl, sym, ap, subst, Option, Some, None, IfSome, Result, Ok, Err, IfOk, arith, nat_lt, nat_le, if◌then◌else◌, bytes_eq, codes}
+use Rattle.std.proofs.Common.{◌≡◌, ℕ, ◌+◌, ◌<◌, ◌≤◌, Bool, true, false, ◌&&◌, List, [], ◌∷◌, length, refl, sym, ap, ◌∙◌, subst, Option, Some, None, IfSome, Result, Ok, Err, IfOk, arith, nat_lt, nat_le, if◌then◌else◌, bytes_eq, codes}
 use borrow.Author.Tests.{ltb-true, ltb-false, leb-true}
 use Rattle.ocs_base.specs.Limits.{time_of, HasPort, IsInLimits, AreInLimits, AreFrom, AreInOrder}
 use Rattle.ocs_base.specs.Script.{ScriptValue}
@@ -13,8 +13,9 @@ use Rattle.ocs_io.specs.Numbers.{dec_of}
 use Rattle.script_read.specs.Split.{lines_of, words_of}
 use Rattle.script_read.specs.Words.{below, kept_below, hex_number, register_named, poke_with, peek_with, joy_with, fire_with, key_with, poke_of, peek_of, joy_of, fire_of, key_of, act_of, timed, event_in, event_of}
 use Rattle.script_read.specs.Grammar.{Verdict, Good, Bad, in_order, body_line, body_of, after_end, with_event, from_line, from_head, head_of, with_frames, kept_frames, frames_in, with_cpu, cpu_in, with_chip, chip_in, with_system, system_in, version_in, from_version, from_header, script_of}
-use Rattle.script_read.specs.Versions.{HeadLine, FramesLine, ChipLine, SystemLine, later_lines, head_lines, head_size, lowest, blank}
+use Rattle.script_read.specs.Versions.{HeadLine, FramesLine, ChipLine, SystemLine, later_lines, head_lines, head_size, says, lowest, blank}
 use Rattle.script_read.specs.Printable.{IsPrintable}
+use Rattle.script_read.specs.Said.{IsSaidIn, IsSaid}
 use Rattle.script_read.specs.Verdict.{ReadsAs}
 use Rattle.script_read.specs.declared.fault.BadKind.{BadKind}
 use Rattle.script_read.specs.declared.fault.BadKind.TheVariants.{Lines, Order, Long, Cpu, Frames, Chip, System as BadSystem}
@@ -251,7 +252,8 @@ IsRunnable-system cpu frames (line ∷ lines) least most = named (system_in line
     few Ntsc = omega arith
 
     named : (system : Option System)
-        → good_runnable (from_head (with_system (record { cpu = cpu; frames = frames; system = Pal; events = [] }) system) 5 BadSystem (λ next. body_of next 6 0 lines))
+        → good_runnable (from_head (with_system (record { cpu = cpu; frames = frames; system = Pal; events = [] }) system) 5 BadSystem
+        (λ next. body_of next 6 0 lines))
     named None = tt
     named (Some system) = IsRunnable-body 6 (record { cpu = cpu; frames = frames; system = system; events = [] }) lines
         (record { least = least; most = most; size = few system; none = refl })
@@ -348,4 +350,70 @@ unfolding good_runnable
 IsPrintable-read lines (Ok script) reads = subst good_runnable reads (IsRunnable-header lines)
 IsPrintable-read lines (Err fault) reads = tt
 
-pub ruleset runnable_laws = (IsPrintable-read)
+-- a text's version says its script: without a line of the system it is for PAL
+said : Version → Verdict → Type 0
+said version (Good script) = says version script.system ≡ true
+said version (Bad number kind) = Unit {0}
+
+said-body : (version : Version) (number : ℕ) (head : ScriptValue) (lines : List (List ℕ)) → head.events ≡ [] → says version head.system ≡ true
+    → said version (body_of head number 0 lines)
+unfolding good_follows said
+said-body version number head lines none fits = step (body_of head number 0 lines) (Follows-body head number 0 lines none)
+  where
+    step : (verdict : Verdict) → good_follows head number 0 verdict → said version verdict
+    step (Good script) follows = ap (says version) follows.system ∙ fits
+    step (Bad line kind) follows = tt
+
+said-third : (verdict : Verdict) → said Three verdict
+unfolding said
+said-third (Good script) = refl
+said-third (Bad number kind) = tt
+
+said-later : (version : Version) (cpu : Bool) (frames : ℕ) (lines : List (List ℕ))
+    → said version (head_of (later_lines version) 4 (record { cpu = cpu; frames = frames; system = Pal; events = [] }) lines)
+unfolding said head_of
+said-later One cpu frames lines = said-body One 4 (record { cpu = cpu; frames = frames; system = Pal; events = [] }) lines refl refl
+said-later Two cpu frames [] = tt
+said-later Two cpu frames (line ∷ lines) = named (chip_in line)
+  where
+    named : (size : Option ℕ)
+        → said Two (from_head (with_chip (record { cpu = cpu; frames = frames; system = Pal; events = [] }) size) 4 Chip (λ next. body_of next 5 0 lines))
+    named None = tt
+    named (Some size) = said-body Two 5 (record { cpu = cpu; frames = frames; system = Pal; events = [] }) lines refl refl
+said-later Three cpu frames lines = said-third (head_of (later_lines Three) 4 (record { cpu = cpu; frames = frames; system = Pal; events = [] }) lines)
+
+said-frames : (version : Version) (cpu : Bool) (lines : List (List ℕ))
+    → said version (head_of (FramesLine ∷ later_lines version) 3 (record blank { cpu = cpu }) lines)
+unfolding said head_of
+said-frames version cpu [] = tt
+said-frames version cpu (line ∷ lines) = named (frames_in (words_of line))
+  where
+    named : (count : Option ℕ)
+        → said version (from_head (with_frames (record blank { cpu = cpu }) count) 3 Frames (λ next. head_of (later_lines version) 4 next lines))
+    named None = tt
+    named (Some n) = said-later version cpu n lines
+
+said-head : (version : Version) (lines : List (List ℕ)) → said version (head_of (head_lines version) 2 blank lines)
+unfolding said head_of
+said-head version [] = tt
+said-head version (line ∷ lines) = named (cpu_in line)
+  where
+    named : (cpu : Option Bool)
+        → said version (from_head (with_cpu blank cpu) 2 Cpu (λ next. head_of (FramesLine ∷ later_lines version) 3 next lines))
+    named None = tt
+    named (Some cpu) = said-frames version cpu lines
+
+IsSaid-header : (lines : List (List ℕ)) (script : ScriptValue) → from_header lines ≡ Good script → IsSaid lines script
+unfolding from_header said
+IsSaid-header [] script is = absurd (cc is)
+IsSaid-header (line ∷ lines) script is = named (version_in line) is
+  where
+    named : (version : Option Version) → from_version version lines ≡ Good script → IsSaidIn version script
+    named None e = absurd (cc e)
+    named (Some version) e = subst (said version) e (said-head version lines)
+
+pub IsSaid-read : (lines : List (List ℕ)) (answer : Result ScriptValue ScriptFault) → ReadsAs (from_header lines) answer → IfOk answer (IsSaid lines)
+IsSaid-read lines (Ok script) reads = IsSaid-header lines script reads
+IsSaid-read lines (Err fault) reads = tt
+
+pub ruleset runnable_laws = (IsPrintable-read, IsSaid-read)

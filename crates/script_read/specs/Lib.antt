@@ -8,3 +8,4 @@ pub mod Cut
 pub mod Canonical
 pub mod Extends
 pub mod Printable
+pub mod Said

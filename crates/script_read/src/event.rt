@@ -9,7 +9,7 @@ use crate::parts::{event_words, one_word, two_words};
 use ocs_base::{Act, At, Reg, System};
 use ocs_io::{dec, hex};
 
-/// Reads an event of a run of so many frames on a machine of this system; None exactly where the line is none.
+/// Reads an event of a run of so many frames for this system; None exactly where the line is none.
 #[tactic(auto, using(crate::proofs::EventLaws::event_laws), unfolding(crate::specs::Words::event_of))]
 pub fn read_event(system: System, frames: u32, line: &[u8]) -> Option<At>
     ensures { result ≡ event_of system frames line.now }

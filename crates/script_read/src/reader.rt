@@ -6,6 +6,7 @@ ghost use Rattle.script_read.specs.Grammar.{script_of, from_header, version_in, 
 ghost use Rattle.script_read.specs.Versions.{CpuLine, FramesLine, ChipLine, SystemLine, head_lines, later_lines, blank, begun};
 ghost use Rattle.ocs_io.specs.Numbers.{dec_of};
 ghost use Rattle.script_read.specs.Printable.{IsPrintable};
+ghost use Rattle.script_read.specs.Said.{IsSaid};
 ghost use Rattle.script_read.specs.Verdict.{ReadsAs};
 
 use crate::event::read_event;
@@ -22,11 +23,12 @@ const GREATEST_SIZE: usize = 4_194_304;
 /// The greatest number of lines of a script.
 const GREATEST_LINE: u32 = 100_000;
 
-/// Reads a script of version 1, 2 or 3. `Bad` names the first bad line.
+/// Reads a script of version 1, 2 or 3, which its version says. `Bad` names the first bad line.
 #[tactic(auto, using(crate::proofs::RunnableLaws::runnable_laws), unfolding(crate::specs::Grammar::script_of))]
 pub fn read_script(alloc: Global, bytes: &[u8]) -> Result<Script, ScriptFault>
     ensures verdict { ReadsAs (script_of bytes.now) result }
     ensures printable { IfOk result IsPrintable }
+    ensures version { IfOk result (IsSaid (lines_of bytes.now)) }
 {
     if bytes.len() > GREATEST_SIZE {
         return Err(bad(0, BadKind::Long));

@@ -21,15 +21,18 @@ returns-then-ne c = event-other c.args.system c.args.frames c.args.line.now c.in
 
 pub returns-in_err-frame : goal.returns-in_err-frame
 returns-in_err-frame c = c.from_residual-in_err-frame.ensures
-    ∙ event-read c.args.system c.args.frames c.args.line.now c.in_ok-words.words.at.now c.in_ok-words.words.frame.now c.in_ok-words.words.v.now c.in_ok-words.words.h.now
-    c.in_ok-words.words.verb.now (words_left c.in_ok-words.words.args) None (below (lines c.args.system false) c.in_ok-words.words.v.now) (below 227 c.in_ok-words.words.h.now)
+    ∙ event-read c.args.system c.args.frames c.args.line.now c.in_ok-words.words.at.now c.in_ok-words.words.frame.now c.in_ok-words.words.v.now
+    c.in_ok-words.words.h.now
+    c.in_ok-words.words.verb.now (words_left c.in_ok-words.words.args) None (below (lines c.args.system false) c.in_ok-words.words.v.now)
+    (below 227 c.in_ok-words.words.h.now)
     (act_of c.in_ok-words.words.verb.now (words_left c.in_ok-words.words.args)) c.in_ok-words.ensures
     (ap (bytes_eq c.in_ok-words.words.at.now) (sym c.as_slice.ensures)
     ∙ not_false (bytes_eq c.in_ok-words.words.at.now c.as_slice.result.now) (sym c.if-ne.false ∙ c.ne.ensures)) c.in_err-frame.ensures.value refl refl refl
 
 pub returns-in_err-v : goal.returns-in_err-v
 returns-in_err-v c = c.from_residual-in_err-v.ensures
-    ∙ event-read c.args.system c.args.frames c.args.line.now c.in_ok-words.words.at.now c.in_ok-words.words.frame.now c.in_ok-words.words.v.now c.in_ok-words.words.h.now
+    ∙ event-read c.args.system c.args.frames c.args.line.now c.in_ok-words.words.at.now c.in_ok-words.words.frame.now c.in_ok-words.words.v.now
+    c.in_ok-words.words.h.now
     c.in_ok-words.words.verb.now (words_left c.in_ok-words.words.args) (Some c.in_ok-frame.frame) None (below 227 c.in_ok-words.words.h.now)
     (act_of c.in_ok-words.words.verb.now (words_left c.in_ok-words.words.args)) c.in_ok-words.ensures
     (ap (bytes_eq c.in_ok-words.words.at.now) (sym c.as_slice.ensures)
@@ -38,7 +41,8 @@ returns-in_err-v c = c.from_residual-in_err-v.ensures
 
 pub returns-in_err-h : goal.returns-in_err-h
 returns-in_err-h c = c.from_residual-in_err-h.ensures
-    ∙ event-read c.args.system c.args.frames c.args.line.now c.in_ok-words.words.at.now c.in_ok-words.words.frame.now c.in_ok-words.words.v.now c.in_ok-words.words.h.now
+    ∙ event-read c.args.system c.args.frames c.args.line.now c.in_ok-words.words.at.now c.in_ok-words.words.frame.now c.in_ok-words.words.v.now
+    c.in_ok-words.words.h.now
     c.in_ok-words.words.verb.now (words_left c.in_ok-words.words.args) (Some c.in_ok-frame.frame) (Some c.in_ok-v.v) None
     (act_of c.in_ok-words.words.verb.now (words_left c.in_ok-words.words.args)) c.in_ok-words.ensures
     (ap (bytes_eq c.in_ok-words.words.at.now) (sym c.as_slice.ensures)
@@ -47,7 +51,8 @@ returns-in_err-h c = c.from_residual-in_err-h.ensures
 
 pub returns-in_err-act : goal.returns-in_err-act
 returns-in_err-act c = c.from_residual-in_err-act.ensures
-    ∙ event-read c.args.system c.args.frames c.args.line.now c.in_ok-words.words.at.now c.in_ok-words.words.frame.now c.in_ok-words.words.v.now c.in_ok-words.words.h.now
+    ∙ event-read c.args.system c.args.frames c.args.line.now c.in_ok-words.words.at.now c.in_ok-words.words.frame.now c.in_ok-words.words.v.now
+    c.in_ok-words.words.h.now
     c.in_ok-words.words.verb.now (words_left c.in_ok-words.words.args) (Some c.in_ok-frame.frame) (Some c.in_ok-v.v)
     (Some c.in_ok-h.field-0) None c.in_ok-words.ensures
     (ap (bytes_eq c.in_ok-words.words.at.now) (sym c.as_slice.ensures)

@@ -15,13 +15,15 @@ pub returns-in-Err : goal.returns-in-Err
 returns-in-Err c =
     subst (λ fault. ReadsAs (body_of (begun c.args.head) c.args.first 0 (lines_of c.args.text.now)) (Err fault))
     (sym c.bad.ensures)
-    (StandsAt-bad (begun c.args.head) c.args.first (lines_of c.args.text.now) c.loop-line.script c.loop-line.number c.loop-line.before (lines_of c.loop-line.rest.now)
+    (StandsAt-bad (begun c.args.head) c.args.first (lines_of c.args.text.now) c.loop-line.script c.loop-line.number c.loop-line.before
+    (lines_of c.loop-line.rest.now)
     c.in-Some.line.text.now (lines_of c.in-Some.line.rest.now) c.in-Err.kind c.loop-line.invariant.stands c.in-Some.ensures.0 c.in-Err.ensures.line)
 
 pub returns-in_default-event : goal.returns-in_default-event
 returns-in_default-event c =
     subst (λ verdict. ReadsAs verdict c.read_end.result)
-    (sym (StandsAt-end (begun c.args.head) c.args.first (lines_of c.args.text.now) c.loop-line.script c.loop-line.number c.loop-line.before (lines_of c.loop-line.rest.now)
+    (sym (StandsAt-end (begun c.args.head) c.args.first (lines_of c.args.text.now) c.loop-line.script c.loop-line.number c.loop-line.before
+    (lines_of c.loop-line.rest.now)
     c.in-Some.line.text.now (lines_of c.in-Some.line.rest.now) refl c.loop-line.invariant.stands c.in-Some.ensures.0
     (ap Ok (sym c.in_default-event.is) ∙ c.in-Ok.ensures.line)))
     c.read_end.ensures
@@ -36,7 +38,8 @@ loop-line-preserved c = record {
       (record c.loop-line.script { events = c.loop-line.script.events ++ c.in-Some-event.at ∷ [] }) (c.loop-line.number + 1) time
       (lines_of c.in-Some.line.rest.now))
       (sym c.time-before.ensures)
-      (StandsAt-more (begun c.args.head) c.args.first (lines_of c.args.text.now) c.loop-line.script c.loop-line.number c.loop-line.before (lines_of c.loop-line.rest.now)
+      (StandsAt-more (begun c.args.head) c.args.first (lines_of c.args.text.now) c.loop-line.script c.loop-line.number c.loop-line.before
+      (lines_of c.loop-line.rest.now)
       c.in-Some.line.text.now (lines_of c.in-Some.line.rest.now) c.in-Some-event.at c.loop-line.invariant.stands c.in-Some.ensures.0
       (ap Ok (sym c.in-Some-event.is) ∙ c.in-Ok.ensures.line)));
 }
