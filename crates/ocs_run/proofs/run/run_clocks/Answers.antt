@@ -15,8 +15,8 @@ loop-fore-smaller g c =
     c.in_ok-run_to.ensures.clocks c.in_ok-run_to.ensures.come
     (line_is_later (fore_of c.loop-fore.fore) _ _ c.next_line-limit.ensures) c.run_to.ensures.run
 
-pub next_line-limit-requires-clause-room : goal.next_line-limit-requires-clause-room
-next_line-limit-requires-clause-room g c = room_for_clocks (fore_of c.loop-fore.fore) _ _ c.loop-fore.invariant.able c.done.ensures c.loop-fore-test.true
+pub next_line-limit-requires : goal.next_line-limit-requires
+next_line-limit-requires g c = room_for_clocks (fore_of c.loop-fore.fore) _ _ c.loop-fore.invariant.able c.done.ensures c.loop-fore-test.true
 
 pub loop-fore-preserved : goal.loop-fore-preserved
 loop-fore-preserved g c =
