@@ -66,7 +66,15 @@ fn fields_of_ntsc(rt: HostRuntime) {
 #[test]
 fn what_a_picture_shows(rt: HostRuntime) {
     for (system, lines) in [(System::Pal, 26..312), (System::Ntsc, 20..262)] {
-        for (v, h) in [(19, 47), (20, 47), (25, 47), (26, 47), (261, 226), (262, 226), (311, 226)] {
+        for (v, h) in [
+            (19, 47),
+            (20, 47),
+            (25, 47),
+            (26, 47),
+            (261, 226),
+            (262, 226),
+            (311, 226),
+        ] {
             assert_eq!(rt; system.shows(v, h), lines.contains(&v), "{v} {h}");
         }
         assert!(rt; !system.shows(100, 46) && system.shows(100, 47));

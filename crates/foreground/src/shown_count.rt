@@ -31,6 +31,10 @@ pub fn shown_before(system: System, beam: &Beam) -> u64
 pub fn shown_behind(system: System, beam: &Beam) -> u64
     ensures { result ≡ behind system beam.now }
 {
-    let clock = if system.shows(beam.v, beam.h) { CLOCK } else { 0 };
+    let clock = if system.shows(beam.v, beam.h) {
+        CLOCK
+    } else {
+        0
+    };
     shown_before(system, beam) + clock
 }

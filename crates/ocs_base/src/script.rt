@@ -55,10 +55,10 @@ impl Model for Script {
     ghost Value = { ScriptValue };
 
     ghost view = { λ s. record {
-        cpu = s.cpu;
-        frames = s.frames;
-        system = s.system;
-        events = s.events.items;
+      cpu = s.cpu;
+      frames = s.frames;
+      system = s.system;
+      events = s.events.items;
     } };
 }
 

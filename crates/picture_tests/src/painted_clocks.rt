@@ -114,7 +114,11 @@ fn visible_clocks(rt: HostRuntime) {
     let mut painter = painter_with(0x1000, 0);
     let mut pixels = [BLACK; 4];
     for (h, want) in [(46, false), (47, true), (226, true)] {
-        assert_eq!(rt; painter.show(System::Pal, &beam_at(h), &mut pixels, &mut 0), want, "{h}");
+        assert_eq!(rt;
+            painter.show(System::Pal, &beam_at(h), &mut pixels, &mut 0),
+            want,
+            "{h}"
+        );
     }
 }
 
