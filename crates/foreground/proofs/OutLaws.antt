@@ -36,7 +36,8 @@ unfolding AddsPixels
 gives_pixels old new piece with_piece adds = record {
   names = ap (λ (o : OutFilesValue). o.names) with_piece;
   text = λ system base files before traced so_far.
-      moved system new base files (before ++ piece) (before ++ piece) traced (traced ++ []) refl (sym (append-nil traced)) (adds system base files before traced so_far);
+      moved system new base files (before ++ piece) (before ++ piece) traced (traced ++ []) refl (sym (append-nil traced))
+      (adds system base files before traced so_far);
 }
 
 pub gives_line : (old new : OutFilesValue) (line : TraceLine) → new ≡ with_line old line → AddsLine old new line → Gives old new [] (line ∷ [])

@@ -31,7 +31,8 @@ pub record AreTogether (system : System) (out : OutFilesValue) (base files : Opt
   pub place : out.given ≡ length pixels % frame_bytes system
 
 -- of the files `base` each of the three holds a part of its text, from the first byte on
-pub record HoldParts (system : System) (names : OutNames) (base files : Option Files) (pixels : List ℕ) (lines : List TraceLine) (memory : List ℕ) : Type 0 where
+pub record HoldParts (system : System) (names : OutNames) (base files : Option Files) (pixels : List ℕ) (lines : List TraceLine)
+    (memory : List ℕ) : Type 0 where
   pub frames : List ℕ
   pub trace : List ℕ
   pub bytes : List ℕ
