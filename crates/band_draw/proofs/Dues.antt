@@ -87,8 +87,10 @@ left_at system frames place zero (e ∷ events) order limits point =
 left_at system frames place (suc n) (e ∷ events) order limits point =
     let before : time_of e < place = before_true e place (point.0 0 e (omega arith) (omega arith)) in
     let rest : IsLeft place events (drop n events) =
-    left_at system frames place n events order.1 limits.1
-    ((λ k d low high. point.0 (suc k) d (omega (arith, low)) (omega (arith, high))), (λ k d low high. point.1 (suc k) d (omega (arith, low)) (omega (arith, high)))) in
+    left_at system frames place n events order.1 limits.1 (
+      (λ k d low high. point.0 (suc k) d (omega (arith, low)) (omega (arith, high))),
+      (λ k d low high. point.1 (suc k) d (omega (arith, low)) (omega (arith, high))),
+    ) in
     record {
       system = rest.system;
       frames = rest.frames;

@@ -375,7 +375,8 @@ painted_next run events view room after p shown touched cleared filled clx beam 
     (given_here run events view room (take p.filled room) (take filled after) p shown clx source at turn.given).painted turn.access in
     subst (λ q. IsBandPainterOf (4 * beam.h) cleared q) (same_clear beam next left place.clock)
     (turn.clean (4 * h + 4) left painted
-    (clear_order (last_clock run.script.system (beam_at run c).v) h beam.h (place.clock ∙ (nexts run c (inner_next run events view room p source at more)).clock)))
+    (clear_order (last_clock run.script.system (beam_at run c).v) h beam.h
+    (place.clock ∙ (nexts run c (inner_next run events view room p source at more)).clock)))
 
 drop_clock : (run : RunValue) (events : List Event) (view : ViewValue) (room : List ℕ) (p : Progress) (beam : Beam) (sets count : ℕ)
     → IsSource run p.from p.to view → IsAt run events room p → p.clock + 1 < p.to → IsNextInField run.script.system p.beam beam
@@ -409,7 +410,8 @@ pub turned : (run : RunValue) (events : List Event) (view : ViewValue) (room aft
     → IsAt run events after (come_to p cleared filled clx beam sets due count)
 turned run events view room after p shown touched cleared filled clx beam sets due count source at more turn =
     let c : ℕ = p.clock in
-    let given : IsGiven run.script.system (beam_at run c).v (beam_at run c).h (with_script run c at.picture) shown (take p.filled room) (take filled after) p.clx clx =
+    let given : IsGiven run.script.system (beam_at run c).v (beam_at run c).h (with_script run c at.picture) shown (take p.filled room)
+    (take filled after) p.clx clx =
     given_here run events view room (take p.filled room) (take filled after) p shown clx source at turn.given in
     let place : IsSamePlace beam (beam_at run (c + 1)) = place_next run events view room p beam source at more turn.place in
     record {
@@ -458,7 +460,8 @@ pub ended : (run : RunValue) (events : List Event) (view : ViewValue) (room afte
 ended run events view room after p shown touched closing filled clx coming source at last given filled_is size access close n band =
     let c : ℕ = p.clock in
     let left : Denise = with_fetch run c (after_kept run c at.picture) in
-    let here : IsGiven run.script.system (beam_at run c).v (beam_at run c).h (with_script run c at.picture) shown (take p.filled room) (take filled after) p.clx clx =
+    let here : IsGiven run.script.system (beam_at run c).v (beam_at run c).h (with_script run c at.picture) shown (take p.filled room)
+    (take filled after) p.clx clx =
     given_here run events view room (take p.filled room) (take filled after) p shown clx source at given in
     let touch : bus_touch_of c coming (drop (p.next + p.sets) events) ≡ fetch_alone (bus_touch_at run c) =
     ap (λ l. bus_touch_of c coming l) (rest_there run events room p at)
@@ -476,7 +479,8 @@ ended run events view room after p shown touched closing filled clx coming sourc
     (sym here.bits)
     (drawing_ends run n p.from p.to c at.picture closing (drop p.next events) (take p.filled room) p.clx band at.drawn last stands))
 
-pub given_part : (system : System) (p : Progress) (events : List Event) (view : ViewValue) (part : List Event) (before after : List ℕ) (shown : BandPainter) (clx : ℕ)
+pub given_part : (system : System) (p : Progress) (events : List Event) (view : ViewValue) (part : List Event) (before after : List ℕ)
+    (shown : BandPainter) (clx : ℕ)
     → part ≡ take p.sets (drop p.next events)
     → ((q : Denise) → IsBandPainterOf (4 * p.beam.h) p.painter q
     → IsGiven system p.beam.v p.beam.h (touched_by_events p.beam.h (word_then view p.clock) part q) shown before after p.clx clx)

@@ -52,8 +52,8 @@ impl<S: Side> Direct<S> {
         Direct::starting(alloc, 0)
     }
 
-    /// As `new`, where the first band is the one of this number: a foreground that goes on from a state in the midst of a run
-    /// does not begin with band 0.
+    /// As `new`, where the first band is the one of this number: a foreground that goes on from a
+    /// state in the midst of a run does not begin with band 0.
     pub fn starting(alloc: Global, number: u64) -> Result<Direct<S>, OutOfMemory>
         ensures { IfOk result (λ direct. seen_of S.seen direct ≡ record {
           outstanding = [];

@@ -33,9 +33,9 @@ pub fn advance(b: &mut Beam, lace: bool)
 
 /// The beam comes to its next place, after one colour clock.
 ///
-/// A line and a field have as many clocks and lines as the system says; a field is long while LOF is set. At a
-/// change of frame LOF turns where `lace`, bit 2 (LACE) of BPLCON0, is set. A field whose LOF is cleared while
-/// the last line of a long one runs ends with that line.
+/// A line and a field have as many clocks and lines as the system says; a field is long while LOF
+/// is set. At a change of frame LOF turns where `lace`, bit 2 (LACE) of BPLCON0, is set. A field
+/// whose LOF is cleared while the last line of a long one runs ends with that line.
 ///
 /// The greatest frame has no next place, so the caller stops before it.
 pub fn advance_in(b: &mut Beam, lace: bool, system: System)

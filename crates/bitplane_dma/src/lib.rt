@@ -1,9 +1,9 @@
-//! Bitplane DMA: when a line's units of eight slots begin, which plane each slot fetches, and where the planes'
-//! pointers go.
+//! Bitplane DMA: when a line's units of eight slots begin, which plane each slot fetches, and where
+//! the planes' pointers go.
 //!
-//! The slots of a unit, the two resolutions and the modulos are those of the manual (Hardware Reference Manual,
-//! bitplane DMA and data-fetch start and stop). That every test is made with the registers of its own clock is
-//! this project's profile.
+//! The slots of a unit, the two resolutions and the modulos are those of the manual (Hardware
+//! Reference Manual, bitplane DMA and data-fetch start and stop). That every test is made with the
+//! registers of its own clock is this project's profile.
 #![tactic(auto)]
 
 ghost use Rattle.std.specs.Prelude.{◌≡◌, ◌<◌, ◌≤◌, IfSome, Some, None, List, ℕ, Option};
@@ -55,11 +55,13 @@ impl Fetcher {
         Fetcher { last: self.last }
     }
 
-    /// One colour clock, called at each; the units of a line are forgotten at the next one's first clock.
+    /// One colour clock, called at each; the units of a line are forgotten at the next one's first
+    /// clock.
     ///
-    /// The answer is Some exactly where a plane is fetched at this clock: the word at its pointer is for its
-    /// latch. The pointer has then moved on by that word and, at the plane's last fetch of a line's last unit,
-    /// by its modulo. A plane that asks has its slot before all others that may ask then.
+    /// The answer is Some exactly where a plane is fetched at this clock: the word at its pointer
+    /// is for its latch. The pointer has then moved on by that word and, at the plane's last fetch
+    /// of a line's last unit, by its modulo. A plane that asks has its slot before all others that
+    /// may ask then.
     #[inline(always)]
     pub fn step(&mut self, beam: &Beam, regs: &mut Regs) -> Option<PlaneAsk>
         ensures units { (units : List ℕ) → self.old ≡ last_unit units →
@@ -192,8 +194,8 @@ fn slot_plane(high: bool, slot: u16) -> u8
     }
 }
 
-/// How many bytes a plane's fetch at clock `h` adds to its pointer beside the word's two: the modulo where it is
-/// the plane's last fetch of a last unit, else none.
+/// How many bytes a plane's fetch at clock `h` adds to its pointer beside the word's two: the
+/// modulo where it is the plane's last fetch of a last unit, else none.
 fn added_bytes(h: u16, start: u16, plane: u8, regs: &Regs) -> u32
     requires { start ≤ h }
     ensures value { result ≡ bytes_added h regs.now start plane }
@@ -207,8 +209,8 @@ fn added_bytes(h: u16, start: u16, plane: u8, regs: &Regs) -> u32
     modulo_bytes(regs.word(Reg::masked(modulo)))
 }
 
-/// How far on a modulo moves an address: it is a signed number, whose bit 0 counts as 0, and addresses wrap at
-/// 512 KiB.
+/// How far on a modulo moves an address: it is a signed number, whose bit 0 counts as 0, and
+/// addresses wrap at 512 KiB.
 fn modulo_bytes(word: u16) -> u32
     ensures value { result ≡ bytes_of word }
     ensures below { result < 524288 }

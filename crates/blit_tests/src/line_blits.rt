@@ -6,8 +6,8 @@ use blitter_line::{BlitRegs, LineBlit, SlotAsk};
 use ocs_base::Addr;
 use std::process::Abort;
 
-/// A line of four points from bit 15 of word 40: two to the right in its row and two in the next, whose distances
-/// are 3 and 1.
+/// A line of four points from bit 15 of word 40: two to the right in its row and two in the next,
+/// whose distances are 3 and 1.
 fn registers() -> BlitRegs
     ensures { result.con1 ≡ 0x51 }
 {

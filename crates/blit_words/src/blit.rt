@@ -2,9 +2,10 @@
 
 use ocs_base::Addr;
 
-/// The blitter's registers as a blit starts, or as it leaves them: BLTCON0 and BLTCON1, the masks BLTAFWM and
-/// BLTALWM, BLTSIZE, the data registers, the modulos and the pointers. `aptl` is BLTAPTL with all its 16 bits,
-/// the accumulator of a line, and `apt` the address in BLTAPTH and BLTAPTL.
+/// The blitter's registers as a blit starts, or as it leaves them: BLTCON0 and BLTCON1, the masks
+/// BLTAFWM and BLTALWM, BLTSIZE, the data registers, the modulos and the pointers. `aptl` is
+/// BLTAPTL with all its 16 bits, the accumulator of a line, and `apt` the address in BLTAPTH and
+/// BLTAPTL.
 #[derive(Clone, Copy, Debug)]
 pub struct BlitRegs {
     pub con0: u16,
@@ -26,8 +27,8 @@ pub struct BlitRegs {
     pub aptl: u16,
 }
 
-/// What a blit does with its next slot: it reads a word, writes one, or takes the slot and makes no access. `Done`
-/// is the end, and asks for no slot.
+/// What a blit does with its next slot: it reads a word, writes one, or takes the slot and makes no
+/// access. `Done` is the end, and asks for no slot.
 #[derive(Clone, Copy, Debug)]
 pub enum SlotAsk {
     Read { at: Addr },
@@ -36,8 +37,8 @@ pub enum SlotAsk {
     Done,
 }
 
-/// One of the asks of a word of an area blit: the read of channel A, B or C, the write of D, or a slot that is
-/// taken without an access.
+/// One of the asks of a word of an area blit: the read of channel A, B or C, the write of D, or a
+/// slot that is taken without an access.
 #[derive(Clone, Copy, Debug)]
 pub enum WordAsk {
     A,

@@ -4,8 +4,9 @@ ghost use Rattle.std.specs.Prelude.{◌≡◌, ◌+◌, ◌<◌, true, count_one
 ghost use Rattle.blit_words.specs.BlitWords.{filled_word, one_if};
 ghost use Rattle.blit_words.specs.Parity.{parities_in, is_carry};
 
-/// A word filled from its bit 0 upwards, and the carry after it, with the carry before it. In exclusive mode a bit
-/// becomes carry XOR bit and an area loses its left edge; in inclusive mode it becomes carry OR bit.
+/// A word filled from its bit 0 upwards, and the carry after it, with the carry before it. In
+/// exclusive mode a bit becomes carry XOR bit and an area loses its left edge; in inclusive mode it
+/// becomes carry OR bit.
 #[tactic(auto, using(crate::proofs::Filling::inclusive_is, crate::proofs::Filling::carry_is))]
 pub fn fill_word(exclusive: bool, carry: bool, word: u16) -> (u16, bool)
     ensures filled { result.0 ≡ filled_word exclusive (one_if carry) word }

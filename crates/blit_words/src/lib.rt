@@ -1,5 +1,5 @@
-//! The data path of the blitter: what it makes of words, and the fields and addresses that area and line blits
-//! share (Hardware Reference Manual, blitter hardware).
+//! The data path of the blitter: what it makes of words, and the fields and addresses that area and
+//! line blits share (Hardware Reference Manual, blitter hardware).
 #![tactic(auto)]
 
 pub mod blit;

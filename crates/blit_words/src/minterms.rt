@@ -6,8 +6,8 @@ ghost use Rattle.blit_words.specs.Choice.{chosen, chosen_by_c, everywhere_of, Is
 
 use crate::fields::is_set;
 
-/// A choice by the bits of C: a bit of `clear` where C has a 0, and that bit turned over by one of `turn` where C
-/// has a 1.
+/// A choice by the bits of C: a bit of `clear` where C has a 0, and that bit turned over by one of
+/// `turn` where C has a 1.
 #[derive(Clone, Copy)]
 struct Choice {
     clear: u16,
@@ -35,7 +35,8 @@ impl Choice {
     }
 }
 
-/// LF, the byte of minterms in BLTCON0, made ready for many words: what C chooses for each pair of bits of A and B.
+/// LF, the byte of minterms in BLTCON0, made ready for many words: what C chooses for each pair of
+/// bits of A and B.
 #[derive(Clone, Copy)]
 pub struct Minterms {
     pub lf: u16,

@@ -31,7 +31,8 @@ impl Blit {
         }
     }
 
-    /// What the blit does with its next slot. A write is asked for with its word; Done comes once all asks have answers.
+    /// What the blit does with its next slot. A write is asked for with its word; Done comes once
+    /// all asks have answers.
     pub fn next(&self) -> SlotAsk
         ensures shown { result ≡ slot_shown self.now }
         ensures ask { ForWhatItStands self.now (λ s ws. result ≡ blit_ask s ws) }
@@ -50,7 +51,8 @@ impl Blit {
         matches!(self.next(), SlotAsk::Done)
     }
 
-    /// Carries out the ask that `next` tells, which is not Done: the slot was got. The word counts only for a read.
+    /// Carries out the ask that `next` tells, which is not Done: the slot was got. The word counts
+    /// only for a read.
     pub fn give(&mut self, word: u16)
         requires { slot_shown self.old ≢ SlotAsk.Done }
         ensures { ForWhatItStands self.old (λ s ws. StandsFor self.new s (ws ++ word ∷ [])) }

@@ -11,10 +11,11 @@ use crate::channel::Pointers;
 use crate::data_path::{Outcome, Past, Words, mix, width};
 use blit_words::{BlitRegs, Minterms, SlotAsk, WordAsk, height, is_set};
 
-/// An area blit under way. It stands for its registers at the start and the answers that it was given: `Stands`.
+/// An area blit under way. It stands for its registers at the start and the answers that it was
+/// given: `Stands`.
 ///
-/// It keeps the place in the row of asks, the column and the row of the present word, the pointers of that word, the
-/// data registers, what the word before left, and whether all results were 0.
+/// It keeps the place in the row of asks, the column and the row of the present word, the pointers
+/// of that word, the data registers, what the word before left, and whether all results were 0.
 #[derive(Clone, Copy)]
 pub struct AreaBlit {
     pub(crate) start: BlitRegs,
@@ -59,8 +60,8 @@ impl AreaBlit {
         }
     }
 
-    /// What the blit does with its next slot. A write is asked for with its word. Done comes exactly where all asks
-    /// of all words have answers.
+    /// What the blit does with its next slot. A write is asked for with its word. Done comes
+    /// exactly where all asks of all words have answers.
     pub fn next(&self) -> SlotAsk
         ensures shown { result ≡ shown self.now }
         ensures ask { ForWhatItStands self.now (λ s ws. result ≡ blit_ask s ws) }
@@ -102,7 +103,8 @@ impl AreaBlit {
         }
     }
 
-    /// Carries out the ask that `next` tells, which is not Done: the slot was got. The word counts only for a read.
+    /// Carries out the ask that `next` tells, which is not Done: the slot was got. The word counts
+    /// only for a read.
     pub fn give(&mut self, word: u16)
         requires { shown self.old ≢ SlotAsk.Done }
         ensures { ForWhatItStands self.old (λ s ws. Stands self.new s (ws ++ word ∷ [])) }
@@ -116,8 +118,8 @@ impl AreaBlit {
         }
     }
 
-    /// BZERO: whether the results so far, after fill, are all 0. A result counts from its word's last ask on, also
-    /// where D is unused.
+    /// BZERO: whether the results so far, after fill, are all 0. A result counts from its word's
+    /// last ask on, also where D is unused.
     pub fn zero(&self) -> bool
         ensures { ForWhatItStands self.now (λ s ws. result ≡ blit_zero s ws) }
     {
@@ -165,8 +167,8 @@ impl AreaBlit {
         )
     }
 
-    /// All asks of the present word have answers: its result counts, and the next word begins. A row begins with the
-    /// carry FCI.
+    /// All asks of the present word have answers: its result counts, and the next word begins. A
+    /// row begins with the carry FCI.
     fn end_word(&mut self)
         requires { self.old.row < height_of self.old.start }
         ensures { EndsWord self.old self.new }

@@ -14,8 +14,8 @@ fn code(start: &BlitRegs) -> u16
     start.con0 / 256 % 16
 }
 
-/// The asks of a word by the channels in use, with rests behind the last. That they come in these slots is this
-/// project's profile.
+/// The asks of a word by the channels in use, with rests behind the last. That they come in these
+/// slots is this project's profile.
 #[tactic(auto, unfolding(blit_words::specs::AreaBlit::asks_in))]
 fn ask_row(code: u16) -> [WordAsk; 4]
     requires { code < 16 }

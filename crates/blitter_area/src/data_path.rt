@@ -31,7 +31,8 @@ impl Words {
     }
 }
 
-/// What a word leaves for the next: its A, masked, and its B, which are shifted into it, and the carry of the fill.
+/// What a word leaves for the next: its A, masked, and its B, which are shifted into it, and the
+/// carry of the fill.
 #[derive(Clone, Copy)]
 pub(crate) struct Past {
     pub(crate) a: u16,
@@ -70,8 +71,8 @@ fn mask(start: &BlitRegs, column: u16, word: u16) -> u16
     }
 }
 
-/// Whether the blit fills: in descending mode alone, with EFE or IFE. That it does so in descending mode alone is
-/// this project's profile.
+/// Whether the blit fills: in descending mode alone, with EFE or IFE. That it does so in descending
+/// mode alone is this project's profile.
 fn is_filling(start: &BlitRegs) -> bool
     ensures { result ≡ fills start.now }
 {

@@ -8,9 +8,11 @@ ghost use Rattle.blit_words.specs.Blitter.{blit_ask, blit_zero, blit_end};
 use crate::points::{dot, first, go_on, texture};
 use blit_words::{BlitRegs, LinePoint, Minterms, SlotAsk, height, is_set};
 
-/// A line blit under way. It stands for its registers at the start and the answers that it was given: `Stands`.
+/// A line blit under way. It stands for its registers at the start and the answers that it was
+/// given: `Stands`.
 ///
-/// It keeps the present point and its number, the place among its four asks, BLTCDAT, and whether all results were 0.
+/// It keeps the present point and its number, the place among its four asks, BLTCDAT, and whether
+/// all results were 0.
 #[derive(Clone, Copy)]
 pub struct LineBlit {
     pub(crate) start: BlitRegs,
@@ -43,8 +45,8 @@ impl LineBlit {
         }
     }
 
-    /// What the blit does with its next slot. A write is asked for with its word. Done comes exactly where all four asks
-    /// of all points have answers; the number of points is the height.
+    /// What the blit does with its next slot. A write is asked for with its word. Done comes
+    /// exactly where all four asks of all points have answers; the number of points is the height.
     pub fn next(&self) -> SlotAsk
         ensures shown { result ≡ shown self.now }
         ensures ask { ForWhatItStands self.now (λ s ws. result ≡ blit_ask s ws) }
@@ -64,8 +66,8 @@ impl LineBlit {
         }
     }
 
-    /// What it does with the slot of the present ask: a rest, the read of C, a rest, and the write of D. C or D is a rest
-    /// where it is unused. That is this project's profile.
+    /// What it does with the slot of the present ask: a rest, the read of C, a rest, and the write
+    /// of D. C or D is a rest where it is unused. That is this project's profile.
     fn slot_ask(&self) -> SlotAsk
         ensures { result ≡ shown_ask self.now self.now.start }
     {
@@ -81,7 +83,8 @@ impl LineBlit {
         }
     }
 
-    /// Carries out the ask that `next` tells, which is not Done: the slot was got. The word counts only for a read.
+    /// Carries out the ask that `next` tells, which is not Done: the slot was got. The word counts
+    /// only for a read.
     pub fn give(&mut self, word: u16)
         requires { shown self.old ≢ SlotAsk.Done }
         ensures { ForWhatItStands self.old (λ s ws. Stands self.new s (ws ++ word ∷ [])) }
@@ -94,16 +97,16 @@ impl LineBlit {
         }
     }
 
-    /// BZERO: whether the results so far are all 0. A result counts from its point's fourth ask on, also where D is
-    /// unused.
+    /// BZERO: whether the results so far are all 0. A result counts from its point's fourth ask on,
+    /// also where D is unused.
     pub fn zero(&self) -> bool
         ensures { ForWhatItStands self.now (λ s ws. result ≡ blit_zero s ws) }
     {
         self.zero
     }
 
-    /// The registers as they are now; at the end these stay. BLTCPT and BLTDPT are the point's address, BLTAPTL is the
-    /// accumulator, and BLTCDAT is the word that was read last.
+    /// The registers as they are now; at the end these stay. BLTCPT and BLTDPT are the point's
+    /// address, BLTAPTL is the accumulator, and BLTCDAT is the word that was read last.
     pub fn regs(&self) -> BlitRegs
         ensures { ForWhatItStands self.now (λ s ws. result ≡ blit_end s ws) }
     {

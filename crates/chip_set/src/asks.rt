@@ -94,7 +94,8 @@ pub fn made_by(ask: &Ask, word: u16, act: &CopperAct) -> Made
     }
 }
 
-/// What the processor's access makes: of its reads the trace tells that of CLXDAT, which clears the collision bits.
+/// What the processor's access makes: of its reads the trace tells that of CLXDAT, which clears the
+/// collision bits.
 fn made_by_processor(ask: &ProcessorAsk) -> Made
     ensures { result ≡ made_by_processor_of ask.now }
 {

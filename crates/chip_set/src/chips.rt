@@ -1,5 +1,5 @@
-//! The chips between two colour clocks: the custom registers, the fetches of bitplanes and sprites, the Copper,
-//! the blitter, the interrupt words, the processor, the CIAs and the joysticks.
+//! The chips between two colour clocks: the custom registers, the fetches of bitplanes and sprites,
+//! the Copper, the blitter, the interrupt words, the processor, the CIAs and the joysticks.
 
 ghost use Rattle.std.specs.Prelude.{◌≡◌, Some, is_some};
 ghost use Rattle.serial_model.specs.State.{Chips as ChipsOf};
@@ -55,9 +55,9 @@ const BLTPRI: u16 = 0x400;
 /// A bit of BPLCON0.
 const LACE: u16 = 0x4;
 
-/// The custom registers, the fetches of bitplanes and sprites, the Copper, the blit under way with BZERO as the
-/// last one left it, the interrupt words, the processor with the clocks in a row at which it missed the slot, the two
-/// CIAs and the joysticks.
+/// The custom registers, the fetches of bitplanes and sprites, the Copper, the blit under way with
+/// BZERO as the last one left it, the interrupt words, the processor with the clocks in a row at
+/// which it missed the slot, the two CIAs and the joysticks.
 #[derive(Drop)]
 pub struct Chips {
     registers: Regs,
@@ -165,8 +165,8 @@ impl Chips {
         self.registers.word(Reg::masked(BPLCON0)) & LACE == LACE
     }
 
-    /// At a field's first clock the Copper starts at COP1LC, the interrupt of vertical blanking is requested, and CIA
-    /// A's time of day counts; at a line's first clock that of CIA B does.
+    /// At a field's first clock the Copper starts at COP1LC, the interrupt of vertical blanking is
+    /// requested, and CIA A's time of day counts; at a line's first clock that of CIA B does.
     pub fn start(&mut self, beam: &Beam)
         ensures { (c : ChipsOf) → IsChipsOf self.old c
             → IsChipsOf self.new (start_chips beam.now c) }
@@ -301,10 +301,11 @@ impl Chips {
         }
     }
 
-    /// What the owner of this clock's slot asks for. `side` is what the side asks for: a disk asks at clocks 7, 9 and
-    /// 11 of a line alone, and audio's channel c, 0 to 3, at clock 13 + 2c alone; the slot is its own where it asks.
-    /// The fetches of bitplanes and sprites are done with it: where one has the slot, its pointer has moved. `answer`
-    /// is to be called next, with nothing changed here in between.
+    /// What the owner of this clock's slot asks for. `side` is what the side asks for: a disk asks
+    /// at clocks 7, 9 and 11 of a line alone, and audio's channel c, 0 to 3, at clock 13 + 2c
+    /// alone; the slot is its own where it asks. The fetches of bitplanes and sprites are done with
+    /// it: where one has the slot, its pointer has moved. `answer` is to be called next, with
+    /// nothing changed here in between.
     #[inline(always)]
     pub fn ask(&mut self, beam: &Beam, side: SideAsk) -> Ask
         requires time { IsInTime beam.now side }
@@ -320,13 +321,15 @@ impl Chips {
         self.owner_ask(beam, side, plane, sprite)
     }
 
-    /// The access of this clock, by what `ask` said of it: the owner of the slot has its word, and each chip its answer.
-    /// The answer is what the access makes: a write by Copper or processor, or of a sprite's control word, a word that is
-    /// stored, a word for a plane's latch or a sprite's image, a read of CLXDAT, or nothing. The words for planes and
-    /// images and those of samples are not read here. `clx` has the collision bits gathered up to now; only a read of
+    /// The access of this clock, by what `ask` said of it: the owner of the slot has its word, and
+    /// each chip its answer. The answer is what the access makes: a write by Copper or processor,
+    /// or of a sprite's control word, a word that is stored, a word for a plane's latch or a
+    /// sprite's image, a read of CLXDAT, or nothing. The words for planes and images and those of
+    /// samples are not read here. `clx` has the collision bits gathered up to now; only a read of
     /// CLXDAT looks at them.
     ///
-    /// The owners of most clocks stand apart: what follows is then that of the one owner, and no ask is put in memory.
+    /// The owners of most clocks stand apart: what follows is then that of the one owner, and no
+    /// ask is put in memory.
     #[inline(always)]
     pub fn answer(&mut self, ask: &Ask, beam: &Beam, clx: u16, chip: &mut Chip) -> Made
         requires able { CanAsk ask.now }
@@ -387,8 +390,8 @@ impl Chips {
         made_by(ask, word, &act)
     }
 
-    /// What the owner of the slot asks for, where the side, planes and sprites ask for this: in its time a side has the
-    /// slot for which it asks.
+    /// What the owner of the slot asks for, where the side, planes and sprites ask for this: in its
+    /// time a side has the slot for which it asks.
     #[inline(always)]
     fn owner_ask(
         &self,
@@ -408,8 +411,8 @@ impl Chips {
         }
     }
 
-    /// What the owner of a slot asks for, for which the side does not ask, where planes and sprites ask for this. The
-    /// word that a blit writes is worked out only where it has the slot.
+    /// What the owner of a slot asks for, for which the side does not ask, where planes and sprites
+    /// ask for this. The word that a blit writes is worked out only where it has the slot.
     #[inline(always)]
     #[tactic(auto, unfolding(crate::specs::Chips::ask_with, serial_model::specs::Owner::owner_of))]
     fn chips_ask(&self, beam: &Beam, plane: Option<PlaneAsk>, sprite: Option<SpriteAsk>) -> Ask
@@ -449,8 +452,8 @@ impl Chips {
         self.last_ask(beam, processor)
     }
 
-    /// What the owner of a slot asks for which none of those before the blitter asks for, where the processor asks for
-    /// this.
+    /// What the owner of a slot asks for which none of those before the blitter asks for, where the
+    /// processor asks for this.
     #[inline(always)]
     #[tactic(auto, unfolding(crate::specs::Chips::ask_with))]
     fn last_ask(&self, beam: &Beam, processor: Option<ProcessorAsk>) -> Ask

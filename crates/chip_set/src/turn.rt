@@ -1,5 +1,5 @@
-//! The chips in the third and sixth step of a clock: the CIAs' time and interrupts, and the processor's part that needs no
-//! slot.
+//! The chips in the third and sixth step of a clock: the CIAs' time and interrupts, and the
+//! processor's part that needs no slot.
 
 ghost use Rattle.std.specs.Prelude.{◌≡◌, ◌==◌, not, Some, None};
 ghost use Rattle.serial_model.specs.State.{Chips as ChipsOf};
@@ -22,8 +22,9 @@ const FIRE0: u8 = 0x40;
 const FIRE1: u8 = 0x80;
 
 impl Chips {
-    /// At each fifth clock since reset the timers of both CIAs tick. At every clock the side requests its interrupts,
-    /// `bits`, as bits of INTREQ, and a CIA whose line is active its own. `t` is the number of the clock.
+    /// At each fifth clock since reset the timers of both CIAs tick. At every clock the side
+    /// requests its interrupts, `bits`, as bits of INTREQ, and a CIA whose line is active its own.
+    /// `t` is the number of the clock.
     #[inline(always)]
     #[tactic(auto, unfolding(serial_model::specs::Cias::time_chips))]
     pub fn count_timers(&mut self, t: u64, bits: u16)
@@ -61,8 +62,8 @@ impl Chips {
         (if self.cia_a.line() { PORTS } else { 0 }) + if self.cia_b.line() { EXTER } else { 0 }
     }
 
-    /// The processor takes its turn: a clock passes of what it waits for, or it goes on. The answer is the level of
-    /// an interrupt that begins with it.
+    /// The processor takes its turn: a clock passes of what it waits for, or it goes on. The answer
+    /// is the level of an interrupt that begins with it.
     #[inline(always)]
     #[tactic(auto, unfolding(serial_model::specs::Turns::run_chips, serial_model::specs::Turns::interrupt_of))]
     pub fn process(&mut self) -> Option<u8>
@@ -93,8 +94,8 @@ impl Chips {
         self.processor.go_on(word, level)
     }
 
-    /// The processor's access to a register of a CIA: a write of a byte, or a read. The answer is the word that it
-    /// reads, 0 for a write.
+    /// The processor's access to a register of a CIA: a write of a byte, or a read. The answer is
+    /// the word that it reads, 0 for a write.
     fn access_cia(&mut self, cia: CiaName, reg: CiaRegister, byte: Option<u8>) -> u16
         ensures chips { (c : ChipsOf) → IsChipsOf self.old c
             → IsChipsOf self.new (access_of_cia cia reg byte c) }
@@ -121,8 +122,8 @@ impl Chips {
         }
     }
 
-    /// The processor reads a register of a CIA: the word has its byte in the low half for CIA A, in the high one for
-    /// CIA B.
+    /// The processor reads a register of a CIA: the word has its byte in the low half for CIA A, in
+    /// the high one for CIA B.
     fn read_cia(&mut self, cia: CiaName, reg: CiaRegister) -> u16
         ensures chips { (c : ChipsOf) → IsChipsOf self.old c
             → IsChipsOf self.new (access_of_cia cia reg None c) }

@@ -83,7 +83,8 @@ fn fetches_of_a_line(rt: HostRuntime) {
     }
 }
 
-/// DDFSTOP below the running unit ends the train at once, with the modulo, and a later DDFSTRT begins another.
+/// DDFSTOP below the running unit ends the train at once, with the modulo, and a later DDFSTRT
+/// begins another.
 #[test]
 fn registers_of_the_moment(rt: HostRuntime) {
     let mut regs = registers(&[

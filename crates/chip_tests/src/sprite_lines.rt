@@ -13,8 +13,8 @@ fn registers(words: &[(u16, u16)]) -> Regs {
     regs
 }
 
-/// Steps to clocks `from` to `to` of line `v`, with the slot of clock `taken` taken by a bitplane. The answer is how
-/// many control words and words of images were read, and the last ask.
+/// Steps to clocks `from` to `to` of line `v`, with the slot of clock `taken` taken by a bitplane.
+/// The answer is how many control words and words of images were read, and the last ask.
 fn run(
     sprites: &mut SpriteDma,
     v: u16,
@@ -106,7 +106,8 @@ fn slots_and_pointers(rt: HostRuntime) {
     assert_eq!(rt; regs.word(Reg::masked(0x13e)), 0x0002);
 }
 
-/// A bitplane takes the first slot: the kind is decided there, and the second slot reads the pair's first word.
+/// A bitplane takes the first slot: the kind is decided there, and the second slot reads the pair's
+/// first word.
 #[test]
 fn a_slot_that_a_bitplane_takes(rt: HostRuntime) {
     let mut regs = registers(&[

@@ -1,6 +1,6 @@
-//! The command line, as tests: words, images and scripts that are refused, calls of the place that fail, real files, runs
-//! that go on for long, and scenes; and the status, the text and the files that come of them. Nothing of it is part of the
-//! program.
+//! The command line, as tests: words, images and scripts that are refused, calls of the place that
+//! fail, real files, runs that go on for long, and scenes; and the status, the text and the files
+//! that come of them. Nothing of it is part of the program.
 #![tactic(auto)]
 
 #[cfg(test)]

@@ -126,8 +126,8 @@ fn fetching_from(at: Addr) -> CopperState
     }
 }
 
-/// The instruction of two words: MOVE where bit 0 of the first is clear, WAIT where it is set and bit 0 of the
-/// second is clear, SKIP where both are set.
+/// The instruction of two words: MOVE where bit 0 of the first is clear, WAIT where it is set and
+/// bit 0 of the second is clear, SKIP where both are set.
 fn decode(first: u16, second: u16, danger: bool) -> CopperInstruction
     ensures { result ≡ instruction_of danger first second }
 {

@@ -16,8 +16,8 @@ const UNMAPPED_CLOCKS: u32 = 2;
 
 const CIA_CLOCKS: u32 = 5;
 
-/// The processor, and how far it is with what it waits for. `spent` are the colour clocks that have passed of that,
-/// and `given` is the word of the access that it has just made in its slot.
+/// The processor, and how far it is with what it waits for. `spent` are the colour clocks that have
+/// passed of that, and `given` is the word of the access that it has just made in its slot.
 #[derive(Drop)]
 pub struct BusCpu {
     on: bool,
@@ -58,8 +58,8 @@ impl BusCpu {
         }
     }
 
-    /// What it asks for in the slot of this clock: an access to memory or to a register asks at each clock but its
-    /// first, until it is given.
+    /// What it asks for in the slot of this clock: an access to memory or to a register asks at
+    /// each clock but its first, until it is given.
     #[tactic(auto, unfolding(serial_model::specs::Processor::processor_wish))]
     pub fn wish(&self) -> Option<ProcessorAsk>
         ensures shown { result ≡ wish_shown self.now }
@@ -128,8 +128,9 @@ impl BusCpu {
         self.spent = spent;
     }
 
-    /// It goes on with the word of an access, which counts only for a read. `level` is the interrupt level of this
-    /// clock, 0 to 7. The answer is the level of an interrupt that begins with it.
+    /// It goes on with the word of an access, which counts only for a read. `level` is the
+    /// interrupt level of this clock, 0 to 7. The answer is the level of an interrupt that begins
+    /// with it.
     pub fn go_on(&mut self, word: u16, level: u8) -> Option<u8>
         requires { level ≤ 7 }
         ensures { (p : Processor) → IsProcessorOf self.old p → GoesOn word level p result self.new }

@@ -1,5 +1,6 @@
-//! Tests of bands and of who draws them: the board, drawing by single clocks, crews, and runs whose bands workers draw.
-//! Nothing of it is part of the program, and so that they are proved once the crates below have no tests of their own.
+//! Tests of bands and of who draws them: the board, drawing by single clocks, crews, and runs whose
+//! bands workers draw. Nothing of it is part of the program, and so that they are proved once the
+//! crates below have no tests of their own.
 #![tactic(auto)]
 
 #[cfg(test)]

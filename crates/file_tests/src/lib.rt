@@ -1,5 +1,6 @@
-//! Tests of the crates of files: numbers as text and the places of files, the files of a run, scenes and scripts, a module a
-//! crate. They stand here and not beside the code, so that those crates are proved once.
+//! Tests of the crates of files: numbers as text and the places of files, the files of a run,
+//! scenes and scripts, a module a crate. They stand here and not beside the code, so that those
+//! crates are proved once.
 #![tactic(auto)]
 
 #[cfg(test)]

@@ -89,7 +89,8 @@ limits_left system frames zero events limits = limits
 limits_left system frames (suc n) [] limits = limits
 limits_left system frames (suc n) (e ∷ events) limits = limits_left system frames n events limits.1
 
-script_next : (run : RunValue) (b here next : Beam) (lace : Bool) (was left : ℕ) → IsRunnable run.script → HasScript run b was → HasScriptBehind run b was left → IsOnScreen b
+script_next : (run : RunValue) (b here next : Beam) (lace : Bool) (was left : ℕ) → IsRunnable run.script → HasScript run b was
+    → HasScriptBehind run b was left → IsOnScreen b
     → IsSamePlace b here → next ≡ next_place run.script.system lace here → place_of b < place_of next → HasScript run next left
 script_next run b here next lace was left good script behind on same is later =
     let at_place : place_of here ≡ place_of b = ap place_of same in
@@ -251,7 +252,8 @@ same_place_then a b c first second = second ∙ ap (λ (x : Beam). record x { lo
 -- the end of a clock, once its access was made
 advanced : (f0 f1 f2 f3 f4 : ForeValue) (first clx : ℕ) (lace : Bool) (seen s1 s2 : RasterValue) (o0 o1 o2 o3 o4 : OutFilesValue)
     → (is : IsUnderway f0 first seen) → is_done f0 ≡ false → (begun : HasBegunClock f0 f1 first clx seen s1 o0 o1) → ReachesAccess clx f1 f2 o1 o2
-    → HasMadeAccess f2 f3 begun.until s1 s2 o2 o3 → KeepsClock f2 f3 → EndsClock f3 f4 o3 o4 → f4.machine.beam ≡ next_place f3.run.script.system lace f3.machine.beam
+    → HasMadeAccess f2 f3 begun.until s1 s2 o2 o3 → KeepsClock f2 f3 → EndsClock f3 f4 o3 o4 → f4.machine.beam ≡ next_place f3.run.script.system lace
+    f3.machine.beam
     → HasAdvanced f0 f4 first seen s2 o0 o4
 advanced f0 f1 f2 f3 f4 first clx lace seen s1 s2 o0 o1 o2 o3 o4 is not begun reaches made kept end next =
     let r : RunValue = f0.run in
@@ -323,7 +325,8 @@ pub part_reaching : (f0 f1 : ForeValue) (clx : ℕ) (seen s1 : RasterValue) (o0 
     → GivesLines o1 o2 → GivesPart f0 seen s1 o0 o2
 part_reaching f0 f1 clx seen s1 o0 o1 o2 begins told first is =
     let begun : HasBegunClock f0 f1 first clx seen s1 o0 o1 = begins first is in
-    part_of_given f0.run first begun.until seen s1 o0 o2 ([] ++ told.0) (left_begun f0 f1 first clx seen s1 o0 o1 begun) (given_more f0.run first begun.until seen s1 o0 o1 o2 [] told.0 begun.gives told.1)
+    part_of_given f0.run first begun.until seen s1 o0 o2 ([] ++ told.0) (left_begun f0 f1 first clx seen s1 o0 o1 begun)
+    (given_more f0.run first begun.until seen s1 o0 o1 o2 [] told.0 begun.gives told.1)
 
 pub part_accessing : (f0 f1 f2 : ForeValue) (clx : ℕ) (seen s1 s2 : RasterValue) (o0 o1 o2 o3 : OutFilesValue) → BeginsClock f0 f1 clx seen s1 o0 o1
     → ReachesAccess clx f1 f2 o1 o2 → AccessesPart f2 s1 s2 o2 o3 → GivesPart f0 seen s2 o0 o3

@@ -80,7 +80,8 @@ touches_more t e events log = added (touch_of (made_by_act e.act))
     added None = refl
     added (Some touch) = refl
 
-HasDone-more : (system : System) (frames : ℕ) (events left : List At) (e : At) (old now new : MachineValue) (was out given : OutFilesValue) (log after noted : Log)
+HasDone-more : (system : System) (frames : ℕ) (events left : List At) (e : At) (old now new : MachineValue) (was out given : OutFilesValue)
+    (log after noted : Log)
     (clx cleared bits : ℕ) → IsOnScreen old.beam → IsQueue system frames (place_of old.beam) (e ∷ left) → is_due now.beam e ≡ true
     → HasDone events (e ∷ left) old now was out log after clx cleared
     → (is_clx_read (made_by_act e.act) ≡ true → bits ≡ 0) → (is_clx_read (made_by_act e.act) ≡ false → bits ≡ cleared)

@@ -92,4 +92,5 @@ pub shown_within : (system : System) (old now : ForeValue) (shown : ℕ) → sys
     → shown ≡ length (state_of now.run (old.machine.t + 1)).shown
 shown_within system old now shown by same place is =
     subst (λ (o : ForeValue). shown ≡ length (state_of now.run (o.machine.t + 1)).shown) (sym same)
-    (subst (λ (o : ForeValue). shown ≡ shown_behind system o.machine.beam) same is ∙ ap (λ s. shown_behind s now.machine.beam) by ∙ sym (shown_after now.run now.machine.t now.machine.beam place))
+    (subst (λ (o : ForeValue). shown ≡ shown_behind system o.machine.beam) same is ∙ ap (λ s. shown_behind s now.machine.beam) by
+    ∙ sym (shown_after now.run now.machine.t now.machine.beam place))

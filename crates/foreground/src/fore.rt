@@ -17,9 +17,9 @@ use std::alloc::Global;
 use std::marker::Model;
 use std::sync::Arc;
 
-/// The foreground of a run: the machine clock by clock, without its picture, of which it logs what bands are drawn from later. A
-/// raster, which draws them, and the output files are lent to each call. After a refusal for want of memory each later call
-/// refuses too, and adds nothing.
+/// The foreground of a run: the machine clock by clock, without its picture, of which it logs what
+/// bands are drawn from later. A raster, which draws them, and the output files are lent to each
+/// call. After a refusal for want of memory each later call refuses too, and adds nothing.
 #[derive(Drop)]
 pub struct Fore<S> {
     pub(crate) alloc: Global,

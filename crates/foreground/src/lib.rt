@@ -1,5 +1,6 @@
-//! The clock loop: it advances the machine one colour clock at a time, reads no word of a plane or a sprite and keeps no
-//! pixel. What the picture needs it logs; at each band's end it cuts the memory and submits a job, from which the band is drawn.
+//! The clock loop: it advances the machine one colour clock at a time, reads no word of a plane or
+//! a sprite and keeps no pixel. What the picture needs it logs; at each band's end it cuts the
+//! memory and submits a job, from which the band is drawn.
 #![tactic(auto)]
 
 mod advance;

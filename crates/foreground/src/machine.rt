@@ -36,8 +36,8 @@ pub struct Machine<S> {
 }
 
 impl<S: Side> Machine<S> {
-    /// The machine at reset, with its memory made from the bytes of an image, and a side as it is then; `cpu` says
-    /// whether the processor is started.
+    /// The machine at reset, with its memory made from the bytes of an image, and a side as it is
+    /// then; `cpu` says whether the processor is started.
     pub fn new(alloc: Global, image: &[u8], cpu: bool, side: S) -> Result<Machine<S>, OutOfMemory>
         requires { is_image image.now ≡ true }
         ensures { IfOk result (λ machine.
@@ -52,8 +52,8 @@ impl<S: Side> Machine<S> {
         })
     }
 
-    /// First step: at a field's first clock the Copper starts, and at first clocks of fields and lines the CIAs'
-    /// times of day count.
+    /// First step: at a field's first clock the Copper starts, and at first clocks of fields and
+    /// lines the CIAs' times of day count.
     #[inline(always)]
     pub fn start(&mut self)
         ensures step { MakesQuietly start_clock (machine_over S.seen self.old)
@@ -63,10 +63,10 @@ impl<S: Side> Machine<S> {
         self.chips.start(&self.beam);
     }
 
-    /// An event of the second step: a poke is a write to a register, a peek a read of one, and the trace tells both;
-    /// the others tell the chips. `clx` has the collision bits that a peek of CLXDAT reads; to clear them is the
-    /// caller's, and so is what a poke does to the picture. After a refusal the event has not happened, but for what
-    /// it tells the chips.
+    /// An event of the second step: a poke is a write to a register, a peek a read of one, and the
+    /// trace tells both; the others tell the chips. `clx` has the collision bits that a peek of
+    /// CLXDAT reads; to clear them is the caller's, and so is what a poke does to the picture.
+    /// After a refusal the event has not happened, but for what it tells the chips.
     pub fn act(&mut self, act: &Act, clx: u16, out: &mut OutFiles) -> Result<(), OutOfMemory>
         ensures step { OnOk result
             (MakesEvent clx act.now (machine_over S.seen self.old) out.old
@@ -83,8 +83,8 @@ impl<S: Side> Machine<S> {
         Ok(())
     }
 
-    /// Third step: the timers of the CIAs tick at each fifth clock, the side ticks, and CIAs and side request their
-    /// interrupts.
+    /// Third step: the timers of the CIAs tick at each fifth clock, the side ticks, and CIAs and
+    /// side request their interrupts.
     #[inline(always)]
     pub fn count_timers(&mut self)
         ensures step { MakesQuietly count_timers_of (machine_over S.seen self.old)
@@ -99,8 +99,8 @@ impl<S: Side> Machine<S> {
         self.chips.count_timers(self.t, bits);
     }
 
-    /// Fifth step, its beginning: what the owner of the slot asks for. The fetches of bitplanes and sprites are done
-    /// with it. `answer` is to be called next.
+    /// Fifth step, its beginning: what the owner of the slot asks for. The fetches of bitplanes and
+    /// sprites are done with it. `answer` is to be called next.
     #[inline(always)]
     pub fn ask(&mut self) -> Ask
         ensures ask { (s : State) → IsMachineOf (machine_over S.seen self.old) s → result ≡ ask_of
@@ -116,9 +116,9 @@ impl<S: Side> Machine<S> {
         self.chips.ask(&self.beam, wish)
     }
 
-    /// Fifth step, its end: the owner of the slot has its word and makes its access. The answer is what that makes. It
-    /// is done, but for the picture's part of it (`touch_of`). `clx` has the collision bits that a read of CLXDAT
-    /// gives; to clear them is the caller's.
+    /// Fifth step, its end: the owner of the slot has its word and makes its access. The answer is
+    /// what that makes. It is done, but for the picture's part of it (`touch_of`). `clx` has the
+    /// collision bits that a read of CLXDAT gives; to clear them is the caller's.
     #[inline(always)]
     pub fn answer(&mut self, ask: &Ask, clx: u16, out: &mut OutFiles) -> Result<Made, OutOfMemory>
         requires able { CanAsk ask.now }
@@ -142,7 +142,8 @@ impl<S: Side> Machine<S> {
         Ok(made)
     }
 
-    /// A side that asked for the slot has its word: a disk the one that it stores, and audio the one that it reads.
+    /// A side that asked for the slot has its word: a disk the one that it stores, and audio the
+    /// one that it reads.
     #[inline(always)]
     fn give_side(&mut self, ask: &Ask)
         ensures gives { GivesSide ask.now (machine_over S.seen self.old)
@@ -227,8 +228,8 @@ impl<S: Side> Machine<S> {
         Ok(())
     }
 
-    /// A write to a register, without its line of the trace: it reaches the chips, then the side, and LOF where the
-    /// register is VPOSW.
+    /// A write to a register, without its line of the trace: it reaches the chips, then the side,
+    /// and LOF where the register is VPOSW.
     fn write_register(&mut self, reg: Reg, word: u16)
         ensures { WritesRegister reg word (machine_over S.seen self.old)
             (machine_over S.seen self.new) }

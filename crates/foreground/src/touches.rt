@@ -8,8 +8,8 @@ ghost use Rattle.chip_set.specs.Chips.{CanDo};
 use band_draw::due::is_picture;
 use serial_model::{Made, Touch};
 
-/// How what an access makes touches the picture: by a write to one of Denise's registers, or by a fetch. Planes and
-/// sprites are in range where those of the access are.
+/// How what an access makes touches the picture: by a write to one of Denise's registers, or by a
+/// fetch. Planes and sprites are in range where those of the access are.
 #[inline(always)]
 pub fn touch_of(made: &Made) -> Option<Touch>
     ensures touch { result ≡ touch_by made.now }

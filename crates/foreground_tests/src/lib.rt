@@ -1,5 +1,5 @@
-//! Tests of the foreground: whole runs over rasters that draw at once, reads of CLXDAT, a run over a side. They stand here
-//! and not beside the code, so that the foreground is proved once.
+//! Tests of the foreground: whole runs over rasters that draw at once, reads of CLXDAT, a run over
+//! a side. They stand here and not beside the code, so that the foreground is proved once.
 #![tactic(auto)]
 
 #[cfg(test)]

@@ -143,8 +143,8 @@ fn pixels_are_those_that_are_collected(rt: HostRuntime) -> Result<(), Fail> {
     Ok(())
 }
 
-/// One plane of 20 words in each of 200 lines, all zero but the second: of it one low-resolution pixel is white,
-/// two columns of a line.
+/// One plane of 20 words in each of 200 lines, all zero but the second: of it one low-resolution
+/// pixel is white, two columns of a line.
 const PLANE: &str = "at 0 0 0 poke 08e 2c81\nat 0 0 0 poke 090 f4c1\nat 0 0 0 poke 092 0038\n\
 at 0 0 0 poke 094 00d0\nat 0 0 0 poke 0e0 0007\nat 0 0 0 poke 0e2 fffe\n\
 at 0 0 0 poke 100 1000\nat 0 0 0 poke 102 000f\nat 0 0 0 poke 108 ffd8\n\

@@ -1,5 +1,5 @@
-//! A run over a side: a disk's word, a sample's word, interrupts and writes of registers. The expected words are worked
-//! by hand.
+//! A run over a side: a disk's word, a sample's word, interrupts and writes of registers. The
+//! expected words are worked by hand.
 
 ghost use Rattle.std.specs.Prelude.{◌≡◌, ◌≤◌, ℕ, [], false, IfOk};
 ghost use Rattle.std.specs.Arc.{arc_value};
@@ -17,8 +17,9 @@ use std::alloc::Global;
 use std::sync::Arc;
 use std::test::Fail;
 
-/// A side that keeps the word that was last written to a register, and the one that it was last given. At clock 7 of each
-/// line it stores the one, as a disk, and at clock 13 reads that place, as audio; at clock 20 it requests the other's bits.
+/// A side that keeps the word that was last written to a register, and the one that it was last
+/// given. At clock 7 of each line it stores the one, as a disk, and at clock 13 reads that place,
+/// as audio; at clock 20 it requests the other's bits.
 #[derive(Drop)]
 struct Recorder {
     written: u16,
@@ -106,9 +107,9 @@ fn files_of(alloc: Global, fore: Fore<Recorder>, out: OutFiles) -> Result<Shelf,
     Ok(shelf)
 }
 
-/// In line 0 the word 0102 is written to a register before clock 7, at which it is stored; at clock 13 it is read and given
-/// to the side; at clock 20 its bits are requested, beside that of vertical blanking. Each of the 313 lines reads one word,
-/// which counts.
+/// In line 0 the word 0102 is written to a register before clock 7, at which it is stored; at clock
+/// 13 it is read and given to the side; at clock 20 its bits are requested, beside that of vertical
+/// blanking. Each of the 313 lines reads one word, which counts.
 #[test]
 fn a_side_takes_part_in_the_run(rt: HostRuntime) -> Result<(), Fail> {
     let (fore, out) = run_whole_over_a_side(rt.alloc())?;

@@ -168,8 +168,9 @@ fn checked_sign(value: i64, bound: i64, n: bool) -> bool
     if value < 0 { true } else { n && value <= bound }
 }
 
-/// CHK: words are compared, `b` being the bound, and the value is `a`. The size says nothing. N is set below 0 and
-/// cleared above the bound, and it and the other flags stay where the value is good (profile).
+/// CHK: words are compared, `b` being the bound, and the value is `a`. The size says nothing. N is
+/// set below 0 and cleared above the bound, and it and the other flags stay where the value is good
+/// (profile).
 pub fn op_chk(size: Size, a: u32, b: u32, f: Flags) -> Outcome
     ensures { result ≡ chk_of size a b f }
 {

@@ -1,9 +1,10 @@
 //! The arithmetic of the MC68000: each operation gives a result and the flags after it.
 //!
-//! Every operation takes the size, `a` (the destination or the only operand), `b` (the source, the count, the number
-//! of the bit or the bound) and the flags before it (M68000 Programmer's Reference Manual, condition code computation).
-//! It cuts `a` and `b` to the size, and its value is one of the size. SWAP, TAS, CHK, multiplication, division and the
-//! decimal operations have operands of their own sizes, and the size says nothing there. A flag that the manual leaves
+//! Every operation takes the size, `a` (the destination or the only operand), `b` (the source, the
+//! count, the number of the bit or the bound) and the flags before it (M68000 Programmer's
+//! Reference Manual, condition code computation). It cuts `a` and `b` to the size, and its value is
+//! one of the size. SWAP, TAS, CHK, multiplication, division and the decimal operations have
+//! operands of their own sizes, and the size says nothing there. A flag that the manual leaves
 //! undefined stays as it was, unless the operation's definition gives it (profile).
 #![tactic(auto)]
 

@@ -55,8 +55,8 @@ pub fn op_clr(size: Size, a: u32, b: u32, f: Flags) -> Outcome
     plain_outcome(size, 0, f)
 }
 
-/// EXT: the size is the result's, so a word is extended from a byte and a long from a word. There is no EXT to a
-/// byte; at that size the byte stays as it is.
+/// EXT: the size is the result's, so a word is extended from a byte and a long from a word. There
+/// is no EXT to a byte; at that size the byte stays as it is.
 pub fn op_ext(size: Size, a: u32, b: u32, f: Flags) -> Outcome
     ensures { result ≡ ext_of size a b f }
 {

@@ -68,7 +68,8 @@ fn overflow_outcome(a: u32, f: Flags) -> Outcome
     }
 }
 
-/// DIVU: a long by a word, the low one of `b`, which is not 0. The size says nothing. On overflow the value is `a`.
+/// DIVU: a long by a word, the low one of `b`, which is not 0. The size says nothing. On overflow
+/// the value is `a`.
 #[tactic(auto, unfolding(m68k_decode::specs::ResultsProducts::divu_of))]
 pub fn op_divu(size: Size, a: u32, b: u32, f: Flags) -> Outcome
     requires { low Size.Word b ≢ 0 }

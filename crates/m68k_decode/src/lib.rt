@@ -1,5 +1,5 @@
-//! The types and definitions that the processor's crates share: registers, places, results, exceptions; with the
-//! opcodes and their clocks.
+//! The types and definitions that the processor's crates share: registers, places, results,
+//! exceptions; with the opcodes and their clocks.
 #![tactic(auto)]
 
 pub mod outcome;

@@ -3,11 +3,12 @@
 /// What the processor leaves its program for (M68000 User's Manual, exception processing).
 #[derive(Clone, Copy)]
 pub enum Trap {
-    /// A word or long access at the odd address `at`. `opcode` is that of the instruction that made it; 0 where the
-    /// access is the fetch of an opcode, or an exception's entry made it. `read`: the access is a read. `program`: it
-    /// is to an instruction word, or reads an operand of a PC-relative mode. `instruction`: false where the access
-    /// belongs to the entry of a trace, interrupt, illegal, privilege, line A or line F exception; true elsewhere, so
-    /// also at the entry of the other exceptions, and at the fetch of a handler's first opcode.
+    /// A word or long access at the odd address `at`. `opcode` is that of the instruction that made
+    /// it; 0 where the access is the fetch of an opcode, or an exception's entry made it. `read`:
+    /// the access is a read. `program`: it is to an instruction word, or reads an operand of a
+    /// PC-relative mode. `instruction`: false where the access belongs to the entry of a trace,
+    /// interrupt, illegal, privilege, line A or line F exception; true elsewhere, so also at the
+    /// entry of the other exceptions, and at the fetch of a handler's first opcode.
     AddressError {
         at: u32,
         opcode: u16,

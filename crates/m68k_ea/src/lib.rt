@@ -27,10 +27,11 @@ pub fn extension_words(mode: &Mode, size: Size) -> u8
     }
 }
 
-/// The place of an operand, with the postincrement or predecrement of its mode done in `regs`. `words` are the
-/// extension words, and `pc` is the address of the first of them, from which the PC-relative modes count. Addresses
-/// keep their 32 bits and wrap. A register number counts by its low three bits, and A7 is the active stack pointer
-/// (M68000 Programmer's Reference Manual, effective addressing).
+/// The place of an operand, with the postincrement or predecrement of its mode done in `regs`.
+/// `words` are the extension words, and `pc` is the address of the first of them, from which the
+/// PC-relative modes count. Addresses keep their 32 bits and wrap. A register number counts by its
+/// low three bits, and A7 is the active stack pointer (M68000 Programmer's Reference Manual,
+/// effective addressing).
 #[tactic(auto, unfolding(m68k_decode::specs::Places::place_of, m68k_decode::specs::Places::stepped))]
 pub fn resolve(mode: &Mode, regs: &mut CpuRegs, words: &[u16], pc: u32, size: Size) -> Place68
     requires { extensions mode.now size ≤ length words.now }

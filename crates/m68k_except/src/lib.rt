@@ -7,7 +7,8 @@ ghost use Rattle.m68k_decode.specs.Frames.{vector_of, frame_of, access_word, fun
 use arrayvec::ArrayVec;
 pub use m68k_decode::{CpuRegs, Trap};
 
-/// The number of an exception's vector; its address is 4 times that (M68000 User's Manual, exception vectors).
+/// The number of an exception's vector; its address is 4 times that (M68000 User's Manual,
+/// exception vectors).
 pub fn vector(kind: &Trap) -> u32
     ensures { result ≡ vector_of kind.now }
 {
@@ -26,10 +27,11 @@ pub fn vector(kind: &Trap) -> u32
     }
 }
 
-/// The words of an exception's frame, in the order in which they are written, downwards from the highest: the low and
-/// the high word of `regs.pc`, which is the stacked PC, and `regs.sr`, which is the kept SR. At an address error the
-/// opcode, the low and the high word of the address and the word that says what the access was follow
-/// (M68000 User's Manual, exception processing; the S bit of the kept SR gives the function code (profile)).
+/// The words of an exception's frame, in the order in which they are written, downwards from the
+/// highest: the low and the high word of `regs.pc`, which is the stacked PC, and `regs.sr`, which
+/// is the kept SR. At an address error the opcode, the low and the high word of the address and the
+/// word that says what the access was follow (M68000 User's Manual, exception processing; the S bit
+/// of the kept SR gives the function code (profile)).
 pub fn frame(kind: &Trap, regs: &CpuRegs) -> ArrayVec<u16, 7>
     ensures { result.items ≡ frame_of kind.now regs.now }
 {
@@ -53,7 +55,8 @@ pub fn frame(kind: &Trap, regs: &CpuRegs) -> ArrayVec<u16, 7>
     words
 }
 
-/// The word that says what an access was: bit 4 a read, bit 3 of no instruction, bits 2 to 0 its function code.
+/// The word that says what an access was: bit 4 a read, bit 3 of no instruction, bits 2 to 0 its
+/// function code.
 fn access(read: bool, program: bool, instruction: bool, supervisor: bool) -> u16
     ensures { result ≡ access_word read program instruction supervisor }
 {

@@ -105,7 +105,8 @@ impl Cpu {
         }
     }
 
-    /// What it does next: an access, or idle clocks, or nothing any more. A read of a byte asks for its whole word.
+    /// What it does next: an access, or idle clocks, or nothing any more. A read of a byte asks for
+    /// its whole word.
     #[tactic(auto, unfolding(m68k_decode::specs::Walk::next))]
     pub fn ask(&self) -> Ask
         ensures next { (r : CpuRegs) (u : Under) (ws : List ℕ)
@@ -152,9 +153,10 @@ fn idle(clocks: u32, done: u32) -> u32
 }
 
 impl Cpu {
-    /// Goes on with the word of the access that `ask` told; for idle clocks it completes all of them, and the word says
-    /// nothing. `level` is the interrupt level of the clock of that access, or of the last idle clock. The answer is the
-    /// level of an interrupt that begins with it: where something ended, no trace follows, and the level is above the mask.
+    /// Goes on with the word of the access that `ask` told; for idle clocks it completes all of
+    /// them, and the word says nothing. `level` is the interrupt level of the clock of that access,
+    /// or of the last idle clock. The answer is the level of an interrupt that begins with it:
+    /// where something ended, no trace follows, and the level is above the mask.
     pub fn answer(&mut self, word: u16, level: u8) -> Option<u8>
         requires level { level ≤ 7 }
         requires asks { is_halted self.old ≡ false }

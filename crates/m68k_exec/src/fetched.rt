@@ -79,8 +79,8 @@ impl Fetched {
     }
 }
 
-/// The opcodes that were last met, each at a place of its own among 1024. Each is decoded as it is, so a place is never
-/// wrong: it has another opcode at worst.
+/// The opcodes that were last met, each at a place of its own among 1024. Each is decoded as it is,
+/// so a place is never wrong: it has another opcode at worst.
 #[derive(Clone, Copy)]
 pub struct Rows {
     places: [Fetched; 1024],

@@ -1,8 +1,9 @@
 //! The MC68000, access by access.
 //!
-//! A `Cpu` says which access it makes next, and goes on with the word of that access. What it does is the walk of the
-//! processor that `m68k_decode` defines, which begins each instruction again at each access; this crate keeps a small
-//! state between two accesses, and does constant work for each.
+//! A `Cpu` says which access it makes next, and goes on with the word of that access. What it does
+//! is the walk of the processor that `m68k_decode` defines, which begins each instruction again at
+//! each access; this crate keeps a small state between two accesses, and does constant work for
+//! each.
 #![tactic(auto)]
 
 mod access;

@@ -1,4 +1,5 @@
-//! The results of the rows with a source, a destination and a result, and the exceptions that their operands make.
+//! The results of the rows with a source, a destination and a result, and the exceptions that their
+//! operands make.
 
 ghost use Rattle.std.specs.Prelude.{◌≡◌, ◌≢◌, ◌≤◌, ◌<◌, ◌+◌, ◌*◌, ◌/◌, ◌%◌, ◌==◌, false};
 ghost use Rattle.m68k_opcodes.specs.Modes.{ea};

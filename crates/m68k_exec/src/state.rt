@@ -33,7 +33,8 @@ pub enum Part {
     Low { role: Role, pc: u32, high: u16 },
 }
 
-/// The registers that MOVEM has still to move: the last `bits` bits of the mask, which are the lowest of `rest`.
+/// The registers that MOVEM has still to move: the last `bits` bits of the mask, which are the
+/// lowest of `rest`.
 #[derive(Clone, Copy)]
 pub struct Left {
     pub mask: u16,

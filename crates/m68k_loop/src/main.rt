@@ -1,5 +1,5 @@
-//! Runs the processor alone on a small loop in a memory of its own, for `bench/processor`: the argument says how many
-//! accesses and idles it makes. It prints how many of them were accesses.
+//! Runs the processor alone on a small loop in a memory of its own, for `bench/processor`: the
+//! argument says how many accesses and idles it makes. It prints how many of them were accesses.
 #![tactic(auto)]
 
 ghost use Rattle.std.specs.Prelude.{◌≡◌, ◌<◌, length};
@@ -10,7 +10,8 @@ use std::{env, io};
 /// The words of the memory.
 const WORDS: usize = 0x8000;
 
-/// The reset's stack pointer and PC, and a loop: MOVE.L (A0)+,D0; ADD.W D0,(A1); ADDQ.L #2,$200.W; DBRA D1,loop; BRA loop.
+/// The reset's stack pointer and PC, and a loop: MOVE.L (A0)+,D0; ADD.W D0,(A1); ADDQ.L #2,$200.W;
+/// DBRA D1,loop; BRA loop.
 const IMAGE: [u16; 14] = [
     0x0000, 0x1000, 0x0000, 0x0008, 0x2018, 0xd151, 0x54b8, 0x0200, 0x51c9, 0xfff6, 0x41f8, 0x0400,
     0x60ee, 0x4e71,

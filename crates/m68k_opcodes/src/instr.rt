@@ -2,10 +2,10 @@
 
 use crate::operand::{Mode, Size};
 
-/// An instruction as its opcode says it: one variant for each row of the table of instructions, named after
-/// what the row names. `which` is the place of the instruction among them, from 0. `mode` is the operand that the
-/// low six bits name. A field of one letter holds the bits that the opcode's pattern marks with that letter,
-/// as they stand.
+/// An instruction as its opcode says it: one variant for each row of the table of instructions,
+/// named after what the row names. `which` is the place of the instruction among them, from 0.
+/// `mode` is the operand that the low six bits name. A field of one letter holds the bits that the
+/// opcode's pattern marks with that letter, as they stand.
 #[derive(Clone, Copy)]
 pub enum Instr {
     /// ORI, ANDI, SUBI, ADDI, EORI: `0000 ooo0 ss`.
@@ -257,8 +257,8 @@ pub enum Instr {
         r: u8,
         mode: Mode,
     },
-    /// A shift of Dr: d 1 left; i 0 by c (0 is 8), 1 by Dc modulo 64; t 0 arithmetic, 1 logical, 2 rotation with
-    /// extend, 3 rotation.
+    /// A shift of Dr: d 1 left; i 0 by c (0 is 8), 1 by Dc modulo 64; t 0 arithmetic, 1 logical, 2
+    /// rotation with extend, 3 rotation.
     ShiftRegister {
         c: u8,
         d: u8,

@@ -10,12 +10,13 @@ ghost use Rattle.m68k_opcodes.specs.declared.operand.Size.TheVariants as S;
 use crate::instr::Instr;
 use crate::operand::{Mode, Size};
 
-/// The clocks of an instruction that `decode` gives, as the table of instructions has them (they follow the M68000
-/// User's Manual, instruction execution times; (profile) where editions differ). `extra` is the number of registers in
-/// MOVEM, the count of a register's shift, in MULU the 1 bits of the source, in MULS the pairs 01 and 10 among
-/// neighbours of the source followed by a 0. Where an instruction has several outcomes it is the place of the outcome:
-/// Bcc 0 taken, 1 not, 2 not with d16; DBcc 0 condition true, 1 branch, 2 ended; Scc of Dn 0 false, 1 true.
-/// An exception has no number of its own, and an outcome that is not there neither: 0.
+/// The clocks of an instruction that `decode` gives, as the table of instructions has them (they
+/// follow the M68000 User's Manual, instruction execution times; (profile) where editions differ).
+/// `extra` is the number of registers in MOVEM, the count of a register's shift, in MULU the 1 bits
+/// of the source, in MULS the pairs 01 and 10 among neighbours of the source followed by a 0. Where
+/// an instruction has several outcomes it is the place of the outcome: Bcc 0 taken, 1 not, 2 not
+/// with d16; DBcc 0 condition true, 1 branch, 2 ended; Scc of Dn 0 false, 1 true. An exception has
+/// no number of its own, and an outcome that is not there neither: 0.
 pub fn clocks(i: &Instr, extra: u32) -> u32
     requires { extra ≤ 63 }
     ensures { (opcode : ℕ) → opcode < 65536 → decode_of opcode ≡ i.now →

@@ -3,8 +3,8 @@
 use cpu_bus::BusCpu;
 use serial_model::{CiaName, Half, ProcessorAsk, Turn};
 
-/// The clocks that pass until the processor goes on, where its slots are given at once with this word. The last is the
-/// one in which it goes on; 99 where it does not.
+/// The clocks that pass until the processor goes on, where its slots are given at once with this
+/// word. The last is the one in which it goes on; 99 where it does not.
 fn clocks_to_go_on(cpu: &mut BusCpu, word: u16) -> u32 {
     for clock in 1..99 {
         if cpu.wish().is_some() {

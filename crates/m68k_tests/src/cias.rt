@@ -261,8 +261,9 @@ fn masks(rt: HostRuntime) {
     }
 }
 
-/// Each register at reset, and after a write of 96 to it, with pins of 5A. At 0 and 1 the pins are inputs; at 4
-/// and 6 only the latch is written, and at 5 and 7 a stopped timer is loaded. CRA and CRB do not keep bit 4.
+/// Each register at reset, and after a write of 96 to it, with pins of 5A. At 0 and 1 the pins are
+/// inputs; at 4 and 6 only the latch is written, and at 5 and 7 a stopped timer is loaded. CRA and
+/// CRB do not keep bit 4.
 #[test]
 fn registers(rt: HostRuntime) {
     for (reg, at_reset, written) in [

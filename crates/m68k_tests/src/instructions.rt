@@ -1,5 +1,6 @@
-//! Instructions and exceptions, access by access: each row's accesses in order, the registers after, and the clocks,
-//! worked by hand from the tables. A processor runs from reset over a small memory.
+//! Instructions and exceptions, access by access: each row's accesses in order, the registers
+//! after, and the clocks, worked by hand from the tables. A processor runs from reset over a small
+//! memory.
 
 ghost use Rattle.std.specs.Prelude.{◌<◌};
 
@@ -12,8 +13,8 @@ mod flow;
 mod moves;
 mod rows;
 
-/// What a row of a test wants: a read of a word (R) or of a byte (B), a write of a word (W) or of a byte (C), idle
-/// clocks (I), or the halt (H).
+/// What a row of a test wants: a read of a word (R) or of a byte (B), a write of a word (W) or of a
+/// byte (C), idle clocks (I), or the halt (H).
 #[derive(Clone, Copy)]
 enum Want {
     R(u32),
@@ -155,8 +156,8 @@ fn memory(case: &Case, regs: &CpuRegs) -> [u16; 2048] {
     memory
 }
 
-/// Does what the processor asks for, at an interrupt level; the colour clocks that it takes, and the interrupt that
-/// begins with it.
+/// Does what the processor asks for, at an interrupt level; the colour clocks that it takes, and
+/// the interrupt that begins with it.
 fn step(cpu: &mut Cpu, memory: &mut [u16; 2048], level: u8) -> (u32, Option<u8>) {
     match cpu.ask() {
         Ask::Read { at, .. } => (2, cpu.answer(memory[place(at)], level & 7)),
@@ -215,8 +216,8 @@ fn at_code(memory: &mut [u16; 2048]) -> Cpu {
     cpu
 }
 
-/// What is wrong with a case at an interrupt level: the place of the want that is not met, 100 for its clocks, 101 for
-/// its registers.
+/// What is wrong with a case at an interrupt level: the place of the want that is not met, 100 for
+/// its clocks, 101 for its registers.
 fn fault(case: &Case, level: u8) -> Option<usize> {
     let mut regs = registers(case);
     let mut memory = memory(case, &regs);
@@ -240,7 +241,8 @@ fn fault(case: &Case, level: u8) -> Option<usize> {
     }
 }
 
-/// The place of the first case that goes otherwise than it says at an interrupt level, and what is wrong with it.
+/// The place of the first case that goes otherwise than it says at an interrupt level, and what is
+/// wrong with it.
 fn first_fault(cases: &[Case], level: u8) -> Option<(usize, usize)> {
     for (n, case) in cases.iter().enumerate() {
         if let Some(fault) = fault(case, level) {

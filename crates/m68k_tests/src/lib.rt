@@ -1,5 +1,5 @@
-//! Tests of the processor's crates, of the processor on the bus, and of the interrupts and CIAs: a module a crate. They
-//! stand here and not beside the code, so that they are proved once.
+//! Tests of the processor's crates, of the processor on the bus, and of the interrupts and CIAs: a
+//! module a crate. They stand here and not beside the code, so that they are proved once.
 #![tactic(auto)]
 
 #[cfg(test)]

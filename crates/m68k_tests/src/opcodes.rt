@@ -259,7 +259,8 @@ fn fields_of_counts_and_conditions(rt: HostRuntime) {
     assert!(rt; matches!(decode(0xc38a), Instr::Exg { x: 1, o: 17, y: 2 }));
 }
 
-/// Opcodes, what is counted or came out, and the clocks: one number at least for each row and each of its outcomes.
+/// Opcodes, what is counted or came out, and the clocks: one number at least for each row and each
+/// of its outcomes.
 static CLOCKS: [(u16, u8, u32); 179] = [
     (0x0000, 0, 8),
     (0x0240, 0, 8),

@@ -3,7 +3,8 @@
 ghost use Rattle.std.specs.Prelude.{◌≡◌, ◌≤◌, ◌+◌, ℕ, true, nat_le, length, slice_index};
 ghost use Rattle.painter.specs.Row.{laid, cut_off};
 
-/// How many high-resolution positions a row has: a line has 908, or 912 with NTSC, and a load may begin 36 after.
+/// How many high-resolution positions a row has: a line has 908, or 912 with NTSC, and a load may
+/// begin 36 after.
 const PLACES: usize = 1024;
 
 /// How many positions a load may show.

@@ -1,7 +1,8 @@
-//! Tests of the crates of the picture: planes, sprites, collisions, colours, painter, and the jobs of bands, a
-//! module a crate.
+//! Tests of the crates of the picture: planes, sprites, collisions, colours, painter, and the jobs
+//! of bands, a module a crate.
 //!
-//! A crate with tests is proved twice, so these crates have none of their own, and this one has nothing else.
+//! A crate with tests is proved twice, so these crates have none of their own, and this one has
+//! nothing else.
 #![tactic(auto)]
 
 #[cfg(test)]

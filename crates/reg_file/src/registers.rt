@@ -45,12 +45,13 @@ impl Regs {
         Regs { words: self.words }
     }
 
-    /// A write of a word to a register by the script, the Copper or the processor. The register keeps those
-    /// bits of the word that it has. At DMACON bit 15 says whether the word's other 1 bits are set or cleared
-    /// in the kept word (Hardware Reference Manual, DMACON). The words of INTENA and INTREQ are not kept here,
-    /// since other chips change them too. A write to a register for reading only changes nothing, nor does one
-    /// to an offset without a register (profile), or to 040 to 074 where `busy` says that the blitter is busy
-    /// (profile). The answer says what happens beside the kept word.
+    /// A write of a word to a register by the script, the Copper or the processor. The register
+    /// keeps those bits of the word that it has. At DMACON bit 15 says whether the word's other 1
+    /// bits are set or cleared in the kept word (Hardware Reference Manual, DMACON). The words of
+    /// INTENA and INTREQ are not kept here, since other chips change them too. A write to a
+    /// register for reading only changes nothing, nor does one to an offset without a register
+    /// (profile), or to 040 to 074 where `busy` says that the blitter is busy (profile). The answer
+    /// says what happens beside the kept word.
     #[tactic(auto, unfolding(serial_model::specs::Registers::words_after, serial_model::specs::Registers::effect_of))]
     pub fn poke(&mut self, reg: Reg, word: u16, busy: bool) -> Effect
         ensures words { self.new ≡ words_after busy self.old reg.offset word }

@@ -4,8 +4,8 @@ use ocs_base::OutOfMemory;
 use std::alloc::{AllocError, AllocFailed};
 use thiserror::Error;
 
-/// What ends the test of a run. `Untold`: the text of the run lacks what is named. `Wrong`: a part of what the run gives is
-/// not as it is told.
+/// What ends the test of a run. `Untold`: the text of the run lacks what is named. `Wrong`: a part
+/// of what the run gives is not as it is told.
 #[derive(Debug, Drop, Error)]
 pub enum CaseFault {
     #[error("out of memory")]

@@ -1,5 +1,5 @@
-//! Runs of the command line that are told as texts, for tests: what they read and write, and what of a run is not as it
-//! is told. Nothing of it is part of the program.
+//! Runs of the command line that are told as texts, for tests: what they read and write, and what
+//! of a run is not as it is told. Nothing of it is part of the program.
 #![tactic(auto)]
 
 pub mod bars;

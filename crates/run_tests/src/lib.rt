@@ -1,5 +1,5 @@
-//! The worked runs of the command line, as tests: images and scripts, and the files that come of them, worked by hand.
-//! Nothing of it is part of the program.
+//! The worked runs of the command line, as tests: images and scripts, and the files that come of
+//! them, worked by hand. Nothing of it is part of the program.
 #![tactic(auto)]
 
 #[cfg(test)]

@@ -8,7 +8,8 @@ use ocs_base::OutOfMemory;
 use ocs_base::offset::{BPL1PTH, COLOR01, SPR0PTH};
 use std::alloc::Global;
 
-/// The words of the Copper list: the pointers of the sprites and of the bitplanes, then a colour each eight lines.
+/// The words of the Copper list: the pointers of the sprites and of the bitplanes, then a colour
+/// each eight lines.
 pub fn make_copper_list(alloc: Global, n: u32) -> Result<Vec<u16>, OutOfMemory>
     ensures words { IfOk result (λ list. list.items ≡ copper_list n) }
     ensures size { IfOk result (λ list. length list.items ≡ 114) }

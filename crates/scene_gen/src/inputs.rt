@@ -14,8 +14,9 @@ use std::alloc::Global;
 /// How many frames a scene runs.
 const FRAMES: u32 = 10;
 
-/// Registers and the words that the run begins with: four bitplanes in the usual window, sprites in front of them,
-/// the colours of sprite 0, the Copper's start at 400, and the DMA of bitplanes, Copper, blitter and sprites.
+/// Registers and the words that the run begins with: four bitplanes in the usual window, sprites in
+/// front of them, the colours of sprite 0, the Copper's start at 400, and the DMA of bitplanes,
+/// Copper, blitter and sprites.
 const FIRST_POKES: [(u16, u16); 13] = [
     (DIWSTRT, 0x2c81),
     (DIWSTOP, 0xf4c1),

@@ -1,6 +1,7 @@
-//! A scene from a number: an image of chip memory and a script, for a run that reads no files. The scenes are this
-//! project's own. Each shows four bitplanes and a sprite, changes colours by a Copper list, blits while the picture is
-//! shown, and runs a program that counts the frames in an interrupt handler.
+//! A scene from a number: an image of chip memory and a script, for a run that reads no files. The
+//! scenes are this project's own. Each shows four bitplanes and a sprite, changes colours by a
+//! Copper list, blits while the picture is shown, and runs a program that counts the frames in an
+//! interrupt handler.
 #![tactic(auto)]
 
 mod copper_list;
@@ -16,9 +17,10 @@ ghost use Rattle.scene_gen.specs.Scene.{scene_image, scene_script};
 use ocs_base::{OutOfMemory, Script};
 use std::alloc::Global;
 
-/// The scene of the number `n`, one of this project's own: its image, the first 49,152 bytes of chip memory, and its
-/// script, 105 events in ten frames with the processor on. The number chooses the pattern in the bitplanes, the colours,
-/// where the sprite stands, and from where to where is blitted.
+/// The scene of the number `n`, one of this project's own: its image, the first 49,152 bytes of
+/// chip memory, and its script, 105 events in ten frames with the processor on. The number chooses
+/// the pattern in the bitplanes, the colours, where the sprite stands, and from where to where is
+/// blitted.
 pub fn scene(alloc: Global, n: u32) -> Result<(Vec<u8>, Script), OutOfMemory>
     ensures image { IfOk result (λ made. made.0.items ≡ scene_image n) }
     ensures script { IfOk result (λ made. made.1 ≡ scene_script n) }

@@ -12,11 +12,11 @@ pub enum SideAsk {
     Audio { channel: u8, at: Addr },
 }
 
-/// The access that the owner of the slot makes: none (a free slot, or refresh), a word stored by the disk, the
-/// read of a sample's word, of a word for the latch of a bitplane, 1 to 6, of a control word or an image word of
-/// a sprite, 0 to 7, or of an instruction's word by the Copper; or the blitter's slot, in which it reads or writes a
-/// word or makes no access; or what the processor does. A sprite's `second`
-/// word is that for SPRxCTL or SPRxDATB.
+/// The access that the owner of the slot makes: none (a free slot, or refresh), a word stored by
+/// the disk, the read of a sample's word, of a word for the latch of a bitplane, 1 to 6, of a
+/// control word or an image word of a sprite, 0 to 7, or of an instruction's word by the Copper; or
+/// the blitter's slot, in which it reads or writes a word or makes no access; or what the processor
+/// does. A sprite's `second` word is that for SPRxCTL or SPRxDATB.
 #[derive(Clone, Copy, Debug)]
 pub enum Ask {
     Free,
@@ -41,7 +41,8 @@ pub enum ProcessorAsk {
     WriteRegister { reg: Reg, word: u16 },
 }
 
-/// Which bytes of a word of memory a write changes. A write of one byte has the byte as the low one of its word.
+/// Which bytes of a word of memory a write changes. A write of one byte has the byte as the low one
+/// of its word.
 #[derive(Clone, Copy, Debug)]
 pub enum Half {
     Both,
@@ -49,10 +50,10 @@ pub enum Half {
     Low,
 }
 
-/// What an access or an event of the script makes of the machine: nothing; a write to a register, which the
-/// trace tells where there is someone to name; a read of a register that the trace tells; a word stored in
-/// memory; or a word of memory that fills the latch of a bitplane, 1 to 6, or SPRxDATA or, `second`, SPRxDATB of
-/// a sprite, 0 to 7.
+/// What an access or an event of the script makes of the machine: nothing; a write to a register,
+/// which the trace tells where there is someone to name; a read of a register that the trace tells;
+/// a word stored in memory; or a word of memory that fills the latch of a bitplane, 1 to 6, or
+/// SPRxDATA or, `second`, SPRxDATB of a sprite, 0 to 7.
 #[derive(Clone, Copy, Debug)]
 pub enum Made {
     Nothing,

@@ -22,8 +22,8 @@ pub struct CopperState {
     pub second: u16,
 }
 
-/// An instruction: a MOVE of a word to a register, a MOVE that is forbidden, a WAIT or a SKIP. The comparison of
-/// the last two is in the two words.
+/// An instruction: a MOVE of a word to a register, a MOVE that is forbidden, a WAIT or a SKIP. The
+/// comparison of the last two is in the two words.
 #[derive(Clone, Copy, Debug)]
 pub enum CopperInstruction {
     Move { reg: Reg, word: u16 },

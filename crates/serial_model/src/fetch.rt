@@ -9,8 +9,8 @@ pub struct PlaneAsk {
     pub at: Addr,
 }
 
-/// A sprite, 0 to 7, asks for the word at an address: a control word, which is written to SPRxPOS or, `second`,
-/// to SPRxCTL; or a word of its image, for SPRxDATA or, `second`, SPRxDATB.
+/// A sprite, 0 to 7, asks for the word at an address: a control word, which is written to SPRxPOS
+/// or, `second`, to SPRxCTL; or a word of its image, for SPRxDATA or, `second`, SPRxDATB.
 #[derive(Clone, Copy, PartialEq, Eq, Debug)]
 pub enum SpriteAsk {
     Control { sprite: u8, second: bool, at: Addr },

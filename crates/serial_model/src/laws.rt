@@ -3,9 +3,9 @@
 ghost use Rattle.serial_model.specs.Laws.{MemoryNext, PictureNext, ShownNext, ClxNext, TraceNext, BeamNext, FramesAreWhole, HasEnd};
 ghost use Rattle.serial_model.specs.Laws.{FitIsKept, AskOfFitIsBelow, NoneFitsEach, EachSideFits};
 
-/// What one colour clock makes of a state, part by part, by the script's touches, the picture step and what the
-/// access makes. Drawing a part of the picture later, from the writes that were noted and the memory of that
-/// time, rests on these.
+/// What one colour clock makes of a state, part by part, by the script's touches, the picture step
+/// and what the access makes. Drawing a part of the picture later, from the writes that were noted
+/// and the memory of that time, rests on these.
 pub fn next_state()
     ensures memory { MemoryNext }
     ensures picture { PictureNext }
@@ -15,8 +15,8 @@ pub fn next_state()
     ensures beam { BeamNext }
 {}
 
-/// A side that fits a size of chip memory fits it after each call, and what it then asks for is below that size. With
-/// addresses of 512 KiB alone each side fits those.
+/// A side that fits a size of chip memory fits it after each call, and what it then asks for is
+/// below that size. With addresses of 512 KiB alone each side fits those.
 pub fn sides_fit()
     ensures kept { FitIsKept }
     ensures below { AskOfFitIsBelow }

@@ -36,8 +36,8 @@ pub struct Denise {
 }
 
 /// What changes the picture state besides the picture step itself: a write to one of Denise's
-/// registers, or a word of memory that fills the latch of a bitplane, 1 to 6, or SPRxDATA or, `second`, SPRxDATB
-/// of a sprite, 0 to 7. Of that word it names the address alone.
+/// registers, or a word of memory that fills the latch of a bitplane, 1 to 6, or SPRxDATA or,
+/// `second`, SPRxDATB of a sprite, 0 to 7. Of that word it names the address alone.
 #[derive(Clone, Copy)]
 pub enum Touch {
     Set { reg: Reg, word: u16 },

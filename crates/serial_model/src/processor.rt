@@ -5,8 +5,8 @@ ghost use Rattle.std.specs.Prelude.{◌<◌};
 use crate::bus::ProcessorAsk;
 use ocs_base::{Addr, Reg};
 
-/// One of the two CIAs. CIA A answers at the odd bytes of BFE000 to BFEFFF, CIA B at the even bytes of BFD000 to
-/// BFDFFF (profile).
+/// One of the two CIAs. CIA A answers at the odd bytes of BFE000 to BFEFFF, CIA B at the even bytes
+/// of BFD000 to BFDFFF (profile).
 #[derive(Clone, Copy, PartialEq, Eq, Debug)]
 pub enum CiaName {
     A,
@@ -30,8 +30,9 @@ pub enum Target {
     Unmapped,
 }
 
-/// What the processor waits for: the slot for an access, the end of an access to a CIA, which writes a `byte` or
-/// reads, the end of an access that goes nowhere, the end of so many idle clocks, or nothing any more.
+/// What the processor waits for: the slot for an access, the end of an access to a CIA, which
+/// writes a `byte` or reads, the end of an access that goes nowhere, the end of so many idle
+/// clocks, or nothing any more.
 #[derive(Clone, Copy, Debug)]
 pub enum Wait {
     Slot {
@@ -49,8 +50,9 @@ pub enum Wait {
     Halted,
 }
 
-/// What a clock makes of the processor once the slot was given: nothing; one more clock passes of what it waits
-/// for; it goes on with the word of an answer; or it makes its access to a CIA and goes on.
+/// What a clock makes of the processor once the slot was given: nothing; one more clock passes of
+/// what it waits for; it goes on with the word of an answer; or it makes its access to a CIA and
+/// goes on.
 #[derive(Clone, Copy, Debug)]
 pub enum Turn {
     Rests,

@@ -14,11 +14,11 @@ pub enum Reading {
     Elsewhere,
 }
 
-/// What a write to a register does. `Ignored` changes nothing, and `Interrupt` reaches the interrupt words, which
-/// are kept apart from the registers; every other keeps the word in the bits that the register keeps. `PointerHigh`
-/// is the high word of a pointer. `SetOrClear` sets or clears bits of the kept word, by bit 15 of the written
-/// one. `Jump` makes the Copper fetch from its list 1 or 2, `Blit` starts a blit, `Picture` reaches Denise and
-/// `Field` sets LOF.
+/// What a write to a register does. `Ignored` changes nothing, and `Interrupt` reaches the
+/// interrupt words, which are kept apart from the registers; every other keeps the word in the bits
+/// that the register keeps. `PointerHigh` is the high word of a pointer. `SetOrClear` sets or
+/// clears bits of the kept word, by bit 15 of the written one. `Jump` makes the Copper fetch from
+/// its list 1 or 2, `Blit` starts a blit, `Picture` reaches Denise and `Field` sets LOF.
 #[derive(Clone, Copy, PartialEq, Eq, Debug)]
 pub enum Writing {
     Ignored,

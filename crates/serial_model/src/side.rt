@@ -6,9 +6,9 @@ ghost use Rattle.serial_model.specs.Side.{SideValue, IsInTime, poke_side, tick_s
 use crate::bus::SideAsk;
 use ocs_base::{Beam, Reg};
 
-/// A side: a part of the machine beside the chips that sees each write of a register, counts colour clocks, requests
-/// interrupts, and asks for slots of the bus, as disk and audio do. Its state, as contracts see it, is what it does from
-/// then on.
+/// A side: a part of the machine beside the chips that sees each write of a register, counts colour
+/// clocks, requests interrupts, and asks for slots of the bus, as disk and audio do. Its state, as
+/// contracts see it, is what it does from then on.
 pub trait Side: Drop {
     /// What it does from now on.
     ghost seen: { Self → SideValue };
@@ -17,14 +17,14 @@ pub trait Side: Drop {
     fn poke(&mut self, reg: Reg, word: u16)
         ensures { seen self.new ≡ poke_side reg word (seen self.old) };
 
-    /// A colour clock came, with the beam at this place and this kept word of DMACON. The answer is the bits of INTREQ that it
-    /// requests.
+    /// A colour clock came, with the beam at this place and this kept word of DMACON. The answer is
+    /// the bits of INTREQ that it requests.
     fn tick(&mut self, beam: &Beam, dmacon: u16) -> u16
         ensures state { seen self.new ≡ tick_side beam.now dmacon (seen self.old) }
         ensures bits { result ≡ bits_of_side beam.now dmacon (seen self.old) };
 
-    /// What it asks for at this clock: a disk at clocks 7, 9 and 11 of a line, audio's channel c, 0 to 3, at clock 13 + 2c. Where it
-    /// gets the slot it is given the word.
+    /// What it asks for at this clock: a disk at clocks 7, 9 and 11 of a line, audio's channel c, 0
+    /// to 3, at clock 13 + 2c. Where it gets the slot it is given the word.
     fn ask(&self, beam: &Beam, dmacon: u16) -> SideAsk
         ensures ask { result ≡ ask_of_side beam.now dmacon (seen self.now) }
         ensures time { IsInTime beam.now result };

@@ -1,8 +1,8 @@
 //! Sprite DMA: what each of the eight sprites reads on a line, and where the sprites' pointers go.
 //!
-//! A sprite has two slots on a line and reads two words: its control words on the first line and on the line on
-//! which its image ends, and words of the image between (Hardware Reference Manual, sprite hardware). The clocks
-//! of the slots and the first line are this project's profile.
+//! A sprite has two slots on a line and reads two words: its control words on the first line and on
+//! the line on which its image ends, and words of the image between (Hardware Reference Manual,
+//! sprite hardware). The clocks of the slots and the first line are this project's profile.
 #![tactic(auto)]
 
 ghost use Rattle.std.specs.Prelude.{◌≡◌, ◌<◌, true};
@@ -50,12 +50,12 @@ impl SpriteDma {
         SpriteDma { kinds: self.kinds }
     }
 
-    /// One colour clock, called at each. What a sprite reads on a line is decided at its first slot, by the
-    /// registers as they are then.
+    /// One colour clock, called at each. What a sprite reads on a line is decided at its first
+    /// slot, by the registers as they are then.
     ///
-    /// `taken` says that a bitplane has the slot of this clock: a sprite whose slot it is then reads nothing in
-    /// it, and its pointer stays (profile). The answer is Some exactly where a sprite's word is read. The
-    /// sprite's pointer has then moved on by that word.
+    /// `taken` says that a bitplane has the slot of this clock: a sprite whose slot it is then
+    /// reads nothing in it, and its pointer stays (profile). The answer is Some exactly where a
+    /// sprite's word is read. The sprite's pointer has then moved on by that word.
     #[inline(always)]
     #[tactic(auto, unfolding(serial_model::specs::SpriteFetch::kinds_at))]
     pub fn step(&mut self, beam: &Beam, regs: &mut Regs, taken: bool) -> Option<SpriteAsk>

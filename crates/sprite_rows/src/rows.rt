@@ -28,9 +28,10 @@ use sprites::SpritePixel;
 
 /// What the eight sprites show along a line (Hardware Reference Manual, sprite hardware).
 ///
-/// Positions are low-resolution pixels from the line's begin, 0 to 453 on a line of 227 clocks. A sprite's words
-/// are laid over its pair's row as they begin to run, so a position takes a byte of each pair.
-/// A row reaches past the line's end, so that words that begin at its last position find room.
+/// Positions are low-resolution pixels from the line's begin, 0 to 453 on a line of 227 clocks. A
+/// sprite's words are laid over its pair's row as they begin to run, so a position takes a byte of
+/// each pair. A row reaches past the line's end, so that words that begin at its last position find
+/// room.
 #[derive(Drop)]
 pub struct SpriteRows {
     /// A row for each pair. A byte of pair p has the value of its even sprite, 2p, as bits 0 and 1,

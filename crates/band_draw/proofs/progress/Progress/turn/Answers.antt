@@ -129,6 +129,7 @@ returns-clause-at g c =
       within = subst (λ (l : List Event). access.result ≤ length l) rest access.ensures.within;
       clean = c.clear_line.ensures.cleared;
       kept =
-          keeps_next c.next_place.new.beam _ p.painter.keeps c.clear_line.new.self.keeps p.to p.clock (last_clock c.system-system.result p.beam.v) p.beam.h c.clear_line.ensures.start
+          keeps_next c.next_place.new.beam _ p.painter.keeps c.clear_line.new.self.keeps p.to p.clock (last_clock c.system-system.result p.beam.v)
+          p.beam.h c.clear_line.ensures.start
           (λ on. c.clear_line.ensures.on on ∙ access.ensures.keeps ∙ given.ensures.keeps) refl c.next_place.ensures.clock c.requires.at.kept;
     })

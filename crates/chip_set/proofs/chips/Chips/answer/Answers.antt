@@ -12,7 +12,8 @@ returns-in-Free-clause-access c side chips time asked same =
 
 pub returns-in-Plane-clause-access : goal.returns-in-Plane-clause-access
 returns-in-Plane-clause-access c side chips time asked same =
-    answer_is c.args.beam.now c.args.clx c.args.chip.now.words (A.Plane c.in-Plane.plane c.in-Plane.at) c.args.self.now c.answer_with-in-Plane.new.self c.answer_with-in-Plane.result
+    answer_is c.args.beam.now c.args.clx c.args.chip.now.words (A.Plane c.in-Plane.plane c.in-Plane.at) c.args.self.now c.answer_with-in-Plane.new.self
+    c.answer_with-in-Plane.result
     (record {
       word = 0;
       answer = tt;
@@ -23,7 +24,8 @@ returns-in-Plane-clause-access c side chips time asked same =
 
 pub returns-in-Copper-clause-access : goal.returns-in-Copper-clause-access
 returns-in-Copper-clause-access c side chips time asked same =
-    answer_is c.args.beam.now c.args.clx c.args.chip.now.words (A.Copper c.in-Copper.at) c.args.self.now c.answer_with-in-Copper.new.self c.answer_with-in-Copper.result
+    answer_is c.args.beam.now c.args.clx c.args.chip.now.words (A.Copper c.in-Copper.at) c.args.self.now c.answer_with-in-Copper.new.self
+    c.answer_with-in-Copper.result
     (record {
       word = c.read_memory-word.result;
       answer = c.read_memory-word.ensures.word;
@@ -34,7 +36,8 @@ returns-in-Copper-clause-access c side chips time asked same =
 
 pub returns-in-BlitRead-clause-access : goal.returns-in-BlitRead-clause-access
 returns-in-BlitRead-clause-access c side chips time asked same =
-    answer_is c.args.beam.now c.args.clx c.args.chip.now.words (A.BlitRead c.in-BlitRead.at) c.args.self.now c.answer_with-in-BlitRead.new.self c.answer_with-in-BlitRead.result
+    answer_is c.args.beam.now c.args.clx c.args.chip.now.words (A.BlitRead c.in-BlitRead.at) c.args.self.now c.answer_with-in-BlitRead.new.self
+    c.answer_with-in-BlitRead.result
     (record {
       word = c.read_memory-word-in-BlitRead.result;
       answer = c.read_memory-word-in-BlitRead.ensures.word;
@@ -45,7 +48,8 @@ returns-in-BlitRead-clause-access c side chips time asked same =
 
 pub returns-in-BlitWrite-clause-access : goal.returns-in-BlitWrite-clause-access
 returns-in-BlitWrite-clause-access c side chips time asked same =
-    answer_is c.args.beam.now c.args.clx c.args.chip.now.words (A.BlitWrite c.in-BlitWrite.at c.in-BlitWrite.word) c.args.self.now c.answer_with-in-BlitWrite.new.self c.answer_with-in-BlitWrite.result
+    answer_is c.args.beam.now c.args.clx c.args.chip.now.words (A.BlitWrite c.in-BlitWrite.at c.in-BlitWrite.word) c.args.self.now
+    c.answer_with-in-BlitWrite.new.self c.answer_with-in-BlitWrite.result
     (record {
       word = 0;
       answer = refl;
@@ -56,7 +60,8 @@ returns-in-BlitWrite-clause-access c side chips time asked same =
 
 pub returns-in-Processor-clause-access : goal.returns-in-Processor-clause-access
 returns-in-Processor-clause-access c side chips time asked same =
-    answer_is c.args.beam.now c.args.clx c.args.chip.now.words (A.Processor c.in-Processor.ask) c.args.self.now c.answer_with-in-Processor.new.self c.answer_with-in-Processor.result
+    answer_is c.args.beam.now c.args.clx c.args.chip.now.words (A.Processor c.in-Processor.ask) c.args.self.now c.answer_with-in-Processor.new.self
+    c.answer_with-in-Processor.result
     (record {
       word = c.read-word.result;
       answer = c.read-word.ensures.word;

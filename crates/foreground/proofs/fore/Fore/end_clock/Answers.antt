@@ -6,6 +6,7 @@ use Rattle.foreground.proofs.fore.Fore.end_clock.Goals as goal
 
 pub returns-clause-ends : goal.returns-clause-ends
 returns-clause-ends g c =
-    ends_clock _ _ _ _ _ _ _ (ap (over g.S.Side.seen) c.self.view_is) c.system-system.ensures c.in_ok-process.ensures.step (ap (machine_over g.S.Side.seen) c.in_ok-process.ensures.same)
+    ends_clock _ _ _ _ _ _ _ (ap (over g.S.Side.seen) c.self.view_is) c.system-system.ensures c.in_ok-process.ensures.step
+    (ap (machine_over g.S.Side.seen) c.in_ok-process.ensures.same)
     c.advance.ensures.step
     c.advance.ensures.count c.advance.ensures.chip

@@ -31,7 +31,8 @@ end_at_read-requires g c =
       );
       clock = λ inner. subst (λ (o : ForeValue). o.machine.beam.h ≡ (beam_at old.run (o.machine.t + 1 - 1)).h) (sym (ap (over g.S.Side.seen) c.self.view_is))
           (access_place old.run old.machine.t old.machine.beam.h (ap (λ (b : Beam). b.h) c.requires.3));
-      count = shown_within _ _ old c.shown_behind-shown.result c.system.ensures (ap (over g.S.Side.seen) c.self.view_is) c.requires.3 c.shown_behind-shown.ensures;
+      count = shown_within _ _ old c.shown_behind-shown.result c.system.ensures (ap (over g.S.Side.seen) c.self.view_is) c.requires.3
+          c.shown_behind-shown.ensures;
     }
 
 pub returns-clause-bits : goal.returns-clause-bits
