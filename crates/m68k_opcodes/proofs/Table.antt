@@ -12,7 +12,7 @@ use Rattle.m68k_opcodes.specs.Row.{Row, no_row, in_row, joined, taking, first, m
 use Rattle.m68k_opcodes.specs.Table.{groups, rows, decode_of, clocks_at, rows_at}
 use Rattle.m68k_opcodes.specs.Table.{rows_0, rows_move, rows_4, rows_5, rows_6, rows_7, rows_8}
 use Rattle.m68k_opcodes.specs.Table.{rows_9, rows_A, rows_B, rows_C, rows_D, rows_E, rows_F}
-use Rattle.m68k_opcodes.specs.Timing.{timing}
+use Rattle.m68k_opcodes.specs.TimingCode.{timing}
 use Rattle.m68k_opcodes.proofs.Keys.{key, same, same_sound, same_key}
 
 -- ---- the rows of a line

@@ -4,6 +4,6 @@ pub mod Clocks
 pub mod Letters
 pub mod Row
 pub mod Table
-pub mod Lines
-pub mod Parts
-pub mod Timing
+pub mod LinesCode
+pub mod PartsCode
+pub mod TimingCode
