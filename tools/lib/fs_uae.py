@@ -8,6 +8,7 @@ import subprocess
 import tempfile
 import time
 
+from frames import NTSC, PAL, System
 from uae_boot import boot_rom
 
 PROGRAMS = {"fs-uae": "fs-uae", "Xvfb": "xvfb", "xdotool": "xdotool"}
@@ -15,6 +16,7 @@ SETTINGS = """[fs-uae]
 amiga_model = A500
 slow_memory = 0
 accuracy = 1
+ntsc_mode = {ntsc}
 kickstart_file = {kickstart}
 {disk}
 base_dir = {folder}/base
@@ -58,7 +60,9 @@ class FsUae:
     boots; used in a `with`.
     """
 
-    def __init__(self, image: bytes | None = None, disk: str | None = None, kickstart: str = INTERNAL) -> None:
+    def __init__(
+        self, image: bytes | None = None, disk: str | None = None, kickstart: str = INTERNAL, system: System = PAL
+    ) -> None:
         if absent_programs():
             raise EmulatorFault(absent_programs())
         self.folder = tempfile.mkdtemp(prefix="from-uae-")
@@ -73,7 +77,8 @@ class FsUae:
         drive = f"floppy_drive_0 = {disk}" if disk else ""
         self.settings = os.path.join(self.folder, "machine.fs-uae")
         with open(self.settings, "w", encoding="utf-8", errors="surrogateescape") as file:
-            file.write(SETTINGS.format(folder=self.folder, keys=keys, kickstart=kickstart, disk=drive))
+            ntsc = int(system == NTSC)
+            file.write(SETTINGS.format(folder=self.folder, keys=keys, kickstart=kickstart, disk=drive, ntsc=ntsc))
 
     def __enter__(self) -> FsUae:
         try:

@@ -20,7 +20,7 @@ from uae_missing import missing, refuse
 from uae_setup import SetUp, place_for_set_up, script
 from uae_state import State
 
-STATES = ("busy", "entry", "blit")
+STATES = ("busy", "entry", "blit", "busy-ntsc")
 MODEL = set_up_model.__file__
 
 
@@ -309,6 +309,17 @@ class CommandTest(Tools):
         said = self.refused("from-uae", "busy.uss", "image", "script")
         self.assertEqual(said, "from-uae: image: is there already; --force overwrites it")
         self.assertEqual(self.run_tool("from-uae", "busy.uss", "image", "script", "--force").returncode, 0)
+
+    def test_a_state_of_ntsc(self) -> None:
+        self.assertEqual([state(name).system.name for name in STATES], ["PAL", "PAL", "PAL", "NTSC"])
+        self.write("ntsc.uss", kept("busy-ntsc.uss"))
+        done = self.run_tool("from-uae", "ntsc.uss", "image", "script", "--frames", "3")
+        self.assertEqual((done.returncode, done.stderr.count("\n")), (0, 1))
+        self.assertIn("here the odd ones are the longer", done.stderr)
+        with open(self.place("script"), encoding="ascii") as file:
+            head = [next(file) for _ in range(6)]
+        self.assertEqual("".join(head), "ocs 3\ncpu on\nframes 4\nchip 512\nsystem ntsc\nat 0 0 0 poke 02a 0000\n")
+        self.assertEqual(self.run_tool("script-check", "script").returncode, 0)
 
     def test_nothing_is_made_of_a_bad_state(self) -> None:
         self.write("bad.uss", kept("busy.uss")[:1000])

@@ -12,10 +12,12 @@ pub loop-fore-smaller : goal.loop-fore-smaller
 loop-fore-smaller g c =
     fewer_clocks (fore_of c.loop-fore.fore) (fore_of c.run_to.new.self) _ _ _ _ _ _ c.loop-fore.invariant.able c.done.ensures c.loop-fore-test.true
     c.in_ok-run_to.ensures.clocks c.in_ok-run_to.ensures.come
-    (line_is_later (fore_of c.loop-fore.fore) _ _ c.loop-fore.invariant.able c.next_line-limit.ensures) c.run_to.ensures.run
+    (line_is_later (fore_of c.loop-fore.fore) _ _ c.next_line-limit.ensures) c.run_to.ensures.run
 
 pub next_line-limit-requires : goal.next_line-limit-requires
-next_line-limit-requires g c = room_for_clocks (fore_of c.loop-fore.fore) _ _ c.loop-fore.invariant.able c.done.ensures c.loop-fore-test.true
+next_line-limit-requires g c = record {
+  room = room_for_clocks (fore_of c.loop-fore.fore) _ _ c.loop-fore.invariant.able c.done.ensures c.loop-fore-test.true;
+}
 
 pub loop-fore-preserved : goal.loop-fore-preserved
 loop-fore-preserved g c = record {

@@ -16,7 +16,9 @@ loop-fore-smaller g c =
     (line_is_later (fore_of c.loop-fore.fore) _ _ c.next_line-limit.ensures) c.run_to.ensures.run
 
 pub next_line-limit-requires : goal.next_line-limit-requires
-next_line-limit-requires g c = room_for_clocks (fore_of c.loop-fore.fore) _ _ c.loop-fore.invariant.able c.done.ensures c.loop-fore-test.true
+next_line-limit-requires g c = record {
+  room = room_for_clocks (fore_of c.loop-fore.fore) _ _ c.loop-fore.invariant.able c.done.ensures c.loop-fore-test.true;
+}
 
 pub loop-fore-preserved : goal.loop-fore-preserved
 loop-fore-preserved g c =
