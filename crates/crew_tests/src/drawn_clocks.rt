@@ -8,7 +8,7 @@ use band_draw::clock::show_clock;
 use band_draw::touch::bus_count;
 use band_log::{Denise, Event, Raster, Reset};
 use mem_versions::{Chip, MemView};
-use ocs_base::{Beam, Clock, OutOfMemory, Reg};
+use ocs_base::{Beam, Clock, OutOfMemory, Reg, System};
 use serial_model::{NoSide, Side, SideAsk};
 use std::alloc::Global;
 
@@ -22,6 +22,7 @@ fn a_colour_shows_from_its_clock_on(rt: HostRuntime) -> Result<(), OutOfMemory> 
     let mut before = fresh(&place(100, 99));
     let filled = show_clock(
         &mut before,
+        System::Pal,
         &place(100, 99),
         &[],
         Clock(22_799),
@@ -39,6 +40,7 @@ fn a_colour_shows_from_its_clock_on(rt: HostRuntime) -> Result<(), OutOfMemory> 
     let mut after = fresh(&place(100, 100));
     let filled = show_clock(
         &mut after,
+        System::Pal,
         &place(100, 100),
         &[event],
         Clock(22_800),
