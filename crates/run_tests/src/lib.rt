@@ -18,3 +18,5 @@ mod pokes;
 mod processor;
 #[cfg(test)]
 mod sprite_pictures;
+#[cfg(test)]
+mod told_wrongly;
