@@ -18,7 +18,7 @@ use Rattle.serial_model.proofs.EndLaws.{on_screen}
 use Rattle.serial_bands.specs.declared.event.Event.{Event}
 use Rattle.serial_bands.specs.Run.{RunValue, state_of}
 use Rattle.serial_bands.specs.Clock.{opening_at}
-use Rattle.serial_bands.specs.StandsFor.{StandsFor}
+use Rattle.serial_model.specs.StandsFor.{StandsFor}
 use Rattle.serial_bands.specs.BandShown.{bytes_from}
 use Rattle.serial_bands.specs.RightJob.{IsRightJob}
 use Rattle.serial_bands.specs.DrawnTo.{IsDrawnTo}

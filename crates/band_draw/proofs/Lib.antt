@@ -1,8 +1,6 @@
-pub mod Kept
 pub mod Painting
 pub mod Sounding
 pub mod Touching
-pub mod Registers
 pub mod Dues
 pub mod Giving
 pub mod Turning

@@ -11,7 +11,7 @@ use Rattle.serial_model.specs.Beam.{is_line_start}
 use Rattle.serial_model.specs.declared.picture.Denise.{Denise}
 use Rattle.serial_model.specs.Picture.{set_picture, set_sprite, is_latch, is_sprite, is_colour, clear_line}
 use Rattle.painter.specs.Painter.{IsPainterOf}
-use Rattle.serial_bands.specs.StandsFor.{StandsFor}
+use Rattle.serial_model.specs.StandsFor.{StandsFor}
 use Rattle.band_draw.specs.declared.band_painter.BandPainter.{BandPainter}
 use Rattle.band_draw.specs.BandPainter.{IsBandPainterOf, opened}
 

@@ -26,7 +26,7 @@ use Rattle.serial_bands.specs.Clock.{sets_at, bytes_at, bus_touch_at, fetch_alon
 use Rattle.serial_bands.specs.ClockLaws.{IsNextInField}
 use Rattle.serial_bands.specs.Bands.{begins}
 use Rattle.serial_bands.specs.BandShown.{bytes_from, IsRightDrawn}
-use Rattle.serial_bands.specs.StandsFor.{StandsFor}
+use Rattle.serial_model.specs.StandsFor.{StandsFor}
 use Rattle.serial_bands.specs.RightJob.{HasMemory, events_from, script_events, bus_events}
 use Rattle.serial_bands.specs.EventReading.{touch_of_event, bus_touch_of}
 use Rattle.serial_bands.specs.ReplayLaws.{with_script, with_fetch, step_of_kept, after_kept}

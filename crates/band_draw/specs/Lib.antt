@@ -1,4 +1,3 @@
-pub mod Keeps
 pub mod Sound
 pub mod BandPainter
 pub mod Touched

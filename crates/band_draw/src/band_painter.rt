@@ -5,7 +5,7 @@ ghost use Rattle.serial_model.specs.declared.picture.Denise.{Denise as DeniseVal
 ghost use Rattle.ocs_base.specs.Systems.{is_visible};
 ghost use Rattle.serial_model.specs.Beam.{is_line_start};
 ghost use Rattle.serial_model.specs.Picture.{set_picture, clear_line as cleared, pixels, step_of, after_step};
-ghost use Rattle.serial_bands.specs.StandsFor.{StandsFor};
+ghost use Rattle.serial_model.specs.StandsFor.{StandsFor};
 
 use ocs_base::{Beam, System};
 use painter::Painter;

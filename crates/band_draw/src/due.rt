@@ -3,18 +3,12 @@
 ghost use Rattle.std.specs.Prelude.{◌≡◌, ◌≤◌, ◌<◌, ◌+◌, ◌^◌, ℕ, length, drop, nat_lt, slice_get, true};
 ghost use Rattle.serial_model.specs.Beam.{IsOnScreen, place_of};
 ghost use Rattle.serial_model.specs.Events.{due_events, touches_of, is_due as due_at};
-ghost use Rattle.serial_model.specs.Registers.{is_picture_register};
 ghost use Rattle.ocs_base.specs.Limits.{time_of, order_of};
 ghost use Rattle.band_draw.specs.Due.{IsLeft, is_set as sets, due_if, sets_if};
 
-use ocs_base::{Act, At, Beam, Reg, time_order};
-
-/// A place in a script, which goes on with the beam: the events before it have happened.
-#[derive(Clone, Copy, Debug)]
-pub struct Cursor {
-    /// How many events those are.
-    pub next: usize,
-}
+use band_log::Cursor;
+use ocs_base::{Act, At, Beam, time_order};
+use serial_model::Denise;
 
 /// The place of the first event of a script that is not before the beam's place, found by halving.
 pub fn first_from(script: &[At], beam: &Beam) -> Cursor
@@ -104,18 +98,7 @@ fn is_set(act: &Act) -> bool
     ensures { result ≡ sets act.now }
 {
     match act {
-        Act::Poke { reg, .. } => is_picture(*reg),
+        Act::Poke { reg, .. } => Denise::has_register(*reg),
         _ => false,
     }
-}
-
-/// Whether this is one of Denise's registers.
-#[tactic(auto, using(crate::proofs::Registers::picture_law, std::proofs::lemmas::Bool::Decides::nat_tests))]
-pub fn is_picture(reg: Reg) -> bool
-    ensures { result ≡ is_picture_register reg.offset }
-{
-    matches!(
-        reg.offset,
-        0x08e | 0x090 | 0x098 | 0x100..=0x104 | 0x110..=0x11a | 0x140..=0x17e | 0x180..=0x1be
-    )
 }

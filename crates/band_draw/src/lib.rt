@@ -8,7 +8,6 @@ pub mod direct;
 pub mod due;
 pub mod progress;
 pub mod room;
-pub mod set;
 pub mod touch;
 
 pub use band::draw;

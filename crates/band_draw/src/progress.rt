@@ -7,8 +7,8 @@ ghost use Rattle.band_draw.specs.Progress.{IsSource, IsAt, IsEnded};
 
 use crate::band_painter::BandPainter;
 use crate::clock::{behind, next_place, part, show_clock, touch_access};
-use crate::due::{Cursor, due_from};
-use band_log::{Event, Run};
+use crate::due::due_from;
+use band_log::{Cursor, Event, Run};
 use mem_versions::MemView;
 use ocs_base::{Beam, Clock};
 use serial_model::{Denise, Side};

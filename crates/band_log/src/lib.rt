@@ -1,18 +1,18 @@
 //! The jobs of bands, what comes back of them, and the trait of what draws them.
 #![tactic(auto)]
 
+pub mod cursor;
 pub mod events;
 pub mod job;
 pub mod laws;
 pub mod raster;
-pub mod reset;
 pub mod room;
 pub mod run;
 
+pub use cursor::Cursor;
 pub use events::Events;
 pub use job::{Drawn, Job};
 pub use raster::Raster;
-pub use reset::Reset;
 pub use room::Room;
 pub use run::Run;
 pub use serial_bands::Event;

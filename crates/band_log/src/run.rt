@@ -1,9 +1,9 @@
 //! A run: what it takes, and how high its bands are.
 
 ghost use Rattle.std.specs.Prelude.{◌≡◌, ◌≤◌, true};
-ghost use Rattle.ocs_base.specs.Addr.{chip_span};
-ghost use Rattle.ocs_base.specs.Image.{is_image};
+ghost use Rattle.ocs_base.specs.Image.{is_image, fits_chip};
 ghost use Rattle.ocs_base.specs.Limits.{IsRunnable};
+ghost use Rattle.ocs_base.specs.Sizes.{bytes_of};
 ghost use Rattle.serial_model.specs.Side.{no_side, FitsSide};
 ghost use Rattle.serial_bands.specs.Run.{IsGoodRun, run_over};
 
@@ -43,10 +43,12 @@ impl<S> Model for Run<S> {
 }
 
 impl Run<NoSide> {
-    /// A run without a side, of an image of an even number of 8 to 524,288 bytes, a script of 1 to
-    /// 1000 frames whose events are in its limits and in order of time, and bands of 1 to 313 lines.
+    /// A run without a side, of an image of an even number of bytes, from 8 to as many as the script's
+    /// chip memory has, a script of 1 to 1000 frames whose events are in its limits and in order of
+    /// time, and bands of 1 to 313 lines.
     pub fn new(image: Vec<u8>, script: Script, height: u16) -> Run<NoSide>
         requires image { is_image image.items ≡ true }
+        requires fits { fits_chip script.chip image.items ≡ true }
         requires script { IsRunnable script }
         requires least { 1 ≤ height }
         requires most { height ≤ 313 }
@@ -67,10 +69,11 @@ impl<S: Side> Run<S> {
     /// is over, the other goes to the foreground.
     pub fn over(image: Vec<u8>, script: Script, height: u16, side: S) -> Run<S>
         requires image { is_image image.items ≡ true }
+        requires fits { fits_chip script.chip image.items ≡ true }
         requires script { IsRunnable script }
         requires least { 1 ≤ height }
         requires most { height ≤ 313 }
-        requires fits { FitsSide chip_span (S.seen side) }
+        requires side { FitsSide (bytes_of script.chip) (S.seen side) }
         ensures { result ≡ record {
           image = image.items;
           script = script;
@@ -88,7 +91,7 @@ impl<S: Side> Run<S> {
 }
 
 impl<S> Run<S> {
-    /// The bytes from which chip memory is made: an even number of 8 to 524,288.
+    /// The bytes from which chip memory is made: an even number, from 8 to as many as it has.
     pub fn image(&self) -> &[u8]
         ensures bytes { result.now ≡ self.now.image }
         ensures good { IsGoodRun self.now }

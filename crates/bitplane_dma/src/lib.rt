@@ -161,7 +161,7 @@ fn fetch(h: u16, start: u16, regs: &mut Regs) -> Option<PlaneAsk>
     let high = Reg::masked(0xdc + 4 * plane as u16);
     let at = regs.pointer(high);
     let bytes = added_bytes(h, start, plane, regs);
-    regs.set_pointer(high, Addr::at(at.raw() + 2 + bytes));
+    regs.set_pointer(high, Addr::sized(at.size, at.raw() + 2 + bytes));
     Some(PlaneAsk { plane, at })
 }
 
@@ -199,7 +199,7 @@ fn slot_plane(high: bool, slot: u16) -> u8
 fn added_bytes(h: u16, start: u16, plane: u8, regs: &Regs) -> u32
     requires { start ≤ h }
     ensures value { result ≡ bytes_added h regs.now start plane }
-    ensures below { result < 524288 }
+    ensures below { result < 1048576 }
 {
     let high = regs.word(Reg::masked(BPLCON0)) >= 0x8000;
     if high && h - start < 4 || has_next(start, regs) {
@@ -209,16 +209,16 @@ fn added_bytes(h: u16, start: u16, plane: u8, regs: &Regs) -> u32
     modulo_bytes(regs.word(Reg::masked(modulo)))
 }
 
-/// How far on a modulo moves an address: it is a signed number, whose bit 0 counts as 0, and
-/// addresses wrap at 512 KiB.
+/// How far on a modulo moves an address, modulo 1 MiB, of which each span is a part: it is a signed number,
+/// whose bit 0 counts as 0.
 fn modulo_bytes(word: u16) -> u32
     ensures value { result ≡ bytes_of word }
-    ensures below { result < 524288 }
+    ensures below { result < 1048576 }
 {
     let bytes = if word < 0x8000 {
         word as u32
     } else {
-        word as u32 + 0x7_0000
+        word as u32 + 0xf_0000
     };
     bytes / 2 * 2
 }

@@ -159,6 +159,43 @@ fn rows_up_and_down(rt: HostRuntime) {
     }
 }
 
+#[test]
+fn pointers_at_the_end_of_their_span(rt: HostRuntime) {
+    for (apt, dpt, places, end) in [
+        (
+            Addr::wide(0x8_0010),
+            Addr::wide(0x7_fffe),
+            [0x8_0010, 0x7_fffe, 0x8_0012, 0x8_0000],
+            [0x8_0014, 0x8_0002],
+        ),
+        (
+            Addr::wide(0x10),
+            Addr::wide(0xf_fffe),
+            [0x10, 0xf_fffe, 0x12, 0],
+            [0x14, 2],
+        ),
+        (
+            Addr::at(0x10),
+            Addr::at(0x7_fffe),
+            [0x10, 0x7_fffe, 0x12, 0],
+            [0x14, 2],
+        ),
+    ] {
+        let mut regs = registers();
+        regs.size = 0x0042;
+        regs.apt = apt;
+        regs.dpt = dpt;
+        let mut blit = AreaBlit::start(&regs);
+        for at in places {
+            assert_eq!(rt; place(&blit), Some(at), "{at}");
+            answer(&mut blit, 0);
+        }
+        assert_eq!(rt; place(&blit), None);
+        let left = blit.regs();
+        assert_eq!(rt; [left.apt.raw(), left.dpt.raw()], end);
+    }
+}
+
 /// The registers that a blit of two rows of two words leaves, for BLTCON0.
 fn registers_left(con0: u16) -> BlitRegs {
     let mut regs = registers();

@@ -7,6 +7,7 @@ use Rattle.std.specs.Prelude.{ℕ, zero, suc, ◌+◌, ◌*◌, ◌/◌, ◌%◌
 use Rattle.std.specs.List.{position}
 use Rattle.ocs_base.specs.AddressOf.{addr_at}
 use Rattle.ocs_base.specs.declared.addr.Addr.{Addr}
+use Rattle.ocs_base.specs.declared.chip_size.ChipSize.TheVariants.{Kib512}
 use Rattle.blit_words.specs.declared.blit.BlitRegs.{BlitRegs}
 use Rattle.blit_words.specs.declared.blit.SlotAsk.{SlotAsk}
 use Rattle.blit_words.specs.declared.blit.SlotAsk.TheVariants as S
@@ -63,12 +64,13 @@ is_descending s = is_set s.con1 1
 
 -- ---- addresses
 
+-- the pointer with which a channel starts, whose span its addresses keep; a rest has no address
 abbrev pub pointer_of : BlitRegs → WordAsk → Addr
 pointer_of s A = s.apt
 pointer_of s B = s.bpt
 pointer_of s C = s.cpt
 pointer_of s D = s.dpt
-pointer_of s Rest = addr_at 0
+pointer_of s Rest = addr_at Kib512 0
 
 abbrev pub modulo_of : BlitRegs → WordAsk → ℤ
 modulo_of s A = s.amod

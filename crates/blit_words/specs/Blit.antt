@@ -1,8 +1,8 @@
 -- The fields of the blitter's registers, and what area and line blits share.
 use Rattle.std.specs.Prelude.{ℕ, ◌/◌, ◌%◌, Bool, ◌==◌, if◌then◌else◌, ℤ, pos, ◌+ℤ◌, ◌-ℤ◌, unsigned_abs}
 use Rattle.std.specs.Int.{int_rem_euclid}
-use Rattle.ocs_base.specs.Addr.{chip_span}
 use Rattle.ocs_base.specs.AddressOf.{addr_at}
+use Rattle.ocs_base.specs.Span.{span_of}
 use Rattle.ocs_base.specs.declared.addr.Addr.{Addr}
 use Rattle.blit_words.specs.declared.blit.BlitRegs.{BlitRegs}
 use Rattle.blit_words.specs.BlitWords.{is_set}
@@ -32,6 +32,6 @@ is_line s = is_set s.con1 0
 abbrev pub even_part : ℤ → ℤ
 even_part z = z -ℤ int_rem_euclid z (pos 2)
 
--- the address so many bytes on, or back where the number is negative, modulo 512 KiB
+-- the address so many bytes on, or back where the number is negative, modulo the span of the address
 unfoldable pub address_on : Addr → ℤ → Addr
-address_on a bytes = addr_at (unsigned_abs (int_rem_euclid (pos a.value +ℤ bytes) (pos chip_span)))
+address_on a bytes = addr_at a.size (unsigned_abs (int_rem_euclid (pos a.value +ℤ bytes) (pos (span_of a))))

@@ -5,7 +5,7 @@ use ocs_base::Addr;
 /// The blitter's registers as a blit starts, or as it leaves them: BLTCON0 and BLTCON1, the masks
 /// BLTAFWM and BLTALWM, BLTSIZE, the data registers, the modulos and the pointers. `aptl` is
 /// BLTAPTL with all its 16 bits, the accumulator of a line, and `apt` the address in BLTAPTH and
-/// BLTAPTL.
+/// BLTAPTL. The addresses of a channel wrap where its pointer does.
 #[derive(Clone, Copy, Debug)]
 pub struct BlitRegs {
     pub con0: u16,

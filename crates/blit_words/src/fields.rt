@@ -36,7 +36,7 @@ pub fn even_part(modulo: i16) -> i32
     wide - wide.rem_euclid(2)
 }
 
-/// The address an even number of bytes on, or back.
+/// The address an even number of bytes on, or back, modulo its own span.
 pub fn address_on(at: Addr, bytes: i32) -> Addr
     requires { IsEven bytes }
     ensures { result ≡ address_after at bytes }

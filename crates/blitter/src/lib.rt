@@ -33,6 +33,7 @@ impl Blit {
 
     /// What the blit does with its next slot. A write is asked for with its word; Done comes once
     /// all asks have answers.
+    #[inline(always)]
     pub fn next(&self) -> SlotAsk
         ensures shown { result ≡ slot_shown self.now }
         ensures ask { ForWhatItStands self.now (λ s ws. result ≡ blit_ask s ws) }
@@ -48,7 +49,10 @@ impl Blit {
         ensures shown { result ≡ done_of (slot_shown self.now) }
         ensures ask { ForWhatItStands self.now (λ s ws. result ≡ done_of (blit_ask s ws)) }
     {
-        matches!(self.next(), SlotAsk::Done)
+        match self {
+            Blit::Area(blit) => blit.is_done(),
+            Blit::Line(blit) => blit.is_done(),
+        }
     }
 
     /// Carries out the ask that `next` tells, which is not Done: the slot was got. The word counts

@@ -3,8 +3,11 @@ use Rattle.std.proofs.Common.{arith, ◌≡◌, ℕ, ◌+◌, ◌*◌, ◌%◌, 
 use Rattle.std.specs.Int.{int_rem_euclid}
 use Rattle.std.proofs.lemmas.Int.{ints}
 use Rattle.std.proofs.Math.IntN.{suc_ℤ, suc_ℤ-*ℤ}
-use Rattle.ocs_base.specs.Addr.{chip_span}
+use Rattle.ocs_base.specs.Sizes.{bytes_of}
+use Rattle.ocs_base.specs.Span.{span_of}
 use Rattle.ocs_base.specs.declared.addr.Addr.{Addr}
+use Rattle.ocs_base.specs.declared.chip_size.ChipSize.{ChipSize}
+use Rattle.ocs_base.specs.declared.chip_size.ChipSize.TheVariants.{Kib512, Mib1}
 use Rattle.blit_words.specs.declared.blit.BlitRegs.{BlitRegs}
 use Rattle.blit_words.specs.declared.blit.WordAsk.{WordAsk}
 use Rattle.blit_words.specs.Blit.{width_of, even_part, address_on}
@@ -47,39 +50,53 @@ way_over s x r c whole =
     ∙ ap (opposite_if d) sum
     ∙ opposite_add d (pos (2 * (r * width_of s + c)) +ℤ pos r *ℤ m) m
 
-abbrev modulo_span : ℤ → ℤ
-modulo_span z = int_rem_euclid z (pos chip_span)
+abbrev modulo_span : ChipSize → ℤ → ℤ
+modulo_span size z = int_rem_euclid z (pos (bytes_of size))
 
-moves : (base at to : ℕ) (way way' step : ℤ)
-    → pos at ≡ modulo_span (pos base +ℤ way)
-    → pos to ≡ modulo_span (pos at +ℤ step)
+span_of_sum : (size : ChipSize) (z y : ℤ) → modulo_span size (modulo_span size z +ℤ y) ≡ modulo_span size (z +ℤ y)
+span_of_sum Kib512 z y = rem_add_any 524287 z y
+span_of_sum Mib1 z y = rem_add_any 1048575 z y
+
+within_span : (size : ChipSize) (n : ℕ) → n < bytes_of size → modulo_span size (pos n) ≡ pos n
+within_span Kib512 n low = let whole : n % 524288 ≡ n = omega arith in ap pos whole
+within_span Mib1 n low = let whole : n % 1048576 ≡ n = omega arith in ap pos whole
+
+moves : (size : ChipSize) (base at to : ℕ) (way way' step : ℤ)
+    → pos at ≡ modulo_span size (pos base +ℤ way)
+    → pos to ≡ modulo_span size (pos at +ℤ step)
     → way' ≡ way +ℤ step
-    → pos to ≡ modulo_span (pos base +ℤ way')
-moves base at to way way' step at_is to_is way_is =
+    → pos to ≡ modulo_span size (pos base +ℤ way')
+moves size base at to way way' step at_is to_is way_is =
     let sum : (pos base +ℤ way) +ℤ step ≡ pos base +ℤ (way +ℤ step) = omega (arith, ints) in
     to_is
-    ∙ ap (λ (z : ℤ). modulo_span (z +ℤ step)) at_is
-    ∙ rem_add_any 524287 (pos base +ℤ way) step
-    ∙ ap modulo_span sum
-    ∙ ap (λ (z : ℤ). modulo_span (pos base +ℤ z)) (sym way_is)
+    ∙ ap (λ (z : ℤ). modulo_span size (z +ℤ step)) at_is
+    ∙ span_of_sum size (pos base +ℤ way) step
+    ∙ ap (modulo_span size) sum
+    ∙ ap (λ (z : ℤ). modulo_span size (pos base +ℤ z)) (sym way_is)
 
 used_number : (s : BlitRegs) (x : WordAsk) (r c : ℕ) → is_used s x ≡ true
-    → address_number s x r c ≡ modulo_span (pos (pointer_of s x).value +ℤ way_to s x r c)
+    → address_number s x r c ≡ modulo_span (pointer_of s x).size (pos (pointer_of s x).value +ℤ way_to s x r c)
 unfolding address_number
 used_number s x r c used =
-    ap (λ (b : Bool). if b then modulo_span (pos (pointer_of s x).value +ℤ way_to s x r c) else pos (pointer_of s x).value) used
+    ap (λ (b : Bool). if b then modulo_span (pointer_of s x).size (pos (pointer_of s x).value +ℤ way_to s x r c) else pos (pointer_of s x).value) used
 
 unused_number : (s : BlitRegs) (x : WordAsk) (r c : ℕ) → is_used s x ≡ false → address_number s x r c ≡ pos (pointer_of s x).value
 unfolding address_number
 unused_number s x r c unused =
-    ap (λ (b : Bool). if b then modulo_span (pos (pointer_of s x).value +ℤ way_to s x r c) else pos (pointer_of s x).value) unused
+    ap (λ (b : Bool). if b then modulo_span (pointer_of s x).size (pos (pointer_of s x).value +ℤ way_to s x r c) else pos (pointer_of s x).value) unused
 
 -- a channel of which the address alone is new
 pub record HasMoved (x x' : Channel) (step : ℤ) : Type 0 where
   pub used : x'.used ≡ x.used
   pub forward : x'.forward ≡ x.forward
   pub over : x'.over ≡ x.over
-  pub address : pos x'.at.value ≡ int_rem_euclid (pos x.at.value +ℤ step) (pos chip_span)
+  pub address : pos x'.at.value ≡ int_rem_euclid (pos x.at.value +ℤ step) (pos (span_of x.at))
+  pub size : x'.at.size ≡ x.at.size
+
+-- where the channel stands in the span of a pointer, it moved modulo that span
+in_span : (x x' : Channel) (step : ℤ) (size : ChipSize) → HasMoved x x' step → x.at.size ≡ size
+    → pos x'.at.value ≡ modulo_span size (pos x.at.value +ℤ step)
+in_span x x' step size moved is = moved.address ∙ ap (λ (k : ChipSize). modulo_span k (pos x.at.value +ℤ step)) is
 
 pub moved_word : (s : BlitRegs) (k : WordAsk) (r c : ℕ) (x x' : Channel) → IsAt x s k r c → x.used ≡ true
     → HasMoved x x' x.forward
@@ -87,12 +104,14 @@ pub moved_word : (s : BlitRegs) (k : WordAsk) (r c : ℕ) (x x' : Channel) → I
 moved_word s k r c x x' is used moved =
     let k_used : is_used s k ≡ true = sym is.is_used ∙ used in
     let at_is = is.address ∙ used_number s k r c k_used in
+    let to_is = in_span x x' x.forward (pointer_of s k).size moved is.size in
     let way_is = way_next s k r c ∙ ap (λ (z : ℤ). way_to s k r c +ℤ z) (sym is.forward) in
     record {
       is_used = moved.used ∙ is.is_used;
       address =
-          moves (pointer_of s k).value x.at.value x'.at.value _ _ x.forward at_is moved.address way_is
+          moves (pointer_of s k).size (pointer_of s k).value x.at.value x'.at.value _ _ x.forward at_is to_is way_is
           ∙ sym (used_number s k r (c + 1) k_used);
+      size = moved.size ∙ is.size;
       forward = moved.forward ∙ is.forward;
       over = moved.over ∙ is.over;
     }
@@ -103,12 +122,14 @@ pub moved_row : (s : BlitRegs) (k : WordAsk) (r c : ℕ) (x x' : Channel) → c 
 moved_row s k r c x x' whole is used moved =
     let k_used : is_used s k ≡ true = sym is.is_used ∙ used in
     let at_is = is.address ∙ used_number s k r c k_used in
+    let to_is = in_span x x' x.over (pointer_of s k).size moved is.size in
     let way_is = way_over s k r c whole ∙ ap (λ (z : ℤ). way_to s k r c +ℤ z) (sym is.over) in
     record {
       is_used = moved.used ∙ is.is_used;
       address =
-          moves (pointer_of s k).value x.at.value x'.at.value _ _ x.over at_is moved.address way_is
+          moves (pointer_of s k).size (pointer_of s k).value x.at.value x'.at.value _ _ x.over at_is to_is way_is
           ∙ sym (used_number s k (r + 1) 0 k_used);
+      size = moved.size ∙ is.size;
       forward = moved.forward ∙ is.forward;
       over = moved.over ∙ is.over;
     }
@@ -120,6 +141,7 @@ still s k r c r' c' x is unused =
     record {
       is_used = is.is_used;
       address = is.address ∙ unused_number s k r c k_unused ∙ sym (unused_number s k r' c' k_unused);
+      size = is.size;
       forward = is.forward;
       over = is.over;
     }
@@ -141,12 +163,13 @@ first_number : (s : BlitRegs) (k : WordAsk) → address_number s k 0 0 ≡ pos (
 unfolding address_number
 first_number s k =
     let base : ℕ = (pointer_of s k).value in
-    let low : base < 524288 = (pointer_of s k).below in
+    let size : ChipSize = (pointer_of s k).size in
     let sum : pos base +ℤ pos 0 ≡ pos base = omega (arith, ints) in
-    let whole : base % 524288 ≡ base = omega arith in
-    let at : modulo_span (pos base +ℤ way_to s k 0 0) ≡ pos base =
-    ap (λ (z : ℤ). modulo_span (pos base +ℤ z)) (first_way s k) ∙ ap modulo_span sum ∙ ap pos whole in
-    elim (is_used s k) as (λ (b : Bool). (if b then modulo_span (pos base +ℤ way_to s k 0 0) else pos base) ≡ pos base) [
+    let at : modulo_span size (pos base +ℤ way_to s k 0 0) ≡ pos base =
+    ap (λ (z : ℤ). modulo_span size (pos base +ℤ z)) (first_way s k)
+    ∙ ap (modulo_span size) sum
+    ∙ within_span size base (pointer_of s k).below in
+    elim (is_used s k) as (λ (b : Bool). (if b then modulo_span size (pos base +ℤ way_to s k 0 0) else pos base) ≡ pos base) [
       | true ↦ at
       | false ↦ refl
     ]
@@ -161,6 +184,7 @@ pub at_first : (s : BlitRegs) (k : WordAsk) (x : Channel) (used descending : Boo
 at_first s k x used descending modulo is used_is modulo_is descending_is = record {
   is_used = is.is_used ∙ used_is;
   address = ap (λ (a : Addr). pos a.value) is.pointer ∙ sym (first_number s k);
+  size = ap (λ (a : Addr). a.size) is.pointer;
   forward = is.forward ∙ ap (λ (d : Bool). opposite_if d (pos 2)) descending_is;
   over =
       is.over
@@ -173,8 +197,8 @@ pub address_at : (s : BlitRegs) (k : WordAsk) (r c : ℕ) (x : Channel) → IsAt
 unfolding address_number address_of
 address_at s k r c x is =
     let base : Addr = pointer_of s k in
-    elim (is_used s k) as (λ (b : Bool). pos x.at.value ≡ (if b then modulo_span (pos base.value +ℤ way_to s k r c) else pos base.value)
+    elim (is_used s k) as (λ (b : Bool). pos x.at.value ≡ (if b then modulo_span base.size (pos base.value +ℤ way_to s k r c) else pos base.value)
     → x.at ≡ (if b then address_on base (way_to s k r c) else base)) [
-      | true ↦ (λ h. address_is base x.at (way_to s k r c) h)
-      | false ↦ (λ h. same_addr x.at base (ap unsigned_abs h))
+      | true ↦ (λ h. address_is base x.at (way_to s k r c) h is.size)
+      | false ↦ (λ h. same_addr x.at base (ap unsigned_abs h) is.size)
     ] is.address

@@ -1,7 +1,7 @@
 -- What an area blit stands for, from ask to ask.
-use Rattle.std.proofs.Common.{arith, ◌≡◌, ◌≢◌, inl, inr, ℕ, suc, ◌+◌, ◌*◌, ◌/◌, ◌%◌, ◌<◌, ◌≤◌, Bool, true, false, if◌then◌else◌, ◌&&◌, nat_lt, ◌==◌, List, [], ◌∷◌, ◌++◌, length, sym, ap, subst, ◌∙◌, refl}
+use Rattle.std.proofs.Common.{arith, ◌≡◌, ◌≢◌, inl, inr, ℕ, suc, ◌+◌, ◌*◌, ◌/◌, ◌%◌, ◌<◌, ◌≤◌, Bool, true, false, if◌then◌else◌, ◌&&◌, nat_lt, nat_le, ◌==◌, List, [], ◌∷◌, ◌++◌, length, sym, ap, subst, ◌∙◌, refl}
 use Rattle.std.proofs.Math.Nat.{mul-le-mul_right}
-use Rattle.std.proofs.lemmas.Bool.{cases_lt}
+use Rattle.std.proofs.lemmas.Bool.{cases_lt, le-leb, lt-leb}
 use Rattle.std.proofs.lemmas.List.{length_push}
 use Rattle.std.proofs.lemmas.Nat.{div-mul-add, mod-mul-add}
 use Rattle.ocs_base.specs.declared.addr.Addr.{Addr}
@@ -14,7 +14,7 @@ use Rattle.blit_words.specs.BlitWords.{is_set}
 use Rattle.blit_words.specs.Blit.{is_line, height_of, width_of}
 use Rattle.blit_words.specs.AreaBlit.{asks_per_word, word_ask, is_same, is_used, is_filling, previous_a, previous_b, ones_in_row, are_zero, ask_of, ask_at, area_ask, area_zero, area_end, held_word, address_of}
 use Rattle.blit_words.specs.LineBlit.{line_ask, line_zero, line_end}
-use Rattle.blit_words.specs.Blitter.{blit_ask, blit_zero, blit_end}
+use Rattle.blit_words.specs.Blitter.{blit_ask, is_done, blit_zero, blit_end}
 use Rattle.blit_words.specs.Parity.{is_carry}
 use Rattle.blitter_area.specs.declared.area.AreaBlit.{AreaBlit}
 use Rattle.blitter_area.specs.declared.data_path.Words.{Words}
@@ -474,3 +474,23 @@ done_after_all b s ws h =
             sym (shown_done b over)
       ];
     }
+
+-- ---- whether the blit has ended
+
+asks_on : (b : AreaBlit) (s : BlitRegs) (k : WordAsk) → is_done (shown_ask b s k) ≡ false
+asks_on b s A = refl
+asks_on b s B = refl
+asks_on b s C = refl
+asks_on b s D = refl
+asks_on b s Rest = refl
+
+-- it has ended exactly where the row is at the height
+pub done_is : (b : AreaBlit) (h : ℕ) → h ≡ height_of b.start → nat_le h b.row ≡ is_done (shown b)
+done_is b h height = elim (cases_lt b.row h) [
+  | inl below ↦
+      let left : b.row < height_of b.start = omega (arith, below, height) in
+      lt-leb h b.row below ∙ sym (asks_on b b.start (word_ask b.start b.place)) ∙ ap is_done (shown_going b left)
+  | inr above ↦
+      let over : height_of b.start ≤ b.row = omega (arith, above, height) in
+      le-leb h b.row above ∙ ap is_done (shown_done b over)
+]

@@ -1,7 +1,7 @@
 -- A moving pointer and the address that it stands for.
 use Rattle.std.specs.Prelude.{◌≡◌, ℕ, ◌+◌, Bool, if◌then◌else◌, ℤ, pos, ◌+ℤ◌}
 use Rattle.std.specs.Int.{int_rem_euclid}
-use Rattle.ocs_base.specs.Addr.{chip_span}
+use Rattle.ocs_base.specs.Span.{span_of}
 use Rattle.ocs_base.specs.declared.addr.Addr.{Addr}
 use Rattle.blit_words.specs.declared.blit.BlitRegs.{BlitRegs}
 use Rattle.blit_words.specs.declared.blit.WordAsk.{WordAsk}
@@ -18,17 +18,18 @@ pub record IsMade (x : Channel) (at : Addr) (used : Bool) (modulo : ℤ) (descen
   pub forward : x.forward ≡ opposite_if descending (pos 2)
   pub over : x.over ≡ opposite_if descending (even_part modulo)
 
--- the number of the address of a channel at word c of row r
+-- the number of the address of a channel at word c of row r, modulo the span of its pointer
 unfoldable pub address_number : BlitRegs → WordAsk → ℕ → ℕ → ℤ
 address_number s k r c =
     if is_used s k
-    then int_rem_euclid (pos (pointer_of s k).value +ℤ way_to s k r c) (pos chip_span)
+    then int_rem_euclid (pos (pointer_of s k).value +ℤ way_to s k r c) (pos (span_of (pointer_of s k)))
     else pos (pointer_of s k).value
 
--- a channel that stands at word c of row r
+-- a channel that stands at word c of row r, in the span of its pointer
 pub record IsAt (x : Channel) (s : BlitRegs) (k : WordAsk) (r c : ℕ) : Type 0 where
   pub is_used : x.used ≡ is_used s k
   pub address : pos x.at.value ≡ address_number s k r c
+  pub size : x.at.size ≡ (pointer_of s k).size
   pub forward : x.forward ≡ opposite_if (is_descending s) (pos 2)
   pub over : x.over ≡ opposite_if (is_descending s) (even_part (modulo_of s k))
 

@@ -4,7 +4,7 @@ ghost use Rattle.std.specs.Prelude.{◌≡◌, ◌≢◌, ◌<◌, ℕ, List, []
 ghost use Rattle.blit_words.specs.declared.blit.BlitRegs.{BlitRegs};
 ghost use Rattle.blit_words.specs.Blit.{is_line, height_of, width_of, minterms_of};
 ghost use Rattle.blit_words.specs.AreaBlit.{asks_per_word};
-ghost use Rattle.blit_words.specs.Blitter.{blit_ask, blit_zero, blit_end};
+ghost use Rattle.blit_words.specs.Blitter.{blit_ask, is_done as done_of, blit_zero, blit_end};
 
 use crate::asks::{ask_at, asks};
 use crate::channel::Pointers;
@@ -68,6 +68,14 @@ impl AreaBlit {
         ensures done { ForWhatItStands self.now (λ s ws. IsDoneAfterAll result s ws) }
     {
         self.slot_now()
+    }
+
+    /// Whether the blit has ended: no ask is left. Unlike `next` it works out no word to write.
+    pub fn is_done(&self) -> bool
+        ensures shown { result ≡ done_of (shown self.now) }
+        ensures ask { ForWhatItStands self.now (λ s ws. result ≡ done_of (blit_ask s ws)) }
+    {
+        self.row >= height(&self.start)
     }
 
     /// What it does with its next slot, by its own state.

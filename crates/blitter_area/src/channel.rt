@@ -9,8 +9,8 @@ ghost use Rattle.blit_words.specs.Blit.{width_of};
 use blit_words::{BlitRegs, even_part, is_set};
 use ocs_base::Addr;
 
-/// The address of a channel, and how far it moves after each word and after each row. An unused
-/// channel stays.
+/// The address of a channel, in the span of its pointer, and how far it moves after each word and after each
+/// row. An unused channel stays.
 #[derive(Clone, Copy)]
 pub(crate) struct Channel {
     pub(crate) at: Addr,

@@ -1,6 +1,6 @@
 -- What a line blit stands for, from ask to ask.
-use Rattle.std.proofs.Common.{arith, ◌≡◌, ◌≢◌, inl, inr, ℕ, zero, suc, ◌+◌, ◌*◌, ◌/◌, ◌%◌, ◌<◌, ◌≤◌, Bool, true, false, if◌then◌else◌, ◌&&◌, nat_eq, nat_lt, ◌==◌, List, [], ◌∷◌, ◌++◌, length, get_or, sym, ap, subst, ◌∙◌, refl}
-use Rattle.std.proofs.lemmas.Bool.{cases_lt}
+use Rattle.std.proofs.Common.{arith, ◌≡◌, ◌≢◌, inl, inr, ℕ, zero, suc, ◌+◌, ◌*◌, ◌/◌, ◌%◌, ◌<◌, ◌≤◌, Bool, true, false, if◌then◌else◌, ◌&&◌, nat_eq, nat_lt, nat_le, ◌==◌, List, [], ◌∷◌, ◌++◌, length, get_or, sym, ap, subst, ◌∙◌, refl}
+use Rattle.std.proofs.lemmas.Bool.{cases_lt, le-leb, lt-leb}
 use Rattle.std.proofs.lemmas.List.{length_push, get_or_append_left, get_or_push}
 use Rattle.std.specs.Int.{w16, cast_unsigned}
 use Rattle.blit_words.specs.declared.blit.BlitRegs.{BlitRegs}
@@ -11,9 +11,9 @@ use Rattle.blit_words.specs.BlitWords.{minterm_of}
 use Rattle.blit_words.specs.Blit.{is_line, height_of, minterms_of}
 use Rattle.blit_words.specs.AreaBlit.{area_ask, area_zero, area_end}
 use Rattle.blit_words.specs.LineBlit.{uses_source, uses_target, first_point, line_point, point_after, dot_of, texture_of, source_after, point_word, points_are_zero, point_ask, line_ask, line_zero, line_end}
-use Rattle.blit_words.specs.Blitter.{blit_ask, blit_zero, blit_end}
+use Rattle.blit_words.specs.Blitter.{blit_ask, is_done, blit_zero, blit_end}
 use Rattle.blitter_line.specs.declared.line.LineBlit.{LineBlit}
-use Rattle.blitter_line.specs.Walk.{Walks, Stands, IsDoneAfterAll, source_with, word_now, shown_ask, shown_by, shown}
+use Rattle.blitter_line.specs.Walk.{Walks, Stands, IsDoneAfterAll, reads_source, source_with, word_now, shown_ask, shown_by, shown}
 
 lt_true : (a b : ℕ) → a < b → nat_lt a b ≡ true
 lt_true a b h = grind arith
@@ -280,6 +280,32 @@ done_after_all b s ws h =
           let over : height_of b.start ≤ b.count = omega (arith, all, height, count, place) in
           sym (shown_done b over);
     }
+
+-- ---- whether the blit has ended
+
+asks_on : (b : LineBlit) (s : BlitRegs) → is_done (shown_ask b s) ≡ false
+asks_on b s = elim (reads_source s b.place) as (λ (t : Bool).
+    is_done (if t
+    then S.Read b.point.at
+    else (if (b.place == 3) && uses_target s then S.Write b.point.at (word_now b s) else S.Rest)) ≡ false) [
+      | true ↦ refl
+      | false ↦
+          (elim ((b.place == 3) && uses_target s) as (λ (t : Bool). is_done (if t then S.Write b.point.at (word_now b s) else S.Rest) ≡ false) [
+            | true ↦ refl
+            | false ↦ refl
+          ])
+    ]
+
+-- it has ended exactly where the count is at the height
+pub done_is : (b : LineBlit) (h : ℕ) → h ≡ height_of b.start → nat_le h b.count ≡ is_done (shown b)
+done_is b h height = elim (cases_lt b.count h) [
+  | inl below ↦
+      let left : b.count < height_of b.start = omega (arith, below, height) in
+      lt-leb h b.count below ∙ sym (asks_on b b.start) ∙ ap is_done (shown_going b left)
+  | inr above ↦
+      let over : height_of b.start ≤ b.count = omega (arith, above, height) in
+      le-leb h b.count above ∙ ap is_done (shown_done b over)
+]
 
 pub height_most : (s : BlitRegs) → s.size < 65536 → height_of s ≤ 1024
 unfolding height_of

@@ -3,7 +3,7 @@
 ghost use Rattle.std.specs.Prelude.{◌≡◌, ◌≢◌, ◌<◌, ℕ, List, [], ◌∷◌, ◌++◌, true};
 ghost use Rattle.blit_words.specs.declared.blit.BlitRegs.{BlitRegs};
 ghost use Rattle.blit_words.specs.Blit.{is_line, height_of, minterms_of};
-ghost use Rattle.blit_words.specs.Blitter.{blit_ask, blit_zero, blit_end};
+ghost use Rattle.blit_words.specs.Blitter.{blit_ask, is_done as done_of, blit_zero, blit_end};
 
 use crate::points::{dot, first, go_on, texture};
 use blit_words::{BlitRegs, LinePoint, Minterms, SlotAsk, height, is_set};
@@ -53,6 +53,14 @@ impl LineBlit {
         ensures done { ForWhatItStands self.now (λ s ws. IsDoneAfterAll result s ws) }
     {
         self.slot_now()
+    }
+
+    /// Whether the blit has ended: no ask is left. Unlike `next` it works out no word to write.
+    pub fn is_done(&self) -> bool
+        ensures shown { result ≡ done_of (shown self.now) }
+        ensures ask { ForWhatItStands self.now (λ s ws. result ≡ done_of (blit_ask s ws)) }
+    {
+        self.count >= height(&self.start)
     }
 
     /// What it does with its next slot, by its own state.

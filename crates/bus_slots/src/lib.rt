@@ -16,6 +16,7 @@ pub use serial_model::{Owner, SlotState};
 /// and it has missed three clocks in a row or more (Hardware Reference Manual, blitter priority). Whether
 /// a channel may ask at this clock is for the caller to know; the numbers of channels, planes and sprites
 /// are handed on as they are.
+#[inline(always)]
 #[tactic(auto, unfolding(serial_model::specs::Owner::owner_of))]
 pub fn slot_owner(s: &SlotState) -> Owner
     ensures owner { result ≡ owner_of s.now }

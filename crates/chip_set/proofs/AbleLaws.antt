@@ -1,5 +1,5 @@
 -- What is asked for, and what an ask makes, is within the ranges of planes and sprites.
-use Rattle.std.proofs.Common.{◌≡◌, ℕ, ◌≤◌, Bool, true, false, ◌==◌, if◌then◌else◌, List, Option, Some, None, is_some, IfSome, ap, subst, ◌∙◌, sym}
+use Rattle.std.proofs.Common.{◌≡◌, ℕ, ◌≤◌, Bool, true, false, ◌==◌, if◌then◌else◌, Option, Some, None, is_some, IfSome, ap, subst, ◌∙◌, sym}
 use Rattle.std.specs.Option.{option_map}
 use Rattle.blit_words.specs.declared.blit.SlotAsk.{SlotAsk}
 use Rattle.blit_words.specs.declared.blit.SlotAsk.TheVariants.{Read, Write, Rest, Done}
@@ -22,8 +22,9 @@ use Rattle.serial_model.specs.declared.slots.Owner.{Owner}
 use Rattle.serial_model.specs.declared.slots.Owner.TheVariants.{Refresh, Disk, Audio, Plane, Sprite, Copper, Blitter, Processor, Free}
 use Rattle.serial_model.specs.declared.trace.Source.TheVariants.{Processor as ByProcessor}
 use Rattle.cpu_bus.specs.Bus.{wish_shown}
-use Rattle.serial_model.specs.Bus.{Wishes, side_ask, slot_state, owner_ask, made_by_copper, made_by_processor}
+use Rattle.serial_model.specs.Bus.{Wishes, slot_state, owner_ask, made_by_copper, made_by_processor}
 use Rattle.serial_model.specs.Owner.{owner_of}
+use Rattle.serial_model.specs.Registers.{Registers}
 use Rattle.serial_model.specs.PlaneFetch.{fetched_plane, ask_for_plane, move_planes}
 use Rattle.serial_model.specs.SpriteFetch.{asking_sprite}
 use Rattle.serial_model.proofs.FetchLaws.{IsFetch, fetched_plane-is}
@@ -49,25 +50,22 @@ processor_can (P.WriteRegister reg word) = tt
 -- the loop can do what an ask makes
 pub can_make : (ask : Ask) (word : ℕ) (act : CopperAct) → CanAsk ask → CanDo (made_with ask word act)
 can_make A.Free word act can = act_can act
-can_make (A.Disk at stored) word act can = tt
-can_make (A.Audio channel at) word act can = act_can act
-can_make (A.Plane plane at) word act can = can
-can_make (A.SpriteControl sprite second at) word act can = tt
-can_make (A.SpriteWords sprite second at) word act can = can
+can_make (A.Side S.Nothing) word act can = act_can act
+can_make (A.Side (S.Disk at stored)) word act can = tt
+can_make (A.Side (S.Audio channel at)) word act can = act_can act
+can_make (A.Plane ask) word act can = can
+can_make (A.Sprite (Control sprite second at)) word act can = tt
+can_make (A.Sprite (Words sprite second at)) word act can = can
 can_make (A.Copper at) word act can = act_can act
-can_make (A.BlitRead at) word act can = act_can act
-can_make (A.BlitWrite at stored) word act can = tt
-can_make A.BlitRest word act can = act_can act
+can_make (A.Blit (Read at)) word act can = act_can act
+can_make (A.Blit (Write at stored)) word act can = tt
+can_make (A.Blit Rest) word act can = act_can act
+can_make (A.Blit Done) word act can = act_can act
 can_make (A.Processor ask) word act can = processor_can ask
-
-side_can : (side : SideAsk) → CanAsk (side_ask side)
-side_can S.Nothing = tt
-side_can (S.Disk at stored) = tt
-side_can (S.Audio channel at) = tt
 
 -- and a plane that is fetched is one of six, a sprite one of eight
 with_can : (owner : Owner) (side : SideAsk) (found : Option ℕ) (asked : Option SpriteAsk) (wish : Option Addr) (blit : Option SlotAsk)
-    (processor : Option ProcessorAsk) (registers : List ℕ) (h : ℕ) → IfSome found (IsFetch h) → IfSome asked (λ ask. asking_sprite ask ≤ 7)
+    (processor : Option ProcessorAsk) (registers : Registers) (h : ℕ) → IfSome found (IsFetch h) → IfSome asked (λ ask. asking_sprite ask ≤ 7)
     → CanAsk (owner_ask owner (record {
       side = side;
       plane = option_map (λ plane. ask_for_plane registers plane) found;
@@ -77,13 +75,12 @@ with_can : (owner : Owner) (side : SideAsk) (found : Option ℕ) (asked : Option
       processor = processor;
     }))
 with_can Refresh side found asked wish blit processor registers h within few = tt
-with_can Disk side found asked wish blit processor registers h within few = side_can side
-with_can (Audio channel) side found asked wish blit processor registers h within few = side_can side
+with_can Disk side found asked wish blit processor registers h within few = tt
+with_can (Audio channel) side found asked wish blit processor registers h within few = tt
 with_can (Plane plane) side None asked wish blit processor registers h within few = tt
 with_can (Plane plane) side (Some number) asked wish blit processor registers h within few = record { first = within.first; last = within.most }
 with_can (Sprite sprite) side found None wish blit processor registers h within few = tt
-with_can (Sprite sprite) side found (Some (Control number second at)) wish blit processor registers h within few = few
-with_can (Sprite sprite) side found (Some (Words number second at)) wish blit processor registers h within few = few
+with_can (Sprite sprite) side found (Some ask) wish blit processor registers h within few = few
 with_can Copper side found asked None blit processor registers h within few = tt
 with_can Copper side found asked (Some at) blit processor registers h within few = tt
 with_can Blitter side found asked wish None processor registers h within few = tt

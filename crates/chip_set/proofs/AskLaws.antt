@@ -33,28 +33,29 @@ use Rattle.serial_model.specs.declared.slots.Owner.TheVariants.{Refresh, Disk, A
 use Rattle.serial_model.specs.declared.slots.SlotState.{SlotState}
 use Rattle.cpu_bus.specs.Bus.{IsProcessorOf, wish_shown}
 use Rattle.cpu_bus.proofs.BusLaws.{wish_shown-is}
-use Rattle.serial_model.specs.Bus.{Wishes, copper_after, units_now, plane_wish, kinds_now, sprite_wish, is_disk, channel_of, side_ask, sprite_owner_ask, ask_of_blit, blit_wish, slot_state, owner_ask, ask_at, answer_to, answer_owner, answer_chips, end_blit, give_blit, give_chips, missed_after, copper_word, answer_processor}
+use Rattle.serial_model.specs.Bus.{Wishes, copper_after, units_now, plane_wish, kinds_now, sprite_wish, is_disk, channel_of, ask_of_blit, blit_wish, slot_state, owner_ask, ask_at, answer_to, answer_owner, answer_chips, end_blit, give_blit, give_chips, missed_after, copper_word, answer_processor}
 use Rattle.serial_model.specs.Copper.{wish_of, copper_act, step_copper}
 use Rattle.serial_model.specs.Owner.{owner_of, is_refresh}
 use Rattle.serial_model.specs.PlaneFetch.{units_at, last_unit, IsLastUnit, plane_ask, fetched_plane, ask_for_plane, move_planes, move_plane_pointer, move_if_fetched}
 use Rattle.irq_cia.specs.Bits.{has_bits}
 use Rattle.serial_model.specs.Processor.{processor_wish}
 use Rattle.serial_model.specs.RegisterTable.{reading_at}
-use Rattle.serial_model.specs.Registers.{kept_word, blitter_dma, bit_worth, word_in, word_at}
+use Rattle.serial_model.specs.Registers.{Registers, kept_word, blitter_dma, bit_worth, word_in, word_at}
 use Rattle.serial_model.specs.Side.{IsInTime}
 use Rattle.serial_model.specs.SpriteFetch.{kinds_at, is_sprite_slot, sprite_ask, asking_sprite, move_sprites, move_sprite_pointer, move_if_asked}
 use Rattle.serial_model.specs.State.{BlitUnderWay, Chips, is_busy, live_words, read_word}
 use Rattle.serial_model.proofs.FetchLaws.{IsFetch, fetched_plane-is, kept_word-move_planes}
 use Rattle.serial_model.proofs.SlotLaws.{SameForSprites, move_planes-same, kinds_at-same, sprite_ask-same, sprite_ask-slot, sprite_ask-taken, kept_word-move_sprites, AsksBefore, owner_by, plane_wins, sprite_wins}
 use Rattle.chip_set.specs.Chips.{WorkingChips, IsBlitOf, IsChipsOf, some_blit, plain_chips, kept_wish, wishes_with, ask_with, IsBlitAsk, AnswersOwner, answering, act_at, made_with, IsAnswer, fetched_registers, fetched_chips, HasAsked, HasAccessed}
+use Rattle.chip_set.proofs.BlitLaws.{read_is_none, write_is_none, rest_is_none}
 use Rattle.chip_set.proofs.MadeLaws.{made-act, Serves, made_by_answer, copper_by_answer}
 
 -- registers that the fetches left alone but for pointers: the words of DMACON and COPCON are the same
-record SameWords (moved registers : List ℕ) : Type 0 where
+record SameWords (moved registers : Registers) : Type 0 where
   dmacon : kept_word moved 0x96 ≡ kept_word registers 0x96
   copcon : kept_word moved 0x2e ≡ kept_word registers 0x2e
 
-words_same : (h : ℕ) (last : Option ℕ) (kinds : List SpriteKind) (taken : Bool) (registers : List ℕ) → IsLastUnit last
+words_same : (h : ℕ) (last : Option ℕ) (kinds : List SpriteKind) (taken : Bool) (registers : Registers) → IsLastUnit last
     → SameWords (move_sprites h kinds taken (move_planes h last registers)) registers
 words_same h last kinds taken registers at = record {
   dmacon = kept_word-move_sprites h kinds taken (move_planes h last registers) 0x96 (omega arith)
@@ -135,7 +136,7 @@ audio_clock h channel few at = grind (arith, nat_tests)
 
 pub disk_has : (b : Beam) (at : Addr) (word : ℕ) (plane : Option PlaneAsk) (sprite : Option SpriteAsk) (blit : Option SlotAsk)
     (processor : Option ProcessorAsk) (c : Chips) → IsInTime b (S.Disk at word)
-    → A.Disk at word ≡ ask_with (S.Disk at word) b plane sprite blit processor c
+    → A.Side (S.Disk at word) ≡ ask_with (S.Disk at word) b plane sprite blit processor c
 unfolding ask_with owner_of
 disk_has b at word plane sprite blit processor c time =
     let w : Wishes = wishes_with (S.Disk at word) b plane sprite blit processor c in
@@ -144,7 +145,7 @@ disk_has b at word plane sprite blit processor c time =
 
 pub audio_has : (b : Beam) (channel : ℕ) (at : Addr) (plane : Option PlaneAsk) (sprite : Option SpriteAsk) (blit : Option SlotAsk)
     (processor : Option ProcessorAsk) (c : Chips) → IsInTime b (S.Audio channel at)
-    → A.Audio channel at ≡ ask_with (S.Audio channel at) b plane sprite blit processor c
+    → A.Side (S.Audio channel at) ≡ ask_with (S.Audio channel at) b plane sprite blit processor c
 unfolding ask_with owner_of
 audio_has b channel at plane sprite blit processor c time =
     let w : Wishes = wishes_with (S.Audio channel at) b plane sprite blit processor c in
@@ -156,27 +157,21 @@ abbrev All : SideAsk → Option PlaneAsk → Option SpriteAsk → Option Addr �
 All side plane sprite copper blit processor =
     record { side = side; plane = plane; sprite = sprite; copper = copper; blit = blit; processor = processor }
 
-side_blits : (side : SideAsk) (blit : Option SlotAsk) → IsBlitAsk (side_ask side) blit
-side_blits S.Nothing blit = tt
-side_blits (S.Disk at word) blit = tt
-side_blits (S.Audio channel at) blit = tt
-
 asks_of_owner : (owner : Owner) (side : SideAsk) (plane : Option PlaneAsk) (sprite : Option SpriteAsk) (copper : Option Addr)
     (blit : Option SlotAsk) (processor : Option ProcessorAsk) → IsBlitAsk (owner_ask owner (All side plane sprite copper blit processor)) blit
 asks_of_owner Refresh side plane sprite copper blit processor = tt
-asks_of_owner Disk side plane sprite copper blit processor = side_blits side blit
-asks_of_owner (Audio channel) side plane sprite copper blit processor = side_blits side blit
+asks_of_owner Disk side plane sprite copper blit processor = tt
+asks_of_owner (Audio channel) side plane sprite copper blit processor = tt
 asks_of_owner (Plane number) side None sprite copper blit processor = tt
 asks_of_owner (Plane number) side (Some ask) sprite copper blit processor = tt
 asks_of_owner (Sprite number) side plane None copper blit processor = tt
-asks_of_owner (Sprite number) side plane (Some (Control sprite second at)) copper blit processor = tt
-asks_of_owner (Sprite number) side plane (Some (Words sprite second at)) copper blit processor = tt
+asks_of_owner (Sprite number) side plane (Some ask) copper blit processor = tt
 asks_of_owner Copper side plane sprite None blit processor = tt
 asks_of_owner Copper side plane sprite (Some at) blit processor = tt
 asks_of_owner Blitter side plane sprite copper None processor = tt
-asks_of_owner Blitter side plane sprite copper (Some (Read at)) processor = refl
-asks_of_owner Blitter side plane sprite copper (Some (Write at word)) processor = refl
-asks_of_owner Blitter side plane sprite copper (Some Rest) processor = refl
+asks_of_owner Blitter side plane sprite copper (Some (Read at)) processor = (refl, read_is_none at)
+asks_of_owner Blitter side plane sprite copper (Some (Write at word)) processor = (refl, write_is_none at word)
+asks_of_owner Blitter side plane sprite copper (Some Rest) processor = (refl, rest_is_none)
 asks_of_owner Blitter side plane sprite copper (Some Done) processor = tt
 asks_of_owner Processor side plane sprite copper blit None = tt
 asks_of_owner Processor side plane sprite copper blit (Some ask) = tt
@@ -190,30 +185,21 @@ ask_is_of_blit side b plane sprite blit processor c =
     (wishes_with side b plane sprite blit processor c).copper blit processor
 
 -- the registers once the owner of the slot has its answer, as far as the fetches go
-abbrev registers_after : Beam → Ask → Chips → List ℕ
+abbrev registers_after : Beam → Ask → Chips → Registers
 registers_after b A.Free c = c.registers
-registers_after b (A.Disk at stored) c = c.registers
-registers_after b (A.Audio channel at) c = c.registers
-registers_after b (A.Plane plane at) c = move_plane_pointer b.h (last_unit (units_now b c)) plane c.registers
-registers_after b (A.SpriteControl sprite second at) c = move_sprite_pointer sprite c.registers
-registers_after b (A.SpriteWords sprite second at) c = move_sprite_pointer sprite c.registers
+registers_after b (A.Side ask) c = c.registers
+registers_after b (A.Plane ask) c = move_plane_pointer b.h (last_unit (units_now b c)) ask.plane c.registers
+registers_after b (A.Sprite ask) c = move_sprite_pointer (asking_sprite ask) c.registers
 registers_after b (A.Copper at) c = c.registers
-registers_after b (A.BlitRead at) c = c.registers
-registers_after b (A.BlitWrite at stored) c = c.registers
-registers_after b A.BlitRest c = c.registers
+registers_after b (A.Blit ask) c = c.registers
 registers_after b (A.Processor ask) c = c.registers
 
 -- where neither a plane nor a sprite asks, the access leaves them
-side_moves : (b : Beam) (side : SideAsk) (c : Chips) → registers_after b (side_ask side) c ≡ c.registers
-side_moves b S.Nothing c = refl
-side_moves b (S.Disk at word) c = refl
-side_moves b (S.Audio channel at) c = refl
-
 no_fetch : (b : Beam) (owner : Owner) (side : SideAsk) (wish : Option Addr) (blit : Option SlotAsk) (processor : Option ProcessorAsk)
     (c : Chips) → registers_after b (owner_ask owner (All side None None wish blit processor)) c ≡ c.registers
 no_fetch b Refresh side wish blit processor c = refl
-no_fetch b Disk side wish blit processor c = side_moves b side c
-no_fetch b (Audio channel) side wish blit processor c = side_moves b side c
+no_fetch b Disk side wish blit processor c = refl
+no_fetch b (Audio channel) side wish blit processor c = refl
 no_fetch b (Plane plane) side wish blit processor c = refl
 no_fetch b (Sprite sprite) side wish blit processor c = refl
 no_fetch b Copper side None blit processor c = refl
@@ -243,11 +229,6 @@ before_all (S.Disk at word) b plane sprite blit processor missed copper dmacon t
 before_all (S.Audio channel at) b plane sprite blit processor missed copper dmacon time =
     record { disk = λ asks. absurd (false≢true asks); audio = audio_early b.h channel time.0 time.1 }
 
-sprite_moves : (b : Beam) (ask : SpriteAsk) (c : Chips)
-    → registers_after b (sprite_owner_ask (Some ask)) c ≡ move_sprite_pointer (asking_sprite ask) c.registers
-sprite_moves b (Control sprite second at) c = refl
-sprite_moves b (Words sprite second at) c = refl
-
 by_sprite : (side : SideAsk) (b : Beam) (asked : Option SpriteAsk) (blit : Option SlotAsk) (processor : Option ProcessorAsk) (c : Chips)
     → IsInTime b side → sprite_ask b.h c.registers (kinds_now b c) false ≡ asked
     → registers_after b (ask_with side b None asked blit processor c) c ≡ move_if_asked asked c.registers
@@ -262,7 +243,6 @@ by_sprite side b (Some ask) blit processor c time is =
     ap (λ owner. registers_after b (owner_ask owner (wishes_with side b None (Some ask) blit processor c)) c)
     (sprite_wins (state_by side b None (Some ask) blit processor c.missed c.copper (kept_word c.registers 0x96)) (asking_sprite ask)
     (before_all side b None (Some ask) blit processor c.missed c.copper (kept_word c.registers 0x96) time) low high refl refl)
-    ∙ sprite_moves b ask c
 
 plane_moves : (side : SideAsk) (b : Beam) (plane : ℕ) (sprite : Option SpriteAsk) (blit : Option SlotAsk) (processor : Option ProcessorAsk)
     (c : Chips) → IsInTime b side → 21 ≤ b.h → b.h ≤ 223
@@ -301,21 +281,17 @@ registers_is side b c time at =
 -- what the owner's answer does beside the fetches: a blit goes on, and the processor has its word
 abbrev after_owner : Ask → ℕ → Chips → Chips
 after_owner A.Free word c = c
-after_owner (A.Disk at stored) word c = c
-after_owner (A.Audio channel at) word c = c
-after_owner (A.Plane plane at) word c = c
-after_owner (A.SpriteControl sprite second at) word c = c
-after_owner (A.SpriteWords sprite second at) word c = c
+after_owner (A.Side ask) word c = c
+after_owner (A.Plane ask) word c = c
+after_owner (A.Sprite ask) word c = c
 after_owner (A.Copper at) word c = c
-after_owner (A.BlitRead at) word c = give_blit word c.blit c
-after_owner (A.BlitWrite at stored) word c = give_blit word c.blit c
-after_owner A.BlitRest word c = give_blit word c.blit c
+after_owner (A.Blit ask) word c = give_blit word c.blit c
 after_owner (A.Processor ask) word c = give_chips word c
 
 abbrev with_others : List ℕ → List SpriteKind → CopperState → ℕ → Chips → Chips
 with_others units kinds copper missed c = record c { units = units; kinds = kinds; copper = copper; missed = missed }
 
-abbrev with_fetch : List ℕ → List ℕ → List SpriteKind → CopperState → ℕ → Chips → Chips
+abbrev with_fetch : Registers → List ℕ → List SpriteKind → CopperState → ℕ → Chips → Chips
 with_fetch registers units kinds copper missed c =
     record c { registers = registers; units = units; kinds = kinds; copper = copper; missed = missed }
 
@@ -333,21 +309,15 @@ gives word (Some run) units kinds copper missed c =
     go_on_if (is_done (ask_of_blit (record run { answers = run.answers ++ word ∷ [] }))) (record run { answers = run.answers ++ word ∷ [] })
     units kinds copper missed c
 
-owner_is : (b : Beam) (ask : Ask) (word : ℕ) (c : Chips) (registers units : List ℕ) (kinds : List SpriteKind) (copper : CopperState) (missed : ℕ)
+owner_is : (b : Beam) (ask : Ask) (word : ℕ) (c : Chips) (registers : Registers) (units : List ℕ) (kinds : List SpriteKind) (copper : CopperState) (missed : ℕ)
     → registers_after b ask c ≡ registers
     → with_others units kinds copper missed (answer_owner b ask word c) ≡ after_owner ask word (with_fetch registers units kinds copper missed c)
 owner_is b A.Free word c registers units kinds copper missed is = ap (λ r. with_fetch r units kinds copper missed c) is
-owner_is b (A.Disk at stored) word c registers units kinds copper missed is = ap (λ r. with_fetch r units kinds copper missed c) is
-owner_is b (A.Audio channel at) word c registers units kinds copper missed is = ap (λ r. with_fetch r units kinds copper missed c) is
-owner_is b (A.Plane plane at) word c registers units kinds copper missed is = ap (λ r. with_fetch r units kinds copper missed c) is
-owner_is b (A.SpriteControl sprite second at) word c registers units kinds copper missed is = ap (λ r. with_fetch r units kinds copper missed c) is
-owner_is b (A.SpriteWords sprite second at) word c registers units kinds copper missed is = ap (λ r. with_fetch r units kinds copper missed c) is
+owner_is b (A.Side ask) word c registers units kinds copper missed is = ap (λ r. with_fetch r units kinds copper missed c) is
+owner_is b (A.Plane ask) word c registers units kinds copper missed is = ap (λ r. with_fetch r units kinds copper missed c) is
+owner_is b (A.Sprite ask) word c registers units kinds copper missed is = ap (λ r. with_fetch r units kinds copper missed c) is
 owner_is b (A.Copper at) word c registers units kinds copper missed is = ap (λ r. with_fetch r units kinds copper missed c) is
-owner_is b (A.BlitRead at) word c registers units kinds copper missed is =
-    gives word c.blit units kinds copper missed c ∙ ap (λ r. give_blit word c.blit (with_fetch r units kinds copper missed c)) is
-owner_is b (A.BlitWrite at stored) word c registers units kinds copper missed is =
-    gives word c.blit units kinds copper missed c ∙ ap (λ r. give_blit word c.blit (with_fetch r units kinds copper missed c)) is
-owner_is b A.BlitRest word c registers units kinds copper missed is =
+owner_is b (A.Blit ask) word c registers units kinds copper missed is =
     gives word c.blit units kinds copper missed c ∙ ap (λ r. give_blit word c.blit (with_fetch r units kinds copper missed c)) is
 owner_is b (A.Processor ask) word c registers units kinds copper missed is =
     ap (λ r. give_chips word (with_fetch r units kinds copper missed c)) is
@@ -356,30 +326,22 @@ owner_is b (A.Processor ask) word c registers units kinds copper missed is =
 after_by_answer : (ask : Ask) (b : Beam) (clx : ℕ) (c : Chips) (memory : List ℕ) (word : ℕ) (after : Chips) → Serves ask b clx c memory word
     → after_owner ask word after ≡ after_owner ask (answer_to ask b clx c memory) after
 after_by_answer A.Free b clx c memory word after is = refl
-after_by_answer (A.Disk at stored) b clx c memory word after is = refl
-after_by_answer (A.Audio channel at) b clx c memory word after is = refl
-after_by_answer (A.Plane plane at) b clx c memory word after is = refl
-after_by_answer (A.SpriteControl sprite second at) b clx c memory word after is = refl
-after_by_answer (A.SpriteWords sprite second at) b clx c memory word after is = refl
+after_by_answer (A.Side ask) b clx c memory word after is = refl
+after_by_answer (A.Plane ask) b clx c memory word after is = refl
+after_by_answer (A.Sprite ask) b clx c memory word after is = refl
 after_by_answer (A.Copper at) b clx c memory word after is = refl
-after_by_answer (A.BlitRead at) b clx c memory word after is = ap (λ w. give_blit w after.blit after) is
-after_by_answer (A.BlitWrite at stored) b clx c memory word after is = ap (λ w. give_blit w after.blit after) is
-after_by_answer A.BlitRest b clx c memory word after is = ap (λ w. give_blit w after.blit after) is
+after_by_answer (A.Blit ask) b clx c memory word after is = ap (λ w. give_blit w after.blit after) is
 after_by_answer (A.Processor ask) b clx c memory word after is = ap (λ w. give_chips w after) is
 
 -- the code's blitter and processor do the same
 owner_answered : (ask : Ask) (word : ℕ) (mid new : WorkingChips) (c : Chips) → AnswersOwner ask word mid new → IsChipsOf mid c
     → IsChipsOf new (after_owner ask word c)
 owner_answered A.Free word mid new c answers is = subst (λ n. IsChipsOf n c) (sym answers) is
-owner_answered (A.Disk at stored) word mid new c answers is = subst (λ n. IsChipsOf n c) (sym answers) is
-owner_answered (A.Audio channel at) word mid new c answers is = subst (λ n. IsChipsOf n c) (sym answers) is
-owner_answered (A.Plane plane at) word mid new c answers is = subst (λ n. IsChipsOf n c) (sym answers) is
-owner_answered (A.SpriteControl sprite second at) word mid new c answers is = subst (λ n. IsChipsOf n c) (sym answers) is
-owner_answered (A.SpriteWords sprite second at) word mid new c answers is = subst (λ n. IsChipsOf n c) (sym answers) is
+owner_answered (A.Side ask) word mid new c answers is = subst (λ n. IsChipsOf n c) (sym answers) is
+owner_answered (A.Plane ask) word mid new c answers is = subst (λ n. IsChipsOf n c) (sym answers) is
+owner_answered (A.Sprite ask) word mid new c answers is = subst (λ n. IsChipsOf n c) (sym answers) is
 owner_answered (A.Copper at) word mid new c answers is = subst (λ n. IsChipsOf n c) (sym answers) is
-owner_answered (A.BlitRead at) word mid new c answers is = answers c is
-owner_answered (A.BlitWrite at stored) word mid new c answers is = answers c is
-owner_answered A.BlitRest word mid new c answers is = answers c is
+owner_answered (A.Blit ask) word mid new c answers is = answers c is
 owner_answered (A.Processor ask) word mid new c answers is = answers c is
 
 -- planes and sprites had their steps: the fetch of the clock moved its pointer, and asks for its word
@@ -540,7 +502,7 @@ same_words b c mid asked =
     words_same b.h (last_unit (units_now b c)) (kinds_now b c) (is_some (plane_wish b c)) c.registers asked.begun
 
 -- no register that is read is a pointer of a plane or a sprite
-word_by : (reading : Reading) (live : Live) (moved registers : List ℕ) → SameWords moved registers
+word_by : (reading : Reading) (live : Live) (moved registers : Registers) → SameWords moved registers
     → word_in reading live moved ≡ word_in reading live registers
 word_by Zero live moved registers same = refl
 word_by DmaAndBlitter live moved registers same =
@@ -563,15 +525,12 @@ processor_serves (P.WriteRegister reg word) b clx c memory same = refl
 serves : (ask : Ask) (b : Beam) (clx : ℕ) (mid : WorkingChips) (c : Chips) (memory : List ℕ) (word : ℕ) → IsAnswer ask b clx mid memory word
     → SameWords (fetched_registers b c) c.registers → IsChipsOf mid (fetched_chips b c) → Serves ask b clx c memory word
 serves A.Free b clx mid c memory word is same stands = is
-serves (A.Disk at stored) b clx mid c memory word is same stands = is
-serves (A.Audio channel at) b clx mid c memory word is same stands = is
-serves (A.Plane plane at) b clx mid c memory word is same stands = is
-serves (A.SpriteControl sprite second at) b clx mid c memory word is same stands = is
-serves (A.SpriteWords sprite second at) b clx mid c memory word is same stands = is
+serves (A.Side ask) b clx mid c memory word is same stands = tt
+serves (A.Plane ask) b clx mid c memory word is same stands = tt
+serves (A.Sprite (Control sprite second at)) b clx mid c memory word is same stands = is
+serves (A.Sprite (Words sprite second at)) b clx mid c memory word is same stands = tt
 serves (A.Copper at) b clx mid c memory word is same stands = is
-serves (A.BlitRead at) b clx mid c memory word is same stands = is
-serves (A.BlitWrite at stored) b clx mid c memory word is same stands = is
-serves A.BlitRest b clx mid c memory word is same stands = is
+serves (A.Blit ask) b clx mid c memory word is same stands = is
 serves (A.Processor ask) b clx mid c memory word is same stands = is (fetched_chips b c) stands ∙ processor_serves ask b clx c memory same
 
 -- an answer to the clock's ask is the access

@@ -1,5 +1,6 @@
 -- Which accesses read CLXDAT, and that the others do not look at the collision bits.
 use Rattle.std.proofs.Common.{◌≡◌, ℕ, ◌==◌, Bool, true, false, if◌then◌else◌, List, refl, ap, sym, ◌∙◌}
+use Rattle.blit_words.specs.declared.blit.SlotAsk.TheVariants.{Read, Write, Rest, Done}
 use Rattle.ocs_base.specs.declared.beam.Beam.{Beam}
 use Rattle.ocs_base.specs.declared.reg.Reg.{Reg}
 use Rattle.serial_model.specs.Bus.{answer_to, answer_processor, made_by_ask, made_by_copper, made_by_processor}
@@ -10,8 +11,10 @@ use Rattle.serial_model.specs.declared.bus.Ask.TheVariants as A
 use Rattle.serial_model.specs.declared.bus.Made.TheVariants as M
 use Rattle.serial_model.specs.declared.bus.ProcessorAsk.{ProcessorAsk}
 use Rattle.serial_model.specs.declared.bus.ProcessorAsk.TheVariants as P
+use Rattle.serial_model.specs.declared.bus.SideAsk.TheVariants as S
 use Rattle.serial_model.specs.declared.copper.CopperAct.{CopperAct}
 use Rattle.serial_model.specs.declared.copper.CopperAct.TheVariants.{None as NoAct, Move}
+use Rattle.serial_model.specs.declared.fetch.SpriteAsk.TheVariants.{Control, Words}
 use Rattle.serial_model.specs.declared.trace.Source.TheVariants.{Processor as ByProcessor}
 use Rattle.chip_set.specs.AskLaws.{reads_clx, is_clx_ask}
 
@@ -34,15 +37,17 @@ by_processor (P.WriteRegister reg word) = refl
 pub clx_read : (ask : Ask) (word : ℕ) (c : Chips) → is_clx_read (made_by_ask ask word c) ≡ is_clx_ask ask
 unfolding made_by_ask
 clx_read A.Free word c = refl
-clx_read (A.Disk at stored) word c = refl
-clx_read (A.Audio channel at) word c = refl
-clx_read (A.Plane plane at) word c = refl
-clx_read (A.SpriteControl sprite second at) word c = refl
-clx_read (A.SpriteWords sprite second at) word c = refl
+clx_read (A.Side S.Nothing) word c = refl
+clx_read (A.Side (S.Disk at stored)) word c = refl
+clx_read (A.Side (S.Audio channel at)) word c = refl
+clx_read (A.Plane ask) word c = refl
+clx_read (A.Sprite (Control sprite second at)) word c = refl
+clx_read (A.Sprite (Words sprite second at)) word c = refl
 clx_read (A.Copper at) word c = by_copper _
-clx_read (A.BlitRead at) word c = refl
-clx_read (A.BlitWrite at stored) word c = refl
-clx_read A.BlitRest word c = refl
+clx_read (A.Blit (Read at)) word c = refl
+clx_read (A.Blit (Write at stored)) word c = refl
+clx_read (A.Blit Rest) word c = refl
+clx_read (A.Blit Done) word c = refl
 clx_read (A.Processor ask) word c = by_processor ask
 
 -- of the reads of registers that of CLXDAT alone looks at the collision bits
@@ -61,13 +66,9 @@ processor_alone (P.WriteRegister reg word) b clx other c memory none = refl
 pub clx_alone : (ask : Ask) (b : Beam) (clx other : ℕ) (c : Chips) (memory : List ℕ) → is_clx_ask ask ≡ false
     → answer_to ask b clx c memory ≡ answer_to ask b other c memory
 clx_alone A.Free b clx other c memory none = refl
-clx_alone (A.Disk at stored) b clx other c memory none = refl
-clx_alone (A.Audio channel at) b clx other c memory none = refl
-clx_alone (A.Plane plane at) b clx other c memory none = refl
-clx_alone (A.SpriteControl sprite second at) b clx other c memory none = refl
-clx_alone (A.SpriteWords sprite second at) b clx other c memory none = refl
+clx_alone (A.Side ask) b clx other c memory none = refl
+clx_alone (A.Plane ask) b clx other c memory none = refl
+clx_alone (A.Sprite ask) b clx other c memory none = refl
 clx_alone (A.Copper at) b clx other c memory none = refl
-clx_alone (A.BlitRead at) b clx other c memory none = refl
-clx_alone (A.BlitWrite at stored) b clx other c memory none = refl
-clx_alone A.BlitRest b clx other c memory none = refl
+clx_alone (A.Blit ask) b clx other c memory none = refl
 clx_alone (A.Processor ask) b clx other c memory none = processor_alone ask b clx other c memory none

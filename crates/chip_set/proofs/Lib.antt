@@ -5,3 +5,6 @@ pub mod ChipsLaws
 pub mod ClxLaws
 pub mod MadeLaws
 pub mod TurnLaws
+mod WriteLaws
+mod LateLaws
+mod StartLaws

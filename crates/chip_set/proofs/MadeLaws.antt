@@ -19,7 +19,7 @@ use Rattle.serial_model.specs.declared.fetch.SpriteAsk.{SpriteAsk}
 use Rattle.serial_model.specs.declared.fetch.SpriteAsk.TheVariants.{Control, Words}
 use Rattle.serial_model.specs.declared.slots.Owner.{Owner}
 use Rattle.serial_model.specs.declared.slots.Owner.TheVariants.{Refresh, Disk, Audio, Plane, Sprite, Copper, Blitter, Processor, Free}
-use Rattle.serial_model.specs.Bus.{Wishes, copper_runs, plane_wish, sprite_wish, side_ask, blit_wish, wishes_of, slot_state, owner_ask, ask_at, answer_to, copper_word, made_by_copper, made_by_ask}
+use Rattle.serial_model.specs.Bus.{Wishes, copper_runs, plane_wish, sprite_wish, blit_wish, wishes_of, slot_state, owner_ask, ask_at, answer_to, copper_word, made_by_copper, made_by_ask}
 use Rattle.serial_model.specs.Copper.{wish_of, copper_act, act_in}
 use Rattle.serial_model.specs.Owner.{owner_of}
 use Rattle.serial_model.specs.Processor.{processor_wish}
@@ -49,14 +49,14 @@ abbrev Wishing : SideAsk → Option PlaneAsk → Option SpriteAsk → Option Slo
 Wishing side plane sprite blit processor =
     record { side = side; plane = plane; sprite = sprite; copper = None; blit = blit; processor = processor }
 
-side_running : (side : SideAsk) (word : ℕ) (c : Chips) → made_by_ask (side_ask side) word c
-    ≡ made_with (side_ask side) word (copper_act (is_danger c.registers) (copper_word (side_ask side) word) c.copper)
+side_running : (side : SideAsk) (word : ℕ) (c : Chips) → made_by_ask (A.Side side) word c
+    ≡ made_with (A.Side side) word (copper_act (is_danger c.registers) (copper_word (A.Side side) word) c.copper)
 unfolding made_by_ask
 side_running S.Nothing word c = no_made (is_danger c.registers) c.copper
 side_running (S.Disk at stored) word c = refl
 side_running (S.Audio channel at) word c = no_made (is_danger c.registers) c.copper
 
-side_at_rest : (side : SideAsk) (word : ℕ) (c : Chips) → made_by_ask (side_ask side) word c ≡ made_with (side_ask side) word NoAct
+side_at_rest : (side : SideAsk) (word : ℕ) (c : Chips) → made_by_ask (A.Side side) word c ≡ made_with (A.Side side) word NoAct
 unfolding made_by_ask
 side_at_rest S.Nothing word c = refl
 side_at_rest (S.Disk at stored) word c = refl
@@ -122,43 +122,34 @@ made-act side b word c =
 
 -- the word of the code serves as the machine's
 abbrev pub Serves : Ask → Beam → ℕ → Chips → List ℕ → ℕ → Type 0
-Serves A.Free b clx c memory word = word ≡ answer_to A.Free b clx c memory
-Serves (A.Disk at stored) b clx c memory word = word ≡ answer_to (A.Disk at stored) b clx c memory
-Serves (A.Audio channel at) b clx c memory word = Unit {0}
-Serves (A.Plane plane at) b clx c memory word = Unit {0}
-Serves (A.SpriteControl sprite second at) b clx c memory word = word ≡ answer_to (A.SpriteControl sprite second at) b clx c memory
-Serves (A.SpriteWords sprite second at) b clx c memory word = Unit {0}
+Serves A.Free b clx c memory word = word ≡ 0
+Serves (A.Side ask) b clx c memory word = Unit {0}
+Serves (A.Plane ask) b clx c memory word = Unit {0}
+Serves (A.Sprite (Control sprite second at)) b clx c memory word = word ≡ answer_to (A.Sprite (Control sprite second at)) b clx c memory
+Serves (A.Sprite (Words sprite second at)) b clx c memory word = Unit {0}
 Serves (A.Copper at) b clx c memory word = word ≡ answer_to (A.Copper at) b clx c memory
-Serves (A.BlitRead at) b clx c memory word = word ≡ answer_to (A.BlitRead at) b clx c memory
-Serves (A.BlitWrite at stored) b clx c memory word = word ≡ answer_to (A.BlitWrite at stored) b clx c memory
-Serves A.BlitRest b clx c memory word = word ≡ answer_to A.BlitRest b clx c memory
+Serves (A.Blit ask) b clx c memory word = word ≡ answer_to (A.Blit ask) b clx c memory
 Serves (A.Processor ask) b clx c memory word = word ≡ answer_to (A.Processor ask) b clx c memory
 
 pub made_by_answer : (ask : Ask) (b : Beam) (clx : ℕ) (c : Chips) (memory : List ℕ) (word : ℕ) → Serves ask b clx c memory word
     → made_by_ask ask word c ≡ made_by_ask ask (answer_to ask b clx c memory) c
 unfolding made_by_ask
 made_by_answer A.Free b clx c memory word is = refl
-made_by_answer (A.Disk at stored) b clx c memory word is = refl
-made_by_answer (A.Audio channel at) b clx c memory word is = refl
-made_by_answer (A.Plane plane at) b clx c memory word is = refl
-made_by_answer (A.SpriteControl sprite second at) b clx c memory word is = ap (λ w. made_by_ask (A.SpriteControl sprite second at) w c) is
-made_by_answer (A.SpriteWords sprite second at) b clx c memory word is = refl
+made_by_answer (A.Side ask) b clx c memory word is = refl
+made_by_answer (A.Plane ask) b clx c memory word is = refl
+made_by_answer (A.Sprite (Control sprite second at)) b clx c memory word is =
+    ap (λ w. made_by_ask (A.Sprite (Control sprite second at)) w c) is
+made_by_answer (A.Sprite (Words sprite second at)) b clx c memory word is = refl
 made_by_answer (A.Copper at) b clx c memory word is = ap (λ w. made_by_ask (A.Copper at) w c) is
-made_by_answer (A.BlitRead at) b clx c memory word is = refl
-made_by_answer (A.BlitWrite at stored) b clx c memory word is = refl
-made_by_answer A.BlitRest b clx c memory word is = refl
+made_by_answer (A.Blit ask) b clx c memory word is = refl
 made_by_answer (A.Processor ask) b clx c memory word is = refl
 
 pub copper_by_answer : (ask : Ask) (b : Beam) (clx : ℕ) (c : Chips) (memory : List ℕ) (word : ℕ) → Serves ask b clx c memory word
     → copper_word ask word ≡ copper_word ask (answer_to ask b clx c memory)
 copper_by_answer A.Free b clx c memory word is = refl
-copper_by_answer (A.Disk at stored) b clx c memory word is = refl
-copper_by_answer (A.Audio channel at) b clx c memory word is = refl
-copper_by_answer (A.Plane plane at) b clx c memory word is = refl
-copper_by_answer (A.SpriteControl sprite second at) b clx c memory word is = refl
-copper_by_answer (A.SpriteWords sprite second at) b clx c memory word is = refl
+copper_by_answer (A.Side ask) b clx c memory word is = refl
+copper_by_answer (A.Plane ask) b clx c memory word is = refl
+copper_by_answer (A.Sprite ask) b clx c memory word is = refl
 copper_by_answer (A.Copper at) b clx c memory word is = ap (λ w. Some w) is
-copper_by_answer (A.BlitRead at) b clx c memory word is = refl
-copper_by_answer (A.BlitWrite at stored) b clx c memory word is = refl
-copper_by_answer A.BlitRest b clx c memory word is = refl
+copper_by_answer (A.Blit ask) b clx c memory word is = refl
 copper_by_answer (A.Processor ask) b clx c memory word is = refl

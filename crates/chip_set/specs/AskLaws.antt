@@ -19,15 +19,11 @@ reads_clx (P.WriteRegister reg word) = false
 -- the owner of a slot does, which is the processor then
 abbrev pub is_clx_ask : Ask → Bool
 is_clx_ask A.Free = false
-is_clx_ask (A.Disk at word) = false
-is_clx_ask (A.Audio channel at) = false
-is_clx_ask (A.Plane plane at) = false
-is_clx_ask (A.SpriteControl sprite second at) = false
-is_clx_ask (A.SpriteWords sprite second at) = false
+is_clx_ask (A.Side ask) = false
+is_clx_ask (A.Plane ask) = false
+is_clx_ask (A.Sprite ask) = false
 is_clx_ask (A.Copper at) = false
-is_clx_ask (A.BlitRead at) = false
-is_clx_ask (A.BlitWrite at word) = false
-is_clx_ask A.BlitRest = false
+is_clx_ask (A.Blit ask) = false
 is_clx_ask (A.Processor ask) = reads_clx ask
 
 -- an access is a read of CLXDAT exactly where its owner asks for it

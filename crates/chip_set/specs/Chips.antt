@@ -8,7 +8,9 @@ use Rattle.blitter.specs.declared.Blit.{Blit}
 use Rattle.cpu_bus.specs.Bus.{IsProcessorOf, wish_shown}
 use Rattle.cpu_bus.specs.declared.BusCpu.{BusCpu}
 use Rattle.irq_cia.specs.declared.cia.CiaState.{CiaState}
+use Rattle.ocs_base.specs.declared.addr.Addr.{Addr}
 use Rattle.ocs_base.specs.declared.beam.Beam.{Beam}
+use Rattle.ocs_base.specs.declared.chip_size.ChipSize.TheVariants.{Kib512}
 use Rattle.serial_model.specs.declared.bus.Ask.{Ask}
 use Rattle.serial_model.specs.declared.bus.Ask.TheVariants as A
 use Rattle.serial_model.specs.declared.bus.Half.TheVariants.{Both}
@@ -16,16 +18,18 @@ use Rattle.serial_model.specs.declared.bus.Made.{Made}
 use Rattle.serial_model.specs.declared.bus.Made.TheVariants as M
 use Rattle.serial_model.specs.declared.bus.ProcessorAsk.{ProcessorAsk}
 use Rattle.serial_model.specs.declared.bus.SideAsk.{SideAsk}
+use Rattle.serial_model.specs.declared.bus.SideAsk.TheVariants as S
 use Rattle.serial_model.specs.declared.copper.CopperAct.{CopperAct}
 use Rattle.serial_model.specs.declared.copper.CopperAct.TheVariants.{None as NoAct}
 use Rattle.serial_model.specs.declared.copper.CopperState.{CopperState}
 use Rattle.serial_model.specs.declared.fetch.PlaneAsk.{PlaneAsk}
 use Rattle.serial_model.specs.declared.fetch.SpriteAsk.{SpriteAsk}
+use Rattle.serial_model.specs.declared.fetch.SpriteAsk.TheVariants.{Control, Words}
 use Rattle.serial_model.specs.declared.fetch.SpriteKind.{SpriteKind}
 use Rattle.serial_model.specs.declared.registers.Inputs.{Inputs}
 use Rattle.mem_versions.specs.Chip.{ChipValue, after_reads}
 use Rattle.serial_bands.specs.BusReads.{reads_of_processor}
-use Rattle.serial_model.specs.Bus.{Wishes, copper_wish, plane_wish, units_now, kinds_now, slot_state, owner_ask, copper_runs, copper_word, copper_after, missed_after, ask_at, answer_processor, answer_to, answer_chips, give_blit, give_chips, end_blit, made_by_copper, made_by_processor, made_by_ask, control_register}
+use Rattle.serial_model.specs.Bus.{Wishes, copper_wish, plane_wish, units_now, kinds_now, slot_state, owner_ask, copper_runs, copper_word, copper_after, missed_after, ask_at, answer_processor, answer_to, answer_chips, give_blit, give_chips, end_blit, made_by_copper, made_by_processor, made_by_sprite, made_by_ask, answer_blit}
 use Rattle.serial_model.specs.BlitRegisters.{blit_start}
 use Rattle.irq_cia.specs.Interrupts.{Interrupts}
 use Rattle.serial_model.specs.Copper.{copper_act}
@@ -33,14 +37,14 @@ use Rattle.serial_model.specs.Made.{word_of}
 use Rattle.serial_model.specs.Owner.{owner_of}
 use Rattle.serial_model.specs.PlaneFetch.{last_unit, IsLastUnit, move_planes}
 use Rattle.serial_model.specs.Processor.{reset_processor}
-use Rattle.serial_model.specs.Registers.{no_registers, blitter_dma, is_danger}
-use Rattle.serial_model.specs.SpriteFetch.{move_sprites}
+use Rattle.serial_model.specs.Registers.{Registers, no_registers, blitter_dma, is_danger}
+use Rattle.serial_model.specs.SpriteFetch.{asking_sprite, move_sprites}
 use Rattle.serial_model.specs.State.{BlitUnderWay, Chips}
 
 -- the working state of the chips: of the line's units of bitplane fetch, the clock at which the last one began; and the
 -- blit under way as the blitter keeps it
 pub record WorkingChips : Type 0 where
-  pub registers : List ℕ
+  pub registers : Registers
   pub last : Option ℕ
   pub kinds : List SpriteKind
   pub copper : CopperState
@@ -77,7 +81,7 @@ pub record IsChipsOf (now : WorkingChips) (c : Chips) : Type 0 where
 
 -- chips of which only registers, Copper, whether a blit is under way and the clocks that the processor missed are looked at
 abbrev pub some_blit : Blit → BlitUnderWay
-some_blit blit = record { start = blit_start no_registers; answers = [] }
+some_blit blit = record { start = blit_start (no_registers Kib512); answers = [] }
 
 abbrev pub plain_chips : WorkingChips → Chips
 plain_chips now = record {
@@ -88,7 +92,7 @@ plain_chips now = record {
   blit = option_map some_blit now.blit;
   zero = now.zero;
   irq = now.irq;
-  processor = reset_processor now.processor.on;
+  processor = reset_processor now.processor.chip now.processor.on;
   missed = now.missed;
   cia_a = now.cia_a;
   cia_b = now.cia_b;
@@ -108,18 +112,14 @@ unfoldable pub ask_with : SideAsk → Beam → Option PlaneAsk → Option Sprite
 ask_with side b plane sprite blit processor c =
     owner_ask (owner_of (slot_state b c (wishes_with side b plane sprite blit processor c))) (wishes_with side b plane sprite blit processor c)
 
--- an ask of the blitter is what the blit asks for
+-- an ask of the blitter is what the blit asks for, and no end
 abbrev pub IsBlitAsk : Ask → Option SlotAsk → Type 0
-IsBlitAsk (A.BlitRead at) wish = wish ≡ Some (Read at)
-IsBlitAsk (A.BlitWrite at word) wish = wish ≡ Some (Write at word)
-IsBlitAsk A.BlitRest wish = wish ≡ Some Rest
 IsBlitAsk A.Free wish = Unit {0}
-IsBlitAsk (A.Disk at word) wish = Unit {0}
-IsBlitAsk (A.Audio channel at) wish = Unit {0}
-IsBlitAsk (A.Plane plane at) wish = Unit {0}
-IsBlitAsk (A.SpriteControl sprite second at) wish = Unit {0}
-IsBlitAsk (A.SpriteWords sprite second at) wish = Unit {0}
+IsBlitAsk (A.Side ask) wish = Unit {0}
+IsBlitAsk (A.Plane ask) wish = Unit {0}
+IsBlitAsk (A.Sprite ask) wish = Unit {0}
 IsBlitAsk (A.Copper at) wish = Unit {0}
+IsBlitAsk (A.Blit ask) wish = (wish ≡ Some ask) × (ask ≢ Done)
 IsBlitAsk (A.Processor ask) wish = Unit {0}
 
 -- a kept blit has not ended
@@ -142,16 +142,12 @@ GivesProcessor word old new = (c : Chips) → IsChipsOf old c → IsChipsOf new 
 
 -- the owner of the slot has its answer, as far as blitter and processor go; what the fetches did was done before
 abbrev pub AnswersOwner : Ask → ℕ → WorkingChips → WorkingChips → Type 0
-AnswersOwner (A.BlitRead at) word old new = GivesBlit word old new
-AnswersOwner (A.BlitWrite at stored) word old new = GivesBlit word old new
-AnswersOwner A.BlitRest word old new = GivesBlit word old new
 AnswersOwner A.Free word old new = new ≡ old
-AnswersOwner (A.Disk at stored) word old new = new ≡ old
-AnswersOwner (A.Audio channel at) word old new = new ≡ old
-AnswersOwner (A.Plane plane at) word old new = new ≡ old
-AnswersOwner (A.SpriteControl sprite second at) word old new = new ≡ old
-AnswersOwner (A.SpriteWords sprite second at) word old new = new ≡ old
+AnswersOwner (A.Side ask) word old new = new ≡ old
+AnswersOwner (A.Plane ask) word old new = new ≡ old
+AnswersOwner (A.Sprite ask) word old new = new ≡ old
 AnswersOwner (A.Copper at) word old new = new ≡ old
+AnswersOwner (A.Blit ask) word old new = GivesBlit word old new
 AnswersOwner (A.Processor ask) word old new = GivesProcessor word old new
 
 -- the chips once the Copper had its step and the clocks that the processor missed were counted
@@ -166,19 +162,31 @@ abbrev pub act_at : Beam → Ask → ℕ → Chips → CopperAct
 act_at b ask word c =
     if copper_runs b c then copper_act (is_danger c.registers) (copper_word ask word) c.copper else NoAct
 
+-- the word that the disk, or a blit, stores, and where
+abbrev pub stored_by_side : SideAsk → Option (Addr × ℕ)
+stored_by_side S.Nothing = None
+stored_by_side (S.Disk at stored) = Some (at, stored)
+stored_by_side (S.Audio channel at) = None
+
+abbrev pub stored_by_blit : SlotAsk → Option (Addr × ℕ)
+stored_by_blit (Read at) = None
+stored_by_blit (Write at stored) = Some (at, stored)
+stored_by_blit Rest = None
+stored_by_blit Done = None
+
+abbrev pub stored_or_made : Option (Addr × ℕ) → CopperAct → Made
+stored_or_made None act = made_by_copper act
+stored_or_made (Some (at, stored)) act = M.Stored at Both stored
+
 -- what the access makes, with the word that answers it: a fetch fills a latch or a sprite's data, or writes a sprite's
 -- control word, the disk or a blit stores its word, and else it is what the Copper's step makes
 abbrev pub made_with : Ask → ℕ → CopperAct → Made
-made_with (A.Plane plane at) word act = M.Plane plane at
-made_with (A.SpriteControl sprite second at) word act = M.Wrote (control_register sprite second) word None
-made_with (A.SpriteWords sprite second at) word act = M.Sprite sprite second at
 made_with A.Free word act = made_by_copper act
-made_with (A.Disk at stored) word act = M.Stored at Both stored
-made_with (A.Audio channel at) word act = made_by_copper act
+made_with (A.Side ask) word act = stored_or_made (stored_by_side ask) act
+made_with (A.Plane ask) word act = M.Plane ask.plane ask.at
+made_with (A.Sprite ask) word act = made_by_sprite ask word
 made_with (A.Copper at) word act = made_by_copper act
-made_with (A.BlitRead at) word act = made_by_copper act
-made_with (A.BlitWrite at stored) word act = M.Stored at Both stored
-made_with A.BlitRest word act = made_by_copper act
+made_with (A.Blit ask) word act = stored_or_made (stored_by_blit ask) act
 made_with (A.Processor ask) word act = made_by_processor ask
 
 -- a word answers the processor: the one that the machine gives, whatever chips these stand for
@@ -188,29 +196,30 @@ IsRead ask b clx now memory word = (c : Chips) → IsChipsOf now c → word ≡ 
 -- a word answers an ask: it is the one that the machine gives, but where nobody looks at it here
 abbrev pub IsAnswer : Ask → Beam → ℕ → WorkingChips → List ℕ → ℕ → Type 0
 IsAnswer A.Free b clx now memory word = word ≡ 0
-IsAnswer (A.Disk at stored) b clx now memory word = word ≡ 0
-IsAnswer (A.Audio channel at) b clx now memory word = Unit {0}
-IsAnswer (A.Plane plane at) b clx now memory word = Unit {0}
-IsAnswer (A.SpriteControl sprite second at) b clx now memory word = word ≡ word_of memory at.value
-IsAnswer (A.SpriteWords sprite second at) b clx now memory word = Unit {0}
+IsAnswer (A.Side ask) b clx now memory word = Unit {0}
+IsAnswer (A.Plane ask) b clx now memory word = Unit {0}
+IsAnswer (A.Sprite (Control sprite second at)) b clx now memory word = word ≡ word_of memory at.value
+IsAnswer (A.Sprite (Words sprite second at)) b clx now memory word = Unit {0}
 IsAnswer (A.Copper at) b clx now memory word = word ≡ word_of memory at.value
-IsAnswer (A.BlitRead at) b clx now memory word = word ≡ word_of memory at.value
-IsAnswer (A.BlitWrite at stored) b clx now memory word = word ≡ 0
-IsAnswer A.BlitRest b clx now memory word = word ≡ 0
+IsAnswer (A.Blit ask) b clx now memory word = word ≡ answer_blit ask memory
 IsAnswer (A.Processor ask) b clx now memory word = IsRead ask b clx now memory word
+
+-- of the asks of a blit a read reads one
+abbrev pub reads_of_blit : SlotAsk → ℕ
+reads_of_blit (Read at) = 1
+reads_of_blit (Write at stored) = 0
+reads_of_blit Rest = 0
+reads_of_blit Done = 0
 
 -- how many words of chip memory the chips read with an ask: the word of a sample is read by whoever gives it to the side
 abbrev pub reads_by_chips : Ask → ℕ
 reads_by_chips A.Free = 0
-reads_by_chips (A.Disk at stored) = 0
-reads_by_chips (A.Audio channel at) = 0
-reads_by_chips (A.Plane plane at) = 0
-reads_by_chips (A.SpriteControl sprite second at) = 1
-reads_by_chips (A.SpriteWords sprite second at) = 0
+reads_by_chips (A.Side ask) = 0
+reads_by_chips (A.Plane ask) = 0
+reads_by_chips (A.Sprite (Control sprite second at)) = 1
+reads_by_chips (A.Sprite (Words sprite second at)) = 0
 reads_by_chips (A.Copper at) = 1
-reads_by_chips (A.BlitRead at) = 1
-reads_by_chips (A.BlitWrite at stored) = 0
-reads_by_chips A.BlitRest = 0
+reads_by_chips (A.Blit ask) = reads_of_blit ask
 reads_by_chips (A.Processor ask) = reads_of_processor ask
 
 -- the memory once so many words were read, which counts
@@ -219,7 +228,7 @@ read_by count chip = if count == 0 then chip else after_reads chip count
 
 -- the registers and the chips once the fetches of a clock had their steps: the pointer of the plane or sprite that has the
 -- slot has moved
-abbrev pub fetched_registers : Beam → Chips → List ℕ
+abbrev pub fetched_registers : Beam → Chips → Registers
 fetched_registers b c =
     move_sprites b.h (kinds_now b c) (is_some (plane_wish b c)) (move_planes b.h (last_unit (units_now b c)) c.registers)
 
@@ -244,15 +253,11 @@ pub record IsPlane (plane : ℕ) : Type 0 where
 -- what the owner of a slot asks for is of these
 abbrev pub CanAsk : Ask → Type 0
 CanAsk A.Free = Unit {0}
-CanAsk (A.Disk at stored) = Unit {0}
-CanAsk (A.Audio channel at) = Unit {0}
-CanAsk (A.Plane plane at) = IsPlane plane
-CanAsk (A.SpriteControl sprite second at) = sprite ≤ 7
-CanAsk (A.SpriteWords sprite second at) = sprite ≤ 7
+CanAsk (A.Side ask) = Unit {0}
+CanAsk (A.Plane ask) = IsPlane ask.plane
+CanAsk (A.Sprite ask) = asking_sprite ask ≤ 7
 CanAsk (A.Copper at) = Unit {0}
-CanAsk (A.BlitRead at) = Unit {0}
-CanAsk (A.BlitWrite at stored) = Unit {0}
-CanAsk A.BlitRest = Unit {0}
+CanAsk (A.Blit ask) = Unit {0}
 CanAsk (A.Processor ask) = Unit {0}
 
 -- and so is what the clock loop does

@@ -3,16 +3,16 @@
 ghost use Rattle.std.specs.Prelude.{◌≡◌, Some};
 ghost use Rattle.serial_model.specs.Bus.{copper_word as word_to_copper, plane_owner_ask, sprite_owner_ask, blit_owner_ask};
 ghost use Rattle.serial_model.specs.Bus.{processor_ask as processor_ask_of};
-ghost use Rattle.serial_model.specs.Bus.{made_by_copper as made_by_copper_of, control_register as control_register_of};
+ghost use Rattle.serial_model.specs.Bus.{made_by_copper as made_by_copper_of, made_by_sprite as made_by_sprite_of, control_register as control_register_of};
 ghost use Rattle.serial_model.specs.Bus.{made_by_processor as made_by_processor_of};
 ghost use Rattle.chip_set.specs.AskLaws.{is_clx_ask as clx_asked};
 ghost use Rattle.chip_set.specs.Chips.{made_with};
 
 use bitplane_dma::PlaneAsk;
 use blitter::SlotAsk;
+use ocs_base::Reg;
 use ocs_base::offset::{CLXDAT, SPR0POS};
-use ocs_base::{Addr, Reg};
-use serial_model::{Ask, CopperAct, Half, Made, ProcessorAsk, Source, SpriteAsk};
+use serial_model::{Ask, CopperAct, Half, Made, ProcessorAsk, SideAsk, Source, SpriteAsk};
 
 /// Whether the owner of the slot, the processor then, asks to read CLXDAT.
 pub fn is_clx_ask(ask: &Ask) -> bool
@@ -31,10 +31,7 @@ pub fn plane_ask(wish: Option<PlaneAsk>) -> Ask
     ensures { result ≡ plane_owner_ask wish }
 {
     match wish {
-        Some(ask) => Ask::Plane {
-            plane: ask.plane,
-            at: ask.at,
-        },
+        Some(ask) => Ask::Plane { ask },
         None => Ask::Free,
     }
 }
@@ -43,12 +40,7 @@ pub fn sprite_ask(wish: Option<SpriteAsk>) -> Ask
     ensures { result ≡ sprite_owner_ask wish }
 {
     match wish {
-        Some(SpriteAsk::Control { sprite, second, at }) => Ask::SpriteControl {
-            sprite,
-            second,
-            at,
-        },
-        Some(SpriteAsk::Words { sprite, second, at }) => Ask::SpriteWords { sprite, second, at },
+        Some(ask) => Ask::Sprite { ask },
         None => Ask::Free,
     }
 }
@@ -57,45 +49,59 @@ pub fn slot_ask(slot: SlotAsk) -> Ask
     ensures { result ≡ blit_owner_ask (Some slot) }
 {
     match slot {
-        SlotAsk::Read { at } => Ask::BlitRead { at },
-        SlotAsk::Write { at, word } => Ask::BlitWrite { at, word },
-        SlotAsk::Rest => Ask::BlitRest,
         SlotAsk::Done => Ask::Free,
+        ask => Ask::Blit { ask },
     }
 }
 
 /// What the access makes, with the word that answers it, where the Copper's step makes this.
+#[inline(always)]
 pub fn made_by(ask: &Ask, word: u16, act: &CopperAct) -> Made
     ensures { result ≡ made_with ask.now word act.now }
 {
     match ask {
-        Ask::Plane { plane, at } => Made::Plane {
-            plane: *plane,
-            at: *at,
+        Ask::Plane { ask } => Made::Plane {
+            plane: ask.plane,
+            at: ask.at,
         },
-        Ask::SpriteControl { sprite, second, .. } => Made::Wrote {
-            reg: control_register(*sprite, *second),
-            word,
-            by: None,
-        },
-        Ask::SpriteWords { sprite, second, at } => Made::Sprite {
-            sprite: *sprite,
-            second: *second,
-            at: *at,
-        },
-        Ask::Disk { at, word } | Ask::BlitWrite { at, word } => Made::Stored {
+        Ask::Sprite { ask } => made_by_sprite(ask, word),
+        Ask::Side {
+            ask: SideAsk::Disk { at, word },
+        }
+        | Ask::Blit {
+            ask: SlotAsk::Write { at, word },
+        } => Made::Stored {
             at: *at,
             half: Half::Both,
             word: *word,
         },
         Ask::Processor { ask } => made_by_processor(ask),
-        Ask::Free | Ask::Audio { .. } | Ask::Copper { .. } | Ask::BlitRead { .. } | Ask::BlitRest =>
-            made_by_copper(act),
+        Ask::Free | Ask::Side { .. } | Ask::Copper { .. } | Ask::Blit { .. } => made_by_copper(act),
+    }
+}
+
+/// What a sprite's fetch makes: its control word is written to its register, its image word fills a latch.
+#[inline(always)]
+fn made_by_sprite(ask: &SpriteAsk, word: u16) -> Made
+    ensures { result ≡ made_by_sprite_of ask.now word }
+{
+    match ask {
+        SpriteAsk::Control { sprite, second, .. } => Made::Wrote {
+            reg: control_register(*sprite, *second),
+            word,
+            by: None,
+        },
+        SpriteAsk::Words { sprite, second, at } => Made::Sprite {
+            sprite: *sprite,
+            second: *second,
+            at: *at,
+        },
     }
 }
 
 /// What the processor's access makes: of its reads the trace tells that of CLXDAT, which clears the
 /// collision bits.
+#[inline(always)]
 fn made_by_processor(ask: &ProcessorAsk) -> Made
     ensures { result ≡ made_by_processor_of ask.now }
 {
@@ -120,6 +126,7 @@ fn made_by_processor(ask: &ProcessorAsk) -> Made
 }
 
 /// What a step of the Copper makes: a MOVE is a write.
+#[inline(always)]
 fn made_by_copper(act: &CopperAct) -> Made
     ensures { result ≡ made_by_copper_of act.now }
 {
@@ -147,14 +154,10 @@ pub fn copper_word(ask: &Ask, word: u16) -> Option<u16>
     match ask {
         Ask::Copper { .. } => Some(word),
         Ask::Free
-        | Ask::Disk { .. }
-        | Ask::Audio { .. }
+        | Ask::Side { .. }
         | Ask::Plane { .. }
-        | Ask::SpriteControl { .. }
-        | Ask::SpriteWords { .. }
-        | Ask::BlitRead { .. }
-        | Ask::BlitWrite { .. }
-        | Ask::BlitRest
+        | Ask::Sprite { .. }
+        | Ask::Blit { .. }
         | Ask::Processor { .. } => None,
     }
 }

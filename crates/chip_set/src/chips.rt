@@ -5,7 +5,7 @@ ghost use Rattle.std.specs.Prelude.{◌≡◌, Some, is_some};
 ghost use Rattle.serial_model.specs.State.{Chips as ChipsOf};
 ghost use Rattle.serial_model.specs.Registers.{is_interlaced as interlaced, is_danger as danger, blitter_first, blitter_dma, dmacon_of, effect_of, word_at};
 ghost use Rattle.serial_model.specs.Bus.{copper_runs as runs, copper_wish as wish_of, copper_word as word_to_copper};
-ghost use Rattle.serial_model.specs.Bus.{copper_after, blit_owner_ask, missed_after, ask_at};
+ghost use Rattle.serial_model.specs.Bus.{copper_after, blit_owner_ask, missed_after, ask_at, answer_blit};
 ghost use Rattle.serial_model.specs.Made.{word_of};
 ghost use Rattle.serial_model.specs.Side.{IsInTime};
 ghost use Rattle.serial_model.specs.declared.bus.SideAsk.{SideAsk};
@@ -15,14 +15,14 @@ ghost use Rattle.serial_model.specs.Write.{write_chips, carry_effect, restart_co
 ghost use Rattle.serial_model.specs.Tick.{start_chips};
 ghost use Rattle.serial_model.specs.Events.{tell_chips, with_joy, with_fire};
 ghost use Rattle.cpu_bus.specs.Bus.{wish_shown};
-ghost use Rattle.chip_set.specs.Chips.{IsChipsOf, HasAsked, HasAccessed, CanAsk, CanDo, plain_chips, kept_wish, ask_with, act_at, IsAnswer, IsRead, reads_by_chips, read_by};
+ghost use Rattle.chip_set.specs.Chips.{IsChipsOf, HasAsked, HasAccessed, CanAsk, CanDo, plain_chips, kept_wish, ask_with, act_at, IsAnswer, IsRead, reads_by_chips, reads_of_blit, read_by};
 ghost use Rattle.chip_set.specs.Chips.{IsBlitAsk, AnswersOwner, answering, made_with, GivesBlit, GivesProcessor, IsGoing, end_if_blit};
 
 use crate::asks::{copper_word, made_by, plane_ask, processor_ask, slot_ask, sprite_ask};
 use crate::blit_registers::{blit_registers, keep_blit};
 use beam::{at_field_start, at_line_start};
 use bitplane_dma::{Fetcher, PlaneAsk};
-use blitter::Blit;
+use blitter::{Blit, SlotAsk};
 use bus_slots::{Owner, SlotState, is_refresh, slot_owner};
 use copper::Copper;
 use cpu_bus::BusCpu;
@@ -31,7 +31,7 @@ use mem_versions::Chip;
 use ocs_base::offset::{
     BPLCON0, CLXDAT, COP1LCH, COP2LCH, COPCON, DMACON, INTENA, INTENAR, INTREQR,
 };
-use ocs_base::{Act, Addr, Beam, Reg};
+use ocs_base::{Act, Addr, Beam, ChipSize, Reg};
 use reg_file::{Effect, Live, Regs};
 use serial_model::{Ask, CopperAct, Inputs, Made, ProcessorAsk, SideAsk, SpriteAsk};
 use sprite_dma::SpriteDma;
@@ -98,19 +98,19 @@ impl Model for Chips {
 impl Chips {
     ghost use Rattle.serial_model.specs.State.{reset_chips};
 
-    /// The chips at reset, with the processor started where `cpu` says so.
-    pub fn reset(cpu: bool) -> Chips
-        ensures { IsChipsOf result (reset_chips cpu) }
+    /// The chips at reset with a chip memory of this size, and the processor started where `cpu` says so.
+    pub fn reset(size: ChipSize, cpu: bool) -> Chips
+        ensures { IsChipsOf result (reset_chips size cpu) }
     {
         Chips {
-            registers: Regs::reset(),
+            registers: Regs::reset_in(size),
             fetcher: Fetcher::new(),
             sprites: SpriteDma::new(),
-            copper: Copper::start(Addr::at(0)),
+            copper: Copper::start(Addr::sized(size, 0)),
             blit: None,
             zero: true,
             irq: Irq::reset(),
-            processor: BusCpu::reset(cpu),
+            processor: BusCpu::reset(size, cpu),
             missed: 0,
             cia_a: Cia::reset(),
             cia_b: Cia::reset(),
@@ -342,16 +342,15 @@ impl Chips {
     {
         match *ask {
             Ask::Free => self.answer_with(&Ask::Free, beam, 0),
-            Ask::Plane { plane, at } => self.answer_with(&Ask::Plane { plane, at }, beam, 0),
+            Ask::Plane { ask } => self.answer_with(&Ask::Plane { ask }, beam, 0),
             Ask::Copper { at } => {
                 let word = read_memory(at, chip);
                 self.answer_with(&Ask::Copper { at }, beam, word)
             }
-            Ask::BlitRead { at } => {
-                let word = read_memory(at, chip);
-                self.answer_with(&Ask::BlitRead { at }, beam, word)
+            Ask::Blit { ask } => {
+                let word = read_for_blit(&ask, chip);
+                self.answer_with(&Ask::Blit { ask }, beam, word)
             }
-            Ask::BlitWrite { at, word } => self.answer_with(&Ask::BlitWrite { at, word }, beam, 0),
             Ask::Processor { ask } => {
                 let word = self.read(&ask, beam, clx, chip);
                 self.answer_with(&Ask::Processor { ask }, beam, word)
@@ -406,8 +405,12 @@ impl Chips {
     {
         match side {
             SideAsk::Nothing => self.chips_ask(beam, plane, sprite),
-            SideAsk::Disk { at, word } => Ask::Disk { at, word },
-            SideAsk::Audio { channel, at } => Ask::Audio { channel, at },
+            SideAsk::Disk { at, word } => Ask::Side {
+                ask: SideAsk::Disk { at, word },
+            },
+            SideAsk::Audio { channel, at } => Ask::Side {
+                ask: SideAsk::Audio { channel, at },
+            },
         }
     }
 
@@ -486,17 +489,13 @@ impl Chips {
         ensures reads { chip.new ≡ read_by (reads_by_chips ask.now) chip.old }
     {
         match ask {
-            Ask::Copper { at } | Ask::SpriteControl { at, .. } | Ask::BlitRead { at } => {
-                chip.read(*at)
-            }
+            Ask::Copper { at }
+            | Ask::Sprite {
+                ask: SpriteAsk::Control { at, .. },
+            } => chip.read(*at),
+            Ask::Blit { ask } => read_for_blit(ask, chip),
             Ask::Processor { ask } => self.read(ask, beam, clx, chip),
-            Ask::Free
-            | Ask::Disk { .. }
-            | Ask::Audio { .. }
-            | Ask::Plane { .. }
-            | Ask::SpriteWords { .. }
-            | Ask::BlitWrite { .. }
-            | Ask::BlitRest => 0,
+            Ask::Free | Ask::Side { .. } | Ask::Plane { .. } | Ask::Sprite { .. } => 0,
         }
     }
 
@@ -534,6 +533,7 @@ impl Chips {
     }
 
     /// What the blitter asks for.
+    #[inline(always)]
     fn blit_ask(&self) -> Ask
         ensures { result ≡ blit_owner_ask (kept_wish self.now) }
     {
@@ -554,14 +554,14 @@ impl Chips {
     }
 
     /// The blit under way, or the processor, has the answer of this clock's access, where it is its own.
+    #[inline(always)]
+    #[tactic(auto, using(crate::proofs::BlitLaws::going_by))]
     fn answer_owner(&mut self, ask: &Ask, word: u16)
         requires { IsBlitAsk ask.now (kept_wish self.old) }
         ensures { AnswersOwner ask.now word self.old self.new }
     {
         match ask {
-            Ask::BlitRead { .. } => self.give_blit(word),
-            Ask::BlitWrite { .. } => self.give_blit(word),
-            Ask::BlitRest => self.give_blit(word),
+            Ask::Blit { .. } => self.give_blit(word),
             Ask::Processor { .. } => self.give_processor(word),
             _ => {}
         }
@@ -659,6 +659,18 @@ impl Chips {
         ensures { result ≡ blitter_first self.now.registers }
     {
         self.registers.word(Reg::masked(DMACON)) & BLTPRI == BLTPRI
+    }
+}
+
+/// The word that answers an ask of the blitter: that which a read names, else 0.
+#[inline(always)]
+fn read_for_blit(ask: &SlotAsk, chip: &mut Chip) -> u16
+    ensures word { result ≡ answer_blit ask.now chip.old.words }
+    ensures reads { chip.new ≡ read_by (reads_of_blit ask.now) chip.old }
+{
+    match ask {
+        SlotAsk::Read { at } => chip.read(*at),
+        SlotAsk::Write { .. } | SlotAsk::Rest | SlotAsk::Done => 0,
     }
 }
 

@@ -1,6 +1,7 @@
 //! Each public call once; the numbers are worked by hand.
 
-ghost use Rattle.std.specs.Prelude.{◌≡◌, ◌+◌, ◌≤◌, length, IfOk};
+ghost use Rattle.std.specs.Prelude.{◌≡◌, ◌+◌, ◌/◌, ◌%◌, ◌≤◌, true, [], length, IfOk};
+ghost use Rattle.ocs_base.specs.Sizes.{is_chip_size};
 ghost use Rattle.mem_versions.specs.MemView.{Covers, word_then};
 
 use mem_versions::{Chip, MemView, Steps};
@@ -9,9 +10,24 @@ use std::alloc::Global;
 use std::marker::Brand;
 use std::sync::ledger::{Blank, Ledger};
 
+/// A memory of so many bytes with an image, and what of it the tests need for their calls.
+fn made(alloc: Global, image: &[u8], bytes: u32) -> Result<Chip, OutOfMemory>
+    requires size { is_chip_size bytes ≡ true }
+    requires even { length image.now % 2 ≡ 0 }
+    requires least { 8 ≤ length image.now }
+    requires most { length image.now ≤ bytes }
+    ensures size { IfOk result (λ chip. length chip.words ≡ bytes / 2) }
+    ensures newest { IfOk result (λ chip. chip.newest ≡ 0) }
+    ensures last { IfOk result (λ chip. chip.last ≡ 0) }
+    ensures writes { IfOk result (λ chip. chip.writes ≡ []) }
+{
+    let chip = Chip::sized(alloc, image, bytes)?;
+    Ok(chip)
+}
+
 #[test]
 fn a_half_of_a_word(rt: HostRuntime) -> Result<(), OutOfMemory> {
-    let mut chip = Chip::new(rt.alloc(), &[0; 8])?;
+    let mut chip = made(rt.alloc(), &[0; 8], 524_288)?;
     chip.write_half(Clock(0), Addr::at(4), true, 0x12)?;
     assert_eq!(rt; chip.read(Addr::at(4)), 0x1200);
     chip.write_half(Clock(3), Addr::at(4), false, 0x34)?;
@@ -22,7 +38,11 @@ fn a_half_of_a_word(rt: HostRuntime) -> Result<(), OutOfMemory> {
 
 #[test]
 fn pages_and_words(rt: HostRuntime) -> Result<(), OutOfMemory> {
-    let mut chip = Chip::new(rt.alloc(), &[0x12, 0x34, 0x56, 0x78, 0, 0, 0xff, 0xfe])?;
+    let mut chip = made(
+        rt.alloc(),
+        &[0x12, 0x34, 0x56, 0x78, 0, 0, 0xff, 0xfe],
+        524_288,
+    )?;
     assert_eq!(rt; chip.pages(), 1024);
     chip.write(Clock(9), Addr::at(0x202), 0xabcd)?;
     for (address, word) in [(0, 0x1234), (2, 0x5678), (6, 0xfffe), (0x7_fffe, 0)] {
@@ -35,10 +55,51 @@ fn pages_and_words(rt: HostRuntime) -> Result<(), OutOfMemory> {
     Ok(())
 }
 
+/// The upper half of the greater memory has words of its own.
+#[test]
+fn one_mebibyte(rt: HostRuntime) -> Result<(), OutOfMemory> {
+    let (high, low) = (Addr::wide(0x8_0010), Addr::wide(0x10));
+    let mut chip = made(rt.alloc(), &[0; 8], 1_048_576)?;
+    assert_eq!(rt; chip.pages(), 2048);
+    chip.write(Clock(5), high, 0x1234)?;
+    assert_eq!(rt; chip.read(high), 0x1234);
+    assert_eq!(rt; chip.read(low), 0);
+    assert_eq!(rt; chip.page(1024)[8], 0x1234);
+    Ok(())
+}
+
+#[test]
+fn a_view_of_one_mebibyte(rt: HostRuntime) -> Result<(), OutOfMemory> {
+    let (high, low) = (Addr::wide(0x8_0010), Addr::wide(0x10));
+    let mut chip = made(rt.alloc(), &[0; 8], 1_048_576)?;
+    chip.write_half(Clock(5), high, false, 0x56)?;
+    let view = chip.cut(Clock(10))?;
+    assert_eq!(rt; view.at(Clock(5), high), 0);
+    assert_eq!(rt; view.at(Clock(6), high), 0x56);
+    assert_eq!(rt; view.at(Clock(6), low), 0);
+    Ok(())
+}
+
+/// Above 512 KiB the smaller memory is 0, whatever is written there, and not what stands 512 KiB lower.
+#[test]
+fn above_the_memory(rt: HostRuntime) -> Result<(), OutOfMemory> {
+    let (above, first) = (Addr::wide(0x8_0000), Addr::wide(0));
+    let mut chip = Chip::new(rt.alloc(), &[0x12, 0x34, 0, 0, 0, 0, 0, 0])?;
+    chip.write(Clock(0), above, 0x5678)?;
+    assert_eq!(rt; chip.read(first), 0x1234);
+    assert_eq!(rt; chip.read(above), 0);
+    let view = chip.cut(Clock(0))?;
+    assert_eq!(rt; view.at(Clock(0), first), 0x1234);
+    assert_eq!(rt; view.at(Clock(0), above), 0);
+    assert_eq!(rt; chip.resolve(&view, Clock(0), above), 0);
+    assert_eq!(rt; chip.reads(), 3);
+    Ok(())
+}
+
 #[test]
 fn a_view_stays_as_it_was(rt: HostRuntime) -> Result<(), OutOfMemory> {
     let at = Addr::at(2);
-    let mut chip = Chip::new(rt.alloc(), &[0; 8])?;
+    let mut chip = made(rt.alloc(), &[0; 8], 524_288)?;
     chip.write(Clock(5), at, 7)?;
     let view = chip.cut(Clock(10))?;
     assert_eq!(rt; view.at(Clock(5), at), 0);
@@ -55,7 +116,7 @@ fn a_view_stays_as_it_was(rt: HostRuntime) -> Result<(), OutOfMemory> {
 #[test]
 fn a_write_at_the_cut(rt: HostRuntime) -> Result<(), OutOfMemory> {
     let (at, other) = (Addr::at(0x400), Addr::at(0x402));
-    let mut chip = Chip::new(rt.alloc(), &[0; 8])?;
+    let mut chip = made(rt.alloc(), &[0; 8], 524_288)?;
     chip.write(Clock(3), other, 6)?;
     chip.write(Clock(8), at, 1)?;
     chip.write(Clock(8), at, 2)?;
@@ -72,7 +133,7 @@ fn a_write_at_the_cut(rt: HostRuntime) -> Result<(), OutOfMemory> {
 /// Views may go to other threads.
 #[test]
 fn views_are_sent(rt: HostRuntime) -> Result<(), OutOfMemory> {
-    let mut chip = Chip::new(rt.alloc(), &[0; 8])?;
+    let mut chip = made(rt.alloc(), &[0; 8], 524_288)?;
     assert!(rt; is_shared(&chip.cut(Clock(0))?));
     Ok(())
 }
@@ -98,7 +159,7 @@ fn hundred_writes(alloc: Global) -> Result<MemView, OutOfMemory>
     ensures covers { IfOk result (λ view. (view.from ≡ 0) × (view.to ≡ 200)) }
     ensures few { IfOk result (λ view. length view.writes ≤ 100) }
 {
-    let mut chip = Chip::new(alloc, &[0; 8])?;
+    let mut chip = made(alloc, &[0; 8], 524_288)?;
     for k in 1..101 {
         chip.write(Clock(k as u64), Addr::at(2), k)?;
     }

@@ -135,3 +135,17 @@ fn pointers(rt: HostRuntime) {
     assert_eq!(rt; regs.pointer(Reg::masked(0x13c)).raw(), 0x6_fffe);
     assert_eq!(rt; regs.pointer(Reg::masked(0x080)).raw(), 0x5_1234);
 }
+
+/// With 1 MiB of chip memory a pointer keeps four bits of its high word, and moves beyond 512 KiB.
+#[test]
+#[tactic(auto, using(reg_file::proofs::TableLaws::bits_law))]
+fn pointers_of_1_mib(rt: HostRuntime) {
+    let mut regs = Regs::reset_for(0x10_0000);
+    for (offset, word) in [(0x080, 0xfffd), (0x082, 0x1235)] {
+        let _effect = regs.poke(Reg::masked(offset), word, false);
+    }
+    assert_eq!(rt; regs.pointer(Reg::masked(0x080)).raw(), 0xd_1234);
+    regs.set_pointer(Reg::masked(0x13c), Addr::wide(0xe_fffe));
+    assert_eq!(rt; regs.word(Reg::masked(0x13c)), 0x000e);
+    assert_eq!(rt; regs.pointer(Reg::masked(0x13c)).raw(), 0xe_fffe);
+}

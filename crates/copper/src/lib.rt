@@ -2,7 +2,8 @@
 //!
 //! An instruction is two words, each read from chip memory in a slot of its own (Hardware Reference Manual,
 //! coprocessor hardware): MOVE where bit 0 of the first is clear; WAIT where it is set and bit 0 of the
-//! second is clear; SKIP where both are set. Addresses are in bytes and wrap at 512 KiB.
+//! second is clear; SKIP where both are set. Addresses are in bytes and wrap at the size of
+//! chip memory.
 #![tactic(auto)]
 
 ghost use Rattle.std.specs.Prelude.{◌≡◌, ◌<◌};
@@ -86,6 +87,7 @@ impl Copper {
     /// A WAIT compares from the step after its second word on, without a slot, and the Copper fetches again
     /// from the step after the comparison held. A SKIP compares as its second word is read, and where that
     /// holds the two words behind it are passed over without a slot.
+    #[inline(always)]
     #[tactic(auto, unfolding(serial_model::specs::Copper::step_copper, serial_model::specs::Copper::copper_act))]
     pub fn step(&mut self, fetched: Option<u16>, beam: &Beam, busy: bool, danger: bool) -> CopperAct
         ensures state { self.new ≡ step_copper beam.now busy danger fetched self.old }
@@ -208,12 +210,12 @@ fn is_forbidden(first: u16, danger: bool) -> bool
     offset < 0x40 || offset < 0x80 && !danger
 }
 
-/// The address so many bytes on, wrapping at 512 KiB.
+/// The address so many bytes on, wrapping at its span.
 fn bytes_on(at: Addr, bytes: u32) -> Addr
     requires { bytes < 8 }
     ensures { result ≡ bytes_after at bytes }
 {
-    Addr::at(at.raw() + bytes)
+    Addr::sized(at.size, at.raw() + bytes)
 }
 
 /// Whether the comparison of a WAIT or SKIP with these words holds: the low eight bits of the line and the

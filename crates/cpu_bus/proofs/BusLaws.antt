@@ -9,18 +9,19 @@ use Rattle.m68k_exec.specs.declared.ask.Ask.TheVariants as A
 use Rattle.m68k_exec.specs.declared.state.Cpu.{Cpu}
 use Rattle.m68k_exec.specs.Stands.{Stands, Reaches, wanted}
 use Rattle.ocs_base.proofs.Registers.{same_register}
+use Rattle.ocs_base.specs.declared.chip_size.ChipSize.{ChipSize}
 use Rattle.ocs_base.specs.Register.{register_of}
 use Rattle.serial_model.specs.Processor.{Processor, slot_wish, processor_wish, wait_of}
 use Rattle.cpu_bus.specs.declared.BusCpu.{BusCpu}
 use Rattle.cpu_bus.specs.Bus.{IsProcessorOf, wait_by, wish_shown}
 
 -- it waits for what the working processor asks for
-pub wait_is : (n : Next) → wait_of n ≡ wait_by (wanted n)
+pub wait_is : (chip : ChipSize) (n : Next) → wait_of chip n ≡ wait_by chip (wanted n)
 unfolding wait_of wait_by
-wait_is (Asks (Read at byte)) = refl
-wait_is (Asks (Write at byte word)) = refl
-wait_is (Ends r idle u) = refl
-wait_is Halts = refl
+wait_is chip (Asks (Read at byte)) = refl
+wait_is chip (Asks (Write at byte word)) = refl
+wait_is chip (Ends r idle u) = refl
+wait_is chip Halts = refl
 
 -- a halted processor asks for nothing, and nothing else asks so
 abbrev IsHalted : Access → Type 0

@@ -7,14 +7,16 @@ use Rattle.m68k_exec.specs.declared.ask.Ask.{Ask}
 use Rattle.m68k_exec.specs.declared.ask.Ask.TheVariants as A
 use Rattle.m68k_exec.specs.declared.state.Cpu.{Cpu}
 use Rattle.m68k_exec.specs.Stands.{Stands, Reaches}
+use Rattle.ocs_base.specs.declared.chip_size.ChipSize.{ChipSize}
 use Rattle.serial_model.specs.declared.bus.ProcessorAsk.{ProcessorAsk}
 use Rattle.serial_model.specs.declared.processor.Wait.{Wait}
 use Rattle.serial_model.specs.declared.processor.Wait.TheVariants as W
 use Rattle.serial_model.specs.Processor.{Processor, target_of, read_wait, write_wait, processor_wait, slot_wish, stage_after, go_on}
 use Rattle.cpu_bus.specs.declared.BusCpu.{BusCpu}
 
--- it is on or off as that is, its registers and answers are kept by the working processor, and what it waits for is kept
+-- it has a chip memory of the same size on its bus, is on or off as that is, its registers and answers are kept by the working processor, and what it waits for is kept
 pub record IsProcessorOf (now : BusCpu) (p : Processor) : Type 0 where
+  pub chip : p.chip ≡ now.chip
   pub on : p.on ≡ now.on
   pub stands : Stands now.cpu p.regs p.under p.answers
   pub wait : processor_wait p ≡ now.wait
@@ -25,12 +27,12 @@ pub record IsProcessorOf (now : BusCpu) (p : Processor) : Type 0 where
 abbrev pub wish_shown : BusCpu → Option ProcessorAsk
 wish_shown now = if now.on && not (now.spent == 0) then slot_wish now.wait else None
 
--- what the working processor waits for, by what it asks for
-unfoldable pub wait_by : Ask → Wait
-wait_by (A.Read at byte) = read_wait (target_of at byte)
-wait_by (A.Write at byte word) = write_wait at byte word (target_of at byte)
-wait_by (A.Idle clocks) = W.Idle clocks
-wait_by A.Halted = W.Halted
+-- what the working processor waits for, by what it asks for, with a chip memory of this size
+unfoldable pub wait_by : ChipSize → Ask → Wait
+wait_by chip (A.Read at byte) = read_wait (target_of chip at byte)
+wait_by chip (A.Write at byte word) = write_wait at byte word (target_of chip at byte)
+wait_by chip (A.Idle clocks) = W.Idle clocks
+wait_by chip A.Halted = W.Halted
 
 -- it goes on with a word, and this interrupt begins with it
 pub record GoesOn (word level : ℕ) (p : Processor) (begins : Option ℕ) (new : BusCpu) : Type 0 where

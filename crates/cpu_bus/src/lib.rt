@@ -9,6 +9,7 @@ mod target;
 
 use crate::target::wait_for;
 use m68k_exec::{Ask as Access, Cpu};
+use ocs_base::ChipSize;
 use serial_model::{ProcessorAsk, Turn, Wait};
 
 /// The clocks of an access that goes nowhere, and of one to a CIA (profile).
@@ -18,8 +19,10 @@ const CIA_CLOCKS: u32 = 5;
 
 /// The processor, and how far it is with what it waits for. `spent` are the colour clocks that have
 /// passed of that, and `given` is the word of the access that it has just made in its slot.
+/// `chip` is the size of the chip memory that it sees.
 #[derive(Drop)]
 pub struct BusCpu {
+    chip: ChipSize,
     on: bool,
     cpu: Cpu,
     wait: Wait,
@@ -30,13 +33,15 @@ pub struct BusCpu {
 impl BusCpu {
     ghost use Rattle.cpu_bus.specs.Bus.{IsProcessorOf, GoesOn, wish_shown};
 
-    /// The processor at reset; it begins the reset where it is `on`, and else does nothing at all.
-    pub fn reset(on: bool) -> BusCpu
-        ensures { IsProcessorOf result (reset_processor on) }
+    /// The processor at reset, with a chip memory of this size on its bus; it begins the reset where it is `on`,
+    /// and else does nothing at all.
+    pub fn reset(chip: ChipSize, on: bool) -> BusCpu
+        ensures { IsProcessorOf result (reset_processor chip on) }
     {
         let cpu = Cpu::reset();
-        let wait = wait_for(cpu.ask());
+        let wait = wait_for(chip, cpu.ask());
         BusCpu {
+            chip,
             on,
             cpu,
             wait,
@@ -50,6 +55,7 @@ impl BusCpu {
         ensures { result ≡ self.now }
     {
         BusCpu {
+            chip: self.chip,
             on: self.on,
             cpu: self.cpu.copied(),
             wait: self.wait,
@@ -138,7 +144,7 @@ impl BusCpu {
         let begins = advance(&mut self.cpu, word, level);
         self.spent = 0;
         self.given = None;
-        self.wait = wait_for(self.cpu.ask());
+        self.wait = wait_for(self.chip, self.cpu.ask());
         begins
     }
 }

@@ -7,30 +7,32 @@ ghost use Rattle.serial_model.specs.Processor.{target_of, target_at, read_wait a
 ghost use Rattle.serial_model.specs.Processor.{half_of, register_word as register_word_of, cia_byte as cia_byte_of, cia_register as cia_register_of, reaches_cia_a as reaches_a, reaches_cia_b as reaches_b};
 
 use m68k_exec::Ask as Access;
-use ocs_base::{Addr, Reg};
+use ocs_base::{Addr, ChipSize, Reg};
 use serial_model::{CiaName, CiaRegister, Half, ProcessorAsk, Target, Wait};
 
-/// What the processor waits for, by what it asks for.
+/// What the processor waits for, by what it asks for, with a chip memory of this size.
 #[tactic(auto, unfolding(crate::specs::Bus::wait_by))]
-pub fn wait_for(access: Access) -> Wait
-    ensures { result ≡ wait_by access }
+pub fn wait_for(chip: ChipSize, access: Access) -> Wait
+    ensures { result ≡ wait_by chip access }
 {
     match access {
-        Access::Read { at, byte } => read_wait(target(at, byte)),
-        Access::Write { at, byte, word } => write_wait(at, byte, word, target(at, byte)),
+        Access::Read { at, byte } => read_wait(target(chip, at, byte)),
+        Access::Write { at, byte, word } => write_wait(at, byte, word, target(chip, at, byte)),
         Access::Idle { clocks } => Wait::Idle { clocks },
         Access::Halted => Wait::Halted,
     }
 }
 
-/// Where an access goes, by the low 24 bits of its address.
+/// Where an access goes, by the low 24 bits of its address: those below the size of chip memory are in it.
 #[tactic(auto, unfolding(serial_model::specs::Processor::target_of))]
-fn target(at: u32, byte: bool) -> Target
-    ensures { result ≡ target_of at byte }
+fn target(chip: ChipSize, at: u32, byte: bool) -> Target
+    ensures { result ≡ target_of chip at byte }
 {
     let a = at % 0x100_0000;
-    if a < 0x8_0000 {
-        Target::Memory { at: Addr::at(a) }
+    if a < chip.bytes() {
+        Target::Memory {
+            at: Addr::sized(chip, a),
+        }
     } else if 0xdf_f000 <= a && a <= 0xdf_f1ff {
         Target::Register {
             reg: register_at(a),

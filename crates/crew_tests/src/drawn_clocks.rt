@@ -6,7 +6,7 @@ use band_draw::Direct;
 use band_draw::band_painter::BandPainter;
 use band_draw::clock::show_clock;
 use band_draw::touch::bus_count;
-use band_log::{Denise, Event, Raster, Reset};
+use band_log::{Denise, Event, Raster};
 use mem_versions::{Chip, MemView};
 use ocs_base::{Beam, Clock, OutOfMemory, Reg, System};
 use serial_model::{NoSide, Side, SideAsk};

@@ -2,7 +2,7 @@
 
 ghost use Rattle.std.specs.Prelude.{◌≡◌, ◌≤◌, OnOk};
 ghost use Rattle.std.specs.Arc.{arc_value};
-ghost use Rattle.ocs_base.specs.Image.{is_image as good_image};
+ghost use Rattle.ocs_base.specs.Image.{is_image as good_image, fits_chip};
 ghost use Rattle.crew.specs.Crew.{crew_seen};
 ghost use Rattle.foreground.specs.Fore.{IsNew};
 ghost use Rattle.ocs_run.specs.Underway.{fore_of, run_of, CanRun};
@@ -12,7 +12,7 @@ use crate::told::{Told, Watch};
 use band_log::{Raster, Run};
 use crew::{Crew, Totals, with_crew};
 use foreground::Fore;
-use ocs_base::OutOfMemory;
+use ocs_base::{OutOfMemory, Script};
 use ocs_io::Shelf;
 use out_files::OutFiles;
 use script_read::read_script;
@@ -93,14 +93,21 @@ fn draw_over_crew<R: Threads + Wait + Clone + Drop + Send + Sync + 'static>(
 fn is_image(image: &[u8]) -> bool
     ensures { result ≡ good_image image.now }
 {
-    image.len() % 2 == 0 && 8 <= image.len() && image.len() <= 524_288
+    image.len() % 2 == 0 && 8 <= image.len() && image.len() <= 1_048_576
+}
+
+/// Whether an image is not longer than the chip memory of a script.
+fn fits(image: &[u8], script: &Script) -> bool
+    ensures { result ≡ fits_chip script.now.chip image.now }
+{
+    image.len() <= script.chip() as usize
 }
 
 /// The bars' run in bands of 20 lines.
 fn run_of_bars(alloc: Global) -> Result<Arc<Run<NoSide>>, Fail> {
     let script = read_script(alloc, SCRIPT.as_bytes())?;
     let image = image(alloc)?;
-    if !is_image(&image) {
+    if !is_image(&image) || !fits(&image, &script) {
         return Err(Fail::from("image"));
     }
     Ok(Arc::new(alloc, Run::new(image, script, 20))?)

@@ -5,6 +5,9 @@ use Rattle.ocs_base.specs.declared.beam.Beam.{Beam}
 use Rattle.out_files.specs.OutFiles.{OutFilesValue}
 use Rattle.serial_model.specs.declared.bus.Ask.{Ask}
 use Rattle.serial_model.specs.declared.bus.Ask.TheVariants as A
+use Rattle.serial_model.specs.declared.bus.SideAsk.TheVariants as S
+use Rattle.serial_model.specs.declared.fetch.SpriteAsk.TheVariants.{Control, Words}
+use Rattle.blit_words.specs.declared.blit.SlotAsk.TheVariants.{Read, Write, Rest, Done}
 use Rattle.serial_model.specs.declared.bus.Made.{Made}
 use Rattle.serial_model.specs.declared.bus.Made.TheVariants as M
 use Rattle.serial_model.specs.declared.bus.SideAsk.{SideAsk}
@@ -105,29 +108,29 @@ answered old chip chips side = record old { chip = chip; chips = chips; side = s
 given_is : (ask : Ask) (b : Beam) (clx : ℕ) (c : Chips) (memory : List ℕ) (side : SideValue)
     → answer_side ask (answer_to ask b clx c memory) side ≡ answer_side ask (word_given ask memory) side
 given_is A.Free b clx c memory side = refl
-given_is (A.Disk at stored) b clx c memory side = refl
-given_is (A.Audio channel at) b clx c memory side = refl
-given_is (A.Plane plane at) b clx c memory side = refl
-given_is (A.SpriteControl sprite second at) b clx c memory side = refl
-given_is (A.SpriteWords sprite second at) b clx c memory side = refl
+given_is (A.Side S.Nothing) b clx c memory side = refl
+given_is (A.Side (S.Disk at stored)) b clx c memory side = refl
+given_is (A.Side (S.Audio channel at)) b clx c memory side = refl
+given_is (A.Plane ask) b clx c memory side = refl
+given_is (A.Sprite ask) b clx c memory side = refl
 given_is (A.Copper at) b clx c memory side = refl
-given_is (A.BlitRead at) b clx c memory side = refl
-given_is (A.BlitWrite at stored) b clx c memory side = refl
-given_is A.BlitRest b clx c memory side = refl
+given_is (A.Blit ask) b clx c memory side = refl
 given_is (A.Processor ask) b clx c memory side = refl
 
 -- and its read is what the chips' reads lack
 pub reads_together : (ask : Ask) (chip : ChipValue) → read_by (reads_by_chips ask) (read_by (reads_by_side ask) chip) ≡ read_by (reads_of_ask ask) chip
 reads_together A.Free chip = refl
-reads_together (A.Disk at stored) chip = refl
-reads_together (A.Audio channel at) chip = refl
-reads_together (A.Plane plane at) chip = refl
-reads_together (A.SpriteControl sprite second at) chip = refl
-reads_together (A.SpriteWords sprite second at) chip = refl
+reads_together (A.Side S.Nothing) chip = refl
+reads_together (A.Side (S.Disk at stored)) chip = refl
+reads_together (A.Side (S.Audio channel at)) chip = refl
+reads_together (A.Plane ask) chip = refl
+reads_together (A.Sprite (Control sprite second at)) chip = refl
+reads_together (A.Sprite (Words sprite second at)) chip = refl
 reads_together (A.Copper at) chip = refl
-reads_together (A.BlitRead at) chip = refl
-reads_together (A.BlitWrite at stored) chip = refl
-reads_together A.BlitRest chip = refl
+reads_together (A.Blit (Read at)) chip = refl
+reads_together (A.Blit (Write at stored)) chip = refl
+reads_together (A.Blit Rest) chip = refl
+reads_together (A.Blit Done) chip = refl
 reads_together (A.Processor ask) chip = refl
 
 -- the side has its word, and then the chips have their answers

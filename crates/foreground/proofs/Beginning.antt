@@ -34,16 +34,16 @@ use Rattle.serial_bands.specs.RightJob.{bus_events, HasMemory}
 use Rattle.serial_bands.specs.Shadows.{IsShadowOf, shadow_of, found_shadow, line_opening}
 use Rattle.serial_bands.specs.Fetches.{fetches_in, IsLeftBy}
 use Rattle.serial_bands.specs.OpenBand.{IsOpen}
-use Rattle.serial_bands.specs.StandsFor.{StandsFor}
+use Rattle.serial_model.specs.StandsFor.{StandsFor}
 use Rattle.serial_bands.proofs.BandOrder.{first_begins}
 use Rattle.serial_bands.proofs.Fetches.{left_of_picture, left_of_found, fetches_are_latched}
 use Rattle.serial_bands.proofs.FetchRanges.{range_of_picture, range_of_found, shadow_found_in}
 use Rattle.serial_bands.proofs.Opening.{band_closes}
 use Rattle.serial_bands.proofs.Replay.{opening_of_kept}
 use Rattle.serial_bands.proofs.Shading.{first_shadow, line_opens, shadow_of_picture, shadow_of_kept, shadow_cleared}
-use Rattle.serial_bands.proofs.Standing.{stands_for_itself, stands_on, stands_cleared}
+use Rattle.serial_model.proofs.Standing.{stands_for_itself, stands_on, stands_cleared}
 use Rattle.serial_bands.proofs.Storing.{view_has_memory}
-use Rattle.band_draw.specs.Keeps.{Keeps}
+use Rattle.serial_model.specs.Keeps.{Keeps}
 use Rattle.band_log.specs.declared.job.Job.{Job}
 use Rattle.foreground.specs.Cuts.{IsClockBefore}
 use Rattle.foreground.specs.declared.band.OpenBand.{OpenBand}
@@ -60,7 +60,7 @@ first_log opening shadow events = record {
   shadow = shadow;
 }
 
-starts_at_reset : (run : RunValue) → IsLogOf run 0 (first_log reset_picture (shadow_of reset_picture) []) (memory_from run.image)
+starts_at_reset : (run : RunValue) → IsLogOf run 0 (first_log reset_picture (shadow_of reset_picture) []) (memory_from run.script.chip run.image)
 unfolding begun opening_at state_over reset reset_picture
 starts_at_reset run = record {
   band = inl (
@@ -83,11 +83,11 @@ starts_at_reset run = record {
 }
 
 pub starts_first : (run : RunValue) (chip : ChipValue) (opening : Denise) (shadow : Shadow) (events : List Event)
-    → chip ≡ memory_from run.image → opening ≡ reset_picture → shadow ≡ shadow_of opening → events ≡ []
+    → chip ≡ memory_from run.script.chip run.image → opening ≡ reset_picture → shadow ≡ shadow_of opening → events ≡ []
     → IsLogOf run 0 (first_log opening shadow events) chip
 starts_first run chip opening shadow events memory picture still none =
     subst (λ ch. IsLogOf run 0 (first_log opening shadow events) ch) (sym memory)
-    (subst (λ l. IsLogOf run 0 l (memory_from run.image))
+    (subst (λ l. IsLogOf run 0 l (memory_from run.script.chip run.image))
     (sym (ap (λ s. first_log opening s events) (still ∙ ap shadow_of picture)
     ∙ ap (λ p. first_log p (shadow_of reset_picture) events) picture
     ∙ ap (λ l. first_log reset_picture (shadow_of reset_picture) l) none))

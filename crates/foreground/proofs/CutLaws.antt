@@ -5,7 +5,7 @@ use Rattle.mem_versions.specs.Chip.{ChipValue, after_cut, after_reads}
 use Rattle.out_files.specs.OutFiles.{OutFilesValue}
 use Rattle.serial_model.specs.declared.picture.Denise.{Denise}
 use Rattle.serial_model.specs.Side.{SideValue}
-use Rattle.serial_bands.specs.Run.{RunValue, run_over, beam_at}
+use Rattle.serial_bands.specs.Run.{RunValue, run_over}
 use Rattle.serial_bands.specs.BusReads.{latched_words}
 use Rattle.serial_bands.specs.Fetches.{fetches_in}
 use Rattle.band_log.specs.declared.job.Job.{Job}

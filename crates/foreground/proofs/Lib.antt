@@ -23,3 +23,4 @@ pub mod LeftLaws
 pub mod CutLaws
 pub mod EmptyLaws
 pub mod ShownLaws
+pub mod Sizes

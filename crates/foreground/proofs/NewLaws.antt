@@ -21,7 +21,7 @@ use Rattle.foreground.specs.declared.log.Log.{Log}
 use Rattle.foreground.proofs.GatherLaws.{fits_begin}
 use Rattle.foreground.proofs.SettleLaws.{number_here}
 
-machine_first : (run : RunValue) (m : MachineValue) → IsReset run.side run.image run.script.cpu m → IsMachineOf m (state_of run 0)
+machine_first : (run : RunValue) (m : MachineValue) → IsReset run.side run.image run.script.chip run.script.cpu m → IsMachineOf m (state_of run 0)
 unfolding state_over reset
 machine_first run m is = record {
   t = sym is.t;
@@ -33,7 +33,7 @@ machine_first run m is = record {
 
 -- a run is good whatever its side is
 pub good_over : {S : Type 0} (seen : S → SideValue) (run : RunOf S) → IsGoodRun run → IsGoodRun (run_over seen run)
-good_over seen run good = record { image = good.image; script = good.script; least = good.least; most = good.most }
+good_over seen run good = record { image = good.image; fits = good.fits; script = good.script; least = good.least; most = good.most }
 
 none_read : (run : RunValue) → has_read_before run 0 ≡ true → ⊥
 none_read run read = wrong read
@@ -45,7 +45,7 @@ none_begun : (run : RunValue) → begun run 0 ≡ 0
 unfolding begun
 none_begun run = refl
 
-first_at : (run : RunValue) (m : MachineValue) (log : Log) (seen : RasterValue) → IsReset run.side run.image run.script.cpu m → IsLogOf run 0 log m.chip →
+first_at : (run : RunValue) (m : MachineValue) (log : Log) (seen : RasterValue) → IsReset run.side run.image run.script.chip run.script.cpu m → IsLogOf run 0 log m.chip →
     seen.outstanding ≡ [] → seen.next ≡ 0 → Takes seen.bound run → IsAt run 0 0 m log 0 seen
 first_at run m log seen is logged none next takes =
     let from : log.band.from ≡ 0 = (let least : log.band.from ≤ 0 = logged.least in omega (arith, least)) in
@@ -78,8 +78,8 @@ script_first run b good is = subst (λ (x : Beam). HasScript run x 0) (sym is) (
 screen_first : (b : Beam) → b ≡ first_place → IsOnScreen b
 screen_first b is = subst IsOnScreen (sym is) (record { line = omega arith; clock = omega arith })
 
-pub new_fore : (run : RunValue) (m : MachineValue) (log : Log) → IsGoodRun run → IsReset run.side run.image run.script.cpu m →
-    ((r : RunValue) (chip : ChipValue) → chip ≡ memory_from r.image → IsLogOf r 0 log chip) →
+pub new_fore : (run : RunValue) (m : MachineValue) (log : Log) → IsGoodRun run → IsReset run.side run.image run.script.chip run.script.cpu m →
+    ((r : RunValue) (chip : ChipValue) → chip ≡ memory_from r.script.chip r.image → IsLogOf r 0 log chip) →
     IsNew run (record { run = run; machine = m; log = log; next = 0; clx = 0; spent = false })
 new_fore run m log good is opens = record {
   run_of = refl;

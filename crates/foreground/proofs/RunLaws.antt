@@ -27,7 +27,7 @@ abbrev pub state_in : RunValue → ℕ → State
 state_in run c = before_access run.script.system run.script.events (state_of run c)
 
 -- at reset it stands for the run's first state
-pub machine_at_reset : (run : RunValue) (m : MachineValue) → IsReset run.side run.image run.script.cpu m → IsMachineOf m (state_of run 0)
+pub machine_at_reset : (run : RunValue) (m : MachineValue) → IsReset run.side run.image run.script.chip run.script.cpu m → IsMachineOf m (state_of run 0)
 unfolding state_over reset
 machine_at_reset run m is = record {
   t = sym is.t;

@@ -1,5 +1,5 @@
 -- Many clocks of the foreground in one call, from single ones.
-use Rattle.std.proofs.Common.{◌≡◌, ◌≤◌, ◌<◌, ◌^◌, ℕ, suc, ◌+◌, ◌-◌, min, max, Bool, true, false, if◌then◌else◌, List, [], ◌++◌, length, arith, refl, ap, subst, ◌∙◌, sym, append_assoc, append-nil}
+use Rattle.std.proofs.Common.{◌≡◌, ◌≤◌, ◌<◌, ◌^◌, ℕ, suc, ◌+◌, ◌-◌, min, Bool, true, false, if◌then◌else◌, [], ◌++◌, length, arith, ap, subst, ◌∙◌, sym, append_assoc, append-nil}
 use Rattle.std.proofs.lemmas.Bool.Decides.{nat_tests}
 use Rattle.std.proofs.lemmas.List.Sums.{count_by-le-length}
 use Rattle.out_files.specs.OutFiles.{OutFilesValue}
@@ -10,7 +10,7 @@ use Rattle.serial_bands.specs.RightJob.{events_from}
 use Rattle.serial_bands.specs.OpenBand.{waiting_events}
 use Rattle.band_log.specs.Raster.{RasterValue}
 use Rattle.foreground.specs.Clock.{HasGiven, HasGivenPart, Rises}
-use Rattle.foreground.specs.Fore.{ForeOf, ForeValue, over, IsUnderway, CanGo, HasAdvanced, Advances, GivesPart, looked_up}
+use Rattle.foreground.specs.Fore.{ForeOf, ForeValue, IsUnderway, CanGo, HasAdvanced, Advances, GivesPart, looked_up}
 use Rattle.foreground.specs.RunTo.{HasRunOn, RunsOn, reads_from, looked_from, RisesIn, RisesInSome}
 use Rattle.foreground.proofs.AdvanceLaws.{given_then, given_part}
 use Rattle.foreground.proofs.CutLaws.{gives_none, rises_none}

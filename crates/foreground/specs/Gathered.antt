@@ -6,7 +6,7 @@ use Rattle.serial_bands.specs.Run.{RunValue, beam_at}
 use Rattle.serial_bands.specs.Clock.{closing_at}
 use Rattle.serial_bands.specs.Bands.{AreBands}
 use Rattle.serial_bands.specs.BandShown.{bytes_from, clx_from, tinted_bytes}
-use Rattle.serial_bands.specs.StandsFor.{StandsFor}
+use Rattle.serial_model.specs.StandsFor.{StandsFor}
 use Rattle.band_log.specs.Raster.{RasterValue, Outstanding, Takes}
 use Rattle.foreground.specs.Out.{Gives}
 

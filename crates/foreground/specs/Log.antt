@@ -14,7 +14,7 @@ use Rattle.serial_bands.specs.Clock.{opening_at, picture_at, fetch_alone}
 use Rattle.serial_bands.specs.Bands.{begins, begun}
 use Rattle.serial_bands.specs.BandShown.{bytes_from}
 use Rattle.serial_bands.specs.RightJob.{clock_of, event_at, bus_events, script_events}
-use Rattle.serial_bands.specs.StandsFor.{StandsFor}
+use Rattle.serial_model.specs.StandsFor.{StandsFor}
 use Rattle.serial_bands.specs.Stores.{stores_at}
 use Rattle.serial_bands.specs.OpenBand.{IsOpen, clock_events, waiting_events}
 use Rattle.serial_bands.specs.Shadows.{IsShadowOf, touch_shadow, touch_shadow_if_any}

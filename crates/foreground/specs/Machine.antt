@@ -1,6 +1,7 @@
 -- The machine without its picture: what it stands for, and what its steps make.
 use Rattle.std.specs.Prelude.{◌≡◌, ◌≤◌, ◌^◌, ◌==◌, if◌then◌else◌, ℕ, ◌+◌, ◌-◌, min, Bool, true, List, [], ◌++◌}
 use Rattle.ocs_base.specs.declared.beam.Beam.{Beam}
+use Rattle.ocs_base.specs.declared.chip_size.ChipSize.{ChipSize}
 use Rattle.ocs_base.specs.declared.script.Act.{Act}
 use Rattle.mem_versions.specs.Chip.{ChipValue, memory_from}
 use Rattle.out_files.specs.OutFiles.{OutFilesValue}
@@ -118,10 +119,10 @@ pub record StoresMade (t : ℕ) (ask : Ask) (made : Made) (old new : ChipValue) 
   pub time : (least : ℕ) → old.newest ≤ least → t ≤ least → new.newest ≤ least
   pub reads : new.reads ≡ reads_after ask old.reads
 
--- the machine at reset, with a side as it is then
-pub record IsReset (first : SideValue) (image : List ℕ) (cpu : Bool) (m : MachineValue) : Type 0 where
+-- the machine at reset, with a chip memory of this size and a side as it is then
+pub record IsReset (first : SideValue) (image : List ℕ) (size : ChipSize) (cpu : Bool) (m : MachineValue) : Type 0 where
   pub t : m.t ≡ 0
   pub beam : m.beam ≡ first_place
-  pub chip : m.chip ≡ memory_from image
-  pub chips : IsChipsOf m.chips (reset_chips cpu)
+  pub chip : m.chip ≡ memory_from size image
+  pub chips : IsChipsOf m.chips (reset_chips size cpu)
   pub side : m.side ≡ first

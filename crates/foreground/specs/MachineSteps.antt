@@ -6,6 +6,8 @@ use Rattle.out_files.specs.OutFiles.{OutFilesValue}
 use Rattle.serial_model.specs.declared.bus.Ask.{Ask}
 use Rattle.serial_model.specs.declared.bus.Ask.TheVariants as A
 use Rattle.serial_model.specs.declared.bus.Made.{Made}
+use Rattle.serial_model.specs.declared.bus.SideAsk.{SideAsk}
+use Rattle.serial_model.specs.declared.bus.SideAsk.TheVariants as S
 use Rattle.serial_model.specs.declared.bus.Made.TheVariants as M
 use Rattle.serial_model.specs.Made.{word_of, chips_after, lof_after, merge_half, lines_of}
 use Rattle.serial_model.specs.Side.{poke_side, answer_side, side_by_made}
@@ -34,30 +36,32 @@ chip_after t (M.Plane plane at) chip = chip
 chip_after t (M.Sprite sprite second at) chip = chip
 
 -- a side that asked has its word: a disk the one that it stores, and audio the one that it reads, which counts
+abbrev pub word_for_side : SideAsk → List ℕ → ℕ
+word_for_side S.Nothing memory = 0
+word_for_side (S.Disk at word) memory = word
+word_for_side (S.Audio channel at) memory = word_of memory at.value
+
 abbrev pub word_given : Ask → List ℕ → ℕ
 word_given A.Free memory = 0
-word_given (A.Disk at word) memory = word
-word_given (A.Audio channel at) memory = word_of memory at.value
-word_given (A.Plane plane at) memory = 0
-word_given (A.SpriteControl sprite second at) memory = 0
-word_given (A.SpriteWords sprite second at) memory = 0
+word_given (A.Side ask) memory = word_for_side ask memory
+word_given (A.Plane ask) memory = 0
+word_given (A.Sprite ask) memory = 0
 word_given (A.Copper at) memory = 0
-word_given (A.BlitRead at) memory = 0
-word_given (A.BlitWrite at word) memory = 0
-word_given A.BlitRest memory = 0
+word_given (A.Blit ask) memory = 0
 word_given (A.Processor ask) memory = 0
+
+abbrev pub reads_for_side : SideAsk → ℕ
+reads_for_side S.Nothing = 0
+reads_for_side (S.Disk at word) = 0
+reads_for_side (S.Audio channel at) = 1
 
 abbrev pub reads_by_side : Ask → ℕ
 reads_by_side A.Free = 0
-reads_by_side (A.Disk at word) = 0
-reads_by_side (A.Audio channel at) = 1
-reads_by_side (A.Plane plane at) = 0
-reads_by_side (A.SpriteControl sprite second at) = 0
-reads_by_side (A.SpriteWords sprite second at) = 0
+reads_by_side (A.Side ask) = reads_for_side ask
+reads_by_side (A.Plane ask) = 0
+reads_by_side (A.Sprite ask) = 0
 reads_by_side (A.Copper at) = 0
-reads_by_side (A.BlitRead at) = 0
-reads_by_side (A.BlitWrite at word) = 0
-reads_by_side A.BlitRest = 0
+reads_by_side (A.Blit ask) = 0
 reads_by_side (A.Processor ask) = 0
 
 pub record GivesSide (ask : Ask) (old new : MachineValue) : Type 0 where

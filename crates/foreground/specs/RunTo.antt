@@ -1,5 +1,5 @@
 -- Many clocks of the foreground in one call.
-use Rattle.std.specs.Prelude.{◌≡◌, ◌≤◌, ℕ, zero, suc, ◌+◌, ◌-◌, max, if◌then◌else◌, false, List, ◌++◌, length}
+use Rattle.std.specs.Prelude.{◌≡◌, ◌≤◌, ℕ, zero, suc, ◌+◌, max, if◌then◌else◌, false, List, ◌++◌, length}
 use Rattle.out_files.specs.OutFiles.{OutFilesValue}
 use Rattle.serial_model.specs.declared.trace.TraceLine.{TraceLine}
 use Rattle.serial_bands.specs.Run.{RunValue, state_of, beam_at}

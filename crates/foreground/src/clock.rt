@@ -19,8 +19,7 @@ ghost use Rattle.foreground.specs.Steps.{HasAskedNow, MakesItsAccess, MakesReadi
 use crate::fore::Fore;
 use crate::script::{reads_clxdat, run_script};
 use crate::touches::touch_of;
-use band_draw::due::Cursor;
-use band_log::Raster;
+use band_log::{Cursor, Raster};
 use chip_set::is_clx_ask;
 use ocs_base::OutOfMemory;
 use out_files::OutFiles;

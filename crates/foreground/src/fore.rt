@@ -8,8 +8,7 @@ ghost use Rattle.foreground.specs.Fore.{over, IsNew, is_done};
 
 use crate::log::Log;
 use crate::machine::Machine;
-use band_draw::due::Cursor;
-use band_log::Run;
+use band_log::{Cursor, Run};
 use ocs_base::{Beam, OutOfMemory, System};
 use reg_file::Regs;
 use serial_model::{NoSide, Side};
@@ -70,7 +69,13 @@ impl<S: Side> Fore<S> {
         ensures { IfOk result (λ fore. IsNew (run_over S.seen (arc_value run))
             (over S.seen fore)) }
     {
-        let machine = Machine::new(alloc, run.image(), run.script().cpu(), side)?;
+        let machine = Machine::new(
+            alloc,
+            run.image(),
+            run.script().chip_size(),
+            run.script().cpu(),
+            side,
+        )?;
         Ok(Fore {
             alloc,
             run,

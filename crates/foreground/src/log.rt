@@ -11,7 +11,7 @@ ghost use Rattle.serial_bands.specs.Bands.{begins as begins_at};
 ghost use Rattle.serial_bands.specs.RightJob.{event_at as event_of};
 ghost use Rattle.serial_bands.specs.Shadows.{IsInRange};
 ghost use Rattle.serial_bands.specs.Fetches.{fetches_in};
-ghost use Rattle.band_draw.specs.Keeps.{Keeps};
+ghost use Rattle.serial_model.specs.Keeps.{Keeps};
 ghost use Rattle.foreground.specs.Cuts.{IsClockBefore};
 ghost use Rattle.foreground.specs.Gathered.{IsClosing};
 ghost use Rattle.foreground.specs.Log.{IsLogOf, IsEnding, IsCut, IsJobOf, with_waiting, with_begin, with_script_touch, with_access_touch, with_write_at, blank_after};
@@ -19,8 +19,7 @@ ghost use Rattle.foreground.specs.Log.{IsLogOf, IsEnding, IsCut, IsJobOf, with_w
 use crate::band::OpenBand;
 use crate::shadow;
 use crate::shown_count::shown_before;
-use band_draw::set::{clear, set};
-use band_log::{Event, Events, Job, Reset, Room, Run};
+use band_log::{Event, Events, Job, Room, Run};
 use mem_versions::Chip;
 use ocs_base::{Beam, Clock, OutOfMemory};
 use serial_bands::Shadow;
@@ -41,7 +40,7 @@ pub struct Log {
 impl Log {
     /// The log at reset: band 0 begins with clock 0.
     pub fn new(alloc: Global) -> Log
-        ensures { (run : RunValue) (chip : ChipValue) → chip ≡ memory_from run.image
+        ensures { (run : RunValue) (chip : ChipValue) → chip ≡ memory_from run.script.chip run.image
             → IsLogOf run 0 result chip }
     {
         let opening = Denise::reset();
@@ -82,7 +81,7 @@ impl Log {
         ensures { self.new ≡ with_begin beam.now self.old }
     {
         self.band.beam = *beam;
-        clear(&mut self.band.opening, beam);
+        self.band.opening.clear_line(beam);
     }
 
     /// A touch by the script at a clock.
@@ -230,7 +229,7 @@ fn make_write(d: &mut Denise, h: u16, waiting: &Option<Event>)
     ensures { Keeps (4 * h) (with_write_at h waiting.now) d.old d.new }
 {
     if let Some(Event::Set { reg, word, .. }) = waiting {
-        set(d, h, reg.offset, *word);
+        d.set(h, reg.offset, *word);
     }
 }
 

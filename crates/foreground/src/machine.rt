@@ -1,7 +1,7 @@
 //! The machine without its picture: what each step of a colour clock but the picture's does.
 
 ghost use Rattle.std.specs.Prelude.{◌≡◌, ◌+◌, ◌<◌, ◌^◌, ◌≤◌, ℕ, true, false, Some, OnOk, OnErr, IfOk};
-ghost use Rattle.ocs_base.specs.Image.{is_image};
+ghost use Rattle.ocs_base.specs.Image.{is_image, fits_chip};
 ghost use Rattle.out_files.specs.OutFiles.{OutFilesValue};
 ghost use Rattle.serial_model.specs.declared.bus.Made.TheVariants as M;
 ghost use Rattle.serial_model.specs.Beam.{IsOnScreen, next_place};
@@ -18,10 +18,10 @@ ghost use Rattle.foreground.specs.MachineSteps.{WritesRegister, GivesSide, Does}
 
 use chip_set::Chips;
 use mem_versions::Chip;
-use ocs_base::{Act, Addr, Beam, Clock, OutOfMemory, Reg, System};
+use ocs_base::{Act, Addr, Beam, ChipSize, Clock, OutOfMemory, Reg, System};
 use out_files::OutFiles;
 use reg_file::Effect;
-use serial_model::{Ask, Half, Made, Side, Source, TraceLine};
+use serial_model::{Ask, Half, Made, Side, SideAsk, Source, TraceLine};
 use std::alloc::Global;
 
 /// The machine without its picture: how many clocks are done since reset, the beam, the chip memory, the
@@ -36,18 +36,26 @@ pub struct Machine<S> {
 }
 
 impl<S: Side> Machine<S> {
-    /// The machine at reset, with its memory made from the bytes of an image, and a side as it is
-    /// then; `cpu` says whether the processor is started.
-    pub fn new(alloc: Global, image: &[u8], cpu: bool, side: S) -> Result<Machine<S>, OutOfMemory>
-        requires { is_image image.now ≡ true }
+    /// The machine at reset, with a chip memory of this size that is made from the bytes of an image, and
+    /// a side as it is then; `cpu` says whether the processor is started.
+    #[tactic(auto, using(crate::proofs::Sizes::is_size, crate::proofs::Sizes::size_named))]
+    pub fn new(
+        alloc: Global,
+        image: &[u8],
+        size: ChipSize,
+        cpu: bool,
+        side: S,
+    ) -> Result<Machine<S>, OutOfMemory>
+        requires image { is_image image.now ≡ true }
+        requires fits { fits_chip size image.now ≡ true }
         ensures { IfOk result (λ machine.
-            IsReset (S.seen side) image.now cpu (machine_over S.seen machine)) }
+            IsReset (S.seen side) image.now size cpu (machine_over S.seen machine)) }
     {
         Ok(Machine {
             t: 0,
             beam: beam::start(),
-            chip: Chip::new(alloc, image)?,
-            chips: Chips::reset(cpu),
+            chip: Chip::sized(alloc, image, size.bytes())?,
+            chips: Chips::reset(size, cpu),
             side,
         })
     }
@@ -154,8 +162,12 @@ impl<S: Side> Machine<S> {
         } }
     {
         match ask {
-            Ask::Disk { word, .. } => self.side.give(*word),
-            Ask::Audio { at, .. } => {
+            Ask::Side {
+                ask: SideAsk::Disk { word, .. },
+            } => self.side.give(*word),
+            Ask::Side {
+                ask: SideAsk::Audio { at, .. },
+            } => {
                 let word = self.chip.read(*at);
                 self.side.give(word);
             }

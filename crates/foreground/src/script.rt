@@ -13,11 +13,10 @@ ghost use Rattle.foreground.specs.Script.{IsLeft, IsRest, HasLater, IsMachine, M
 
 use crate::log::Log;
 use crate::machine::Machine;
-use band_draw::due::is_picture;
 use ocs_base::offset::CLXDAT;
 use ocs_base::{Act, At, Beam, OutOfMemory, Reg};
 use out_files::OutFiles;
-use serial_model::{Side, Touch};
+use serial_model::{Denise, Side, Touch};
 
 /// The events of this clock happen in their order: machine and trace have them, and the log what
 /// touches the picture. `events` are those that are left, and the answer is what is left after this
@@ -101,7 +100,7 @@ fn note_write(log: &mut Log, t: u64, reg: Reg, word: u16) -> Result<(), OutOfMem
     ensures { OnOk result (log.new
         ≡ with_touch_if_any t (touch_of (made_by_act (Poke reg word))) log.old) }
 {
-    if is_picture(reg) {
+    if Denise::has_register(reg) {
         log.note_script(t, &Touch::Set { reg, word })?;
     }
     Ok(())

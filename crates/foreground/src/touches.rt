@@ -5,8 +5,7 @@ ghost use Rattle.serial_bands.specs.Shadows.{IsInRange};
 ghost use Rattle.serial_model.specs.Made.{touch_of as touch_by};
 ghost use Rattle.chip_set.specs.Chips.{CanDo};
 
-use band_draw::due::is_picture;
-use serial_model::{Made, Touch};
+use serial_model::{Denise, Made, Touch};
 
 /// How what an access makes touches the picture: by a write to one of Denise's registers, or by a
 /// fetch. Planes and sprites are in range where those of the access are.
@@ -16,7 +15,7 @@ pub fn touch_of(made: &Made) -> Option<Touch>
     ensures range { CanDo made.now → IsInRange result }
 {
     match made {
-        Made::Wrote { reg, word, .. } if is_picture(*reg) => Some(Touch::Set {
+        Made::Wrote { reg, word, .. } if Denise::has_register(*reg) => Some(Touch::Set {
             reg: *reg,
             word: *word,
         }),

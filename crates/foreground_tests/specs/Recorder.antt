@@ -1,6 +1,7 @@
 -- A side for tests: the word that was last written to a register, and the one that the side was last given.
 use Rattle.std.specs.Prelude.{ℕ, ◌==◌, if◌then◌else◌, List, [], ◌∷◌}
 use Rattle.ocs_base.specs.AddressOf.{addr_at}
+use Rattle.ocs_base.specs.declared.chip_size.ChipSize.TheVariants.{Kib512}
 use Rattle.ocs_base.specs.declared.beam.Beam.{Beam}
 use Rattle.serial_model.specs.declared.bus.SideAsk.{SideAsk}
 use Rattle.serial_model.specs.declared.bus.SideAsk.TheVariants.{Nothing, Disk, Audio}
@@ -22,7 +23,7 @@ given_then (Given new ∷ later) word = given_then later new
 -- at clock 7 of each line it stores the word that was written at address 64, and at clock 13 it reads the word there
 abbrev pub recorder_ask : Beam → ℕ → SideAsk
 recorder_ask b written =
-    if b.h == 7 then Disk (addr_at 64) written else if b.h == 13 then Audio 0 (addr_at 64) else Nothing
+    if b.h == 7 then Disk (addr_at Kib512 64) written else if b.h == 13 then Audio 0 (addr_at Kib512 64) else Nothing
 
 -- at clock 20 it requests the bits of the word that it was given
 abbrev pub recorder_bits : Beam → ℕ → ℕ

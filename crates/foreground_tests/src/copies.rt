@@ -4,7 +4,7 @@ use band_draw::Direct;
 use band_log::Raster;
 use chip_set::Chips;
 use ocs_base::offset::{DMACON, JOY0DAT};
-use ocs_base::{Act, Beam, OutOfMemory, Reg};
+use ocs_base::{Act, Beam, ChipSize, OutOfMemory, Reg};
 use serial_model::NoSide;
 
 fn mouse(word: u16) -> Act {
@@ -20,7 +20,7 @@ fn chips_are_copied(rt: HostRuntime) {
         h: 0,
         lof: true,
     };
-    let mut chips = Chips::reset(true);
+    let mut chips = Chips::reset(ChipSize::Kib512, true);
     chips.tell(&mouse(0x1234));
     chips.poke(Reg::masked(DMACON), 0x8240);
     let copy = chips.copied();

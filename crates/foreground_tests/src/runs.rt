@@ -2,11 +2,12 @@
 
 ghost use Rattle.std.specs.Prelude.{◌≡◌, ◌≤◌, ℕ, [], None, false, IfOk};
 ghost use Rattle.ocs_base.specs.Limits.{IsRunnable};
+ghost use Rattle.ocs_base.specs.declared.chip_size.ChipSize.TheVariants.{Kib512};
 ghost use Rattle.foreground.specs.Fore.{over, IsUnderway};
 
 use band_log::{Raster, Run};
 use foreground::Fore;
-use ocs_base::{OutOfMemory, Script};
+use ocs_base::{ChipSize, OutOfMemory, Script};
 use ocs_io::Shelf;
 use out_files::OutFiles;
 use script_read::read_script;
@@ -33,14 +34,19 @@ pub fn run_of(
     Ok(Arc::new(alloc, Run::new(image, script, height))?)
 }
 
-/// A script of one frame with these lines of events.
+/// A script of one frame, for 512 KiB, with these lines of events.
 pub fn script_of(alloc: Global, events: &str) -> Result<Script, Fail>
-    ensures { IfOk result IsRunnable }
+    ensures runnable { IfOk result IsRunnable }
+    ensures chip { IfOk result (λ script. script.chip ≡ Kib512) }
 {
     let mut text = String::from_str(alloc, "ocs 1\ncpu off\nframes 1\n")?;
     text.push_str(events)?;
     text.push_str("end\n")?;
-    Ok(read_script(alloc, text.as_bytes())?)
+    let script = read_script(alloc, text.as_bytes())?;
+    match script.chip_size() {
+        ChipSize::Kib512 => Ok(script),
+        ChipSize::Mib1 => Err(Fail::from("a script of version 1 is for 512 KiB")),
+    }
 }
 
 /// Files named frames, trace and memory.

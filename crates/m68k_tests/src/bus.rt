@@ -1,6 +1,7 @@
 //! The processor on the bus, clock by clock, worked by hand.
 
 use cpu_bus::BusCpu;
+use ocs_base::ChipSize;
 use serial_model::{CiaName, Half, ProcessorAsk, Turn};
 
 /// The clocks that pass until the processor goes on, where its slots are given at once with this
@@ -28,7 +29,7 @@ fn clocks_to_go_on(cpu: &mut BusCpu, word: u16) -> u32 {
 
 /// The processor after its reset, with these words of a program given.
 fn after(words: &[u16]) -> BusCpu {
-    let mut cpu = BusCpu::reset(true);
+    let mut cpu = BusCpu::reset(ChipSize::Kib512, true);
     for word in [0, 0x1000, 0, 8] {
         let _clocks = clocks_to_go_on(&mut cpu, word);
     }
@@ -41,7 +42,7 @@ fn after(words: &[u16]) -> BusCpu {
 
 #[test]
 fn a_slot_is_asked_for_from_the_second_clock_on(rt: HostRuntime) {
-    let mut cpu = BusCpu::reset(true);
+    let mut cpu = BusCpu::reset(ChipSize::Kib512, true);
     assert!(rt; cpu.wish().is_none());
     assert!(rt; matches!(cpu.turn(), Turn::Waits { spent: 1 }));
     cpu.wait(1);
@@ -55,7 +56,7 @@ fn a_slot_is_asked_for_from_the_second_clock_on(rt: HostRuntime) {
 
 #[test]
 fn a_processor_that_is_off_rests(rt: HostRuntime) {
-    let mut cpu = BusCpu::reset(false);
+    let mut cpu = BusCpu::reset(ChipSize::Kib512, false);
     cpu.wait(1);
     assert!(rt; cpu.wish().is_none());
     assert!(rt; matches!(cpu.turn(), Turn::Rests));
@@ -63,7 +64,7 @@ fn a_processor_that_is_off_rests(rt: HostRuntime) {
 
 #[test]
 fn clocks_of_accesses_and_idle_clocks(rt: HostRuntime) {
-    let mut cpu = BusCpu::reset(true);
+    let mut cpu = BusCpu::reset(ChipSize::Kib512, true);
     for (word, clocks) in [(0, 2), (0x1000, 2), (0, 2), (8, 2), (0, 12)] {
         assert_eq!(rt; clocks_to_go_on(&mut cpu, word), clocks);
     }
@@ -102,4 +103,27 @@ fn where_accesses_go(rt: HostRuntime) {
         matches!(memory.wish(), Some(ProcessorAsk::Write { at, half: Half::Low, .. })
         if at.raw() == 0x2000)
     );
+}
+
+/// What a processor with a chip memory of this size asks for when it reads the word at 080000: MOVE.W 00080000,D0.
+fn wish_above_512_kib(chip: ChipSize) -> Option<ProcessorAsk> {
+    let mut cpu = BusCpu::reset(chip, true);
+    for word in [0, 0x1000, 0, 8] {
+        let _clocks = clocks_to_go_on(&mut cpu, word);
+    }
+    let _idle = clocks_to_go_on(&mut cpu, 0);
+    for word in [0x3039, 0x0008, 0x0000] {
+        let _clocks = clocks_to_go_on(&mut cpu, word);
+    }
+    cpu.wait(1);
+    cpu.wish()
+}
+
+#[test]
+fn chip_memory_ends_where_its_size_does(rt: HostRuntime) {
+    match wish_above_512_kib(ChipSize::Mib1) {
+        Some(ProcessorAsk::Read { at }) => assert_eq!(rt; at.raw(), 0x8_0000),
+        _ => assert!(rt; false, "no read"),
+    }
+    assert!(rt; wish_above_512_kib(ChipSize::Kib512).is_none());
 }

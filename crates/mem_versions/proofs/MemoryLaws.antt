@@ -4,7 +4,7 @@ use Rattle.std.proofs.Math.ListN.{set}
 use Rattle.std.specs.List.{filter}
 use Rattle.std.proofs.lemmas.Bool.Decides.{nat_tests}
 use Rattle.std.proofs.lemmas.Grind.{same_number_lists, get_or-set_at}
-use Rattle.std.proofs.lemmas.List.{take-append-drop, take_more}
+use Rattle.std.proofs.lemmas.List.{take-append-drop, take_more, get_or_past}
 use Rattle.std.proofs.lemmas.List.Elements.{All-drop, All-push, All-weaker}
 use Rattle.std.proofs.lemmas.List.Sorted.{IsNonDecreasingBy-drop, IsNonDecreasingBy-push}
 use Rattle.mem_versions.specs.declared.write.Write.{Write}
@@ -44,6 +44,11 @@ one-change true true w place clock rest all words within is same =
     let set_within : place < length (set words w.place w.word) = omega (arith, length-set words w.place w.word) in
     same (set words w.place w.word) set_within
     ∙ ap (word_before place clock all) (get_or-set_at words w.place place w.word 0 this (omega arith))
+
+-- above the memory there are no words at any clock
+pub memory_at-above : (clock place : ℕ) (writes : List Write) (words : List ℕ) → length words ≤ place → get_or (memory_at clock words writes) place 0 ≡ 0
+memory_at-above clock place writes words above =
+    get_or_past (memory_at clock words writes) place 0 (omega (arith, length-words_after words (writes_below clock writes)))
 
 -- the word at a place at a clock is that of the last write to it before
 pub get_or-memory_at : (clock place : ℕ) (writes : List Write) (words : List ℕ) → place < length words →
@@ -102,28 +107,27 @@ memory_at-same now clock kept writes words early same =
     ∙ sym (get_or-memory_at clock place writes words inside))
 
 -- a new memory
-pub IsSound-new : (base words : List ℕ) (writes : List Write) → length base ≡ 262144 → words ≡ base → writes ≡ [] → IsSound base words writes 0
-IsSound-new base words writes size same none =
+pub IsSound-new : (base words : List ℕ) (writes : List Write) → 0 < length base → words ≡ base → writes ≡ []
+    → IsSound base words writes 0
+IsSound-new base words writes some same none =
     let is : [] ≡ writes = sym none in
     let P : List Write → Type 0 = λ ws. IsSound base words ws 0 in
     subst P is (record {
-      size = size;
+      some = some;
       present = same;
-      places = λ k d within. absurd (omega arith);
       stamped = λ i j d order within. absurd (omega arith);
       until = λ k d within. absurd (omega arith);
     })
 
 -- after a write
 pub IsSound-write : (base words after : List ℕ) (writes grown : List Write) (newest : ℕ) (w : Write) → IsSound base words writes newest →
-    newest ≤ w.clock → w.place < 262144 → after ≡ set words w.place w.word → grown ≡ writes ++ w ∷ [] → IsSound base after grown w.clock
-IsSound-write base words after writes grown newest w sound later inside made more =
+    newest ≤ w.clock → after ≡ set words w.place w.word → grown ≡ writes ++ w ∷ [] → IsSound base after grown w.clock
+IsSound-write base words after writes grown newest w sound later made more =
     let is : writes ++ w ∷ [] ≡ grown = sym more in
     let P : List Write → Type 0 = λ ws. IsSound base after ws w.clock in
     subst P is (record {
-      size = sound.size;
+      some = sound.some;
       present = made ∙ ap (λ (now : List ℕ). set now w.place w.word) sound.present ∙ sym (words_after-append base writes (w ∷ []));
-      places = All-push (λ w. w.place < 262144) writes w sound.places inside;
       stamped =
           IsNonDecreasingBy-push (λ w. w.clock) writes w sound.stamped
           (λ d some. let last : (get_or writes (length writes - 1) d).clock ≤ newest = sound.until (length writes - 1) d (omega arith) in omega arith);
@@ -138,11 +142,12 @@ IsSound-cut base words after writes left newest now count sound later made rest 
     let is : drop count writes ≡ left = sym rest in
     let P : List Write → Type 0 = λ ws. IsSound after words ws now in
     subst P is (record {
-      size = ap length made ∙ length-words_after base (take count writes) ∙ sound.size;
+      some =
+          let same : length after ≡ length base = ap length made ∙ length-words_after base (take count writes) in
+          omega (arith, same, sound.some);
       present =
           sound.present ∙ ap (words_after base) (sym (take-append-drop count writes)) ∙ words_after-append base (take count writes) (drop count writes)
           ∙ ap (λ (words : List ℕ). words_after words (drop count writes)) (sym made);
-      places = All-drop (λ w. w.place < 262144) count writes sound.places;
       stamped = IsNonDecreasingBy-drop (λ w. w.clock) count writes sound.stamped;
       until = All-drop (λ w. w.clock ≤ now) count writes (All-weaker (λ w. w.clock ≤ newest) (λ w. w.clock ≤ now) (λ w old. omega arith) writes sound.until);
     })

@@ -114,12 +114,11 @@ starts-rise writes page start end begin stop = by_cases (cases_lt end start)
     by_cases (inr le) = le
 
 -- a start that was read from the table
-pub start-at : (writes : List Write) (starts : List ℕ) (page x : ℕ) → AreStarts writes starts → page < 1025 → x ≡ get_or starts page x → IsStart writes page x
+pub start-at : (writes : List Write) (starts : List ℕ) (page x : ℕ) → AreStarts writes starts (length starts - 1) → page < length starts → x ≡ get_or starts page x → IsStart writes page x
 start-at writes starts page x are within read =
-    let inside : page < length starts = omega (arith, are.count) in
-    let is : get_or starts page 0 ≡ x = sym (read ∙ get_or_default_zero starts page x inside) in
+    let is : get_or starts page 0 ≡ x = sym (read ∙ get_or_default_zero starts page x within) in
     let P : ℕ → Type 0 = λ start. IsStart writes page start in
-    subst P is (are.each page within)
+    subst P is (are.each page (omega arith))
 
 -- a write that counts for a place is to its page
 pub same-page : (place clock : ℕ) (w : Write) → ((w.place == place) && nat_lt w.clock clock) ≡ true → (w.place / 256 == place / 256) ≡ true

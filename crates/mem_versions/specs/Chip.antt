@@ -1,6 +1,7 @@
 -- A chip memory as contracts see it, and what its calls make of it.
 use Rattle.std.specs.Prelude.{ℕ, ◌+◌, ◌-◌, ◌*◌, ◌/◌, ◌%◌, ◌^◌, min, Bool, true, false, List, [], ◌∷◌, ◌++◌, take, drop, slice_index, slice_set}
 use Rattle.ocs_base.specs.declared.addr.Addr.{Addr}
+use Rattle.ocs_base.specs.declared.chip_size.ChipSize.{ChipSize}
 use Rattle.ocs_base.specs.Memory.{memory_of}
 use Rattle.mem_versions.specs.declared.write.Write.{Write}
 use Rattle.mem_versions.specs.MemoryAt.{memory_at, writes_from}
@@ -23,6 +24,7 @@ pub record ChipValue : Type 0 where
 abbrev pub word_index : Addr → ℕ
 word_index at = at.value / 2
 
+-- the word at an address, 0 above the memory
 abbrev pub word_at : ChipValue → Addr → ℕ
 word_at c at = slice_index c.words (word_index at)
 
@@ -30,10 +32,10 @@ word_at c at = slice_index c.words (word_index at)
 abbrev pub page_of : ChipValue → ℕ → List ℕ
 page_of c number = take 256 (drop (256 * number) c.words)
 
--- the memory that an image makes at clock 0
-abbrev pub memory_from : List ℕ → ChipValue
-memory_from image =
-    record { last = 0; base = memory_of image; writes = []; words = memory_of image; newest = 0; reads = 0 }
+-- the memory of a size that an image makes at clock 0
+abbrev pub memory_from : ChipSize → List ℕ → ChipValue
+memory_from size image =
+    record { last = 0; base = memory_of size image; writes = []; words = memory_of size image; newest = 0; reads = 0 }
 
 -- the memory after so many more reads: the count stands still at the greatest number of 64 bits
 abbrev pub after_reads : ChipValue → ℕ → ChipValue

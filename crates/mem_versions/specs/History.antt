@@ -1,6 +1,12 @@
 -- The writes of a view, in order of place and then of happening.
-use Rattle.std.specs.Prelude.{◌≡◌, ◌*◌, ◌≤◌, ◌<◌, ℕ, ◌==◌, ◌&&◌, nat_lt, if◌then◌else◌, List, [], ◌∷◌, length, slice_index, slice_index_or}
+use Rattle.std.specs.Prelude.{◌≡◌, ◌+◌, ◌-◌, ◌*◌, ◌≤◌, ◌<◌, ℕ, ◌==◌, ◌&&◌, nat_lt, if◌then◌else◌, List, [], ◌∷◌, length, slice_index, slice_index_or}
 use Rattle.mem_versions.specs.declared.write.Write.{Write}
+
+pub record HistoryValue : Type 0 where
+  -- how many pages of 256 words the memory has
+  pub pages : ℕ
+  -- the writes, in order of place and then of happening
+  pub writes : List Write
 
 -- the word of the last write to a place of a clock below one, or a word where there is none
 abbrev pub word_before : ℕ → ℕ → List Write → ℕ → ℕ
@@ -24,7 +30,12 @@ pub record IsStart (writes : List Write) (page start : ℕ) : Type 0 where
   pub before : AreLower writes page start
   pub higher : (k : ℕ) (d : Write) → start ≤ k → k < length writes → 256 * page ≤ (slice_index_or writes k d).place
 
--- where the writes to each page begin, and where the last end
-pub record AreStarts (writes : List Write) (starts : List ℕ) : Type 0 where
-  pub count : length starts ≡ 1025
-  pub each : (page : ℕ) → page < 1025 → IsStart writes page (slice_index starts page)
+-- where the writes to each of so many pages begin, and where those to the last end
+pub record AreStarts (writes : List Write) (starts : List ℕ) (pages : ℕ) : Type 0 where
+  pub count : length starts ≡ pages + 1
+  pub each : (page : ℕ) → page < pages + 1 → IsStart writes page (slice_index starts page)
+
+-- writes in order, and a start for each page and one more, where the writes to the last page end
+pub record IsHistory (writes : List Write) (starts : List ℕ) : Type 0 where
+  pub order : IsInOrder writes
+  pub parted : AreStarts writes starts (length starts - 1)

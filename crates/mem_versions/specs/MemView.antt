@@ -19,7 +19,7 @@ pub record ViewValue : Type 0 where
 abbrev pub Covers : ViewValue → ℕ → Type 0
 Covers view clock = (view.from ≤ clock) × (clock ≤ view.to)
 
--- the word at an address at the start of a clock
+-- the word at an address at the start of a clock, 0 above the memory
 abbrev pub word_then : ViewValue → ℕ → Addr → ℕ
 word_then view clock at = slice_index (memory_at clock view.base view.writes) (word_index at)
 

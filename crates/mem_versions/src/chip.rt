@@ -1,27 +1,25 @@
 //! The chip memory: present words, writes since the last cut, and the count of reads.
 
-ghost use Rattle.std.specs.Prelude.{◌≡◌, ◌+◌, ◌*◌, ◌/◌, ◌%◌, ◌<◌, ◌≤◌, ◌++◌, length, take, drop, IfOk, OnOk, OnErr, All};
+ghost use Rattle.std.specs.Prelude.{◌≡◌, ◌+◌, ◌*◌, ◌/◌, ◌%◌, ◌<◌, ◌≤◌, ◌++◌, true, length, take, drop, IfOk, OnOk, OnErr, All};
 ghost use Rattle.std.specs.Borrow.{sem};
 ghost use Rattle.std.specs.List.Sorted.{IsNonDecreasingBy};
 ghost use Rattle.ocs_base.specs.Memory.{words, memory_of};
+ghost use Rattle.ocs_base.specs.Sizes.{bytes_of, is_chip_size, size_of_bytes};
 ghost use Rattle.mem_versions.specs.declared.write.Write.{Write as WriteValue};
 ghost use Rattle.mem_versions.specs.MemoryAt.{words_after, writes_below, writes_from};
 
 use crate::history::History;
-use crate::pages::{PAGE, PAGES, Pages};
+use crate::pages::{PAGE, Pages};
 use crate::view::MemView;
 use crate::write::Write;
-use ocs_base::{Addr, Clock, OutOfMemory};
+use ocs_base::{Addr, ChipSize, Clock, OutOfMemory};
 use std::alloc::{AllocError, AllocFailed, Global};
 use std::marker::Model;
 use std::mem;
 
-/// How many words the chip memory has.
-const WORDS: usize = 262_144;
-
-/// The chip memory of the machine: 512 KiB as words, from address 0 on, in pages that its views share.
-/// It keeps each write since the last cut, and counts the words that are read; the count stands still
-/// at the greatest u64.
+/// The chip memory of the machine: 512 KiB or 1 MiB as words, from address 0 on, in pages that its views
+/// share. It keeps each write since the last cut, and counts the words that are read; the count stands
+/// still at the greatest u64.
 #[derive(Drop)]
 pub struct Chip {
     alloc: Global,
@@ -52,19 +50,32 @@ impl Model for Chip {
 }
 
 impl Chip {
-    ghost use Rattle.mem_versions.specs.Chip.{memory_from, word_at, page_of, after_reads, after_write, after_cut, with_half};
+    ghost use Rattle.mem_versions.specs.Chip.{memory_from, word_index, word_at, page_of, after_reads, after_write, after_cut, with_half};
     ghost use Rattle.mem_versions.specs.MemView.{Covers, word_then, IsViewOf};
+    ghost use Rattle.ocs_base.specs.declared.chip_size.ChipSize.TheVariants.{Kib512};
     ghost use Rattle.mem_versions.specs.Lending.{CountsPage};
 
-    /// The memory that an image makes at clock 0: the bytes of the image from address 0 on, the high
-    /// byte of each word first, and zeros behind them.
+    /// The memory of 512 KiB that an image makes at clock 0: the bytes of the image from address 0 on, the
+    /// high byte of each word first, and zeros behind them.
     pub fn new(alloc: Global, image: &[u8]) -> Result<Chip, OutOfMemory>
         requires even { length image.now % 2 ≡ 0 }
         requires least { 8 ≤ length image.now }
         requires most { length image.now ≤ 524288 }
-        ensures { IfOk result (λ chip. chip ≡ memory_from image.now) }
+        ensures { IfOk result (λ chip. chip ≡ memory_from Kib512 image.now) }
     {
-        let words = Pages::new(alloc, &image_words(alloc, image)?)?;
+        Chip::sized(alloc, image, 0x8_0000)
+    }
+
+    /// The memory of so many bytes, 524,288 or 1,048,576, that an image makes at clock 0.
+    pub fn sized(alloc: Global, image: &[u8], chip: u32) -> Result<Chip, OutOfMemory>
+        requires size { is_chip_size chip ≡ true }
+        requires even { length image.now % 2 ≡ 0 }
+        requires least { 8 ≤ length image.now }
+        requires most { length image.now ≤ chip }
+        ensures { IfOk result (λ made. made ≡ memory_from (size_of_bytes chip) image.now) }
+    {
+        let size = ChipSize::of_bytes(chip);
+        let words = Pages::new(alloc, &image_words(alloc, image, size)?)?;
         let base = words.share()?;
         Ok(Chip {
             alloc,
@@ -77,7 +88,7 @@ impl Chip {
         })
     }
 
-    /// The present word at an address; one more read.
+    /// The present word at an address, 0 above the memory; one more read.
     pub fn read(&mut self, at: Addr) -> u16
         ensures word { result ≡ word_at self.old at }
         ensures reads { self.new ≡ after_reads self.old 1 }
@@ -88,7 +99,7 @@ impl Chip {
 
     /// The present words of a page, from address 512 times its number on; 256 more reads.
     pub fn page(&mut self, number: usize) -> &[u16]
-        requires { number < 1024 }
+        requires { 256 * number + 256 ≤ length self.old.words }
         ensures* reads { sem 𝓛 (CountsPage self.entry) }
         ensures words { result.now ≡ page_of self.old number }
         ensures size { length result.now ≡ 256 }
@@ -106,14 +117,14 @@ impl Chip {
 
     /// How many pages of 256 words the memory has.
     pub fn pages(&self) -> usize
-        ensures count { result ≡ 1024 }
         ensures size { length self.now.words ≡ 256 * result }
+        ensures some { 0 < result }
     {
         self.words.count()
     }
 
-    /// Writes a word at a clock, not below that of the newest write or cut. Every view stays as it was.
-    /// After a refusal all is as before.
+    /// Writes a word at a clock, not below that of the newest write or cut; above the memory no word changes.
+    /// Every view stays as it was. After a refusal all is as before.
     pub fn write(&mut self, now: Clock, at: Addr, word: u16) -> Result<(), OutOfMemory>
         requires { self.old.newest ≤ now.0 }
         ensures ok { OnOk result (self.new ≡ after_write self.old now.0 at word) }
@@ -133,8 +144,8 @@ impl Chip {
         Ok(())
     }
 
-    /// Writes the high or the low byte of the word at an address, at a clock; no read is counted. After
-    /// a refusal all is as before.
+    /// Writes the high or the low byte of the word at an address, at a clock; no read is counted. After a
+    /// refusal all is as before.
     pub fn write_half(
         &mut self,
         now: Clock,
@@ -162,7 +173,7 @@ impl Chip {
         ensures refused { OnErr result (self.new ≡ self.old) }
     {
         let count = count_below(&self.writes, now.0);
-        let history = History::new(self.alloc, &self.writes[..count])?;
+        let history = History::new(self.alloc, &self.writes[..count], self.base.count())?;
         let words = pages_after(&self.base, &self.words, &self.writes, count)?;
         let base = mem::replace(&mut self.base, words);
         let view = MemView::new(self.last, now.0, base, history);
@@ -172,7 +183,8 @@ impl Chip {
         Ok(view)
     }
 
-    /// The word at an address at the start of a clock that a view covers; one more read.
+    /// The word at an address at the start of a clock that a view covers, 0 above the memory; one more
+    /// read.
     pub fn resolve(&mut self, view: &MemView, c: Clock, a: Addr) -> u16
         requires { Covers view.now c.0 }
         ensures word { result ≡ word_then view.now c.0 a }
@@ -203,7 +215,6 @@ fn pages_after(
 ) -> Result<Pages, OutOfMemory>
     requires within { count ≤ length writes.now }
     requires present { words.now ≡ words_after base.now writes.now }
-    requires places { All (λ (write : WriteValue). write.place < 262144) writes.now }
     ensures { IfOk result (λ after. after ≡ words_after base.now (take count writes.now)) }
 {
     if count == writes.len() {
@@ -225,14 +236,15 @@ fn remove_first(writes: &mut Vec<Write>, count: usize)
     writes.truncate(writes.len() - count);
 }
 
-/// The words of the chip memory that an image makes.
-fn image_words(alloc: Global, image: &[u8]) -> Result<Vec<u16>, OutOfMemory>
-    requires { length image.now ≤ 524288 }
-    ensures { IfOk result (λ list. list.items ≡ memory_of image.now) }
+/// The words of the chip memory of a size that an image makes.
+fn image_words(alloc: Global, image: &[u8], size: ChipSize) -> Result<Vec<u16>, OutOfMemory>
+    requires { length image.now ≤ bytes_of size }
+    ensures { IfOk result (λ list. list.items ≡ memory_of size image.now) }
 {
-    let mut list = Vec::with_capacity(alloc, WORDS)?;
+    let count = size.bytes() as usize / 2;
+    let mut list = Vec::with_capacity(alloc, count)?;
     push_words(&mut list, image)?;
-    list.resize(WORDS, 0)?;
+    list.resize(count, 0)?;
     Ok(list)
 }
 

@@ -6,7 +6,7 @@ ghost use Rattle.mem_versions.specs.declared.write.Write.{Write as WriteValue};
 ghost use Rattle.mem_versions.specs.MemoryAt.{writes_to, page_writes};
 ghost use Rattle.mem_versions.specs.History.{word_before, IsInOrder, AreLower, IsStart, AreStarts};
 
-use crate::pages::{PAGE, PAGES};
+use crate::pages::PAGE;
 use crate::steps::Steps;
 use crate::write::Write;
 use ocs_base::OutOfMemory;
@@ -23,27 +23,28 @@ pub struct History {
 }
 
 impl Model for History {
-    ghost use Rattle.std.specs.Prelude.{List};
-    ghost use Rattle.mem_versions.specs.declared.write.Write.{Write as WriteValue};
-    ghost use Rattle.mem_versions.specs.History.{IsInOrder, AreStarts};
+    ghost use Rattle.std.specs.Prelude.{◌-◌, length};
+    ghost use Rattle.mem_versions.specs.History.{HistoryValue, IsHistory};
 
-    ghost Value = { List WriteValue };
+    ghost Value = { HistoryValue };
 
-    ghost view = { λ h. h.writes.items };
+    ghost view = { λ h. record { pages = length h.starts.items - 1; writes = h.writes.items } };
 
-    ghost invariant = { λ h. IsInOrder h.writes.items × AreStarts h.writes.items h.starts.items };
+    ghost invariant = { λ h. IsHistory h.writes.items h.starts.items };
 }
 
 impl History {
-    /// The history of writes that are given in order of happening.
-    pub fn new(alloc: Global, writes: &[Write]) -> Result<History, OutOfMemory>
-        requires { IsNonDecreasingBy (λ (write : WriteValue). write.clock) writes.now }
+    /// The history of writes that are given in order of happening, to a memory of so many pages.
+    pub fn new(alloc: Global, writes: &[Write], pages: usize) -> Result<History, OutOfMemory>
+        requires order { IsNonDecreasingBy (λ (write : WriteValue). write.clock) writes.now }
+        requires room { pages < 2 ^ 56 }
         ensures same { IfOk result (λ history. (place : ℕ)
-            → writes_to place history ≡ writes_to place writes.now) }
-        ensures count { IfOk result (λ history. length history ≡ length writes.now) }
+            → writes_to place history.writes ≡ writes_to place writes.now) }
+        ensures count { IfOk result (λ history. length history.writes ≡ length writes.now) }
+        ensures pages { IfOk result (λ history. history.pages ≡ pages) }
     {
         let writes = sorted_writes(alloc, writes)?;
-        let starts = page_starts(alloc, &writes)?;
+        let starts = page_starts(alloc, &writes, pages)?;
         Ok(History { writes, starts })
     }
 
@@ -56,9 +57,10 @@ impl History {
         word: u16,
         steps: &mut Steps<L>,
     ) -> u16
-        requires { place < 262144 }
-        ensures word { result ≡ word_before place clock self.now word }
-        ensures cost { 2 ^ (steps.new - steps.old) ≤ 2 * page_writes (place / 256) self.now + 1 }
+        requires { place < 256 * self.now.pages }
+        ensures word { result ≡ word_before place clock self.now.writes word }
+        ensures cost { 2 ^ (steps.new - steps.old)
+            ≤ 2 * page_writes (place / 256) self.now.writes + 1 }
     {
         let writes = self.page(place as usize / PAGE);
         last_before(writes, place, clock, word, steps)
@@ -66,8 +68,9 @@ impl History {
 
     /// The writes to a page.
     fn page(&self, number: usize) -> &[Write]
-        requires { number < 1024 }
-        ensures writes { result.now ≡ filter (λ write. write.place / 256 == number) self.now }
+        requires { number < self.now.pages }
+        ensures writes { result.now
+            ≡ filter (λ write. write.place / 256 == number) self.now.writes }
         ensures order { IsInOrder result.now }
     {
         part(&self.writes, self.starts[number], self.starts[number + 1])
@@ -96,14 +99,15 @@ fn sorted_writes(alloc: Global, writes: &[Write]) -> Result<Vec<Write>, OutOfMem
     Ok(list)
 }
 
-/// Where the writes to each page begin, and where those to the last one end, by one walk.
-fn page_starts(alloc: Global, writes: &[Write]) -> Result<Vec<usize>, OutOfMemory>
-    requires { IsInOrder writes.now }
-    ensures { IfOk result (λ starts. AreStarts writes.now starts.items) }
+/// Where the writes to each of so many pages begin, and where those to the last one end, by one walk.
+fn page_starts(alloc: Global, writes: &[Write], pages: usize) -> Result<Vec<usize>, OutOfMemory>
+    requires order { IsInOrder writes.now }
+    requires room { pages < 2 ^ 56 }
+    ensures { IfOk result (λ starts. AreStarts writes.now starts.items pages) }
 {
-    let mut starts = Vec::with_capacity(alloc, PAGES + 1)?;
+    let mut starts = Vec::with_capacity(alloc, pages + 1)?;
     let mut start = 0;
-    for page in 0..PAGES + 1 {
+    for page in 0..pages + 1 {
         start = page_start(writes, page, start);
         starts.push(start)?;
     }
@@ -113,7 +117,7 @@ fn page_starts(alloc: Global, writes: &[Write]) -> Result<Vec<usize>, OutOfMemor
 /// Where the writes to a page begin, from a place before which only writes to lower pages stand.
 fn page_start(writes: &[Write], page: usize, from: usize) -> usize
     requires order { IsInOrder writes.now }
-    requires page { page < 1025 }
+    requires page { page < 2 ^ 56 }
     requires lower { AreLower writes.now page from }
     ensures { IsStart writes.now page result }
 {

@@ -1,6 +1,6 @@
 //! Words in pages that several owners share, copied where a shared page is written.
 
-ghost use Rattle.std.specs.Prelude.{◌≡◌, ◌+◌, ◌*◌, ◌/◌, ◌%◌, ◌<◌, ◌≤◌, ℕ, length, take, drop, slice_index, slice_set, IfOk, OnOk, OnErr, All};
+ghost use Rattle.std.specs.Prelude.{◌≡◌, ◌+◌, ◌*◌, ◌/◌, ◌%◌, ◌^◌, ◌<◌, ◌≤◌, ℕ, length, take, drop, slice_get, slice_index, slice_set, IfOk, OnOk, OnErr, All};
 ghost use Rattle.std.specs.Arc.{arc_value};
 ghost use Rattle.std.specs.List.{flat_map};
 
@@ -11,9 +11,6 @@ use std::sync::Arc;
 
 /// How many words a page has.
 pub const PAGE: usize = 256;
-
-/// How many pages the chip memory has.
-pub const PAGES: usize = 1024;
 
 /// The words of a page.
 type Page = [u16; 256];
@@ -26,7 +23,7 @@ pub struct Pages {
 }
 
 impl Model for Pages {
-    ghost use Rattle.std.specs.Prelude.{◌≡◌, ℕ, List, All, length};
+    ghost use Rattle.std.specs.Prelude.{◌≡◌, ◌<◌, ◌^◌, ℕ, List, All, length};
     ghost use Rattle.std.specs.List.{flat_map};
     ghost use Rattle.std.specs.Arc.{arc_value};
 
@@ -34,14 +31,14 @@ impl Model for Pages {
 
     ghost view = { λ p. flat_map arc_value p.list.items };
 
-    ghost invariant = { λ p. (length p.list.items ≡ 1024)
+    ghost invariant = { λ p. (length p.list.items < 2 ^ 56)
         × All (λ page. length (arc_value page) ≡ 256) p.list.items };
 }
 
 impl Pages {
-    /// The pages of the words of a whole chip memory.
+    /// The pages of words that fill whole pages.
     pub fn new(alloc: Global, words: &[u16]) -> Result<Pages, OutOfMemory>
-        requires { length words.now ≡ 262144 }
+        requires { length words.now % 256 ≡ 0 }
         ensures { IfOk result (λ pages. pages ≡ words.now) }
     {
         let list = page_list(alloc, words)?;
@@ -59,17 +56,28 @@ impl Pages {
         })
     }
 
-    /// The word at a place.
+    /// The word at a place; none behind the last page.
+    #[inline(always)]
+    pub fn get(&self, place: usize) -> Option<u16>
+        ensures { result ≡ slice_get self.now place }
+    {
+        match self.list.get(place / PAGE) {
+            Some(page) => Some(page[place % PAGE]),
+            None => None,
+        }
+    }
+
+    /// The word at a place; 0 behind the last page.
+    #[inline(always)]
     pub fn word(&self, place: usize) -> u16
-        requires { place < 262144 }
         ensures { result ≡ slice_index self.now place }
     {
-        self.list[place / PAGE][place % PAGE]
+        self.get(place).unwrap_or(0)
     }
 
     /// The words of a page.
     pub fn page(&self, number: usize) -> &[u16]
-        requires { number < 1024 }
+        requires { 256 * number + 256 ≤ length self.now }
         ensures words { result.now ≡ take 256 (drop (256 * number) self.now) }
         ensures size { length result.now ≡ 256 }
     {
@@ -78,15 +86,28 @@ impl Pages {
 
     /// How many pages there are.
     pub fn count(&self) -> usize
-        ensures count { result ≡ 1024 }
         ensures size { length self.now ≡ 256 * result }
+        ensures room { result < 2 ^ 56 }
     {
         self.list.len()
     }
 
-    /// Writes a word at a place. After a refusal all is as before.
+    /// Writes a word at a place; behind the last page nothing is written. After a refusal all is as before.
+    #[inline(always)]
     pub fn set_word(&mut self, place: usize, word: u16) -> Result<(), OutOfMemory>
-        requires { place < 262144 }
+        ensures ok { OnOk result (self.new ≡ slice_set self.old place word) }
+        ensures refused { OnErr result (self.new ≡ self.old) }
+    {
+        if place / PAGE < self.count() {
+            self.set_held_word(place, word)
+        } else {
+            Ok(())
+        }
+    }
+
+    /// Writes a word at a place that a page has. After a refusal all is as before.
+    fn set_held_word(&mut self, place: usize, word: u16) -> Result<(), OutOfMemory>
+        requires { place < length self.old }
         ensures ok { OnOk result (self.new ≡ slice_set self.old place word) }
         ensures refused { OnErr result (self.new ≡ self.old) }
     {
@@ -96,13 +117,14 @@ impl Pages {
 
 /// The pages of words, each with one owner.
 fn page_list(alloc: Global, words: &[u16]) -> Result<Vec<Arc<Page>>, OutOfMemory>
-    requires { length words.now ≡ 262144 }
+    requires { length words.now % 256 ≡ 0 }
     ensures words { IfOk result (λ list. flat_map arc_value list.items ≡ words.now) }
-    ensures count { IfOk result (λ list. length list.items ≡ 1024) }
+    ensures room { IfOk result (λ list. length list.items < 2 ^ 56) }
     ensures size { IfOk result (λ list. All (λ page. length (arc_value page) ≡ 256) list.items) }
 {
-    let mut list = Vec::with_capacity(alloc, PAGES)?;
-    for number in 0..PAGES {
+    let count = words.len() / PAGE;
+    let mut list = Vec::with_capacity(alloc, count)?;
+    for number in 0..count {
         list.push(Arc::new(alloc, page_of(words, number))?)?;
     }
     Ok(list)

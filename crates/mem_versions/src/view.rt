@@ -22,22 +22,32 @@ pub struct MemView {
 }
 
 impl Model for MemView {
-    ghost use Rattle.std.specs.Prelude.{◌≡◌, length};
+    ghost use Rattle.std.specs.Prelude.{◌≡◌, ◌*◌, length};
     ghost use Rattle.mem_versions.specs.MemView.{ViewValue};
 
     ghost Value = { ViewValue };
 
-    ghost view = { λ v. record { from = v.from; to = v.to; base = v.base; writes = v.history } };
+    ghost view = { λ v. record {
+      from = v.from;
+      to = v.to;
+      base = v.base;
+      writes = v.history.writes;
+    } };
 
-    ghost invariant = { λ v. length v.base ≡ 262144 };
+    ghost invariant = { λ v. length v.base ≡ 256 * v.history.pages };
 }
 
 impl MemView {
     ghost use Rattle.mem_versions.specs.MemView.{Covers, word_then};
 
     pub(crate) fn new(from: u64, to: u64, base: Pages, history: History) -> MemView
-        requires { length base ≡ 262144 }
-        ensures { result ≡ record { from = from; to = to; base = base; writes = history } }
+        requires { length base ≡ 256 * history.pages }
+        ensures { result ≡ record {
+          from = from;
+          to = to;
+          base = base;
+          writes = history.writes;
+        } }
     {
         MemView {
             from,
@@ -48,7 +58,7 @@ impl MemView {
     }
 
     /// The word at an address at the start of a clock that the view covers: all writes of clocks below
-    /// it are made, and none other.
+    /// it are made, and none other. It is 0 above the memory.
     pub fn at(&self, c: Clock, a: Addr) -> u16
         requires { Covers self.now c.0 }
         ensures { result ≡ word_then self.now c.0 a }
@@ -75,7 +85,9 @@ impl MemView {
             ≤ 2 * page_writes (word_index a / 256) self.now.writes + 1 }
     {
         let place = a.value / 2;
-        let word = self.base.word(place as usize);
-        self.history.word_before(place, c.0, word, steps)
+        match self.base.get(place as usize) {
+            Some(word) => self.history.word_before(place, c.0, word, steps),
+            None => 0,
+        }
     }
 }

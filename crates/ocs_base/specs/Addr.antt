@@ -1,10 +1,6 @@
--- Addresses of chip memory: even numbers below a span.
+-- Even numbers below a span.
 use Rattle.std.specs.Prelude.{◌≡◌, ℕ, ◌%◌, ◌/◌, ◌*◌, ℤ, pos}
 use Rattle.std.specs.Int.{int_rem_euclid}
-
--- how many bytes the chip memory of the machine has
-abbrev pub chip_span : ℕ
-chip_span = 524288
 
 -- the even address that a number names: what the span leaves of it, without its bit 0
 abbrev pub even_address : ℕ → ℕ → ℕ

@@ -1,6 +1,7 @@
 pub mod Addr
 pub mod AddressOf
 pub mod Span
+pub mod Sizes
 pub mod Image
 pub mod Script
 pub mod Systems

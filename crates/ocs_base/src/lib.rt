@@ -3,6 +3,7 @@
 
 pub mod addr;
 pub mod beam;
+pub mod chip_size;
 pub mod memory;
 pub mod offset;
 pub mod reg;
@@ -11,6 +12,7 @@ pub mod system;
 
 pub use addr::Addr;
 pub use beam::{Beam, Clock, Colour, time_order};
+pub use chip_size::ChipSize;
 pub use memory::OutOfMemory;
 pub use reg::Reg;
 pub use script::{Act, At, Script};

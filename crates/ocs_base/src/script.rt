@@ -4,6 +4,7 @@ ghost use Rattle.std.specs.Prelude.{◌≡◌, ◌++◌, ◌∷◌, [], OnOk, On
 ghost use Rattle.ocs_base.specs.Limits.{time_of};
 
 use crate::beam::time_order;
+use crate::chip_size::ChipSize;
 use crate::memory::OutOfMemory;
 use crate::reg::Reg;
 use crate::system::System;
@@ -45,6 +46,7 @@ impl At {
 pub struct Script {
     cpu: bool,
     frames: u32,
+    chip: ChipSize,
     system: System,
     events: Vec<At>,
 }
@@ -57,30 +59,60 @@ impl Model for Script {
     ghost view = { λ s. record {
       cpu = s.cpu;
       frames = s.frames;
+      chip = s.chip;
       system = s.system;
       events = s.events.items;
     } };
 }
 
 impl Script {
-    ghost use Rattle.ocs_base.specs.Addr.{chip_span};
+    ghost use Rattle.std.specs.Prelude.{true};
+    ghost use Rattle.ocs_base.specs.Sizes.{bytes_of, is_chip_size, size_of_bytes};
+    ghost use Rattle.ocs_base.specs.declared.chip_size.ChipSize.TheVariants.{Kib512};
 
-    /// A script of so many frames without events, for a PAL machine.
+    /// A script of so many frames without events, for a PAL machine with 512 KiB of chip memory.
     pub fn new(alloc: Global, cpu: bool, frames: u32) -> Script
-        ensures { result
-            ≡ record { cpu = cpu; frames = frames; system = System.Pal; events = [] } }
+        ensures { result ≡ record {
+          cpu = cpu;
+          frames = frames;
+          chip = Kib512;
+          system = System.Pal;
+          events = [];
+        } }
     {
-        Script::made(alloc, cpu, frames, System::Pal)
+        Script::sized(alloc, cpu, frames, 0x8_0000)
     }
 
-    /// A script of so many frames without events.
-    pub fn made(alloc: Global, cpu: bool, frames: u32, system: System) -> Script
-        ensures { result
-            ≡ record { cpu = cpu; frames = frames; system = system; events = [] } }
+    /// A script of so many frames without events, for a PAL machine with so many bytes of chip memory:
+    /// 524,288 or 1,048,576.
+    pub fn sized(alloc: Global, cpu: bool, frames: u32, chip: u32) -> Script
+        requires { is_chip_size chip ≡ true }
+        ensures { result ≡ record {
+          cpu = cpu;
+          frames = frames;
+          chip = size_of_bytes chip;
+          system = System.Pal;
+          events = [];
+        } }
+    {
+        Script::made(alloc, cpu, frames, chip, System::Pal)
+    }
+
+    /// A script of so many frames without events, for any machine that there is.
+    pub fn made(alloc: Global, cpu: bool, frames: u32, chip: u32, system: System) -> Script
+        requires { is_chip_size chip ≡ true }
+        ensures { result ≡ record {
+          cpu = cpu;
+          frames = frames;
+          chip = size_of_bytes chip;
+          system = system;
+          events = [];
+        } }
     {
         Script {
             cpu,
             frames,
+            chip: ChipSize::of_bytes(chip),
             system,
             events: Vec::new(alloc),
         }
@@ -119,9 +151,16 @@ impl Script {
 
     /// The size of the machine's chip memory in bytes.
     pub fn chip(&self) -> u32
-        ensures { result ≡ chip_span }
+        ensures { result ≡ bytes_of self.now.chip }
     {
-        0x8_0000
+        self.chip.bytes()
+    }
+
+    /// The same as one of the sizes that there are.
+    pub fn chip_size(&self) -> ChipSize
+        ensures { result ≡ self.now.chip }
+    {
+        self.chip
     }
 
     /// Whose beam the machine has.

@@ -1,6 +1,8 @@
 -- The run of a good verdict has an end.
 use Rattle.std.proofs.Common.{◌≡◌, ℕ, Bool, true, false, if◌then◌else◌, List, Option, Some, None, refl}
-use Rattle.ocs_base.specs.Image.{is_image}
+use Rattle.ocs_base.specs.Image.{is_image, fits_chip}
+use Rattle.ocs_base.specs.Limits.{IsRunnable}
+use Rattle.ocs_base.specs.Script.{ScriptValue}
 use Rattle.ocs_io.specs.Answers.{WhereTold}
 use Rattle.ocs_io.specs.Place.{Files, file}
 use Rattle.scene_gen.specs.Scene.{scene_image, scene_script}
@@ -11,12 +13,18 @@ use Rattle.serial_model.specs.Side.{no_side}
 use Rattle.serial_model.proofs.EndLaws.{has_end}
 use Rattle.ocs_run.specs.Order.{OrderValue}
 use Rattle.ocs_run.specs.Top.{HasRunEnd}
-use Rattle.ocs_run.specs.Verdict.{BadImage, of_script, of_text, of_image, of_order, of_command}
+use Rattle.ocs_run.specs.Verdict.{BadImage, Good, of_script, of_text, of_image, of_order, of_command}
 use Rattle.ocs_run.specs.Words.{CommandValue, Run, Gen}
+
+if_fits : (order : OrderValue) (image : List ℕ) (script : ScriptValue) (fits : Bool) → IsRunnable script
+    → HasRunEnd (if fits then Good image script order else BadImage)
+if_fits order image script true good = has_end no_side image script good
+if_fits order image script false good = tt
 
 script_ends : (order : OrderValue) (image text : List ℕ) (verdict : ScriptVerdict) → script_of text ≡ verdict
     → HasRunEnd (of_script order image verdict)
-script_ends order image text (GoodScript script) is = has_end no_side image script (IsPrintable-script_of text script is).runnable
+script_ends order image text (GoodScript script) is =
+    if_fits order image script (fits_chip script.chip image) (IsPrintable-script_of text script is).runnable
 script_ends order image text (BadLine line kind) is = tt
 
 text_ends : (order : OrderValue) (image : List ℕ) (text : Option (List ℕ)) → HasRunEnd (of_text order image text)

@@ -1,11 +1,14 @@
 -- The files of a scene's run: what they hold, and how long they are.
-use Rattle.std.proofs.Common.{◌≡◌, ℕ, zero, suc, ◌+◌, ◌*◌, ◌<◌, ◌≤◌, ◌%◌, ◌==◌, Bool, true, false, if◌then◌else◌, List, [], ◌∷◌, ◌++◌, length, codes, unwrap_or, Some, arith, refl, ap, ◌∙◌, append_assoc, length-append}
+use Rattle.std.proofs.Common.{◌≡◌, ℕ, zero, suc, ◌+◌, ◌*◌, ◌/◌, ◌<◌, ◌≤◌, ◌%◌, ◌==◌, Bool, true, false, if◌then◌else◌, List, [], ◌∷◌, ◌++◌, length, codes, unwrap_or, Some, arith, refl, ap, ◌∙◌, append_assoc, length-append}
 use Rattle.std.proofs.lemmas.Bool.Decides.{nat_tests}
 use Rattle.std.proofs.lemmas.List.{length-set}
 use Rattle.std.specs.FinMap.{get, insert, empty}
-use Rattle.ocs_base.specs.Image.{is_image}
+use Rattle.ocs_base.specs.Image.{fits_chip}
 use Rattle.ocs_base.specs.Script.{ScriptValue}
+use Rattle.ocs_base.specs.Sizes.{bytes_of}
 use Rattle.ocs_base.specs.Systems.{frame_bytes}
+use Rattle.ocs_base.specs.declared.chip_size.ChipSize.{ChipSize}
+use Rattle.ocs_base.specs.declared.chip_size.ChipSize.TheVariants.{Kib512}
 use Rattle.ocs_base.specs.declared.system.System.{System}
 use Rattle.ocs_base.specs.declared.system.System.TheVariants.{Pal, Ntsc}
 use Rattle.ocs_io.specs.Place.{Files, with_file}
@@ -13,7 +16,7 @@ use Rattle.ocs_io.proofs.MapLaws.{get_inserted}
 use Rattle.mem_versions.proofs.WordsLaws.{length-memory_of}
 use Rattle.out_files.specs.Together.{three_files}
 use Rattle.scene_gen.specs.Scene.{scene_image, scene_script}
-use Rattle.scene_gen.proofs.ImageLaws.{is_image-scene}
+use Rattle.scene_gen.proofs.ImageLaws.{fits_chip-scene}
 use Rattle.serial_model.specs.Laws.{made_in}
 use Rattle.serial_model.specs.Made.{memory_after}
 use Rattle.serial_model.specs.MemoryText.{memory_text}
@@ -58,10 +61,10 @@ length-memory_after (M.Stored at half word) memory = length-set memory _ _
 length-memory_after (M.Plane plane at) memory = refl
 length-memory_after (M.Sprite sprite second at) memory = refl
 
-length-memory : (side : SideValue) (image : List ℕ) (script : ScriptValue) (n : ℕ) → length image ≤ 524288 → length (state_over side image script n).memory ≡
-    262144
+length-memory : (side : SideValue) (image : List ℕ) (script : ScriptValue) (n : ℕ) → length image ≤ bytes_of script.chip
+    → length (state_over side image script n).memory ≡ bytes_of script.chip / 2
 unfolding state_over reset
-length-memory side image script zero fits = length-memory_of image fits
+length-memory side image script zero fits = length-memory_of script.chip image fits
 length-memory side image script (suc n) fits =
     ap length (memory_next script.system script.events (state_over side image script n))
     ∙ length-memory_after (made_in script.system script.events (state_over side image script n)) (state_over side image script n).memory
@@ -72,8 +75,8 @@ unfolding memory_text
 length-memory_text [] = refl
 length-memory_text (word ∷ words) = let rest : length (memory_text words) ≡ 2 * length words = length-memory_text words in omega (arith, rest)
 
-image_fits : (bytes : List ℕ) → is_image bytes ≡ true → length bytes ≤ 524288
-image_fits bytes good = grind (arith, nat_tests, good)
+image_fits : (size : ChipSize) (bytes : List ℕ) → fits_chip size bytes ≡ true → length bytes ≤ bytes_of size
+image_fits size bytes good = grind (arith, nat_tests, good)
 
 -- ---- what the files hold
 
@@ -117,12 +120,14 @@ frames_fit number files bytes has is =
 
 pub memory_fits : (number : ℕ) (files : Files) (bytes : List ℕ) → HasSceneFiles number files → bytes ≡ unwrap_or (get files (codes "memory")) []
     → length bytes < 4294967296
+unfolding scene_script
 memory_fits number files bytes has is =
     let s : State = state_at (scene_image number) (scene_script number) has.clocks in
     let same : bytes ≡ memory_text s.memory = is ∙ memory_held files _ _ _ has.files in
     let count : length bytes ≡ length (memory_text s.memory) = ap length same in
     let words : length s.memory ≡ 262144 =
-    length-memory no_side (scene_image number) (scene_script number) has.clocks (image_fits (scene_image number) (is_image-scene number)) in
+    length-memory no_side (scene_image number) (scene_script number) has.clocks
+    (image_fits Kib512 (scene_image number) (fits_chip-scene number)) in
     omega (arith, count, length-memory_text s.memory, words)
 
 scene_is_pal : (number : ℕ) → (scene_script number).system ≡ Pal

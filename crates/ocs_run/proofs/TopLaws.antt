@@ -1,6 +1,6 @@
 -- The clauses of the top call, from what stands after the command and what was said.
 use Rattle.std.proofs.Common.{◌≡◌, ℕ, zero, suc, ◌≤◌, ◌⊎◌, Bool, true, false, if◌then◌else◌, List, [], take, Option, Some, None, Ok, Err, inl, inr, refl, sym, ap, subst, ◌∙◌, append-nil, arith}
-use Rattle.ocs_base.specs.Image.{is_image}
+use Rattle.ocs_base.specs.Image.{is_image, fits_chip}
 use Rattle.ocs_io.specs.Answers.{WhereTold}
 use Rattle.ocs_io.specs.Place.{Files, Outside, Rose, OnlySays, file, said_more}
 use Rattle.script_read.specs.Grammar.{script_of, Good as GoodScript, Bad as BadLine, Verdict as ScriptVerdict}
@@ -107,7 +107,11 @@ IsOfRun (Good image script order) = Unit {0}
 IsOfRun (Scene number band workers) = ⊥
 
 script_of_run : (o : OrderValue) (image : List ℕ) (v : ScriptVerdict) → IsOfRun (of_script o image v)
-script_of_run o image (GoodScript script) = tt
+script_of_run o image (GoodScript script) = step (fits_chip script.chip image)
+  where
+    step : (b : Bool) → IsOfRun (if b then Good image script o else BadImageVerdict)
+    step true = tt
+    step false = tt
 script_of_run o image (BadLine line kind) = tt
 
 text_of_run : (o : OrderValue) (image : List ℕ) (text : Option (List ℕ)) → IsOfRun (of_text o image text)

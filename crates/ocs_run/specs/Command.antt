@@ -8,6 +8,7 @@ use Rattle.out_files.specs.OutFiles.{OutNames, OutFilesValue}
 use Rattle.ocs_run.specs.declared.fault.Fault.{Fault}
 use Rattle.ocs_run.specs.declared.fault.Fault.TheVariants.{Usage, BadImage, BadScript, Unread, Unwritten, Unsaid, OutOfMemory}
 use Rattle.ocs_run.specs.declared.fault.Input.TheVariants.{Image, Script}
+use Rattle.ocs_run.specs.Inputs.{HoldsImage}
 use Rattle.ocs_run.specs.Order.{OrderValue}
 use Rattle.ocs_run.specs.Run.{HasFiles}
 use Rattle.ocs_run.specs.Prefix.{LeavesPrefixes}
@@ -70,16 +71,8 @@ IsWanting (Absent name) files new = new ≡ Some files
 IsWanting BadImageVerdict files new = new ≡ Some files
 IsWanting (BadScriptVerdict line kind) files new = new ≡ Some files
 
--- the image is good: only then is the script read
-abbrev pub HasGoodImage : OrderValue → Verdict → Type 0
-HasGoodImage asked (Good image script order) = Unit {0}
-HasGoodImage asked (Scene number band workers) = ⊥
-HasGoodImage asked UsageVerdict = ⊥
-HasGoodImage asked (Absent name) = name ≡ asked.script
-HasGoodImage asked BadImageVerdict = ⊥
-HasGoodImage asked (BadScriptVerdict line kind) = Unit {0}
-
--- what stands after an answer to the words, where they are those of an order
+-- What stands after an answer to the words, where they are those of an order. The script is read only where the image has the form
+-- of one; that it fits the script's chip memory is seen later.
 abbrev pub OrderAnswers : OrderValue → Outside → Outside → Result (Unit {0}) Fault → Type 0
 OrderAnswers order old new (Ok done) = WhereTold old.files (λ files. IsDone (of_order order files) files new.files)
 OrderAnswers order old new (Err Usage) = ⊥
@@ -90,7 +83,7 @@ OrderAnswers order old new (Err (BadScript line kind)) =
 OrderAnswers order old new (Err (Unread Image)) = Rose old.read_faults new.read_faults × (new.files ≡ old.files)
 OrderAnswers order old new (Err (Unread Script)) =
     Rose old.read_faults new.read_faults × (new.files ≡ old.files)
-    × WhereTold old.files (λ files. HasGoodImage order (of_order order files))
+    × WhereTold old.files (HoldsImage order.image)
 OrderAnswers order old new (Err (Unwritten file)) =
     Rose old.write_faults new.write_faults × WhereTold old.files (λ files. IsUnwritten (of_order order files) files new.files)
 OrderAnswers order old new (Err Unsaid) = ⊥

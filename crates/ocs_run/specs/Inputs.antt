@@ -15,7 +15,13 @@ use Rattle.ocs_run.specs.declared.fault.Input.TheVariants.{Image, Script}
 abbrev pub Holds : List ℕ → List ℕ → Files → Type 0
 Holds name bytes files = file files name ≡ Some bytes
 
--- the file is there, and is no image
+-- the file is there, and has the form of an image
+pub record HoldsImage (name : List ℕ) (files : Files) : Type 0 where
+  pub bytes : List ℕ
+  pub there : file files name ≡ Some bytes
+  pub good : is_image bytes ≡ true
+
+-- the file is there, and has not the form of an image
 pub record HoldsNoImage (name : List ℕ) (files : Files) : Type 0 where
   pub bytes : List ℕ
   pub there : file files name ≡ Some bytes

@@ -5,8 +5,9 @@ use Rattle.ocs_io.specs.Place.{Outside, Rose}
 use Rattle.scene_gen.specs.Scene.{scene_image, scene_script}
 use Rattle.script_read.specs.declared.fault.BadKind.{BadKind}
 use Rattle.serial_model.specs.Serial.{IsEnd}
-use Rattle.ocs_run.specs.Command.{OrderAnswers, HasGoodImage, KeepsSaid}
+use Rattle.ocs_run.specs.Command.{OrderAnswers, KeepsSaid}
 use Rattle.ocs_run.specs.Fault.{status_of}
+use Rattle.ocs_run.specs.Inputs.{HoldsImage}
 use Rattle.ocs_run.specs.Order.{OrderValue}
 use Rattle.ocs_run.specs.SceneAnswers.{SceneAnswers, SaysSummary, SaysSummaryPart}
 use Rattle.ocs_run.specs.Texts.{text_of, Says}
@@ -87,13 +88,13 @@ Completed (Good image script order) old new status =
 Completed (Scene number band workers) old new status = Rose old.say_faults new.say_faults ⊎ ((status ≡ 0) ⊎ (status ≡ 7))
 
 -- the fault is one of a run, and what its text tells is so: the bad line of the script; and the script is named only where the
--- image is good
+-- image has the form of one
 abbrev pub IsToldOfRun : OrderValue → Outside → Fault → Type 0
 IsToldOfRun order old Usage = ⊥
 IsToldOfRun order old BadImage = Unit {0}
 IsToldOfRun order old (BadScript line kind) = WhereTold old.files (λ files. of_order order files ≡ BadScriptVerdict line kind)
 IsToldOfRun order old (Unread Image) = Unit {0}
-IsToldOfRun order old (Unread Script) = WhereTold old.files (λ files. HasGoodImage order (of_order order files))
+IsToldOfRun order old (Unread Script) = WhereTold old.files (HoldsImage order.image)
 IsToldOfRun order old (Unwritten file) = Unit {0}
 IsToldOfRun order old Unsaid = ⊥
 IsToldOfRun order old OutOfMemory = Unit {0}

@@ -1,6 +1,6 @@
 -- What the words of the command line and the files come to.
 use Rattle.std.specs.Prelude.{ℕ, if◌then◌else◌, List, Option, Some, None}
-use Rattle.ocs_base.specs.Image.{is_image}
+use Rattle.ocs_base.specs.Image.{is_image, fits_chip}
 use Rattle.ocs_base.specs.Script.{ScriptValue}
 use Rattle.ocs_io.specs.Place.{Files, file}
 use Rattle.script_read.specs.Grammar.{script_of, Good as GoodScript, Bad as BadLine, Verdict as ScriptVerdict}
@@ -12,19 +12,20 @@ use Rattle.ocs_run.specs.Words.{CommandValue, Run, Gen}
 pub data Verdict : Type 0 where
   -- the words are of no command
   Usage : Verdict
-  -- an input file is not there
+  -- an input file is not there, where the order comes to its read
   Absent : List ℕ → Verdict
-  -- the image is odd, too short or too long
+  -- the image is odd, shorter than 8 bytes or longer than the greater chip memory; or the script is good, and the image longer than
+  -- its chip memory
   BadImage : Verdict
   -- the script is bad at a line
   BadScript : ℕ → BadKind → Verdict
-  -- an image and a script, and what is asked
+  -- an image and a script whose chip memory it fits, and what is asked
   Good : List ℕ → ScriptValue → OrderValue → Verdict
   -- a scene: its number, how many lines a band has, and how many workers
   Scene : ℕ → ℕ → ℕ → Verdict
 
 abbrev pub of_script : OrderValue → List ℕ → ScriptVerdict → Verdict
-of_script order image (GoodScript script) = Good image script order
+of_script order image (GoodScript script) = if fits_chip script.chip image then Good image script order else BadImage
 of_script order image (BadLine line kind) = BadScript line kind
 
 abbrev pub of_text : OrderValue → List ℕ → Option (List ℕ) → Verdict

@@ -1,7 +1,7 @@
 //! The command `run`: the inputs read and tested, and the run.
 
 ghost use Rattle.std.specs.Prelude.{◌≡◌, ◌≤◌, true, string_bytes, IfOk, IfErr};
-ghost use Rattle.ocs_base.specs.Image.{is_image};
+ghost use Rattle.ocs_base.specs.Image.{is_image, fits_chip};
 ghost use Rattle.ocs_base.specs.Limits.{IsRunnable};
 ghost use Rattle.ocs_run.specs.Asked.{value_of, AreApart, IsHeight};
 ghost use Rattle.ocs_run.specs.Command.{OrderAnswers, out_names, IsOutOf, RunAnswers, KeepsSaid};
@@ -19,7 +19,8 @@ use std::alloc::Global;
 use std::sync::Wait;
 use std::thread::Threads;
 
-/// Does what an order asks for: the image is read and tested, then the script, and then it is run.
+/// Does what an order asks for: the image is read and its form tested, then the script, and then whether
+/// the image fits the script's chip memory; and then it is run.
 #[tactic(auto, using(crate::proofs::PrefixLaws::prefixes_kept))]
 pub fn run_order<
     R: Threads + Wait + Clone + Drop + Send + Sync + 'static,
@@ -37,10 +38,20 @@ pub fn run_order<
 {
     let image = read_image(alloc, order.image, place)?;
     let script = read_script_file(alloc, order.script, place)?;
+    if !fits(&image, &script) {
+        return Err(Fault::BadImage);
+    }
     run_inputs(rt, alloc, order, gate, image, script, place)
 }
 
-/// Runs a good script over a good image.
+/// Whether an image is not longer than a script's chip memory.
+fn fits(image: &[u8], script: &Script) -> bool
+    ensures { result ≡ fits_chip script.now.chip image.now }
+{
+    image.len() <= script.chip() as usize
+}
+
+/// Runs a good script over a good image that fits its chip memory.
 #[tactic(auto, using(crate::proofs::PrefixLaws::prefixes_kept))]
 fn run_inputs<
     R: Threads + Wait + Clone + Drop + Send + Sync + 'static,
@@ -56,6 +67,7 @@ fn run_inputs<
     place: &mut P,
 ) -> Result<(), Fault>
     requires image { is_image image.items ≡ true }
+    requires fits { fits_chip script.chip image.items ≡ true }
     requires script { IsRunnable script }
     requires apart { AreApart order.now }
     requires height { IsHeight order.now.band }

@@ -13,13 +13,14 @@ use ocs_io::{Place, ReadRefusal};
 use script_read::{BadKind, ScriptFault, read_script};
 use std::alloc::Global;
 
-/// The most bytes of an image, those of chip memory.
-const IMAGE_BYTES: usize = 524_288;
+/// The most bytes of an image, those of the greater chip memory.
+const IMAGE_BYTES: usize = 1_048_576;
 
 /// The most bytes of a script.
 const SCRIPT_BYTES: usize = 4_194_304;
 
-/// Reads the image: an even number of 8 to 524,288 bytes.
+/// Reads the image: an even number of 8 to 1,048,576 bytes. Whether they fit the machine's chip memory
+/// the script says, which is read later.
 pub fn read_image<P: Place>(alloc: Global, name: &str, place: &mut P) -> Result<Vec<u8>, Fault>
     requires { P.readable place.old name.now }
     ensures good { IfOk result (λ image. IsImageOf (P.outside place.old) name.now image.items) }
@@ -40,7 +41,7 @@ pub fn read_image<P: Place>(alloc: Global, name: &str, place: &mut P) -> Result<
     }
 }
 
-/// Whether bytes are an image.
+/// Whether bytes have the form of an image.
 fn is_image(image: &[u8]) -> bool
     ensures { result ≡ good_image image.now }
 {

@@ -25,7 +25,8 @@ use std::thread::Threads;
 /// `run IMAGE SCRIPT FRAMES TRACE MEMORY BAND WORKERS` runs the script over the image and writes the
 /// three files: 0 done; 2 the words are not of this form; 3 the image is bad; 4 the script is bad; 5 an
 /// input could not be read; 6 a file could not be written; 7 memory was wanting. Each status but 0 says
-/// its text.
+/// its text. The image is bad where it is not an even number of 8 to 1,048,576 bytes, which is seen before
+/// the script is read, and where the script is good and says less chip memory than the image has bytes.
 ///
 /// `gen N BAND WORKERS` runs the scene of the number N on files of its own, and says four lines in one
 /// piece: the number of frames, the sum of the frames file's bytes, the number of lines of the trace, and

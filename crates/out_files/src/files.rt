@@ -1,7 +1,6 @@
 //! The three files of a run and the text that is pending for them.
 
-ghost use Rattle.std.specs.Prelude.{◌≡◌, ◌≢◌, ◌/◌, [], IfErr, OnOk, OnErr, string_bytes};
-ghost use Rattle.ocs_base.specs.Addr.{chip_span};
+ghost use Rattle.std.specs.Prelude.{◌≡◌, ◌≢◌, [], length, IfErr, OnOk, OnErr, string_bytes};
 ghost use Rattle.ocs_io.specs.Place.{Rose, OnlyWrites, KeepsNames};
 ghost use Rattle.serial_model.specs.MemoryText.{memory_text};
 ghost use Rattle.mem_versions.specs.Chip.{after_reads};
@@ -222,7 +221,7 @@ impl OutFiles {
         ensures parts { OnErr result
             (LeavesParts self.old (P.outside place.old).files (P.outside place.new).files
             (memory_text chip.old.words)) }
-        ensures chip { OnOk result (chip.new ≡ after_reads chip.old (chip_span / 2)) }
+        ensures chip { OnOk result (chip.new ≡ after_reads chip.old (length chip.old.words)) }
         ensures words { chip.new ≡ record chip.old { reads = chip.new.reads } }
         ensures same { self.new ≡ self.old }
         ensures kept { OnlyWrites (P.outside place.old) (P.outside place.new) }

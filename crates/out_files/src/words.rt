@@ -1,7 +1,6 @@
 //! The words of chip memory as bytes of the memory file.
 
-ghost use Rattle.std.specs.Prelude.{◌≡◌, ◌/◌, ◌++◌, OnOk};
-ghost use Rattle.ocs_base.specs.Addr.{chip_span};
+ghost use Rattle.std.specs.Prelude.{◌≡◌, ◌++◌, length, OnOk};
 ghost use Rattle.serial_model.specs.MemoryText.{memory_text};
 ghost use Rattle.mem_versions.specs.Chip.{after_reads};
 
@@ -12,7 +11,7 @@ use ocs_base::OutOfMemory;
 /// have been appended.
 pub fn put_memory(text: &mut Vec<u8>, chip: &mut Chip) -> Result<(), OutOfMemory>
     ensures text { OnOk result (text.new.items ≡ text.old.items ++ memory_text chip.old.words) }
-    ensures chip { OnOk result (chip.new ≡ after_reads chip.old (chip_span / 2)) }
+    ensures chip { OnOk result (chip.new ≡ after_reads chip.old (length chip.old.words)) }
     ensures kept { chip.new ≡ record chip.old { reads = chip.new.reads } }
 {
     for number in 0..chip.pages() {

@@ -2,7 +2,7 @@
 
 ghost use Rattle.std.specs.Prelude.{◌≡◌, [], length};
 
-use band_log::{Denise, Drawn, Event, Events, Job, Reset, Room, Run};
+use band_log::{Denise, Drawn, Event, Events, Job, Room, Run};
 use mem_versions::{Chip, MemView};
 use ocs_base::{Addr, Beam, Clock, OutOfMemory, Reg, Script};
 use planes::plane_bits;

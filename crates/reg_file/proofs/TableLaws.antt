@@ -1,5 +1,5 @@
 -- The code's ways to find a register agree with the table of registers: computed over all offsets.
-use Rattle.std.proofs.Common.{◌≡◌, ℕ, Bool, true, not, subst, nat_lt, ◌*◌, ◌/◌, ◌%◌, ◌<◌, ◌==◌, ◌&&◌, ◌||◌, nat_le, if◌then◌else◌, List, get_or, map, refl, ap, sym, ◌∙◌, arith}
+use Rattle.std.proofs.Common.{◌≡◌, ℕ, Bool, true, not, subst, nat_lt, ◌*◌, ◌/◌, ◌%◌, ◌<◌, ◌==◌, ◌||◌, if◌then◌else◌, List, get_or, map, refl, ap, sym, ◌∙◌, arith}
 use Rattle.std.specs.List.{range_with_len}
 use Rattle.std.proofs.lemmas.Bool.{ltb-true}
 use Rattle.std.proofs.lemmas.List.FromFn.{get_or-map-range_with_len}
@@ -49,7 +49,7 @@ writing_found n =
 
 -- of a pointer's high word or low word
 abbrev pub pointer_bits : ℕ → ℕ
-pointer_bits n = if n % 4 == 0 then 7 else 65534
+pointer_bits n = if n % 4 == 0 then 0 else 65534
 
 abbrev pub bits_found : ℕ → ℕ
 bits_found n =

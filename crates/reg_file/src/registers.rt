@@ -1,13 +1,15 @@
 //! The kept words of the custom registers.
 
 ghost use Rattle.std.specs.Prelude.{◌≡◌, ◌<◌, ◌%◌, true, if◌then◌else◌};
-ghost use Rattle.serial_model.specs.Registers.{no_registers, kept_word, pointer_at, with_pointer, with_word, words_after, effect_of};
+ghost use Rattle.ocs_base.specs.Sizes.{is_chip_size, size_of_bytes};
+ghost use Rattle.ocs_base.specs.declared.chip_size.ChipSize.TheVariants.{Kib512};
+ghost use Rattle.serial_model.specs.Registers.{no_registers, kept_word, pointer_at, with_pointer, with_word, words_after, effect_of, high_bits as high_bits_of};
 ghost use Rattle.irq_cia.specs.Bits.{set_or_clear as set_or_clear_of};
 ghost use Rattle.serial_model.specs.Registers.{effect_in, word_at, is_closed as closed, bit_worth};
 ghost use Rattle.serial_model.specs.RegisterTable.{is_pointer_high};
 
 use crate::table::{kept_bits, reading, writing};
-use ocs_base::{Addr, Reg, offset};
+use ocs_base::{Addr, ChipSize, Reg, offset};
 use serial_model::{Effect, Live, Reading, Writing};
 use std::marker::Model;
 
@@ -15,34 +17,57 @@ use std::marker::Model;
 const DMACON: usize = offset::DMACON as usize;
 
 /// The kept words of the custom registers (Hardware Reference Manual, register summary), by half their
-/// offset from DFF000. An offset without a register keeps 0 (profile).
+/// offset from DFF000. An offset without a register keeps 0 (profile). Pointers are addresses of a chip memory
+/// of this size.
 #[derive(Drop)]
 pub struct Regs {
+    size: ChipSize,
     words: [u16; 256],
 }
 
 impl Model for Regs {
-    ghost use Rattle.std.specs.Prelude.{List, ℕ};
+    ghost use Rattle.serial_model.specs.Registers.{Registers};
 
-    ghost Value = { List ℕ };
+    ghost Value = { Registers };
 
-    ghost view = { λ r. r.words };
+    ghost view = { λ r. record { size = r.size; words = r.words } };
 }
 
 impl Regs {
-    /// The registers at reset: every kept word is 0 (profile).
-    #[tactic(auto, unfolding(serial_model::specs::Registers::no_registers))]
+    /// The registers at reset, with 512 KiB of chip memory.
     pub fn reset() -> Regs
-        ensures { result ≡ no_registers }
+        ensures { result ≡ no_registers Kib512 }
     {
-        Regs { words: [0; 256] }
+        Regs::reset_in(ChipSize::Kib512)
+    }
+
+    /// The registers at reset, with so many bytes of chip memory: 524,288 or 1,048,576.
+    pub fn reset_for(chip: u32) -> Regs
+        requires { is_chip_size chip ≡ true }
+        ensures { result ≡ no_registers (size_of_bytes chip) }
+    {
+        Regs::reset_in(ChipSize::of_bytes(chip))
+    }
+
+    /// The registers at reset, with a chip memory of this size: every kept word is 0 (profile).
+    #[tactic(auto, unfolding(serial_model::specs::Registers::no_registers))]
+    pub fn reset_in(size: ChipSize) -> Regs
+        ensures { result ≡ no_registers size }
+    {
+        Regs {
+            size,
+            words: [0; 256],
+        }
     }
 
     /// The same words once more.
     pub fn copied(&self) -> Regs
         ensures { result ≡ self.now }
     {
-        Regs { words: self.words }
+        Regs {
+            size: self.size,
+            words: self.words,
+        }
     }
 
     /// A write of a word to a register by the script, the Copper or the processor. The register
@@ -65,8 +90,8 @@ impl Regs {
         match way {
             Writing::Ignored | Writing::Interrupt => {}
             Writing::SetOrClear => *place = set_or_clear(*place, word, kept_bits(reg)),
+            Writing::PointerHigh => *place = word & high_bits(self.size),
             Writing::Plain
-            | Writing::PointerHigh
             | Writing::Jump { .. }
             | Writing::Blit
             | Writing::Picture
@@ -103,20 +128,23 @@ impl Regs {
         self.words[reg.offset as usize / 2]
     }
 
-    /// The address in a pointer: bits 18 to 16 are bits 2 to 0 of the word at `high`, and bits 15 to 1 are
-    /// those of the next register's word (Hardware Reference Manual, pointer registers). Bit 0 of BLTAPTL is
-    /// kept, but is no part of the address.
+    /// The address in a pointer: its bits above 15 are the word at `high`, and bits 15 to 1 are those of the
+    /// next register's word (Hardware Reference Manual, pointer registers). Bit 0 of BLTAPTL is kept, but is no
+    /// part of the address.
     #[tactic(auto, using(crate::proofs::TableLaws::low_follows))]
     pub fn pointer(&self, high: Reg) -> Addr
         requires { is_pointer_high high.offset ≡ true }
         ensures { result ≡ pointer_at self.now high.offset }
     {
         let at = high.offset as usize / 2;
-        Addr::at(self.words[at] as u32 * 0x1_0000 + self.words[at + 1] as u32)
+        Addr::sized(
+            self.size,
+            self.words[at] as u32 * 0x1_0000 + self.words[at + 1] as u32,
+        )
     }
 
-    /// A pointer gets an address: the register at `high` its bits 18 to 16, and the next one bits 15 to 0, of
-    /// which bit 0 is 0. This is no write on the bus, so a busy blitter does not close it.
+    /// A pointer gets an address, which is to have the span of the chip memory: the register at `high` its bits above 15, and the next one
+    /// bits 15 to 0, of which bit 0 is 0. This is no write on the bus, so a busy blitter does not close it.
     #[tactic(auto, using(crate::proofs::TableLaws::low_follows))]
     pub fn set_pointer(&mut self, high: Reg, to: Addr)
         requires { is_pointer_high high.offset ≡ true }
@@ -133,6 +161,16 @@ impl Regs {
         ensures { self.new ≡ with_word self.old reg.offset word }
     {
         self.words[reg.offset as usize / 2] = word;
+    }
+}
+
+/// The bits that a pointer's high word keeps: 2 to 0 with 512 KiB of chip memory, and 3 to 0 with 1 MiB.
+fn high_bits(size: ChipSize) -> u16
+    ensures { result ≡ high_bits_of size }
+{
+    match size {
+        ChipSize::Kib512 => 0x7,
+        ChipSize::Mib1 => 0xf,
     }
 }
 

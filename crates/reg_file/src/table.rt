@@ -64,7 +64,8 @@ fn pointer_writing(reg: Reg) -> Writing
     }
 }
 
-/// The bits of a written word that a register keeps; 0 where there is none to keep.
+/// The bits of a written word that a register keeps; 0 where there is none to keep, and for the high word of a
+/// pointer, whose bits go by the size of chip memory.
 pub fn kept_bits(reg: Reg) -> u16
     ensures { result ≡ kept_bits_at reg.offset }
 {
@@ -100,10 +101,10 @@ fn whole_word(writing: Writing) -> u16
     }
 }
 
-/// The bits that one word of a pointer keeps: 2 to 0 of the high word, which lies at a multiple of 4, and 15
-/// to 1 of the low word.
+/// The bits that one word of a pointer keeps whatever the size of chip memory: none of the high word, which lies
+/// at a multiple of 4, and 15 to 1 of the low word.
 fn pointer_bits(reg: Reg) -> u16
-    ensures { result ≡ (if reg.offset % 4 == 0 then 7 else 65534) }
+    ensures { result ≡ (if reg.offset % 4 == 0 then 0 else 65534) }
 {
-    if reg.offset % 4 == 0 { 0x0007 } else { 0xfffe }
+    if reg.offset % 4 == 0 { 0 } else { 0xfffe }
 }

@@ -2,7 +2,7 @@
 
 use crate::fault::CaseFault;
 use crate::place::{holds, run_words, shelf, status};
-use crate::told::{bytes, colour, first, number, told, word};
+use crate::told::{address, bytes, colour, first, number, told};
 use std::alloc::Global;
 use std::sync::Wait;
 use std::thread::Threads;
@@ -25,8 +25,14 @@ fn is_ntsc(run: &str) -> bool {
     first(run, "system", "") == "ntsc"
 }
 
-/// The bytes of chip memory.
-const CHIP: usize = 524_288;
+/// How many bytes of chip memory the machine has.
+fn chip_bytes(run: &str) -> usize {
+    if first(run, "chip", "512") == "1024" {
+        1_048_576
+    } else {
+        524_288
+    }
+}
 
 /// A part of a frame in one colour: its first and last row, its first and last column.
 #[derive(Drop)]
@@ -109,14 +115,7 @@ pub fn image(alloc: Global, run: &str) -> Result<Vec<u8>, CaseFault> {
 
 /// The script.
 pub fn script(alloc: Global, run: &str) -> Result<String, CaseFault> {
-    let cpu = first(run, "cpu", "off");
-    let frames = first(run, "frames", "1");
-    let system = first(run, "system", "");
-    let mut script = if system.is_empty() {
-        format!(in alloc; "ocs 1\ncpu {cpu}\nframes {frames}\n")?
-    } else {
-        format!(in alloc; "ocs 3\ncpu {cpu}\nframes {frames}\nchip 512\nsystem {system}\n")?
-    };
+    let mut script = head(alloc, run)?;
     for line in run.lines() {
         if let Some(event) = told(line, "input") {
             push_all(&mut script, &["at ", event, "\n"])?;
@@ -127,6 +126,29 @@ pub fn script(alloc: Global, run: &str) -> Result<String, CaseFault> {
     }
     script.push_str("end\n")?;
     Ok(script)
+}
+
+/// The lines of the script before its events.
+fn head(alloc: Global, run: &str) -> Result<String, CaseFault> {
+    let cpu = first(run, "cpu", "off");
+    let frames = first(run, "frames", "1");
+    let system = first(run, "system", "");
+    let chip = first(run, "chip", if system.is_empty() { "" } else { "512" });
+    let version = if !system.is_empty() {
+        "3"
+    } else if !chip.is_empty() {
+        "2"
+    } else {
+        "1"
+    };
+    let mut head = format!(in alloc; "ocs {version}\ncpu {cpu}\nframes {frames}\n")?;
+    if !chip.is_empty() {
+        push_all(&mut head, &["chip ", chip, "\n"])?;
+    }
+    if !system.is_empty() {
+        push_all(&mut head, &["system ", system, "\n"])?;
+    }
+    Ok(head)
 }
 
 /// Appends texts.
@@ -185,12 +207,11 @@ fn push_traced(trace: &mut String, events: &str) -> Result<(), CaseFault> {
 /// Memory at the end.
 pub fn memory(alloc: Global, run: &str) -> Result<Vec<u8>, CaseFault> {
     let mut memory = image(alloc, run)?;
-    memory.resize(CHIP, 0)?;
+    memory.resize(chip_bytes(run), 0)?;
     for line in run.lines() {
         if let Some(left) = told(line, "left") {
             let (at, words) = left.split_once(' ').ok_or("words are told")?;
-            let at = word(at)? as usize;
-            put(&mut memory, at, &bytes(alloc, words)?)?;
+            put(&mut memory, address(at)?, &bytes(alloc, words)?)?;
         }
     }
     Ok(memory)

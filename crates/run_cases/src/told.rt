@@ -5,8 +5,9 @@
 //! - `bands`, `workers`: the heights of bands and the numbers of workers, each with each; 313 and 2 where
 //!   they are not told.
 //! - `cpu`, `frames`: as in the script; `off` and 1 where they are not told.
-//! - `system`: whose beam the machine has, which makes the script one of version 3; it is one of version 1
-//!   where that is not told.
+//! - `chip`: how many KiB of chip memory the machine has, 512 where it is not told. `system`: whose beam it
+//!   has. The script is one of version 3 where a system is told, else of version 2 where a size is, else
+//!   of version 1.
 //! - `image`: words of memory from address 0 on, going on from line to line; `200*ffff` is a word that
 //!   stands so often.
 //! - `at TIME: 180=0f00 002?2240`: pokes, and peeks with the word that is read, all at one time, which stand
@@ -47,6 +48,17 @@ pub fn number(text: &str) -> Result<u64, CaseFault> {
 /// A hexadecimal number.
 pub fn word(text: &str) -> Result<u16, CaseFault> {
     Ok(hex(text.as_bytes()).ok_or("a word is told")?)
+}
+
+/// An address, of at most eight hexadecimal digits.
+pub fn address(text: &str) -> Result<usize, CaseFault> {
+    let split = text.len().saturating_sub(4);
+    let low = word(text.get(split..).unwrap_or(""))?;
+    if split == 0 {
+        return Ok(low as usize);
+    }
+    let high = word(text.get(..split).unwrap_or(""))?;
+    Ok(high as usize * 0x1_0000 + low as usize)
 }
 
 /// The bytes of words.

@@ -5,6 +5,8 @@
 #[cfg(test)]
 mod blits;
 #[cfg(test)]
+mod chip_memory;
+#[cfg(test)]
 mod copper_lists;
 #[cfg(test)]
 mod instructions;

@@ -1,7 +1,8 @@
 -- The image of a scene, block by block.
 use Rattle.std.proofs.Common.{◌≡◌, ℕ, ◌-◌, ◌*◌, ◌%◌, ◌&&◌, ◌==◌, nat_le, List, [], ◌∷◌, ◌++◌, length, replicate, refl, ap, ◌∙◌, arith, true, flat_map}
 use Rattle.std.specs.List.{range_with_len}
-use Rattle.ocs_base.specs.Image.{is_image}
+use Rattle.ocs_base.specs.Image.{is_image, fits_chip}
+use Rattle.ocs_base.specs.declared.chip_size.ChipSize.TheVariants.{Kib512}
 use Rattle.scene_gen.specs.Blocks.{bytes_of, bytes_by, byte_at}
 use Rattle.scene_gen.specs.Scene.{start_vectors, level_3_vector, main_program, level_3_handler, sprite_list, sprite_pointer, plane_pointer, colour_change, copper_list, pattern_byte, scene_blocks, scene_image}
 use Rattle.scene_gen.proofs.Growth.{length-bytes_of, length-bytes_by}
@@ -44,7 +45,11 @@ copper_list-is n none sprites planes colours all is_none more_sprites more_plane
 pub is_image-scene : (n : ℕ) → is_image (scene_image n) ≡ true
 unfolding scene_image
 is_image-scene n =
-    ap (λ k. (k % 2 == 0) && nat_le 8 k && nat_le k 524288) (length-bytes_by (byte_at (scene_blocks n)) 0 49152)
+    ap (λ k. (k % 2 == 0) && nat_le 8 k && nat_le k 1048576) (length-bytes_by (byte_at (scene_blocks n)) 0 49152)
+
+pub fits_chip-scene : (n : ℕ) → fits_chip Kib512 (scene_image n) ≡ true
+unfolding scene_image
+fits_chip-scene n = ap (λ k. nat_le k 524288) (length-bytes_by (byte_at (scene_blocks n)) 0 49152)
 
 pub scene_image-is : (n : ℕ) (sprite_words copper_words none start vector main handler sprite copper zeros planes : List ℕ)
     → sprite_words ≡ sprite_list n → copper_words ≡ copper_list n → none ≡ []

@@ -4,6 +4,7 @@ use borrow.Author.Tests.{ltb-true, leb-true}
 use Rattle.std.specs.List.{range_with_len}
 use Rattle.ocs_base.specs.Limits.{time_of, HasPort, AreInLimits, AreFrom, AreInOrder, IsRunnable}
 use Rattle.ocs_base.specs.Script.{ScriptValue}
+use Rattle.ocs_base.specs.declared.chip_size.ChipSize.TheVariants.{Kib512}
 use Rattle.ocs_base.specs.declared.script.Act.{Act}
 use Rattle.ocs_base.specs.declared.script.Act.TheVariants.{Poke, Peek, Joy, Fire, Key}
 use Rattle.ocs_base.specs.declared.script.At.{At}
@@ -38,13 +39,14 @@ frame_events-is n frame colour before poked peeked after p q is_peek is_poke is_
     ∙ ap (λ a. all a q) is_peek ∙ ap (λ b. all (peek 0x00e) b) (is_poke ∙ ap (poke 0x180) is_colour)
 
 abbrev pub script_of : ℕ → ℕ → ScriptValue
-script_of n frames = record { cpu = true; frames = 10; system = Pal; events = flat_map (frame_events n) (range_with_len 0 frames) }
+script_of n frames = record { cpu = true; frames = 10; chip = Kib512; system = Pal; events = flat_map (frame_events n) (range_with_len 0 frames) }
 
 pub next_frame : (n frame : ℕ) (before after : ScriptValue) → before ≡ script_of n frame
     → after ≡ record before { events = before.events ++ frame_events n frame } → after ≡ script_of n (frame + 1)
 next_frame n frame before after so_far step =
     step ∙ ap (λ (s : ScriptValue). record s { events = s.events ++ frame_events n frame }) so_far
-    ∙ ap (λ (e : List At). record { cpu = true; frames = 10; system = Pal; events = e }) (sym (parts_more (frame_events n) 0 frame frame (omega arith)))
+    ∙ ap (λ (e : List At). record { cpu = true; frames = 10; chip = Kib512; system = Pal; events = e })
+    (sym (parts_more (frame_events n) 0 frame frame (omega arith)))
 
 -- ---- limits and order
 

@@ -4,6 +4,7 @@ use Rattle.std.specs.Prelude.{ℕ, ◌+◌, ◌-◌, ◌*◌, ◌/◌, ◌%◌, 
 use Rattle.std.specs.List.{concat, range_with_len}
 use Rattle.ocs_base.specs.Register.{register_of}
 use Rattle.ocs_base.specs.Script.{ScriptValue}
+use Rattle.ocs_base.specs.declared.chip_size.ChipSize.TheVariants.{Kib512}
 use Rattle.ocs_base.specs.declared.script.Act.{Act}
 use Rattle.ocs_base.specs.declared.script.Act.TheVariants.{Poke, Peek}
 use Rattle.ocs_base.specs.declared.script.At.{At}
@@ -159,4 +160,10 @@ frame_events n frame =
     ∷ []
 
 unfoldable pub scene_script : ℕ → ScriptValue
-scene_script n = record { cpu = true; frames = 10; system = Pal; events = flat_map (frame_events n) (range_with_len 0 10) }
+scene_script n = record {
+  cpu = true;
+  frames = 10;
+  chip = Kib512;
+  system = Pal;
+  events = flat_map (frame_events n) (range_with_len 0 10);
+}

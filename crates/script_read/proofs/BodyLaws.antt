@@ -24,6 +24,7 @@ with_events-push events at (Bad number kind) = refl
 pub record StandsAt (head : ScriptValue) (first : ℕ) (all : List (List ℕ)) (script : ScriptValue) (number before : ℕ) (left : List (List ℕ)) : Type 0 where
   pub cpu : script.cpu ≡ head.cpu
   pub frames : script.frames ≡ head.frames
+  pub chip : script.chip ≡ head.chip
   pub system : script.system ≡ head.system
   pub verdict : body_of head first 0 all ≡ with_events script.events (body_of head number before left)
 
@@ -31,6 +32,7 @@ pub StandsAt-start : (head : ScriptValue) (first : ℕ) (all : List (List ℕ)) 
 StandsAt-start head first all none = record {
   cpu = refl;
   frames = refl;
+  chip = refl;
   system = refl;
   verdict = sym (with_events-none (body_of head first 0 all)) ∙ ap (λ e. with_events e (body_of head first 0 all)) (sym none);
 }
@@ -60,6 +62,7 @@ module _ (head : ScriptValue) (first : ℕ) (all : List (List ℕ)) (script : Sc
   StandsAt-more line lines at stands next is = record {
     cpu = stands.cpu;
     frames = stands.frames;
+    chip = stands.chip;
     system = stands.system;
     verdict = opened line lines (Ok (Some at)) stands next is ∙ with_events-push script.events at (body_of head (number + 1) (time_of at) lines);
   }
@@ -71,7 +74,13 @@ module _ (head : ScriptValue) (first : ℕ) (all : List (List ℕ)) (script : Sc
     where
       ended : (lines : List (List ℕ)) → with_events script.events (after_end head (number + 1) lines) ≡ after_end script (number + 1) lines
       ended [] =
-          (λ i. Good (record { cpu = sym stands.cpu i; frames = sym stands.frames i; system = sym stands.system i; events = script.events ++ none i }))
+          (λ i. Good (record {
+            cpu = sym stands.cpu i;
+            frames = sym stands.frames i;
+            chip = sym stands.chip i;
+            system = sym stands.system i;
+            events = script.events ++ none i;
+          }))
           ∙ ap (λ e. Good (record script { events = e })) (append-nil script.events)
       ended (extra ∷ lines) = refl
 

@@ -4,6 +4,8 @@ use Rattle.script_read.specs.Extends.{Extends}
 use Rattle.std.proofs.lemmas.List.{take_more}
 use Rattle.std.proofs.lemmas.Grind.{flat_map-append}
 use Rattle.ocs_io.specs.Numbers.{hex_text}
+use Rattle.ocs_base.specs.declared.chip_size.ChipSize.{ChipSize}
+use Rattle.ocs_base.specs.declared.chip_size.ChipSize.TheVariants.{Kib512, Mib1}
 use Rattle.ocs_base.specs.declared.reg.Reg.{Reg}
 use Rattle.ocs_base.specs.declared.script.Act.{Act}
 use Rattle.ocs_base.specs.declared.script.Act.TheVariants.{Poke, Peek, Joy, Fire, Key}
@@ -92,17 +94,21 @@ event-text at = simp append_assoc
 number-text : (number rest : List ℕ) → number ++ (10 ∷ rest) ≡ ((number ++ []) ++ 10 ∷ []) ++ rest
 number-text number rest = sym (append_assoc (number ++ []) (10 ∷ []) rest ∙ ap (λ t. t ++ (10 ∷ rest)) (append-nil number))
 
-pub head-text : (cpu : Bool) (frames : ℕ) (system : System) (events : List At)
-    → first_text system ++ (cpu_text cpu ++ ((32 ∷ decimal frames) ++ last_text system))
-    ≡ head_text (lowest system) (record { cpu = cpu; frames = frames; system = system; events = events })
+pub head-text : (cpu : Bool) (frames : ℕ) (chip : ChipSize) (system : System) (events : List At)
+    → first_text chip system ++ (cpu_text cpu ++ ((32 ∷ decimal frames) ++ last_text chip system))
+    ≡ head_text (lowest chip system) (record { cpu = cpu; frames = frames; chip = chip; system = system; events = events })
 unfolding head_text line_text line_of spaced
-head-text true frames Pal events = ap (λ t. codes "ocs 1\ncpu on\nframes " ++ t) (number-text (decimal frames) [])
-head-text false frames Pal events = ap (λ t. codes "ocs 1\ncpu off\nframes " ++ t) (number-text (decimal frames) [])
-head-text true frames Ntsc events = ap (λ t. codes "ocs 3\ncpu on\nframes " ++ t) (number-text (decimal frames) (codes "chip 512\nsystem ntsc\n"))
-head-text false frames Ntsc events = ap (λ t. codes "ocs 3\ncpu off\nframes " ++ t) (number-text (decimal frames) (codes "chip 512\nsystem ntsc\n"))
+head-text true frames Kib512 Pal events = ap (λ t. codes "ocs 1\ncpu on\nframes " ++ t) (number-text (decimal frames) [])
+head-text false frames Kib512 Pal events = ap (λ t. codes "ocs 1\ncpu off\nframes " ++ t) (number-text (decimal frames) [])
+head-text true frames Mib1 Pal events = ap (λ t. codes "ocs 2\ncpu on\nframes " ++ t) (number-text (decimal frames) (codes "chip 1024\n"))
+head-text false frames Mib1 Pal events = ap (λ t. codes "ocs 2\ncpu off\nframes " ++ t) (number-text (decimal frames) (codes "chip 1024\n"))
+head-text true frames Kib512 Ntsc events = ap (λ t. codes "ocs 3\ncpu on\nframes " ++ t) (number-text (decimal frames) (codes "chip 512\nsystem ntsc\n"))
+head-text false frames Kib512 Ntsc events = ap (λ t. codes "ocs 3\ncpu off\nframes " ++ t) (number-text (decimal frames) (codes "chip 512\nsystem ntsc\n"))
+head-text true frames Mib1 Ntsc events = ap (λ t. codes "ocs 3\ncpu on\nframes " ++ t) (number-text (decimal frames) (codes "chip 1024\nsystem ntsc\n"))
+head-text false frames Mib1 Ntsc events = ap (λ t. codes "ocs 3\ncpu off\nframes " ++ t) (number-text (decimal frames) (codes "chip 1024\nsystem ntsc\n"))
 
 pub script-text : (script : ScriptValue)
-    → head_text (lowest script.system) script ++ (flat_map event_text script.events ++ codes "end\n") ≡ script_text script
+    → head_text (lowest script.chip script.system) script ++ (flat_map event_text script.events ++ codes "end\n") ≡ script_text script
 unfolding script_text line_text line_of spaced
 script-text script = refl
 

@@ -9,13 +9,14 @@ use borrow.Author.Tests.{eq-eqb, ne_eqb, lt-ltb, le-ltb, le-leb, ltb-true}
 use Rattle.ocs_base.specs.Limits.{time_of, HasPort, IsInLimits, AreInLimits, AreFrom, AreInOrder, IsRunnable}
 use Rattle.ocs_base.specs.Register.{register_of}
 use Rattle.ocs_base.specs.Script.{ScriptValue}
+use Rattle.ocs_base.specs.declared.chip_size.ChipSize.{ChipSize}
+use Rattle.ocs_base.specs.declared.chip_size.ChipSize.TheVariants.{Kib512, Mib1}
 use Rattle.ocs_base.specs.declared.reg.Reg.{Reg}
 use Rattle.ocs_base.specs.declared.script.Act.{Act}
 use Rattle.ocs_base.specs.declared.script.Act.TheVariants.{Poke, Peek, Joy, Fire, Key}
 use Rattle.ocs_base.specs.declared.script.At.{At}
 use Rattle.ocs_base.specs.declared.system.System.{System}
 use Rattle.ocs_base.specs.declared.system.System.TheVariants.{Pal, Ntsc}
-use Rattle.ocs_base.specs.Addr.{chip_span}
 use Rattle.ocs_base.specs.Systems.{lines}
 use Rattle.ocs_io.specs.Numbers.{all_bytes, hex_of, hex_digit, hex_text}
 use Rattle.ocs_io.proofs.TextLaws.{dec_of-decimal, hex_of-hex_text}
@@ -23,7 +24,7 @@ use Rattle.script_read.specs.Split.{without_empty_last, lines_of, words_of}
 use Rattle.script_read.specs.Words.{below, kept_below, hex_number, kept_register, register_named, poke_with, peek_with, joy_with, fire_with, key_with, poke_of, peek_of, joy_of, fire_of, key_of, act_of, timed, event_in, event_of}
 use Rattle.script_read.specs.Grammar.{Good, Bad, in_order, body_line, body_of, after_end, with_event, from_line, from_head, head_of, with_frames, kept_frames, frames_in, with_cpu, cpu_in, with_chip, chip_in, with_system, system_in, version_in, from_version, from_header, script_of}
 use Rattle.script_read.specs.declared.fault.BadKind.TheVariants.{Long, Lines, Order, Cpu, Frames, Chip, System as BadSystem}
-use Rattle.script_read.specs.Canonical.{spaced, line_of, line_text, digit_of, act_words, time_words, event_text, cpu_word, system_word, version_word, head_word, head_line, head_text, script_text, HasWords, AllHaveWords}
+use Rattle.script_read.specs.Canonical.{spaced, line_of, line_text, digit_of, act_words, time_words, event_text, cpu_word, chip_word, system_word, version_word, head_word, head_line, head_text, script_text, HasWords, AllHaveWords}
 use Rattle.script_read.specs.KindName.{kind_name}
 use Rattle.script_read.specs.Printable.{IsPrintable}
 use Rattle.script_read.specs.Versions.{HeadLine, CpuLine, FramesLine, ChipLine, SystemLine, kind_of, later_lines, head_lines, head_size, says, lowest, blank}
@@ -350,10 +351,17 @@ size-part script FramesLine most =
       length-append (decimal script.frames) [],
       length-decimal-le 4 script.frames (omega arith) (omega arith) (omega (arith, most)),
     )
-size-part script ChipLine most = omega (arith, chip_size)
+size-part script ChipLine most = chip_small script.chip
   where
-    chip_size : length (line_text (codes "chip") (codes "512" ∷ [])) ≡ 9
-    chip_size = refl
+    less_size : length (line_text (codes "chip") (codes "512" ∷ [])) ≡ 9
+    less_size = refl
+
+    more_size : length (line_text (codes "chip") (codes "1024" ∷ [])) ≡ 10
+    more_size = refl
+
+    chip_small : (chip : ChipSize) → length (line_text (codes "chip") (chip_word chip ∷ [])) ≤ 12
+    chip_small Kib512 = omega (arith, less_size)
+    chip_small Mib1 = omega (arith, more_size)
 size-part script SystemLine most = system_small script.system
   where
     pal_size : length (line_text (codes "system") (codes "pal" ∷ [])) ≡ 11
@@ -407,9 +415,9 @@ unfolding script_text
 size-script script runnable few =
     omega (
       arith,
-      length-append (head_text (lowest script.system) script) (flat_map event_text script.events ++ line_text (codes "end") []),
+      length-append (head_text (lowest script.chip script.system) script) (flat_map event_text script.events ++ line_text (codes "end") []),
       length-append (flat_map event_text script.events) (line_text (codes "end") []),
-      size-head (lowest script.system) script runnable.most,
+      size-head (lowest script.chip script.system) script runnable.most,
       size-events script.system script.frames script.events runnable.most runnable.limits,
       size-end,
     )
@@ -435,7 +443,11 @@ plain_word script CpuLine most = plain_cpu script.cpu
     plain_cpu true = refl
     plain_cpu false = refl
 plain_word script FramesLine most = above-decimal script.frames (fits_64 script.frames most)
-plain_word script ChipLine most = refl
+plain_word script ChipLine most = plain_chip script.chip
+  where
+    plain_chip : (chip : ChipSize) → above 32 (chip_word chip) ≡ true
+    plain_chip Kib512 = refl
+    plain_chip Mib1 = refl
 plain_word script SystemLine most = plain_system script.system
   where
     plain_system : (system : System) → above 32 (system_word system) ≡ true
@@ -476,9 +488,10 @@ unfolding cpu_in line_of spaced
 cpu_in-line true = refl
 cpu_in-line false = refl
 
-chip_in-line : chip_in (line_of (codes "chip") (codes "512" ∷ [])) ≡ Some chip_span
+chip_in-line : (chip : ChipSize) → chip_in (line_of (codes "chip") (chip_word chip ∷ [])) ≡ Some chip
 unfolding chip_in line_of spaced
-chip_in-line = refl
+chip_in-line Kib512 = refl
+chip_in-line Mib1 = refl
 
 system_in-line : (system : System) → system_in (line_of (codes "system") (system_word system ∷ [])) ≡ Some system
 unfolding system_in line_of spaced
@@ -492,36 +505,42 @@ frames_in-line frames least most =
     ∙ ap kept_frames (dec_of-decimal frames (omega arith))
     ∙ (λ i. if le-leb 1 frames least i && le-leb frames 1000 most i then Some frames else None)
 
-pal_said : (system : System) → says One system ≡ true → Pal ≡ system
-pal_said Pal said = refl
-pal_said Ntsc said = absurd (cc said)
+first_chip : (chip : ChipSize) (system : System) → says One chip system ≡ true → Kib512 ≡ chip
+first_chip Kib512 system said = refl
+first_chip Mib1 system said = absurd (cc said)
 
-second_pal : (system : System) → says Two system ≡ true → Pal ≡ system
-second_pal Pal said = refl
-second_pal Ntsc said = absurd (cc said)
+first_pal : (chip : ChipSize) (system : System) → says One chip system ≡ true → Pal ≡ system
+first_pal chip Pal said = refl
+first_pal Kib512 Ntsc said = absurd (cc said)
+first_pal Mib1 Ntsc said = absurd (cc said)
+
+second_pal : (chip : ChipSize) (system : System) → says Two chip system ≡ true → Pal ≡ system
+second_pal chip Pal said = refl
+second_pal chip Ntsc said = absurd (cc said)
 
 -- the script that a head says, before its events
-abbrev bare : ScriptValue → System → ScriptValue
-bare script system = record { cpu = script.cpu; frames = script.frames; system = system; events = [] }
+abbrev bare : ScriptValue → ChipSize → System → ScriptValue
+bare script chip system = record { cpu = script.cpu; frames = script.frames; chip = chip; system = system; events = [] }
 
-head-later : (version : Version) (script : ScriptValue) (rest : List (List ℕ)) → says version script.system ≡ true
-    → head_of (later_lines version) 4 (bare script Pal) (map (part_line script) (later_lines version) ++ rest)
-    ≡ body_of (bare script script.system) (head_size version + 1) 0 rest
+head-later : (version : Version) (script : ScriptValue) (rest : List (List ℕ)) → says version script.chip script.system ≡ true
+    → head_of (later_lines version) 4 (bare script Kib512 Pal) (map (part_line script) (later_lines version) ++ rest)
+    ≡ body_of (bare script script.chip script.system) (head_size version + 1) 0 rest
 unfolding head_of
-head-later One script rest said = ap (λ system. body_of (bare script system) 4 0 rest) (pal_said script.system said)
+head-later One script rest said =
+    (λ i. body_of (bare script (first_chip script.chip script.system said i) (first_pal script.chip script.system said i)) 4 0 rest)
 head-later Two script rest said =
-    ap (λ size. from_head (with_chip (bare script Pal) size) 4 Chip (λ next. body_of next 5 0 rest)) chip_in-line
-    ∙ ap (λ system. body_of (bare script system) 5 0 rest) (second_pal script.system said)
+    ap (λ chip. from_head (with_chip (bare script Kib512 Pal) chip) 4 Chip (λ next. body_of next 5 0 rest)) (chip_in-line script.chip)
+    ∙ ap (λ system. body_of (bare script script.chip system) 5 0 rest) (second_pal script.chip script.system said)
 head-later Three script rest said =
-    ap (λ size. from_head (with_chip (bare script Pal) size) 4 Chip (λ next. head_of (SystemLine ∷ []) 5 next (part_line script SystemLine ∷ rest)))
-    chip_in-line
-    ∙ ap (λ system. from_head (with_system (bare script Pal) system) 5 BadSystem (λ next. body_of next 6 0 rest)) (system_in-line script.system)
+    ap (λ chip. from_head (with_chip (bare script Kib512 Pal) chip) 4 Chip (λ next. head_of (SystemLine ∷ []) 5 next (part_line script SystemLine ∷ rest)))
+    (chip_in-line script.chip)
+    ∙ ap (λ system. from_head (with_system (bare script script.chip Pal) system) 5 BadSystem (λ next. body_of next 6 0 rest)) (system_in-line script.system)
 
 -- a head that says a script is read as it
 head-read : (version : Version) (script : ScriptValue) (rest : List (List ℕ)) → 1 ≤ script.frames → script.frames ≤ 1000
-    → says version script.system ≡ true
+    → says version script.chip script.system ≡ true
     → head_of (head_lines version) 2 blank (map (part_line script) (head_lines version) ++ rest)
-    ≡ body_of (bare script script.system) (head_size version + 1) 0 rest
+    ≡ body_of (bare script script.chip script.system) (head_size version + 1) 0 rest
 unfolding head_of
 head-read version script rest least most said =
     ap (λ cpu. from_head (with_cpu blank cpu) 2 Cpu
@@ -531,9 +550,11 @@ head-read version script rest least most said =
     (λ next. head_of (later_lines version) 4 next (map (part_line script) (later_lines version) ++ rest))) (frames_in-line script.frames least most)
     ∙ head-later version script rest said
 
-lowest-says : (system : System) → says (lowest system) system ≡ true
-lowest-says Pal = refl
-lowest-says Ntsc = refl
+lowest-says : (chip : ChipSize) (system : System) → says (lowest chip system) chip system ≡ true
+lowest-says Kib512 Pal = refl
+lowest-says Kib512 Ntsc = refl
+lowest-says Mib1 Pal = refl
+lowest-says Mib1 Ntsc = refl
 
 -- the whole text
 
@@ -545,15 +566,15 @@ AreFrom-zero (at ∷ events) = (omega arith, AreFrom-zero events)
 pub script_of-script_text : (script : ScriptValue) → IsPrintable script → AllHaveWords script.events → script_of (script_text script) ≡ Good script
 unfolding script_of from_header script_text
 script_of-script_text script printable words =
-    let runnable = printable.runnable in let version = lowest script.system in
+    let runnable = printable.runnable in let version = lowest script.chip script.system in
     ap (λ b. if b then Bad 0 Long else from_header (lines_of (script_text script)))
     (le-ltb 4194304 (length (script_text script)) (size-script script runnable (omega (arith, printable.lines))))
     ∙ ap from_header (lines-head version script (flat_map event_text script.events ++ line_text (codes "end") []) runnable.most)
     ∙ ap (λ v. from_version v (map (part_line script) (head_lines version) ++ lines_of (flat_map event_text script.events ++ line_text (codes "end") [])))
     (version_in-line version)
     ∙ head-read version script (lines_of (flat_map event_text script.events ++ line_text (codes "end") [])) runnable.least runnable.most
-    (lowest-says script.system)
-    ∙ ap (body_of (bare script script.system) (head_size version + 1) 0)
+    (lowest-says script.chip script.system)
+    ∙ ap (body_of (bare script script.chip script.system) (head_size version + 1) 0)
     (lines-events script.system script.frames script.events runnable.most runnable.limits)
-    ∙ body-events (bare script script.system) script.events (head_size version + 1) 0 runnable.most refl runnable.limits words
+    ∙ body-events (bare script script.chip script.system) script.events (head_size version + 1) 0 runnable.most refl runnable.limits words
     (AreFrom-zero script.events) runnable.order (omega (arith, printable.lines))

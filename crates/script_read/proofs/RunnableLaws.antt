@@ -1,8 +1,10 @@
 -- A script that is read is one that a run takes.
-use Rattle.std.proofs.Common.{◌≡◌, ℕ, ◌+◌, ◌<◌, ◌≤◌, Bool, true, false, ◌&&◌, List, [], ◌∷◌, length, refl, sym, ap, ◌∙◌, subst, Option, Some, None, IfSome, Result, Ok, Err, IfOk, arith, nat_lt, nat_le, if◌then◌else◌, bytes_eq, codes}
+use Rattle.std.proofs.Common.{◌≡◌, ℕ, ◌+◌, ◌<◌, ◌≤◌, Bool, true, false, ◌&&◌, List, [], ◌∷◌, length, refl, sym, ◌∙◌, subst, Option, Some, None, IfSome, Result, Ok, Err, IfOk, arith, nat_lt, nat_le, if◌then◌else◌, bytes_eq, codes}
 use borrow.Author.Tests.{ltb-true, ltb-false, leb-true}
 use Rattle.ocs_base.specs.Limits.{time_of, HasPort, IsInLimits, AreInLimits, AreFrom, AreInOrder}
 use Rattle.ocs_base.specs.Script.{ScriptValue}
+use Rattle.ocs_base.specs.declared.chip_size.ChipSize.{ChipSize}
+use Rattle.ocs_base.specs.declared.chip_size.ChipSize.TheVariants.{Kib512, Mib1}
 use Rattle.ocs_base.specs.declared.reg.Reg.{Reg}
 use Rattle.ocs_base.specs.declared.script.Act.{Act}
 use Rattle.ocs_base.specs.declared.script.At.{At}
@@ -163,6 +165,7 @@ AreFrom-lower low high (at ∷ events) le from = (omega (arith, from.0), AreFrom
 -- the events of the lines that are left
 record Follows (head : ScriptValue) (number before : ℕ) (script : ScriptValue) : Type 0 where
   frames : script.frames ≡ head.frames
+  chip : script.chip ≡ head.chip
   system : script.system ≡ head.system
   limits : AreInLimits head.system head.frames script.events
   from : AreFrom before script.events
@@ -182,7 +185,7 @@ Follows-body head number before (line ∷ lines) none =
     (λ at. Follows-body head (number + 1) (time_of at) lines none)
   where
     empty : (events : List At) → events ≡ [] → number ≤ 100000 → Follows head number before (record head { events = events })
-    empty [] e few = record { frames = refl; system = refl; limits = tt; from = tt; order = tt; count = omega arith }
+    empty [] e few = record { frames = refl; chip = refl; system = refl; limits = tt; from = tt; order = tt; count = omega arith }
     empty (at ∷ events) e few = absurd (cc e)
 
     ended : (rest : List (List ℕ)) → number ≤ 100000 → good_follows head number before (after_end head (number + 1) rest)
@@ -194,6 +197,7 @@ Follows-body head number before (line ∷ lines) none =
     more at (Bad n kind) next follows = tt
     more at (Good script) next follows = record {
       frames = follows.frames;
+      chip = follows.chip;
       system = follows.system;
       limits = (next.limits, follows.limits);
       from = (next.later, AreFrom-lower before (time_of at) script.events next.later follows.from);
@@ -212,12 +216,16 @@ good_runnable : Verdict → Type 0
 good_runnable (Good script) = IsPrintable script
 good_runnable (Bad number kind) = Unit {0}
 
--- a head that was read: its numbers, and no more lines than the version of it, which says its system
+-- a head that was read: its numbers, and no more lines than the version of it, which says its chip memory and its system
 record IsHead (number : ℕ) (head : ScriptValue) : Type 0 where
   least : 1 ≤ head.frames
   most : head.frames ≤ 1000
-  size : head_size (lowest head.system) < number
+  size : head_size (lowest head.chip head.system) < number
   none : head.events ≡ []
+
+size-follows : (head : ScriptValue) (number : ℕ) (script : ScriptValue) → Follows head number 0 script
+    → head_size (lowest script.chip script.system) ≡ head_size (lowest head.chip head.system)
+size-follows head number script follows i = head_size (lowest (follows.chip i) (follows.system i))
 
 IsRunnable-follows : (number : ℕ) (head : ScriptValue) (verdict : Verdict) → IsHead number head → good_follows head number 0 verdict → good_runnable verdict
 unfolding good_follows good_runnable
@@ -230,7 +238,7 @@ IsRunnable-follows number head (Good script) is follows = record {
         (subst (λ system. AreInLimits system head.frames script.events) (sym follows.system) follows.limits);
     order = follows.order;
   };
-  lines = omega (arith, follows.count, is.size, ap (λ s. head_size (lowest s)) follows.system);
+  lines = omega (arith, follows.count, is.size, size-follows head number script follows);
 }
 
 IsRunnable-body : (number : ℕ) (head : ScriptValue) (lines : List (List ℕ)) → IsHead number head → good_runnable (body_of head number 0 lines)
@@ -240,45 +248,55 @@ IsRunnable-none : (number : ℕ) (head : ScriptValue) (lines : List (List ℕ)) 
 unfolding head_of
 IsRunnable-none = IsRunnable-body
 
+-- the script that a head says, before its events
+abbrev bare : Bool → ℕ → ChipSize → System → ScriptValue
+bare cpu frames chip system = record { cpu = cpu; frames = frames; chip = chip; system = system; events = [] }
+
 -- the fifth line
-IsRunnable-system : (cpu : Bool) (frames : ℕ) (lines : List (List ℕ)) → 1 ≤ frames → frames ≤ 1000
-    → good_runnable (head_of (SystemLine ∷ []) 5 (record { cpu = cpu; frames = frames; system = Pal; events = [] }) lines)
+IsRunnable-system : (cpu : Bool) (frames : ℕ) (chip : ChipSize) (lines : List (List ℕ)) → 1 ≤ frames → frames ≤ 1000
+    → good_runnable (head_of (SystemLine ∷ []) 5 (bare cpu frames chip Pal) lines)
 unfolding good_runnable head_of
-IsRunnable-system cpu frames [] least most = tt
-IsRunnable-system cpu frames (line ∷ lines) least most = named (system_in line)
+IsRunnable-system cpu frames chip [] least most = tt
+IsRunnable-system cpu frames chip (line ∷ lines) least most = named (system_in line)
   where
-    few : (system : System) → head_size (lowest system) < 6
-    few Pal = omega arith
-    few Ntsc = omega arith
+    few : (size : ChipSize) (system : System) → head_size (lowest size system) < 6
+    few Kib512 Pal = omega arith
+    few Kib512 Ntsc = omega arith
+    few Mib1 Pal = omega arith
+    few Mib1 Ntsc = omega arith
 
     named : (system : Option System)
-        → good_runnable (from_head (with_system (record { cpu = cpu; frames = frames; system = Pal; events = [] }) system) 5 BadSystem
-        (λ next. body_of next 6 0 lines))
+        → good_runnable (from_head (with_system (bare cpu frames chip Pal) system) 5 BadSystem (λ next. body_of next 6 0 lines))
     named None = tt
-    named (Some system) = IsRunnable-body 6 (record { cpu = cpu; frames = frames; system = system; events = [] }) lines
-        (record { least = least; most = most; size = few system; none = refl })
+    named (Some system) = IsRunnable-body 6 (bare cpu frames chip system) lines
+        (record { least = least; most = most; size = few chip system; none = refl })
 
 -- the fourth line
-IsRunnable-chip : (parts : List HeadLine) (head : ScriptValue) (lines : List (List ℕ))
-    → ((rest : List (List ℕ)) → good_runnable (head_of parts 5 head rest)) → good_runnable (head_of (ChipLine ∷ parts) 4 head lines)
+IsRunnable-chip : (parts : List HeadLine) (cpu : Bool) (frames : ℕ) (lines : List (List ℕ))
+    → ((chip : ChipSize) (rest : List (List ℕ)) → good_runnable (head_of parts 5 (bare cpu frames chip Pal) rest))
+    → good_runnable (head_of (ChipLine ∷ parts) 4 (bare cpu frames Kib512 Pal) lines)
 unfolding good_runnable head_of
-IsRunnable-chip parts head [] more = tt
-IsRunnable-chip parts head (line ∷ lines) more = named (chip_in line)
+IsRunnable-chip parts cpu frames [] more = tt
+IsRunnable-chip parts cpu frames (line ∷ lines) more = named (chip_in line)
   where
-    named : (size : Option ℕ) → good_runnable (from_head (with_chip head size) 4 Chip (λ next. head_of parts 5 next lines))
+    named : (chip : Option ChipSize)
+        → good_runnable (from_head (with_chip (bare cpu frames Kib512 Pal) chip) 4 Chip (λ next. head_of parts 5 next lines))
     named None = tt
-    named (Some size) = more lines
+    named (Some chip) = more chip lines
 
 IsRunnable-later : (version : Version) (cpu : Bool) (frames : ℕ) (lines : List (List ℕ)) → 1 ≤ frames → frames ≤ 1000
-    → good_runnable (head_of (later_lines version) 4 (record { cpu = cpu; frames = frames; system = Pal; events = [] }) lines)
-IsRunnable-later One cpu frames lines least most = IsRunnable-none 4 (record { cpu = cpu; frames = frames; system = Pal; events = [] }) lines
+    → good_runnable (head_of (later_lines version) 4 (bare cpu frames Kib512 Pal) lines)
+IsRunnable-later One cpu frames lines least most = IsRunnable-none 4 (bare cpu frames Kib512 Pal) lines
     (record { least = least; most = most; size = omega arith; none = refl })
-IsRunnable-later Two cpu frames lines least most = IsRunnable-chip [] (record { cpu = cpu; frames = frames; system = Pal; events = [] }) lines
-    (λ rest. IsRunnable-none 5 (record { cpu = cpu; frames = frames; system = Pal; events = [] }) rest
-    (record { least = least; most = most; size = omega arith; none = refl }))
+IsRunnable-later Two cpu frames lines least most = IsRunnable-chip [] cpu frames lines
+    (λ chip rest. IsRunnable-none 5 (bare cpu frames chip Pal) rest
+    (record { least = least; most = most; size = few chip; none = refl }))
+  where
+    few : (chip : ChipSize) → head_size (lowest chip Pal) < 5
+    few Kib512 = omega arith
+    few Mib1 = omega arith
 IsRunnable-later Three cpu frames lines least most =
-    IsRunnable-chip (SystemLine ∷ []) (record { cpu = cpu; frames = frames; system = Pal; events = [] }) lines
-    (λ rest. IsRunnable-system cpu frames rest least most)
+    IsRunnable-chip (SystemLine ∷ []) cpu frames lines (λ chip rest. IsRunnable-system cpu frames chip rest least most)
 
 -- the third line
 IsInRange : ℕ → Type 0
@@ -350,18 +368,18 @@ unfolding good_runnable
 IsPrintable-read lines (Ok script) reads = subst good_runnable reads (IsRunnable-header lines)
 IsPrintable-read lines (Err fault) reads = tt
 
--- a text's version says its script: without a line of the system it is for PAL
+-- a text's version says its script: without a line of the chip memory it is for 512 KiB, and without one of the system for PAL
 said : Version → Verdict → Type 0
-said version (Good script) = says version script.system ≡ true
+said version (Good script) = says version script.chip script.system ≡ true
 said version (Bad number kind) = Unit {0}
 
-said-body : (version : Version) (number : ℕ) (head : ScriptValue) (lines : List (List ℕ)) → head.events ≡ [] → says version head.system ≡ true
+said-body : (version : Version) (number : ℕ) (head : ScriptValue) (lines : List (List ℕ)) → head.events ≡ [] → says version head.chip head.system ≡ true
     → said version (body_of head number 0 lines)
 unfolding good_follows said
 said-body version number head lines none fits = step (body_of head number 0 lines) (Follows-body head number 0 lines none)
   where
     step : (verdict : Verdict) → good_follows head number 0 verdict → said version verdict
-    step (Good script) follows = ap (says version) follows.system ∙ fits
+    step (Good script) follows = (λ i. says version (follows.chip i) (follows.system i)) ∙ fits
     step (Bad line kind) follows = tt
 
 said-third : (verdict : Verdict) → said Three verdict
@@ -370,17 +388,17 @@ said-third (Good script) = refl
 said-third (Bad number kind) = tt
 
 said-later : (version : Version) (cpu : Bool) (frames : ℕ) (lines : List (List ℕ))
-    → said version (head_of (later_lines version) 4 (record { cpu = cpu; frames = frames; system = Pal; events = [] }) lines)
+    → said version (head_of (later_lines version) 4 (bare cpu frames Kib512 Pal) lines)
 unfolding said head_of
-said-later One cpu frames lines = said-body One 4 (record { cpu = cpu; frames = frames; system = Pal; events = [] }) lines refl refl
+said-later One cpu frames lines = said-body One 4 (bare cpu frames Kib512 Pal) lines refl refl
 said-later Two cpu frames [] = tt
 said-later Two cpu frames (line ∷ lines) = named (chip_in line)
   where
-    named : (size : Option ℕ)
-        → said Two (from_head (with_chip (record { cpu = cpu; frames = frames; system = Pal; events = [] }) size) 4 Chip (λ next. body_of next 5 0 lines))
+    named : (chip : Option ChipSize)
+        → said Two (from_head (with_chip (bare cpu frames Kib512 Pal) chip) 4 Chip (λ next. body_of next 5 0 lines))
     named None = tt
-    named (Some size) = said-body Two 5 (record { cpu = cpu; frames = frames; system = Pal; events = [] }) lines refl refl
-said-later Three cpu frames lines = said-third (head_of (later_lines Three) 4 (record { cpu = cpu; frames = frames; system = Pal; events = [] }) lines)
+    named (Some chip) = said-body Two 5 (bare cpu frames chip Pal) lines refl refl
+said-later Three cpu frames lines = said-third (head_of (later_lines Three) 4 (bare cpu frames Kib512 Pal) lines)
 
 said-frames : (version : Version) (cpu : Bool) (lines : List (List ℕ))
     → said version (head_of (FramesLine ∷ later_lines version) 3 (record blank { cpu = cpu }) lines)

@@ -1,6 +1,8 @@
 -- The canonical text of a script.
 use Rattle.std.specs.Prelude.{ℕ, Bool, if◌then◌else◌, List, [], ◌∷◌, ◌++◌, ◌<◌, ◌^◌, flat_map, codes, decimal}
 use Rattle.ocs_base.specs.Script.{ScriptValue}
+use Rattle.ocs_base.specs.declared.chip_size.ChipSize.{ChipSize}
+use Rattle.ocs_base.specs.declared.chip_size.ChipSize.TheVariants.{Kib512, Mib1}
 use Rattle.ocs_base.specs.declared.script.Act.{Act}
 use Rattle.ocs_base.specs.declared.script.Act.TheVariants.{Poke, Peek, Joy, Fire, Key}
 use Rattle.ocs_base.specs.declared.script.At.{At}
@@ -43,6 +45,10 @@ event_text at = line_text (codes "at") (time_words at)
 abbrev pub cpu_word : Bool → List ℕ
 cpu_word cpu = if cpu then codes "on" else codes "off"
 
+abbrev pub chip_word : ChipSize → List ℕ
+chip_word Kib512 = codes "512"
+chip_word Mib1 = codes "1024"
+
 abbrev pub system_word : System → List ℕ
 system_word Pal = codes "pal"
 system_word Ntsc = codes "ntsc"
@@ -56,7 +62,7 @@ version_word Three = codes "3"
 abbrev pub head_word : ScriptValue → HeadLine → List ℕ
 head_word script CpuLine = cpu_word script.cpu
 head_word script FramesLine = decimal script.frames
-head_word script ChipLine = codes "512"
+head_word script ChipLine = chip_word script.chip
 head_word script SystemLine = system_word script.system
 
 -- a line of the head begins with the name of the kind that is said where it is bad
@@ -68,7 +74,7 @@ head_text version script = line_text (codes "ocs") (version_word version ∷ [])
 
 -- the head of the lowest version that says the script, a line for each event, and the end line
 unfoldable pub script_text : ScriptValue → List ℕ
-script_text script = head_text (lowest script.system) script ++ (flat_map event_text script.events ++ line_text (codes "end") [])
+script_text script = head_text (lowest script.chip script.system) script ++ (flat_map event_text script.events ++ line_text (codes "end") [])
 
 -- the numbers of an act are of 16 and 8 bits, as the code's are
 abbrev pub HasWords : Act → Type 0
@@ -83,13 +89,16 @@ AllHaveWords [] = Unit {0}
 AllHaveWords (at ∷ events) = HasWords at.act × AllHaveWords events
 
 -- what a head begins with, its second line up to the number of frames, and what follows that number
-abbrev pub first_text : System → List ℕ
-first_text Pal = codes "ocs 1\n"
-first_text Ntsc = codes "ocs 3\n"
+abbrev pub first_text : ChipSize → System → List ℕ
+first_text Kib512 Pal = codes "ocs 1\n"
+first_text Mib1 Pal = codes "ocs 2\n"
+first_text chip Ntsc = codes "ocs 3\n"
 
 abbrev pub cpu_text : Bool → List ℕ
 cpu_text cpu = if cpu then codes "cpu on\nframes" else codes "cpu off\nframes"
 
-abbrev pub last_text : System → List ℕ
-last_text Pal = codes "\n"
-last_text Ntsc = codes "\nchip 512\nsystem ntsc\n"
+abbrev pub last_text : ChipSize → System → List ℕ
+last_text Kib512 Pal = codes "\n"
+last_text Mib1 Pal = codes "\nchip 1024\n"
+last_text Kib512 Ntsc = codes "\nchip 512\nsystem ntsc\n"
+last_text Mib1 Ntsc = codes "\nchip 1024\nsystem ntsc\n"

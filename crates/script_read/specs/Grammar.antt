@@ -1,8 +1,9 @@
 -- The grammar of a script in its three versions, by lines, and the first fault of a text outside it.
 use Rattle.std.specs.Prelude.{ℕ, ◌+◌, Bool, true, false, ◌&&◌, nat_le, nat_lt, if◌then◌else◌, List, [], ◌∷◌, length, codes, bytes_eq, Option, Some, None, Result, Ok, Err}
-use Rattle.ocs_base.specs.Addr.{chip_span}
 use Rattle.ocs_base.specs.Limits.{time_of}
 use Rattle.ocs_base.specs.Script.{ScriptValue}
+use Rattle.ocs_base.specs.declared.chip_size.ChipSize.{ChipSize}
+use Rattle.ocs_base.specs.declared.chip_size.ChipSize.TheVariants.{Kib512, Mib1}
 use Rattle.ocs_base.specs.declared.script.At.{At}
 use Rattle.ocs_base.specs.declared.system.System.{System}
 use Rattle.ocs_base.specs.declared.system.System.TheVariants.{Pal, Ntsc}
@@ -65,9 +66,9 @@ frames_in words = None
 unfoldable pub cpu_in : List ℕ → Option Bool
 cpu_in line = if bytes_eq line (codes "cpu on") then Some true else (if bytes_eq line (codes "cpu off") then Some false else None)
 
--- the size of chip memory in bytes: `chip 512`, the one that there is
-unfoldable pub chip_in : List ℕ → Option ℕ
-chip_in line = if bytes_eq line (codes "chip 512") then Some chip_span else None
+-- the size of chip memory in KiB: `chip 512` or `chip 1024`
+unfoldable pub chip_in : List ℕ → Option ChipSize
+chip_in line = if bytes_eq line (codes "chip 512") then Some Kib512 else (if bytes_eq line (codes "chip 1024") then Some Mib1 else None)
 
 -- `system pal` or `system ntsc`
 unfoldable pub system_in : List ℕ → Option System
@@ -81,10 +82,9 @@ abbrev pub with_frames : ScriptValue → Option ℕ → Option ScriptValue
 with_frames head None = None
 with_frames head (Some frames) = Some (record head { frames = frames })
 
--- each script has the one size
-abbrev pub with_chip : ScriptValue → Option ℕ → Option ScriptValue
+abbrev pub with_chip : ScriptValue → Option ChipSize → Option ScriptValue
 with_chip head None = None
-with_chip head (Some size) = Some head
+with_chip head (Some chip) = Some (record head { chip = chip })
 
 abbrev pub with_system : ScriptValue → Option System → Option ScriptValue
 with_system head None = None

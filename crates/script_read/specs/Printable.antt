@@ -8,4 +8,4 @@ use Rattle.script_read.specs.Versions.{head_size, lowest}
 -- event, and the end line
 pub record IsPrintable (script : ScriptValue) : Type 0 where
   pub runnable : IsRunnable script
-  pub lines : head_size (lowest script.system) + length script.events + 1 ≤ 100000
+  pub lines : head_size (lowest script.chip script.system) + length script.events + 1 ≤ 100000

@@ -7,7 +7,7 @@ use Rattle.script_read.specs.declared.version.Version.{Version}
 
 abbrev pub IsSaidIn : Option Version → ScriptValue → Type 0
 IsSaidIn None script = ⊥
-IsSaidIn (Some version) script = says version script.system ≡ true
+IsSaidIn (Some version) script = says version script.chip script.system ≡ true
 
 -- in the version that the first of the lines names
 abbrev pub IsSaid : List (List ℕ) → ScriptValue → Type 0

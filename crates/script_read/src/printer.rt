@@ -8,7 +8,7 @@ ghost use Rattle.script_read.specs.Printable.{IsPrintable};
 ghost use Rattle.script_read.specs.Versions.{lowest};
 ghost use Rattle.script_read.specs.Grammar.{script_of, Good};
 
-use ocs_base::{Act, At, OutOfMemory, Script, System};
+use ocs_base::{Act, At, ChipSize, OutOfMemory, Script, System};
 use ocs_io::{put_dec, put_hex};
 
 /// Appends the canonical text of a script, in the lowest version that says it: each line ended by a line
@@ -43,13 +43,13 @@ fn put_script(script: &Script, into: &mut Vec<u8>) -> Result<(), OutOfMemory>
 #[tactic(auto, using(crate::proofs::PrintLaws::extends_laws))]
 fn put_head(script: &Script, into: &mut Vec<u8>) -> Result<(), OutOfMemory>
     ensures ok { OnOk result (into.new.items
-        ≡ into.old.items ++ head_text (lowest script.now.system) script.now) }
+        ≡ into.old.items ++ head_text (lowest script.now.chip script.now.system) script.now) }
     ensures kept { Extends into.old.items into.new.items }
 {
-    into.extend_from_slice(first_line(script.system()))?;
+    into.extend_from_slice(first_line(script.chip_size(), script.system()))?;
     into.extend_from_slice(cpu_line(script.cpu()))?;
     put_number(script.frames() as u64, into)?;
-    into.extend_from_slice(last_lines(script.system()))?;
+    into.extend_from_slice(last_lines(script.chip_size(), script.system()))?;
     Ok(())
 }
 
@@ -139,12 +139,15 @@ fn put_digits(n: u16, digits: usize, into: &mut Vec<u8>) -> Result<(), OutOfMemo
     Ok(())
 }
 
-/// The first line of the lowest version that says a script for this system.
-fn first_line(system: System) -> &'static [u8]
-    ensures { result.now ≡ first_text system }
+/// The first line of the lowest version that says a script for this chip memory and system.
+fn first_line(chip: ChipSize, system: System) -> &'static [u8]
+    ensures { result.now ≡ first_text chip system }
 {
     match system {
-        System::Pal => b"ocs 1\n",
+        System::Pal => match chip {
+            ChipSize::Kib512 => b"ocs 1\n",
+            ChipSize::Mib1 => b"ocs 2\n",
+        },
         System::Ntsc => b"ocs 3\n",
     }
 }
@@ -161,12 +164,18 @@ fn cpu_line(cpu: bool) -> &'static [u8]
 }
 
 /// What follows the number of frames: the end of its line, and the lines that later versions have.
-fn last_lines(system: System) -> &'static [u8]
-    ensures { result.now ≡ last_text system }
+fn last_lines(chip: ChipSize, system: System) -> &'static [u8]
+    ensures { result.now ≡ last_text chip system }
 {
     match system {
-        System::Pal => b"\n",
-        System::Ntsc => b"\nchip 512\nsystem ntsc\n",
+        System::Pal => match chip {
+            ChipSize::Kib512 => b"\n",
+            ChipSize::Mib1 => b"\nchip 1024\n",
+        },
+        System::Ntsc => match chip {
+            ChipSize::Kib512 => b"\nchip 512\nsystem ntsc\n",
+            ChipSize::Mib1 => b"\nchip 1024\nsystem ntsc\n",
+        },
     }
 }
 

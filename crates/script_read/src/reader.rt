@@ -13,7 +13,7 @@ use crate::event::read_event;
 use crate::fault::{BadKind, ScriptFault};
 use crate::parts::{next_line, two_words};
 use crate::version::{Head, Version};
-use ocs_base::{At, Script, System};
+use ocs_base::{At, ChipSize, Script, System};
 use ocs_io::dec;
 use std::alloc::Global;
 
@@ -117,21 +117,23 @@ fn read_frames(
     let Some(line) = next_line(text) else {
         return Err(bad(3, BadKind::Missing));
     };
-    let system = System::Pal;
     match frames(line.text) {
-        Some(frames) => {
-            read_later(
-                alloc,
-                version,
-                Head {
-                    cpu,
-                    frames,
-                    system,
-                },
-                line.rest,
-            )
-        }
+        Some(frames) => read_later(alloc, version, plain_head(cpu, frames), line.rest),
         None => Err(bad(3, BadKind::Frames)),
+    }
+}
+
+/// What a head says that has no later lines: 512 KiB of chip memory, and a PAL machine.
+fn plain_head(cpu: bool, frames: u32) -> Head
+    ensures { begun result ≡ record blank { cpu = cpu; frames = frames } }
+{
+    let chip = ChipSize::Kib512;
+    let system = System::Pal;
+    Head {
+        cpu,
+        frames,
+        chip,
+        system,
     }
 }
 
@@ -192,9 +194,10 @@ fn read_chip(
     let Some(line) = next_line(text) else {
         return Err(bad(4, BadKind::Missing));
     };
-    if chip(line.text).is_none() {
+    let Some(chip) = chip(line.text) else {
         return Err(bad(4, BadKind::Chip));
-    }
+    };
+    let head = Head { chip, ..head };
     if has_system {
         read_system(alloc, head, line.rest)
     } else {
@@ -202,13 +205,15 @@ fn read_chip(
     }
 }
 
-/// The size of chip memory in bytes that a line names, where it is the size of the machine.
+/// The size of chip memory that a line names.
 #[tactic(auto, unfolding(crate::specs::Grammar::chip_in))]
-fn chip(line: &[u8]) -> Option<u32>
+fn chip(line: &[u8]) -> Option<ChipSize>
     ensures { result ≡ chip_in line.now }
 {
     if line == b"chip 512".as_slice() {
-        Some(0x8_0000)
+        Some(ChipSize::Kib512)
+    } else if line == b"chip 1024".as_slice() {
+        Some(ChipSize::Mib1)
     } else {
         None
     }
@@ -247,7 +252,7 @@ fn system(line: &[u8]) -> Option<System>
 fn read_body(alloc: Global, head: Head, first: u32, text: &[u8]) -> Result<Script, ScriptFault>
     ensures { ReadsAs (body_of (begun head) first 0 (lines_of text.now)) result }
 {
-    let mut script = Script::made(alloc, head.cpu, head.frames, head.system);
+    let mut script = begin(alloc, head);
     let mut number = first;
     let mut before = 0;
     let mut rest = text;
@@ -267,6 +272,13 @@ fn read_body(alloc: Global, head: Head, first: u32, text: &[u8]) -> Result<Scrip
         rest = line.rest;
     }
     Err(bad(number, BadKind::Missing))
+}
+
+/// The script that a head begins, without events.
+fn begin(alloc: Global, head: Head) -> Script
+    ensures { result ≡ begun head }
+{
+    Script::made(alloc, head.cpu, head.frames, head.chip.bytes(), head.system)
 }
 
 /// Reads a line after the head: an event, or none at the end line.

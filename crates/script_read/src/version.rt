@@ -1,6 +1,6 @@
 //! The versions of a script's text, and what a head says.
 
-use ocs_base::System;
+use ocs_base::{ChipSize, System};
 
 /// A version of the text, as its first line names it.
 #[derive(Clone, Copy, PartialEq, Eq, Debug)]
@@ -10,11 +10,12 @@ pub enum Version {
     Three,
 }
 
-/// What a head says: whether the processor is started, how many frames the run shows, and whose beam the
-/// machine has.
+/// What a head says: whether the processor is started, how many frames the run shows, how much chip memory
+/// the machine has, and whose beam.
 #[derive(Clone, Copy)]
 pub struct Head {
     pub cpu: bool,
     pub frames: u32,
+    pub chip: ChipSize,
     pub system: System,
 }

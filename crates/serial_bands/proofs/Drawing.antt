@@ -8,7 +8,7 @@ use Rattle.serial_model.specs.Picture.{set_picture, plane_latch, sprite_data, cl
 use Rattle.serial_bands.specs.declared.event.Event.{Event}
 use Rattle.serial_bands.specs.Run.{RunValue, beam_at, run_memory}
 use Rattle.serial_bands.specs.Clock.{opening_at, closing_at, bytes_at, clx_at, sets_at, bus_touch_at}
-use Rattle.serial_bands.specs.StandsFor.{StandsFor}
+use Rattle.serial_model.specs.StandsFor.{StandsFor}
 use Rattle.serial_bands.specs.BandShown.{bytes_from, clx_from}
 use Rattle.serial_bands.specs.RightJob.{bus_events, events_from}
 use Rattle.serial_bands.specs.EventReading.{bus_touch_of}
@@ -16,7 +16,7 @@ use Rattle.serial_bands.specs.ReplayLaws.{step_of_kept, after_kept, with_fetch, 
 use Rattle.serial_bands.specs.DrawnTo.{IsDrawnTo, behind_script, with_access, WordsAreFound, DrawingBegins, TouchIsNext, DrawingGoesOn, LastFetchIsNext, DrawingEnds}
 use Rattle.serial_bands.proofs.Counts.{no_tint}
 use Rattle.serial_bands.proofs.NextClock.{touched_twice}
-use Rattle.serial_bands.proofs.Standing.{stands_on}
+use Rattle.serial_model.proofs.Standing.{stands_on}
 use Rattle.serial_bands.proofs.Reading.{rest_behind_script, last_behind_script, bus_touch_is_found, last_fetch_is_found}
 use Rattle.serial_bands.proofs.Replay.{bytes_of_kept, clx_of_kept, closing_of_kept, opening_of_kept}
 

@@ -3,7 +3,6 @@ pub mod Ors
 pub mod Ranges
 pub mod BandOrder
 pub mod WholeRun
-pub mod Standing
 pub mod Replay
 pub mod Reading
 pub mod Counts

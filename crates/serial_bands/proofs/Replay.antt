@@ -15,10 +15,10 @@ use Rattle.serial_model.proofs.NextLaws.{beam_next}
 use Rattle.serial_bands.specs.Run.{RunValue, state_of, beam_at, run_memory}
 use Rattle.serial_bands.specs.Clock.{opening_at, closing_at, sets_at, bus_touch_at, picture_at, fetch_alone, write_alone}
 use Rattle.serial_bands.specs.ClockLaws.{step_at}
-use Rattle.serial_bands.specs.StandsFor.{StandsFor}
+use Rattle.serial_model.specs.StandsFor.{StandsFor}
 use Rattle.serial_bands.specs.ReplayLaws.{with_script, with_fetch, with_write, step_of_kept, after_kept, BytesOfKept, ClxOfKept, ClosingOfKept, OpeningOfKept}
 use Rattle.serial_bands.proofs.NextClock.{next_opening, displayed_is_step, bytes_are_of_step, clx_is_of_step, closing_has_fetch}
-use Rattle.serial_bands.proofs.Standing.{stands_touched, stands_touched_in_order, stands_cleared, stands_shown, stands_after}
+use Rattle.serial_model.proofs.Standing.{stands_touched, stands_touched_in_order, stands_cleared, stands_shown, stands_after}
 
 scripted : (run : RunValue) (c : ℕ) (kept : Denise) → StandsFor (4 * (beam_at run c).h) kept (opening_at run c)
     → StandsFor (4 * (beam_at run c).h) (with_script run c kept) (picture_at run c)

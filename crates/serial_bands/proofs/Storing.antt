@@ -1,5 +1,5 @@
 -- The writes of memory of a run.
-use Rattle.std.proofs.Common.{◌≡◌, ◌<◌, ◌≤◌, ℕ, zero, suc, ◌+◌, ◌-◌, ◌/◌, ◌%◌, true, false, nat_lt, inl, inr, List, [], ◌++◌, slice_index, refl, ap, ◌∙◌, sym, subst, arith, append-nil}
+use Rattle.std.proofs.Common.{◌≡◌, ◌<◌, ◌≤◌, ℕ, zero, suc, ◌+◌, ◌-◌, ◌/◌, true, false, nat_lt, inl, inr, List, [], ◌++◌, slice_index, refl, ap, ◌∙◌, sym, subst, arith, append-nil}
 use Rattle.std.proofs.lemmas.Bool.{cases_eq}
 use Rattle.std.proofs.lemmas.Bool.Decides.{nat_tests}
 use Rattle.std.proofs.lemmas.List.Elements.{filter-append}
@@ -91,10 +91,6 @@ pub memory_by_stores : MemoryByStores
 memory_by_stores run c n k most =
     ap (λ writes. words_after (run_memory run c) writes) (those_below run c n k most) ∙ stores_make_memory run c k
 
--- addresses are below the span
-whole_address : (a : ℕ) → a < 524288 → a / 2 ≡ a % 524288 / 2
-whole_address a below = omega (arith, below)
-
 pub view_has_memory : ViewHasMemory
 view_has_memory run from to chip view order base writes is c at least most =
     let k : ℕ = c - from in
@@ -108,4 +104,4 @@ view_has_memory run from to chip view order base writes is c at least most =
     ∙ ap (λ b. memory_at c b chip.writes) base
     ∙ ap (λ w. memory_at c (run_memory run from) w) writes
     ∙ subst (λ i. memory_at i (run_memory run from) (stores_from run from n) ≡ run_memory run i) here past in
-    ap (λ memory. slice_index memory (at.value / 2)) found ∙ ap (λ i. slice_index (run_memory run c) i) (whole_address at.value at.below)
+    ap (λ memory. slice_index memory (at.value / 2)) found

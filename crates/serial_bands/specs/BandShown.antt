@@ -4,7 +4,7 @@ use Rattle.serial_model.specs.declared.picture.Denise.{Denise}
 use Rattle.serial_bands.specs.Run.{RunValue, beam_at}
 use Rattle.serial_bands.specs.Clock.{bytes_at, clx_at, closing_at}
 use Rattle.serial_bands.specs.Bands.{IsBand, AreBands}
-use Rattle.serial_bands.specs.StandsFor.{StandsFor}
+use Rattle.serial_model.specs.StandsFor.{StandsFor}
 
 -- the pixel bytes of so many picture steps from a clock on
 unfoldable pub bytes_from : RunValue → ℕ → ℕ → List ℕ

@@ -1,9 +1,15 @@
 -- How often chip memory is read: by accesses, and for words that a band's end needs.
 use Rattle.std.specs.Prelude.{ℕ, ◌-◌, Bool, true, false, ◌==◌, if◌then◌else◌, List, [], ◌∷◌, count_by, map, ◌++◌}
+use Rattle.blit_words.specs.declared.blit.SlotAsk.{SlotAsk}
+use Rattle.blit_words.specs.declared.blit.SlotAsk.TheVariants as B
 use Rattle.serial_model.specs.declared.bus.Ask.{Ask}
 use Rattle.serial_model.specs.declared.bus.Ask.TheVariants as A
 use Rattle.serial_model.specs.declared.bus.ProcessorAsk.{ProcessorAsk}
 use Rattle.serial_model.specs.declared.bus.ProcessorAsk.TheVariants as P
+use Rattle.serial_model.specs.declared.bus.SideAsk.{SideAsk}
+use Rattle.serial_model.specs.declared.bus.SideAsk.TheVariants as S
+use Rattle.serial_model.specs.declared.fetch.SpriteAsk.{SpriteAsk}
+use Rattle.serial_model.specs.declared.fetch.SpriteAsk.TheVariants.{Control, Words}
 use Rattle.serial_model.specs.Picture.{plane_latch, sprite_data, all_sprites}
 use Rattle.serial_bands.specs.declared.event.Event.{Event}
 use Rattle.serial_bands.specs.declared.event.Event.TheVariants.{Set, Plane, Sprite}
@@ -19,18 +25,30 @@ reads_of_processor (P.Write at half word) = 0
 reads_of_processor (P.ReadRegister reg) = 0
 reads_of_processor (P.WriteRegister reg word) = 0
 
--- and how many an ask needs while the clock runs: the words of plane latches and sprites are looked up later
+-- and disk or audio, a sprite and the blitter, while the clock runs: the words of a sprite's image are looked up later
+abbrev pub reads_of_side : SideAsk → ℕ
+reads_of_side S.Nothing = 0
+reads_of_side (S.Disk at word) = 0
+reads_of_side (S.Audio channel at) = 1
+
+abbrev pub reads_of_sprite : SpriteAsk → ℕ
+reads_of_sprite (Control sprite second at) = 1
+reads_of_sprite (Words sprite second at) = 0
+
+abbrev pub reads_of_blit : SlotAsk → ℕ
+reads_of_blit (B.Read at) = 1
+reads_of_blit (B.Write at word) = 0
+reads_of_blit B.Rest = 0
+reads_of_blit B.Done = 0
+
+-- and how many an ask needs then: the words of plane latches are looked up later too
 abbrev pub reads_of_ask : Ask → ℕ
 reads_of_ask A.Free = 0
-reads_of_ask (A.Disk at word) = 0
-reads_of_ask (A.Audio channel at) = 1
-reads_of_ask (A.Plane plane at) = 0
-reads_of_ask (A.SpriteControl sprite second at) = 1
-reads_of_ask (A.SpriteWords sprite second at) = 0
+reads_of_ask (A.Side ask) = reads_of_side ask
+reads_of_ask (A.Plane ask) = 0
+reads_of_ask (A.Sprite ask) = reads_of_sprite ask
 reads_of_ask (A.Copper at) = 1
-reads_of_ask (A.BlitRead at) = 1
-reads_of_ask (A.BlitWrite at word) = 0
-reads_of_ask A.BlitRest = 0
+reads_of_ask (A.Blit ask) = reads_of_blit ask
 reads_of_ask (A.Processor ask) = reads_of_processor ask
 
 -- at a clock of a run

@@ -11,7 +11,7 @@ use Rattle.serial_bands.specs.declared.event.Event.{Event}
 use Rattle.serial_bands.specs.Run.{RunValue, beam_at, run_memory}
 use Rattle.serial_bands.specs.Clock.{opening_at, sets_at, bus_touch_at, fetch_alone}
 use Rattle.serial_bands.specs.Bands.{IsBand}
-use Rattle.serial_bands.specs.StandsFor.{StandsFor}
+use Rattle.serial_model.specs.StandsFor.{StandsFor}
 use Rattle.serial_bands.specs.BandShown.{bytes_from, clx_from, IsRightDrawn}
 use Rattle.serial_bands.specs.RightJob.{bus_events, events_from, HasMemory, IsRightJob}
 use Rattle.serial_bands.specs.EventReading.{bus_touch_of}

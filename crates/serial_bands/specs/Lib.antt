@@ -1,14 +1,12 @@
 pub mod Run
 pub mod Clock
 pub mod Bands
-pub mod StandsFor
 pub mod BandShown
 pub mod RightJob
 pub mod BusReads
 pub mod ClockLaws
 pub mod RangeLaws
 pub mod BandLaws
-pub mod StandsLaws
 pub mod ReplayLaws
 pub mod EventReading
 pub mod Stores

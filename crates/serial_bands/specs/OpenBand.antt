@@ -8,7 +8,7 @@ use Rattle.serial_bands.specs.declared.event.Event.{Event}
 use Rattle.serial_bands.specs.Run.{RunValue, beam_at, run_memory}
 use Rattle.serial_bands.specs.Clock.{opening_at, bytes_at, bus_touch_at, write_alone}
 use Rattle.serial_bands.specs.Bands.{begins, begun}
-use Rattle.serial_bands.specs.StandsFor.{StandsFor}
+use Rattle.serial_model.specs.StandsFor.{StandsFor}
 use Rattle.serial_bands.specs.BandShown.{bytes_from}
 use Rattle.serial_bands.specs.RightJob.{bus_events, events_from, IsRightJob}
 use Rattle.serial_bands.specs.Stores.{stores_at, stores_from}

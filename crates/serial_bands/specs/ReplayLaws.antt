@@ -6,7 +6,7 @@ use Rattle.serial_model.specs.Made.{word_of}
 use Rattle.serial_model.specs.Picture.{clear_line, PictureStep, step_of, after_step, touch_if_any, touch_in_order}
 use Rattle.serial_bands.specs.Run.{RunValue, beam_at, run_memory}
 use Rattle.serial_bands.specs.Clock.{opening_at, closing_at, bytes_at, clx_at, sets_at, bus_touch_at, fetch_alone, write_alone}
-use Rattle.serial_bands.specs.StandsFor.{StandsFor}
+use Rattle.serial_model.specs.StandsFor.{StandsFor}
 
 -- a picture state touched by the script of a clock, by the fetch of its access, and by the write of its access
 abbrev pub with_script : RunValue → ℕ → Denise → Denise

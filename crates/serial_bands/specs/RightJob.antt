@@ -13,7 +13,7 @@ use Rattle.serial_bands.specs.Run.{RunValue, beam_at, run_memory}
 use Rattle.serial_bands.specs.Clock.{opening_at, bus_touch_at, sets_at, fetch_alone}
 use Rattle.serial_bands.specs.Bands.{IsBand}
 use Rattle.serial_bands.specs.BandShown.{bytes_from}
-use Rattle.serial_bands.specs.StandsFor.{StandsFor}
+use Rattle.serial_model.specs.StandsFor.{StandsFor}
 
 abbrev pub clock_of : ℕ → Clock
 clock_of c = record { 0 = c }

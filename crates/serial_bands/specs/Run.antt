@@ -1,6 +1,6 @@
 -- A run of the machine, its states, and what it takes.
 use Rattle.std.specs.Prelude.{◌≡◌, ◌≤◌, ℕ, List, true}
-use Rattle.ocs_base.specs.Image.{is_image}
+use Rattle.ocs_base.specs.Image.{is_image, fits_chip}
 use Rattle.ocs_base.specs.Limits.{IsRunnable}
 use Rattle.ocs_base.specs.Script.{ScriptValue}
 use Rattle.ocs_base.specs.declared.beam.Beam.{Beam}
@@ -25,10 +25,11 @@ RunValue = RunOf SideValue
 abbrev pub run_over : {S : Type 0} → (S → SideValue) → RunOf S → RunValue
 run_over seen run = record { image = run.image; script = run.script; height = run.height; side = seen run.side }
 
--- what a run takes: an image that makes a memory, a script in its limits and in order, and a height of 1 to the lines of a
--- long field
+-- what a run takes: an image that is not longer than the script's chip memory, a script in its limits and in order, and a
+-- height of 1 to the lines of a long field
 pub record IsGoodRun {S : Type 0} (run : RunOf S) : Type 0 where
   pub image : is_image run.image ≡ true
+  pub fits : fits_chip run.script.chip run.image ≡ true
   pub script : IsRunnable run.script
   pub least : 1 ≤ run.height
   pub most : run.height ≤ 313

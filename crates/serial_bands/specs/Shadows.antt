@@ -13,7 +13,7 @@ use Rattle.serial_bands.specs.declared.shadow.Filling.TheVariants.{Word, Fetched
 use Rattle.serial_bands.specs.declared.shadow.Shadow.{Shadow}
 use Rattle.serial_bands.specs.Run.{RunValue, beam_at, run_memory}
 use Rattle.serial_bands.specs.Clock.{opening_at, sets_at, bus_touch_at}
-use Rattle.serial_bands.specs.StandsFor.{StandsFor}
+use Rattle.serial_model.specs.StandsFor.{StandsFor}
 use Rattle.serial_bands.specs.RightJob.{clock_of, HasMemory}
 
 -- the word of a filling in a run

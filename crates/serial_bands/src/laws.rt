@@ -3,7 +3,6 @@
 ghost use Rattle.serial_bands.specs.ClockLaws.{WritesReadNothing, PictureOfTick, OpeningOfTick, ReadGivesClx, ClxOfEvents, ClxBefore, ClxAfter, ClxOfTick, PlaceOfTick, NextMemory, NextOpening, DisplayedIsStep, BytesAreOfStep, ClxIsOfStep, ClosingHasFetch, NextShown, ClxAtStart, ClxAtAccess, NextClx, NextInBand, EventsByPlace, FramesRise};
 ghost use Rattle.serial_bands.specs.RangeLaws.{ShownInRange, BytesOfTwo, ClxOfTwo, ReadByAccess, ReadByScript, EventsOfOneMore};
 ghost use Rattle.serial_bands.specs.BandLaws.{FirstBand, NextBand, OneBand, BegunInBand, OneBandMore, BytesOfBands, ClxOfBands, OpeningOfNextBand, ClockHasBand, NumberHasBand, BandsOfRun, ShownByBands, ReadAfterBands, PeekAfterBands, BandsAreFew, NumberIsSmall, NoTint, AccessReadsFew, LatchedAreFew};
-ghost use Rattle.serial_bands.specs.StandsLaws.{StandsForItself, StandsLater, StandsOn, StandsWritten, StandsTouched, StandsTouchedInOrder, StandsCleared, StandsShown, StandsAfter};
 ghost use Rattle.serial_bands.specs.ReplayLaws.{BytesOfKept, ClxOfKept, ClosingOfKept, OpeningOfKept};
 ghost use Rattle.serial_bands.specs.EventReading.{ScriptEventsAreSets, ScriptComesFirst, RestBehindScript, LastBehindScript, BusTouchIsFound, LastFetchIsFound};
 ghost use Rattle.serial_bands.specs.Stores.{StoresMakeMemory, MemoryByStores, ViewHasMemory};
@@ -87,20 +86,6 @@ pub fn bands_of_run()
     ensures peek { PeekAfterBands }
     ensures few { BandsAreFew }
     ensures small { NumberIsSmall }
-{}
-
-/// A picture state whose loads show the same from a position on may stand in for another: every change
-/// of a clock keeps that, and what is shown is the same.
-pub fn kept_picture()
-    ensures itself { StandsForItself }
-    ensures later { StandsLater }
-    ensures on { StandsOn }
-    ensures written { StandsWritten }
-    ensures touched { StandsTouched }
-    ensures in_order { StandsTouchedInOrder }
-    ensures cleared { StandsCleared }
-    ensures shown { StandsShown }
-    ensures after { StandsAfter }
 {}
 
 /// A clock drawn later from a picture state that stands for its opening shows what the clock showed,

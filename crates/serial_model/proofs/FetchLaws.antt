@@ -8,7 +8,7 @@ use Rattle.priority_ham.specs.PlaneCount.{planes_of}
 use Rattle.serial_model.specs.Beam.{is_line_start}
 use Rattle.serial_model.specs.PlaneFetch.{units_at, last_unit, last_unit_at, begins_unit, plane_pointer, is_in_unit, slot_plane, high_resolution, fetches_plane, fetched_plane, plane_dma, move_pointer, move_if_fetched, move_planes, IsUnitStart, IsLastUnit}
 use Rattle.serial_model.specs.RegisterTable.{rows, row_at, is_pointer_high}
-use Rattle.serial_model.specs.Registers.{kept_word, with_word}
+use Rattle.serial_model.specs.Registers.{Registers, kept_word, with_word}
 use Rattle.serial_model.specs.SpriteFetch.{sprite_pointer}
 
 -- a register that is named as the high word of a plane's or a sprite's pointer is one
@@ -44,7 +44,7 @@ last_before : (c : Bool) (units : List ℕ) → last_unit (if c then [] else uni
 last_before true units = refl
 last_before false units = refl
 
-pub last_unit-units_at : (b : Beam) (registers units : List ℕ) → last_unit (units_at b registers units) ≡ last_unit_at b registers (last_unit units)
+pub last_unit-units_at : (b : Beam) (registers : Registers) (units : List ℕ) → last_unit (units_at b registers units) ≡ last_unit_at b registers (last_unit units)
 unfolding units_at last_unit_at
 last_unit-units_at b registers units =
     let before : List ℕ = if is_line_start b then [] else units in
@@ -52,7 +52,7 @@ last_unit-units_at b registers units =
     ∙ ap (λ last. if begins_unit b registers last then Some b.h else last) (last_before (is_line_start b) units)
 
 -- a unit begins at a clock at which one can
-pub begins_unit-is : (b : Beam) (registers : List ℕ) (last : Option ℕ) → IsLastUnit last → begins_unit b registers last ≡ true → IsUnitStart b.h
+pub begins_unit-is : (b : Beam) (registers : Registers) (last : Option ℕ) → IsLastUnit last → begins_unit b registers last ≡ true → IsUnitStart b.h
 begins_unit-is b registers None at is = record { low = grind (arith, nat_tests); high = grind (arith, nat_tests); fourth = grind (arith, nat_tests) }
 begins_unit-is b registers (Some start) at is = record {
   low = grind (arith, nat_tests, at.low);
@@ -69,28 +69,28 @@ forgotten_if true last is = tt
 forgotten_if false last is = is
 
 -- and so the last unit always began at one
-pub last_unit_at-is : (b : Beam) (registers : List ℕ) (last : Option ℕ) → IsLastUnit last → IsLastUnit (last_unit_at b registers last)
+pub last_unit_at-is : (b : Beam) (registers : Registers) (last : Option ℕ) → IsLastUnit last → IsLastUnit (last_unit_at b registers last)
 unfolding last_unit_at
 last_unit_at-is b registers last is =
     let before : Option ℕ = if is_line_start b then None else last in
     let at : IsLastUnit before = forgotten_if (is_line_start b) last is in
     kept_if (begins_unit b registers before) b.h before at (begins_unit-is b registers before at)
 
-pub units_at-is : (b : Beam) (registers units : List ℕ) → IsLastUnit (last_unit units) → IsLastUnit (last_unit (units_at b registers units))
+pub units_at-is : (b : Beam) (registers : Registers) (units : List ℕ) → IsLastUnit (last_unit units) → IsLastUnit (last_unit (units_at b registers units))
 units_at-is b registers units is =
     subst IsLastUnit (sym (last_unit-units_at b registers units)) (last_unit_at-is b registers (last_unit units) is)
 
 -- none begins between two multiples of four, nor at a line's first clock
-pub last_unit_at-between : (b : Beam) (registers : List ℕ) (last : Option ℕ) → b.h % 4 ≢ 0 → IsLastUnit last → last_unit_at b registers last ≡ last
+pub last_unit_at-between : (b : Beam) (registers : Registers) (last : Option ℕ) → b.h % 4 ≢ 0 → IsLastUnit last → last_unit_at b registers last ≡ last
 unfolding last_unit_at
 last_unit_at-between b registers None off at = grind (arith, nat_tests)
 last_unit_at-between b registers (Some start) off at = grind (arith, nat_tests, at.fourth)
 
-pub last_unit_at-start : (b : Beam) (registers : List ℕ) (last : Option ℕ) → b.h ≡ 0 → last_unit_at b registers last ≡ None
+pub last_unit_at-start : (b : Beam) (registers : Registers) (last : Option ℕ) → b.h ≡ 0 → last_unit_at b registers last ≡ None
 unfolding last_unit_at
 last_unit_at-start b registers last at = grind (arith, nat_tests)
 
-pub last_unit_at-else : (b : Beam) (registers : List ℕ) (last : Option ℕ) → b.h ≢ 0
+pub last_unit_at-else : (b : Beam) (registers : Registers) (last : Option ℕ) → b.h ≢ 0
     → last_unit_at b registers last ≡ (if begins_unit b registers last then Some b.h else last)
 unfolding last_unit_at
 last_unit_at-else b registers last off =
@@ -122,7 +122,7 @@ fetch_if : (c : Bool) (h plane : ℕ) → (c ≡ true → IsFetch h plane) → I
 fetch_if true h plane is = is refl
 fetch_if false h plane is = tt
 
-pub fetched_plane-is : (h : ℕ) (registers : List ℕ) (last : Option ℕ) → IsLastUnit last → IfSome (fetched_plane h registers last) (IsFetch h)
+pub fetched_plane-is : (h : ℕ) (registers : Registers) (last : Option ℕ) → IsLastUnit last → IfSome (fetched_plane h registers last) (IsFetch h)
 fetched_plane-is h registers None at = tt
 fetched_plane-is h registers (Some start) at =
     let plane : ℕ = slot_plane (high_resolution registers) (h - start) in
@@ -131,17 +131,17 @@ fetched_plane-is h registers (Some start) at =
     (most_planes (high_resolution registers) (kept_word registers 0x100 / 2 ^ 12 % 8)))
 
 -- a moved pointer leaves the other registers
-pub move_pointer-other : (high bytes : ℕ) (registers : List ℕ) (offset : ℕ) → offset / 2 ≢ high / 2 → offset / 2 ≢ (high + 2) / 2
+pub move_pointer-other : (high bytes : ℕ) (registers : Registers) (offset : ℕ) → offset / 2 ≢ high / 2 → offset / 2 ≢ (high + 2) / 2
     → kept_word (move_pointer high bytes registers) offset ≡ kept_word registers offset
 move_pointer-other high bytes registers offset not_high not_low =
-    get_or-set_other (with_word registers high _) ((high + 2) / 2) (offset / 2) _ 0 not_low
-    ∙ get_or-set_other registers (high / 2) (offset / 2) _ 0 not_high
+    get_or-set_other (with_word registers high _).words ((high + 2) / 2) (offset / 2) _ 0 not_low
+    ∙ get_or-set_other registers.words (high / 2) (offset / 2) _ 0 not_high
 
 -- so the fetches of planes leave all but the planes' pointers
 abbrev pub IsNoPlanePointer : ℕ → Type 0
 IsNoPlanePointer offset = (offset < 0xe0) ⊎ (0xf8 ≤ offset)
 
-planes_kept : (h : ℕ) (last found : Option ℕ) (registers : List ℕ) (offset : ℕ) → IfSome found (IsFetch h) → IsNoPlanePointer offset
+planes_kept : (h : ℕ) (last found : Option ℕ) (registers : Registers) (offset : ℕ) → IfSome found (IsFetch h) → IsNoPlanePointer offset
     → kept_word (move_if_fetched h last found registers) offset ≡ kept_word registers offset
 planes_kept h last None registers offset is other = refl
 planes_kept h None (Some plane) registers offset is other = refl
@@ -150,7 +150,7 @@ planes_kept h (Some start) (Some plane) registers offset is (inl low) =
 planes_kept h (Some start) (Some plane) registers offset is (inr high) =
     move_pointer-other (plane_pointer plane) _ registers offset (omega (arith, is.first, is.most)) (omega (arith, is.first, is.most))
 
-pub kept_word-move_planes : (h : ℕ) (last : Option ℕ) (registers : List ℕ) (offset : ℕ) → IsLastUnit last → IsNoPlanePointer offset
+pub kept_word-move_planes : (h : ℕ) (last : Option ℕ) (registers : Registers) (offset : ℕ) → IsLastUnit last → IsNoPlanePointer offset
     → kept_word (move_planes h last registers) offset ≡ kept_word registers offset
 kept_word-move_planes h last registers offset at other =
     planes_kept h last (fetched_plane h registers last) registers offset (fetched_plane-is h registers last at) other

@@ -7,3 +7,6 @@ pub mod WriteLaws
 pub mod FetchLaws
 pub mod SlotLaws
 pub mod SideLaws
+pub mod Standing
+pub mod Kept
+pub mod PictureRegisters

@@ -35,7 +35,7 @@ use Rattle.serial_model.specs.Copper.{wish_of, step_copper, copper_act}
 use Rattle.serial_model.specs.Made.{word_of}
 use Rattle.serial_model.specs.Owner.{owner_of}
 use Rattle.serial_model.specs.PlaneFetch.{units_at, last_unit, plane_ask, move_plane_pointer}
-use Rattle.serial_model.specs.SpriteFetch.{kinds_at, sprite_ask, asking_sprite, move_sprite_pointer}
+use Rattle.serial_model.specs.SpriteFetch.{kinds_at, sprite_ask, asking_sprite, sprite_address, move_sprite_pointer}
 use Rattle.serial_model.specs.Processor.{processor_wish, give_processor}
 use Rattle.serial_model.specs.State.{BlitUnderWay, Chips, is_busy, read_word}
 
@@ -114,20 +114,14 @@ slot_state b c w = record {
   nasty = blitter_first c.registers;
 }
 
--- the ask of one asker
-abbrev pub side_ask : SideAsk → Ask
-side_ask S.Nothing = A.Free
-side_ask (S.Disk at word) = A.Disk at word
-side_ask (S.Audio channel at) = A.Audio channel at
-
+-- the ask of one asker, where it asks
 abbrev pub plane_owner_ask : Option PlaneAsk → Ask
 plane_owner_ask None = A.Free
-plane_owner_ask (Some ask) = A.Plane ask.plane ask.at
+plane_owner_ask (Some ask) = A.Plane ask
 
 abbrev pub sprite_owner_ask : Option SpriteAsk → Ask
 sprite_owner_ask None = A.Free
-sprite_owner_ask (Some (Control sprite second at)) = A.SpriteControl sprite second at
-sprite_owner_ask (Some (Words sprite second at)) = A.SpriteWords sprite second at
+sprite_owner_ask (Some ask) = A.Sprite ask
 
 abbrev pub copper_ask : Option Addr → Ask
 copper_ask None = A.Free
@@ -135,9 +129,9 @@ copper_ask (Some at) = A.Copper at
 
 abbrev pub blit_owner_ask : Option SlotAsk → Ask
 blit_owner_ask None = A.Free
-blit_owner_ask (Some (Read at)) = A.BlitRead at
-blit_owner_ask (Some (Write at word)) = A.BlitWrite at word
-blit_owner_ask (Some Rest) = A.BlitRest
+blit_owner_ask (Some (Read at)) = A.Blit (Read at)
+blit_owner_ask (Some (Write at word)) = A.Blit (Write at word)
+blit_owner_ask (Some Rest) = A.Blit Rest
 blit_owner_ask (Some Done) = A.Free
 
 abbrev pub processor_ask : Option ProcessorAsk → Ask
@@ -147,8 +141,8 @@ processor_ask (Some ask) = A.Processor ask
 -- the ask of the slot's owner
 abbrev pub owner_ask : Owner → Wishes → Ask
 owner_ask Refresh w = A.Free
-owner_ask Disk w = side_ask w.side
-owner_ask (Audio channel) w = side_ask w.side
+owner_ask Disk w = A.Side w.side
+owner_ask (Audio channel) w = A.Side w.side
 owner_ask (Plane plane) w = plane_owner_ask w.plane
 owner_ask (Sprite sprite) w = sprite_owner_ask w.sprite
 owner_ask Copper w = copper_ask w.copper
@@ -168,31 +162,34 @@ answer_processor (P.Write at half word) b clx c memory = 0
 answer_processor (P.ReadRegister reg) b clx c memory = read_word reg.offset b clx c
 answer_processor (P.WriteRegister reg word) b clx c memory = 0
 
+abbrev pub answer_to_side : SideAsk → List ℕ → ℕ
+answer_to_side S.Nothing memory = 0
+answer_to_side (S.Disk at word) memory = 0
+answer_to_side (S.Audio channel at) memory = word_of memory at.value
+
+abbrev pub answer_blit : SlotAsk → List ℕ → ℕ
+answer_blit (Read at) memory = word_of memory at.value
+answer_blit (Write at word) memory = 0
+answer_blit Rest memory = 0
+answer_blit Done memory = 0
+
 abbrev pub answer_to : Ask → Beam → ℕ → Chips → List ℕ → ℕ
 answer_to A.Free b clx c memory = 0
-answer_to (A.Disk at word) b clx c memory = 0
-answer_to (A.Audio channel at) b clx c memory = word_of memory at.value
-answer_to (A.Plane plane at) b clx c memory = word_of memory at.value
-answer_to (A.SpriteControl sprite second at) b clx c memory = word_of memory at.value
-answer_to (A.SpriteWords sprite second at) b clx c memory = word_of memory at.value
+answer_to (A.Side ask) b clx c memory = answer_to_side ask memory
+answer_to (A.Plane ask) b clx c memory = word_of memory ask.at.value
+answer_to (A.Sprite ask) b clx c memory = word_of memory (sprite_address ask).value
 answer_to (A.Copper at) b clx c memory = word_of memory at.value
-answer_to (A.BlitRead at) b clx c memory = word_of memory at.value
-answer_to (A.BlitWrite at word) b clx c memory = 0
-answer_to A.BlitRest b clx c memory = 0
+answer_to (A.Blit ask) b clx c memory = answer_blit ask memory
 answer_to (A.Processor ask) b clx c memory = answer_processor ask b clx c memory
 
 -- the word that the Copper gets: that of its own ask alone
 abbrev pub copper_word : Ask → ℕ → Option ℕ
 copper_word A.Free word = None
-copper_word (A.Disk at stored) word = None
-copper_word (A.Audio channel at) word = None
-copper_word (A.Plane plane at) word = None
-copper_word (A.SpriteControl sprite second at) word = None
-copper_word (A.SpriteWords sprite second at) word = None
+copper_word (A.Side ask) word = None
+copper_word (A.Plane ask) word = None
+copper_word (A.Sprite ask) word = None
 copper_word (A.Copper at) word = Some word
-copper_word (A.BlitRead at) word = None
-copper_word (A.BlitWrite at stored) word = None
-copper_word A.BlitRest word = None
+copper_word (A.Blit ask) word = None
 copper_word (A.Processor ask) word = None
 
 -- the Copper's step of this clock
@@ -225,30 +222,22 @@ give_chips word c = record c { processor = give_processor word c.processor }
 -- the processor has its word
 abbrev pub answer_owner : Beam → Ask → ℕ → Chips → Chips
 answer_owner b A.Free word c = c
-answer_owner b (A.Disk at stored) word c = c
-answer_owner b (A.Audio channel at) word c = c
-answer_owner b (A.Plane plane at) word c =
-    record c { registers = move_plane_pointer b.h (last_unit (units_now b c)) plane c.registers }
-answer_owner b (A.SpriteControl sprite second at) word c = record c { registers = move_sprite_pointer sprite c.registers }
-answer_owner b (A.SpriteWords sprite second at) word c = record c { registers = move_sprite_pointer sprite c.registers }
+answer_owner b (A.Side ask) word c = c
+answer_owner b (A.Plane ask) word c =
+    record c { registers = move_plane_pointer b.h (last_unit (units_now b c)) ask.plane c.registers }
+answer_owner b (A.Sprite ask) word c = record c { registers = move_sprite_pointer (asking_sprite ask) c.registers }
 answer_owner b (A.Copper at) word c = c
-answer_owner b (A.BlitRead at) word c = give_blit word c.blit c
-answer_owner b (A.BlitWrite at stored) word c = give_blit word c.blit c
-answer_owner b A.BlitRest word c = give_blit word c.blit c
+answer_owner b (A.Blit ask) word c = give_blit word c.blit c
 answer_owner b (A.Processor ask) word c = give_chips word c
 
 -- an ask of the processor
 abbrev pub is_processor_ask : Ask → Bool
 is_processor_ask A.Free = false
-is_processor_ask (A.Disk at stored) = false
-is_processor_ask (A.Audio channel at) = false
-is_processor_ask (A.Plane plane at) = false
-is_processor_ask (A.SpriteControl sprite second at) = false
-is_processor_ask (A.SpriteWords sprite second at) = false
+is_processor_ask (A.Side ask) = false
+is_processor_ask (A.Plane ask) = false
+is_processor_ask (A.Sprite ask) = false
 is_processor_ask (A.Copper at) = false
-is_processor_ask (A.BlitRead at) = false
-is_processor_ask (A.BlitWrite at stored) = false
-is_processor_ask A.BlitRest = false
+is_processor_ask (A.Blit ask) = false
 is_processor_ask (A.Processor ask) = true
 
 -- the count of clocks in a row at which the processor asked and did not get the slot, which stands still at 3
@@ -283,16 +272,28 @@ made_by_processor (P.Write at half word) = M.Stored at half word
 made_by_processor (P.ReadRegister reg) = made_by_read reg
 made_by_processor (P.WriteRegister reg word) = M.Wrote reg word (Some ByProcessor)
 
+-- a sprite's control word is written to its register, and its image word fills a latch
+abbrev pub made_by_sprite : SpriteAsk → ℕ → Made
+made_by_sprite (Control sprite second at) word = M.Wrote (control_register sprite second) word None
+made_by_sprite (Words sprite second at) word = M.Sprite sprite second at
+
+abbrev pub made_by_side : SideAsk → Made
+made_by_side S.Nothing = M.Nothing
+made_by_side (S.Disk at stored) = M.Stored at Both stored
+made_by_side (S.Audio channel at) = M.Nothing
+
+abbrev pub made_by_blit : SlotAsk → Made
+made_by_blit (Read at) = M.Nothing
+made_by_blit (Write at stored) = M.Stored at Both stored
+made_by_blit Rest = M.Nothing
+made_by_blit Done = M.Nothing
+
 -- what an access makes, with the word that answers it, of the chips as they were before
 unfoldable pub made_by_ask : Ask → ℕ → Chips → Made
 made_by_ask A.Free word c = M.Nothing
-made_by_ask (A.Disk at stored) word c = M.Stored at Both stored
-made_by_ask (A.Audio channel at) word c = M.Nothing
-made_by_ask (A.Plane plane at) word c = M.Plane plane at
-made_by_ask (A.SpriteControl sprite second at) word c = M.Wrote (control_register sprite second) word None
-made_by_ask (A.SpriteWords sprite second at) word c = M.Sprite sprite second at
-made_by_ask (A.BlitRead at) word c = M.Nothing
-made_by_ask (A.BlitWrite at stored) word c = M.Stored at Both stored
-made_by_ask A.BlitRest word c = M.Nothing
-made_by_ask (A.Processor ask) word c = made_by_processor ask
+made_by_ask (A.Side ask) word c = made_by_side ask
+made_by_ask (A.Plane ask) word c = M.Plane ask.plane ask.at
+made_by_ask (A.Sprite ask) word c = made_by_sprite ask word
 made_by_ask (A.Copper at) word c = made_by_copper (copper_act (is_danger c.registers) (Some word) c.copper)
+made_by_ask (A.Blit ask) word c = made_by_blit ask
+made_by_ask (A.Processor ask) word c = made_by_processor ask

@@ -19,7 +19,7 @@ copper_from at = record { phase = First; at = at; first = 0; second = 0 }
 
 -- the address so many bytes on
 abbrev pub bytes_after : Addr → ℕ → Addr
-bytes_after at bytes = addr_at (at.value + bytes)
+bytes_after at bytes = addr_at at.size (at.value + bytes)
 
 -- the word that it asks for: in a fetch phase that at its address
 abbrev pub wish_in : CopperPhase → Addr → Option Addr

@@ -84,10 +84,6 @@ AskOfFitIsBelow = (size : ℕ) (b : Beam) (dmacon : ℕ) (side : SideValue) → 
 abbrev pub NoneFitsEach : Type 0
 NoneFitsEach = (size : ℕ) → FitsSide size no_side
 
--- each side fits chip memory of 512 KiB, since addresses are below it
-abbrev pub EachSideFits : Type 0
-EachSideFits = (side : SideValue) → FitsSide 524288 side
-
 -- a run of a script has an end, over each side
 abbrev pub HasEnd : Type 0
 HasEnd = (side : SideValue) (image : List ℕ) (script : ScriptValue) → IsRunnable script →

@@ -7,6 +7,9 @@ pub mod Window
 pub mod PlaneFetch
 pub mod SpriteFetch
 pub mod Picture
+pub mod StandsFor
+pub mod Keeps
+pub mod StandsLaws
 pub mod Processor
 pub mod Side
 pub mod State

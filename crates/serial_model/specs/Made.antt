@@ -1,6 +1,5 @@
 -- What an access or an event of the script makes, done to each part of the state.
 use Rattle.std.specs.Prelude.{ℕ, ◌+◌, ◌*◌, ◌/◌, ◌%◌, ◌==◌, Bool, false, if◌then◌else◌, List, [], ◌∷◌, ◌++◌, slice_index, slice_set, Option, Some, None}
-use Rattle.ocs_base.specs.Addr.{chip_span}
 use Rattle.ocs_base.specs.declared.beam.Beam.{Beam}
 use Rattle.serial_model.specs.declared.bus.Half.{Half}
 use Rattle.serial_model.specs.declared.bus.Half.TheVariants.{Both, High, Low}
@@ -17,9 +16,9 @@ use Rattle.serial_model.specs.Side.{side_by_made}
 use Rattle.serial_model.specs.State.{Chips, State, read_word}
 use Rattle.serial_model.specs.Write.{write_chips, write_lof}
 
--- the word of memory at an address, modulo the span
+-- the word of memory at an address. Above the memory, where no access of the machine goes, it would be 0
 abbrev pub word_of : List ℕ → ℕ → ℕ
-word_of memory at = slice_index memory (at % chip_span / 2)
+word_of memory at = slice_index memory (at / 2)
 
 -- a write to a register reaches the chips
 abbrev pub chips_after : Made → Chips → Chips

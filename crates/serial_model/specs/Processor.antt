@@ -8,6 +8,8 @@ use Rattle.m68k_decode.specs.Access.{Read, Write, Next, Asks, Ends, Halts}
 use Rattle.m68k_decode.specs.Walk.{Stage, next, advance, regs_at_reset}
 use Rattle.ocs_base.specs.AddressOf.{addr_at}
 use Rattle.ocs_base.specs.Register.{register_of}
+use Rattle.ocs_base.specs.Sizes.{bytes_of}
+use Rattle.ocs_base.specs.declared.chip_size.ChipSize.{ChipSize}
 use Rattle.serial_model.specs.declared.bus.ProcessorAsk.{ProcessorAsk}
 use Rattle.serial_model.specs.declared.bus.ProcessorAsk.TheVariants as P
 use Rattle.serial_model.specs.declared.bus.Half.{Half}
@@ -23,6 +25,8 @@ use Rattle.serial_model.specs.declared.processor.Turn.{Turn}
 use Rattle.serial_model.specs.declared.processor.Turn.TheVariants as T
 
 pub record Processor : Type 0 where
+  -- the size of the chip memory on its bus
+  pub chip : ChipSize
   -- the script starts it
   pub on : Bool
   -- the registers with which what is under way began, what that is, and the answers since
@@ -35,8 +39,9 @@ pub record Processor : Type 0 where
   pub given : Option ℕ
 
 -- at reset it begins the reset, if it is on
-abbrev pub reset_processor : Bool → Processor
-reset_processor on = record {
+abbrev pub reset_processor : ChipSize → Bool → Processor
+reset_processor chip on = record {
+  chip = chip;
   on = on;
   regs = regs_at_reset;
   under = U.Reset;
@@ -65,16 +70,16 @@ below_sixteen a = omega arith
 abbrev pub cia_register : ℕ → CiaRegister
 cia_register a = record { number = a / 256 % 16; below = below_sixteen a }
 
-abbrev pub target_at : ℕ → Bool → Target
-target_at a byte =
-    if nat_lt a 0x80000 then G.Memory (addr_at a)
+abbrev pub target_at : ChipSize → ℕ → Bool → Target
+target_at chip a byte =
+    if nat_lt a (bytes_of chip) then G.Memory (addr_at chip a)
     else if is_within 0xdff000 0xdff1ff a then G.Register (register_of a)
     else if reaches_cia_a a byte then G.Cia C.A (cia_register a)
     else if reaches_cia_b a byte then G.Cia C.B (cia_register a)
     else G.Unmapped
 
-unfoldable pub target_of : ℕ → Bool → Target
-target_of at byte = target_at (at % 0x1000000) byte
+unfoldable pub target_of : ChipSize → ℕ → Bool → Target
+target_of chip at byte = target_at chip (at % 0x1000000) byte
 
 -- ---- what it waits for
 
@@ -102,14 +107,14 @@ write_wait at byte word (G.Register reg) = W.Slot (P.WriteRegister reg (register
 write_wait at byte word (G.Cia cia reg) = W.Cia cia reg (Some (cia_byte cia byte word))
 write_wait at byte word G.Unmapped = W.Unmapped
 
-unfoldable pub wait_of : Next → Wait
-wait_of (Asks (Read at byte)) = read_wait (target_of at byte)
-wait_of (Asks (Write at byte word)) = write_wait at byte word (target_of at byte)
-wait_of (Ends regs idle under) = W.Idle idle
-wait_of Halts = W.Halted
+unfoldable pub wait_of : ChipSize → Next → Wait
+wait_of chip (Asks (Read at byte)) = read_wait (target_of chip at byte)
+wait_of chip (Asks (Write at byte word)) = write_wait at byte word (target_of chip at byte)
+wait_of chip (Ends regs idle under) = W.Idle idle
+wait_of chip Halts = W.Halted
 
 abbrev pub processor_wait : Processor → Wait
-processor_wait p = wait_of (next p.regs p.under p.answers)
+processor_wait p = wait_of p.chip (next p.regs p.under p.answers)
 
 -- ---- what it asks for: after a first clock without a slot, the slot of each clock until it has one
 
@@ -153,6 +158,7 @@ stage_after word level p = advance p.regs p.under p.answers word level
 
 abbrev pub go_on : ℕ → ℕ → Processor → Processor
 go_on word level p = record {
+  chip = p.chip;
   on = p.on;
   regs = (stage_after word level p).regs;
   under = (stage_after word level p).under;

@@ -39,8 +39,15 @@ write_only offset name writing kept_bits = entry offset 1 2 name R.Zero writing 
 abbrev pub group : ℕ → ℕ → ℕ → List ℕ → Writing → ℕ → Row
 group first count apart name writing kept_bits = entry first count apart name R.Zero writing kept_bits
 
--- the table. A pointer keeps bits 2 to 0 of its high word and bits 15 to 1 of its low word; BLTAPTL keeps all, for line
--- mode. The words of INTENA and INTREQ are no part of the table: other chips change them too
+-- the high word of a pointer, of which the size of chip memory says what it keeps
+abbrev pub high_word : ℕ → List ℕ → Row
+high_word offset name = write_only offset name W.PointerHigh 0
+
+abbrev pub high_words : ℕ → ℕ → List ℕ → Row
+high_words first count name = group first count 4 name W.PointerHigh 0
+
+-- the table. A pointer keeps bits 15 to 1 of its low word; BLTAPTL keeps all, for line mode. The words of INTENA and INTREQ are
+-- no part of the table: other chips change them too
 unfoldable pub rows : List Row
 rows =
     read_only 0x002 (codes "DMACONR") R.DmaAndBlitter
@@ -57,13 +64,13 @@ rows =
     ∷ write_only 0x042 (codes "BLTCON1") W.Plain 0xffff
     ∷ write_only 0x044 (codes "BLTAFWM") W.Plain 0xffff
     ∷ write_only 0x046 (codes "BLTALWM") W.Plain 0xffff
-    ∷ write_only 0x048 (codes "BLTCPTH") W.PointerHigh 0x0007
+    ∷ high_word 0x048 (codes "BLTCPTH")
     ∷ write_only 0x04a (codes "BLTCPTL") W.Plain 0xfffe
-    ∷ write_only 0x04c (codes "BLTBPTH") W.PointerHigh 0x0007
+    ∷ high_word 0x04c (codes "BLTBPTH")
     ∷ write_only 0x04e (codes "BLTBPTL") W.Plain 0xfffe
-    ∷ write_only 0x050 (codes "BLTAPTH") W.PointerHigh 0x0007
+    ∷ high_word 0x050 (codes "BLTAPTH")
     ∷ write_only 0x052 (codes "BLTAPTL") W.Plain 0xffff
-    ∷ write_only 0x054 (codes "BLTDPTH") W.PointerHigh 0x0007
+    ∷ high_word 0x054 (codes "BLTDPTH")
     ∷ write_only 0x056 (codes "BLTDPTL") W.Plain 0xfffe
     ∷ write_only 0x058 (codes "BLTSIZE") W.Blit 0xffff
     ∷ write_only 0x060 (codes "BLTCMOD") W.Plain 0xffff
@@ -73,9 +80,9 @@ rows =
     ∷ write_only 0x070 (codes "BLTCDAT") W.Plain 0xffff
     ∷ write_only 0x072 (codes "BLTBDAT") W.Plain 0xffff
     ∷ write_only 0x074 (codes "BLTADAT") W.Plain 0xffff
-    ∷ write_only 0x080 (codes "COP1LCH") W.PointerHigh 0x0007
+    ∷ high_word 0x080 (codes "COP1LCH")
     ∷ write_only 0x082 (codes "COP1LCL") W.Plain 0xfffe
-    ∷ write_only 0x084 (codes "COP2LCH") W.PointerHigh 0x0007
+    ∷ high_word 0x084 (codes "COP2LCH")
     ∷ write_only 0x086 (codes "COP2LCL") W.Plain 0xfffe
     ∷ write_only 0x088 (codes "COPJMP1") (W.Jump 1) 0xffff
     ∷ write_only 0x08a (codes "COPJMP2") (W.Jump 2) 0xffff
@@ -87,7 +94,7 @@ rows =
     ∷ write_only 0x098 (codes "CLXCON") W.Picture 0xffff
     ∷ write_only 0x09a (codes "INTENA") W.Interrupt 0
     ∷ write_only 0x09c (codes "INTREQ") W.Interrupt 0
-    ∷ group 0x0e0 6 4 (codes "BPL1PTH to BPL6PTH") W.PointerHigh 0x0007
+    ∷ high_words 0x0e0 6 (codes "BPL1PTH to BPL6PTH")
     ∷ group 0x0e2 6 4 (codes "BPL1PTL to BPL6PTL") W.Plain 0xfffe
     ∷ write_only 0x100 (codes "BPLCON0") W.Picture 0xffff
     ∷ write_only 0x102 (codes "BPLCON1") W.Picture 0xffff
@@ -95,7 +102,7 @@ rows =
     ∷ write_only 0x108 (codes "BPL1MOD") W.Plain 0xffff
     ∷ write_only 0x10a (codes "BPL2MOD") W.Plain 0xffff
     ∷ group 0x110 6 2 (codes "BPL1DAT to BPL6DAT") W.Picture 0xffff
-    ∷ group 0x120 8 4 (codes "SPR0PTH to SPR7PTH") W.PointerHigh 0x0007
+    ∷ high_words 0x120 8 (codes "SPR0PTH to SPR7PTH")
     ∷ group 0x122 8 4 (codes "SPR0PTL to SPR7PTL") W.Plain 0xfffe
     ∷ group 0x140 8 8 (codes "SPR0POS to SPR7POS") W.Picture 0xffff
     ∷ group 0x142 8 8 (codes "SPR0CTL to SPR7CTL") W.Picture 0xffff

@@ -3,6 +3,8 @@ use Rattle.std.specs.Prelude.{ℕ, ◌+◌, ◌*◌, ◌/◌, ◌%◌, Bool, tru
 use Rattle.irq_cia.specs.Bits.{has_bits, set_or_clear}
 use Rattle.ocs_base.specs.AddressOf.{addr_at}
 use Rattle.ocs_base.specs.declared.addr.Addr.{Addr}
+use Rattle.ocs_base.specs.declared.chip_size.ChipSize.{ChipSize}
+use Rattle.ocs_base.specs.declared.chip_size.ChipSize.TheVariants.{Kib512, Mib1}
 use Rattle.serial_model.specs.declared.registers.Effect.{Effect}
 use Rattle.serial_model.specs.declared.registers.Effect.TheVariants as E
 use Rattle.serial_model.specs.declared.registers.Live.{Live}
@@ -12,47 +14,52 @@ use Rattle.serial_model.specs.declared.registers.Writing.{Writing}
 use Rattle.serial_model.specs.declared.registers.Writing.TheVariants.{Ignored, Plain, PointerHigh, SetOrClear, Jump, Blit, Picture, Interrupt, Field}
 use Rattle.serial_model.specs.RegisterTable.{reading_at, writing_at, kept_bits_at}
 
--- the kept word of the register at an offset from DFF000
-abbrev pub kept_word : List ℕ → ℕ → ℕ
-kept_word registers offset = slice_index registers (offset / 2)
+-- the kept words of the custom registers, by half their offset, with the size of chip memory, by which pointers go
+pub record Registers : Type 0 where
+  pub size : ChipSize
+  pub words : List ℕ
 
-abbrev pub with_word : List ℕ → ℕ → ℕ → List ℕ
-with_word registers offset word = slice_set registers (offset / 2) word
+-- the kept word of the register at an offset from DFF000
+abbrev pub kept_word : Registers → ℕ → ℕ
+kept_word registers offset = slice_index registers.words (offset / 2)
+
+abbrev pub with_word : Registers → ℕ → ℕ → Registers
+with_word registers offset word = record registers { words = slice_set registers.words (offset / 2) word }
 
 -- every register is 0 at reset
-unfoldable pub no_registers : List ℕ
-no_registers = replicate 256 0
+unfoldable pub no_registers : ChipSize → Registers
+no_registers size = record { size = size; words = replicate 256 0 }
 
--- the address in a pointer's high and low word, the high one at the offset: the low 19 bits without bit 0
-abbrev pub pointer_at : List ℕ → ℕ → Addr
-pointer_at registers high = addr_at (65536 * kept_word registers high + kept_word registers (high + 2))
+-- the address in a pointer's high and low word, the high one at the offset
+abbrev pub pointer_at : Registers → ℕ → Addr
+pointer_at registers high = addr_at registers.size (65536 * kept_word registers high + kept_word registers (high + 2))
 
 -- the table in which a pointer holds an address
-abbrev pub with_pointer : List ℕ → ℕ → ℕ → List ℕ
+abbrev pub with_pointer : Registers → ℕ → ℕ → Registers
 with_pointer registers high address = with_word (with_word registers high (address / 65536)) (high + 2) (address % 65536)
 
 -- the kept word of DMACON
-abbrev pub dmacon_of : List ℕ → ℕ
+abbrev pub dmacon_of : Registers → ℕ
 dmacon_of registers = kept_word registers 0x96
 
 -- DMAEN, bit 9, and COPEN, bit 7, of DMACON are both set
-abbrev pub copper_dma : List ℕ → Bool
+abbrev pub copper_dma : Registers → Bool
 copper_dma registers = has_bits (dmacon_of registers) 640
 
 -- DMAEN, bit 9, and BLTEN, bit 6, of DMACON are both set
-abbrev pub blitter_dma : List ℕ → Bool
+abbrev pub blitter_dma : Registers → Bool
 blitter_dma registers = has_bits (dmacon_of registers) 576
 
 -- BLTPRI, bit 10 of DMACON
-abbrev pub blitter_first : List ℕ → Bool
+abbrev pub blitter_first : Registers → Bool
 blitter_first registers = has_bits (dmacon_of registers) 1024
 
 -- LACE, bit 2 of BPLCON0
-abbrev pub is_interlaced : List ℕ → Bool
+abbrev pub is_interlaced : Registers → Bool
 is_interlaced registers = has_bits (kept_word registers 0x100) 4
 
 -- CDANG, bit 1 of COPCON
-abbrev pub is_danger : List ℕ → Bool
+abbrev pub is_danger : Registers → Bool
 is_danger registers = has_bits (kept_word registers 0x2e) 2
 
 -- while the blitter is busy, a write to 040 to 074 changes nothing (profile)
@@ -75,11 +82,16 @@ effect_in Field word = E.Lof (nat_le 32768 word)
 unfoldable pub effect_of : Bool → ℕ → ℕ → Effect
 effect_of busy offset word = if is_closed busy offset then E.Nothing else effect_in (writing_at offset) word
 
+-- the bits that the high word of a pointer keeps: those above bit 15 that addresses of this chip memory have
+abbrev pub high_bits : ChipSize → ℕ
+high_bits Kib512 = 0x7
+high_bits Mib1 = 0xf
+
 -- the kept words after a write of a word to a register that is not closed
-abbrev pub words_in : Writing → List ℕ → ℕ → ℕ → List ℕ
+abbrev pub words_in : Writing → Registers → ℕ → ℕ → Registers
 words_in Ignored registers offset word = registers
 words_in Plain registers offset word = with_word registers offset (bit_and word (kept_bits_at offset))
-words_in PointerHigh registers offset word = with_word registers offset (bit_and word (kept_bits_at offset))
+words_in PointerHigh registers offset word = with_word registers offset (bit_and word (high_bits registers.size))
 words_in SetOrClear registers offset word =
     with_word registers offset (set_or_clear (kept_bits_at offset) (kept_word registers offset) word)
 words_in (Jump list) registers offset word = with_word registers offset (bit_and word (kept_bits_at offset))
@@ -89,7 +101,7 @@ words_in Interrupt registers offset word = registers
 words_in Field registers offset word = with_word registers offset (bit_and word (kept_bits_at offset))
 
 -- the kept words after a write
-unfoldable pub words_after : Bool → List ℕ → ℕ → ℕ → List ℕ
+unfoldable pub words_after : Bool → Registers → ℕ → ℕ → Registers
 words_after busy registers offset word =
     if is_closed busy offset then registers else words_in (writing_at offset) registers offset word
 
@@ -115,7 +127,7 @@ bit_worth set worth = if set then worth else 0
 
 -- what a read of a register gives: DMACONR has BBUSY in bit 14 and BZERO in bit 13, VPOSR has LOF in bit 15. CLXDAT and the
 -- interrupt words are kept elsewhere
-abbrev pub word_in : Reading → Live → List ℕ → ℕ
+abbrev pub word_in : Reading → Live → Registers → ℕ
 word_in Zero live registers = 0
 word_in DmaAndBlitter live registers =
     bit_and (kept_word registers 0x96) 0x7ff + bit_worth live.zero 8192 + bit_worth live.busy 16384
@@ -124,5 +136,5 @@ word_in LineAndClock live registers = 256 * (live.beam.v % 256) + live.beam.h % 
 word_in (Joystick port) live registers = if port == 0 then live.joy0 else live.joy1
 word_in Elsewhere live registers = 0
 
-unfoldable pub word_at : Live → List ℕ → ℕ → ℕ
+unfoldable pub word_at : Live → Registers → ℕ → ℕ
 word_at live registers offset = word_in (reading_at offset) live registers

@@ -7,7 +7,7 @@ use Rattle.serial_model.specs.Tick.{tick}
 
 -- the state after so many colour clocks, over a side as it is at reset
 unfoldable pub state_over : SideValue → List ℕ → ScriptValue → ℕ → State
-state_over side image script zero = reset side image script.cpu
+state_over side image script zero = reset side image script.chip script.cpu
 state_over side image script (suc n) = tick script.system script.events (state_over side image script n)
 
 -- the run ends with the first state whose frame is the script's number of frames

@@ -96,18 +96,20 @@ no_side = record {
   shows = λ later. [];
 }
 
--- a side once the owner of the slot has this answer: its own ask gives it the word, that which the disk stored or audio read
+-- a side that got the slot for which it asked: it is given the word, that which the disk stored or audio read
+abbrev pub answer_own_ask : SideAsk → ℕ → SideValue → SideValue
+answer_own_ask S.Nothing word side = side
+answer_own_ask (S.Disk at stored) word side = give_side stored side
+answer_own_ask (S.Audio channel at) word side = give_side word side
+
+-- a side once the owner of the slot has this answer: only its own ask changes it
 abbrev pub answer_side : Ask → ℕ → SideValue → SideValue
 answer_side A.Free word side = side
-answer_side (A.Disk at stored) word side = give_side stored side
-answer_side (A.Audio channel at) word side = give_side word side
-answer_side (A.Plane plane at) word side = side
-answer_side (A.SpriteControl sprite second at) word side = side
-answer_side (A.SpriteWords sprite second at) word side = side
+answer_side (A.Side ask) word side = answer_own_ask ask word side
+answer_side (A.Plane ask) word side = side
+answer_side (A.Sprite ask) word side = side
 answer_side (A.Copper at) word side = side
-answer_side (A.BlitRead at) word side = side
-answer_side (A.BlitWrite at stored) word side = side
-answer_side A.BlitRest word side = side
+answer_side (A.Blit ask) word side = side
 answer_side (A.Processor ask) word side = side
 
 -- and once this was made: each write of a register, by whomever, is given to it

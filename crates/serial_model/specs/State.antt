@@ -6,6 +6,7 @@ use Rattle.irq_cia.specs.Cia.{reset_cia}
 use Rattle.irq_cia.specs.declared.cia.CiaState.{CiaState}
 use Rattle.ocs_base.specs.AddressOf.{addr_at}
 use Rattle.ocs_base.specs.declared.beam.Beam.{Beam}
+use Rattle.ocs_base.specs.declared.chip_size.ChipSize.{ChipSize}
 use Rattle.ocs_base.specs.Memory.{memory_of}
 use Rattle.serial_model.specs.declared.copper.CopperState.{CopperState}
 use Rattle.serial_model.specs.declared.fetch.SpriteKind.{SpriteKind}
@@ -14,7 +15,7 @@ use Rattle.serial_model.specs.declared.registers.Inputs.{Inputs}
 use Rattle.serial_model.specs.declared.registers.Live.{Live}
 use Rattle.serial_model.specs.declared.trace.TraceLine.{TraceLine}
 use Rattle.serial_model.specs.Beam.{first_place}
-use Rattle.serial_model.specs.Registers.{no_registers, word_at}
+use Rattle.serial_model.specs.Registers.{Registers, no_registers, word_at}
 use Rattle.serial_model.specs.Copper.{copper_from}
 use Rattle.irq_cia.specs.Interrupts.{Interrupts, no_interrupts}
 use Rattle.serial_model.specs.Picture.{reset_picture}
@@ -39,8 +40,8 @@ no_inputs = record {
 
 -- everything but memory and picture
 pub record Chips : Type 0 where
-  -- the custom registers: the kept word of each, by half its offset
-  pub registers : List ℕ
+  -- the custom registers, with the size of chip memory
+  pub registers : Registers
   -- the clocks of this line at which units of bitplane fetch began, the newest first
   pub units : List ℕ
   -- what each sprite reads on this line
@@ -76,29 +77,29 @@ pub record State : Type 0 where
   -- the trace lines so far
   pub trace : List TraceLine
 
-abbrev pub reset_chips : Bool → Chips
-reset_chips cpu = record {
-  registers = no_registers;
+abbrev pub reset_chips : ChipSize → Bool → Chips
+reset_chips size cpu = record {
+  registers = no_registers size;
   units = [];
   kinds = no_kinds;
-  copper = copper_from (addr_at 0);
+  copper = copper_from (addr_at size 0);
   blit = None;
   zero = true;
   irq = no_interrupts;
-  processor = reset_processor cpu;
+  processor = reset_processor size cpu;
   missed = 0;
   cia_a = reset_cia;
   cia_b = reset_cia;
   inputs = no_inputs;
 }
 
--- the state at reset with a side as it is then, and the processor started or not
-unfoldable pub reset : SideValue → List ℕ → Bool → State
-reset side image cpu = record {
+-- the state at reset with a side as it is then, chip memory of a size, and the processor started or not
+unfoldable pub reset : SideValue → List ℕ → ChipSize → Bool → State
+reset side image size cpu = record {
   t = 0;
   beam = first_place;
-  memory = memory_of image;
-  chips = reset_chips cpu;
+  memory = memory_of size image;
+  chips = reset_chips size cpu;
   side = side;
   picture = reset_picture;
   clx = 0;

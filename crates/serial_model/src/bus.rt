@@ -1,6 +1,8 @@
 //! The access of a colour clock: who makes it, and what it makes.
 
+use crate::fetch::{PlaneAsk, SpriteAsk};
 use crate::trace::Source;
+use blit_words::SlotAsk;
 use ocs_base::{Addr, Reg};
 
 /// What disk and audio ask for at a clock: nothing, a word to be stored by the disk, or a word of an audio
@@ -12,23 +14,17 @@ pub enum SideAsk {
     Audio { channel: u8, at: Addr },
 }
 
-/// The access that the owner of the slot makes: none (a free slot, or refresh), a word stored by
-/// the disk, the read of a sample's word, of a word for the latch of a bitplane, 1 to 6, of a
-/// control word or an image word of a sprite, 0 to 7, or of an instruction's word by the Copper; or
-/// the blitter's slot, in which it reads or writes a word or makes no access; or what the processor
-/// does. A sprite's `second` word is that for SPRxCTL or SPRxDATB.
+/// The access that the owner of the slot makes, by who it is: none (a free slot, or refresh); that of the
+/// disk or an audio channel; the read of a word for a bitplane's latch, or of a sprite's word; the read
+/// of an instruction's word by the Copper; what the blitter does with its slot; or what the processor does.
 #[derive(Clone, Copy, Debug)]
 pub enum Ask {
     Free,
-    Disk { at: Addr, word: u16 },
-    Audio { channel: u8, at: Addr },
-    Plane { plane: u8, at: Addr },
-    SpriteControl { sprite: u8, second: bool, at: Addr },
-    SpriteWords { sprite: u8, second: bool, at: Addr },
+    Side { ask: SideAsk },
+    Plane { ask: PlaneAsk },
+    Sprite { ask: SpriteAsk },
     Copper { at: Addr },
-    BlitRead { at: Addr },
-    BlitWrite { at: Addr, word: u16 },
-    BlitRest,
+    Blit { ask: SlotAsk },
     Processor { ask: ProcessorAsk },
 }
 

@@ -1,7 +1,8 @@
 //! Laws of the definitions, each the contract of a function that does nothing.
 
 ghost use Rattle.serial_model.specs.Laws.{MemoryNext, PictureNext, ShownNext, ClxNext, TraceNext, BeamNext, FramesAreWhole, HasEnd};
-ghost use Rattle.serial_model.specs.Laws.{FitIsKept, AskOfFitIsBelow, NoneFitsEach, EachSideFits};
+ghost use Rattle.serial_model.specs.Laws.{FitIsKept, AskOfFitIsBelow, NoneFitsEach};
+ghost use Rattle.serial_model.specs.StandsLaws.{StandsForItself, StandsLater, StandsOn, StandsWritten, StandsTouched, StandsTouchedInOrder, StandsCleared, StandsShown, StandsAfter};
 
 /// What one colour clock makes of a state, part by part, by the script's touches, the picture step
 /// and what the access makes. Drawing a part of the picture later, from the writes that were noted
@@ -16,16 +17,29 @@ pub fn next_state()
 {}
 
 /// A side that fits a size of chip memory fits it after each call, and what it then asks for is
-/// below that size. With addresses of 512 KiB alone each side fits those.
+/// below that size.
 pub fn sides_fit()
     ensures kept { FitIsKept }
     ensures below { AskOfFitIsBelow }
     ensures none { NoneFitsEach }
-    ensures each { EachSideFits }
 {}
 
 /// A run has an end, and has then shown all the bytes of its frames.
 pub fn whole_run()
     ensures ends { HasEnd }
     ensures frames { FramesAreWhole }
+{}
+
+/// A picture state whose loads show the same from a position on may stand in for another: every change
+/// of a clock keeps that, and what is shown is the same.
+pub fn kept_picture()
+    ensures itself { StandsForItself }
+    ensures later { StandsLater }
+    ensures on { StandsOn }
+    ensures written { StandsWritten }
+    ensures touched { StandsTouched }
+    ensures in_order { StandsTouchedInOrder }
+    ensures cleared { StandsCleared }
+    ensures shown { StandsShown }
+    ensures after { StandsAfter }
 {}

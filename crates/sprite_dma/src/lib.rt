@@ -149,6 +149,6 @@ fn fetch(kind: SpriteKind, sprite: u8, second: bool, regs: &mut Regs) -> Option<
         SpriteKind::Control => SpriteAsk::Control { sprite, second, at },
         SpriteKind::Words => SpriteAsk::Words { sprite, second, at },
     };
-    regs.set_pointer(high, Addr::at(at.raw() + 2));
+    regs.set_pointer(high, Addr::sized(at.size, at.raw() + 2));
     Some(ask)
 }

@@ -1,4 +1,4 @@
-use Rattle.std.proofs.Common.{◌≡◌, drop, nat_lt, rules, subst}
+use Rattle.std.proofs.Common.{drop, nat_lt, rules, subst}
 use Rattle.std.proofs.lemmas.List.Sorted.{IsPartitionPoint-from_clause, IsPartitionedBy-ltb}
 use Rattle.ocs_base.specs.Limits.{time_of}
 use Rattle.ocs_base.specs.declared.script.At.{At}

@@ -8,4 +8,5 @@ invariant-loop-k l =
       clock : l.chip.newest < l.k;
       count : length l.chip.writes + 1 ≡ l.k;
       last : l.chip.last ≡ 0;
+      size : length l.chip.words ≡ 262144;
     }

@@ -8,9 +8,12 @@ returns c p is =
     let gone = c.advance-begins.ensures p.regs p.under p.answers is.stands in
     record {
       stands = record {
+        chip = is.chip;
         on = is.on;
         stands = gone.stands;
-        wait = wait_is _ ∙ ap wait_by (sym (c.ask.ensures.next _ _ _ gone.stands)) ∙ sym c.wait_for-self.ensures;
+        wait =
+            wait_is p.chip _ ∙ ap (wait_by p.chip) (sym (c.ask.ensures.next _ _ _ gone.stands))
+            ∙ ap (λ chip. wait_by chip c.ask.result) is.chip ∙ sym c.wait_for-self.ensures;
         spent = refl;
         given = refl;
       };

@@ -1,5 +1,5 @@
 -- Only writes to lower pages stand before the walk's place.
-use Rattle.std.proofs.Common.{ℕ, ◌-◌, length}
+use Rattle.std.proofs.Common.{◌-◌, length}
 use Rattle.mem_versions.specs.History.{AreLower}
 use Rattle.mem_versions.proofs.history.page_start.Given as goal
 

@@ -1,6 +1,7 @@
 -- A turn appends a page and counts its words.
-use Rattle.std.proofs.Common.{◌≡◌, ℕ, ◌*◌, List, take, drop, sym, ap, ◌∙◌, refl, arith}
+use Rattle.std.proofs.Common.{rules, ◌≡◌, ℕ, ◌*◌, List, take, drop, sym, ap, ◌∙◌, refl, arith}
 use Rattle.std.proofs.lemmas.List.{append-nil}
+use Rattle.mem_versions.specs.Chip.{after_reads}
 use Rattle.serial_model.specs.MemoryText.{memory_text}
 use Rattle.out_files.proofs.WordsLaws.{page-more, reads-more, words-read}
 use Rattle.out_files.proofs.words.put_memory.Goals as goal
@@ -24,3 +25,8 @@ loop-number-preserved c =
       counted = λ some. reads-more first now c.page.follows.lender-at-none n c.loop-number.invariant.first c.loop-number.invariant.counted
           c.page.follows.holds-at-none;
     }
+
+pub returns-clause-chip : goal.returns-clause-chip
+returns-clause-chip c =
+    let count : c.loop-number.chip ≡ after_reads c.args.chip.now (256 * c.pages-number-end.result) = search rules in
+    count ∙ ap (λ n. after_reads c.args.chip.now n) (sym c.pages-number-end.ensures.size)

@@ -8,6 +8,7 @@ returns-clause-ok c =
     let script = c.args.script.now in
     steps-4 _ _ _ _ _ _ _ _ _ c.in_ok-extend_from_slice.ensures.items c.in_ok-extend_from_slice-2.ensures.items c.in_ok-put_number.ensures.ok
     c.in_ok-extend_from_slice-3.ensures.items
-    ∙ (λ i. c.args.into.now.items ++ ((c.first_line.ensures ∙ ap first_text c.system.ensures) i ++ ((c.cpu_line.ensures ∙ ap cpu_text c.cpu.ensures) i
-    ++ ((32 ∷ decimal (c.frames.ensures i)) ++ (c.last_lines.ensures ∙ ap last_text c.system-2.ensures) i))))
-    ∙ ap (λ text. c.args.into.now.items ++ text) (head-text script.cpu script.frames script.system script.events)
+    ∙ (λ i. c.args.into.now.items ++ ((c.first_line.ensures ∙ (λ j. first_text (c.chip_size.ensures j) (c.system.ensures j))) i
+    ++ ((c.cpu_line.ensures ∙ ap cpu_text c.cpu.ensures) i ++ ((32 ∷ decimal (c.frames.ensures i))
+    ++ (c.last_lines.ensures ∙ (λ j. last_text (c.chip_size-2.ensures j) (c.system-2.ensures j))) i))))
+    ∙ ap (λ text. c.args.into.now.items ++ text) (head-text script.cpu script.frames script.chip script.system script.events)

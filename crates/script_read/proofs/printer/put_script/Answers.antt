@@ -8,5 +8,5 @@ pub returns-clause-ok : goal.returns-clause-ok
 returns-clause-ok c =
     let script = c.args.script.now in
     steps-3 _ _ _ _ _ _ _ c.in_ok-put_head.ensures.ok c.in_ok-put_events.ensures.ok c.in_ok-extend_from_slice.ensures.items
-    ∙ (λ i. c.args.into.now.items ++ (head_text (lowest script.system) script ++ (flat_map event_text (c.events.ensures i) ++ codes "end\n")))
+    ∙ (λ i. c.args.into.now.items ++ (head_text (lowest script.chip script.system) script ++ (flat_map event_text (c.events.ensures i) ++ codes "end\n")))
     ∙ ap (λ text. c.args.into.now.items ++ text) (script-text script)

@@ -1,4 +1,4 @@
-use Rattle.serial_model.proofs.SideLaws.{fit_is_kept, ask_of_fit_is_below, none_fits_each, each_side_fits}
+use Rattle.serial_model.proofs.SideLaws.{fit_is_kept, ask_of_fit_is_below, none_fits_each}
 use Rattle.serial_model.proofs.laws.sides_fit.Goals as goal
 
 pub returns-clause-kept : goal.returns-clause-kept
@@ -9,6 +9,3 @@ returns-clause-below c = ask_of_fit_is_below
 
 pub returns-clause-none : goal.returns-clause-none
 returns-clause-none c = none_fits_each
-
-pub returns-clause-each : goal.returns-clause-each
-returns-clause-each c = each_side_fits

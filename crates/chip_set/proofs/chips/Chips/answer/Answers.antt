@@ -12,7 +12,7 @@ returns-in-Free-clause-access c side chips time asked same =
 
 pub returns-in-Plane-clause-access : goal.returns-in-Plane-clause-access
 returns-in-Plane-clause-access c side chips time asked same =
-    answer_is c.args.beam.now c.args.clx c.args.chip.now.words (A.Plane c.in-Plane.plane c.in-Plane.at) c.args.self.now c.answer_with-in-Plane.new.self
+    answer_is c.args.beam.now c.args.clx c.args.chip.now.words (A.Plane c.in-Plane.ask) c.args.self.now c.answer_with-in-Plane.new.self
     c.answer_with-in-Plane.result
     (record {
       word = 0;
@@ -34,29 +34,17 @@ returns-in-Copper-clause-access c side chips time asked same =
     })
     side chips time asked (sym c.in-Copper.is ∙ same)
 
-pub returns-in-BlitRead-clause-access : goal.returns-in-BlitRead-clause-access
-returns-in-BlitRead-clause-access c side chips time asked same =
-    answer_is c.args.beam.now c.args.clx c.args.chip.now.words (A.BlitRead c.in-BlitRead.at) c.args.self.now c.answer_with-in-BlitRead.new.self
-    c.answer_with-in-BlitRead.result
+pub returns-in-Blit-clause-access : goal.returns-in-Blit-clause-access
+returns-in-Blit-clause-access c side chips time asked same =
+    answer_is c.args.beam.now c.args.clx c.args.chip.now.words (A.Blit c.in-Blit.ask) c.args.self.now c.answer_with-in-Blit.new.self
+    c.answer_with-in-Blit.result
     (record {
-      word = c.read_memory-word-in-BlitRead.result;
-      answer = c.read_memory-word-in-BlitRead.ensures.word;
-      owner = c.answer_with-in-BlitRead.ensures.owner;
-      makes = c.answer_with-in-BlitRead.ensures.made;
+      word = c.read_for_blit-word.result;
+      answer = c.read_for_blit-word.ensures.word;
+      owner = c.answer_with-in-Blit.ensures.owner;
+      makes = c.answer_with-in-Blit.ensures.made;
     })
-    side chips time asked (sym c.in-BlitRead.is ∙ same)
-
-pub returns-in-BlitWrite-clause-access : goal.returns-in-BlitWrite-clause-access
-returns-in-BlitWrite-clause-access c side chips time asked same =
-    answer_is c.args.beam.now c.args.clx c.args.chip.now.words (A.BlitWrite c.in-BlitWrite.at c.in-BlitWrite.word) c.args.self.now
-    c.answer_with-in-BlitWrite.new.self c.answer_with-in-BlitWrite.result
-    (record {
-      word = 0;
-      answer = refl;
-      owner = c.answer_with-in-BlitWrite.ensures.owner;
-      makes = c.answer_with-in-BlitWrite.ensures.made;
-    })
-    side chips time asked (sym c.in-BlitWrite.is ∙ same)
+    side chips time asked (sym c.in-Blit.is ∙ same)
 
 pub returns-in-Processor-clause-access : goal.returns-in-Processor-clause-access
 returns-in-Processor-clause-access c side chips time asked same =

@@ -1,7 +1,8 @@
-use Rattle.std.proofs.Common.{◌≡◌, ℕ, List, refl, subst, sym, ap, ◌∙◌}
+use Rattle.std.proofs.Common.{◌≡◌, refl, subst, sym, ap, ◌∙◌}
 use Rattle.serial_model.specs.State.{Chips}
 use Rattle.serial_model.specs.Bus.{ask_at}
 use Rattle.serial_model.specs.PlaneFetch.{move_planes}
+use Rattle.serial_model.specs.Registers.{Registers}
 use Rattle.serial_model.specs.SpriteFetch.{kinds_at, sprite_ask, move_sprites}
 use Rattle.chip_set.specs.Chips.{WorkingChips, IsChipsOf, HasAsked, IsBlitAsk, kept_wish, plain_chips}
 use Rattle.cpu_bus.specs.Bus.{wish_shown}
@@ -29,7 +30,7 @@ before c = record {
 abbrev between : goal.After-owner_ask → WorkingChips
 between c = record (before c) { registers = c.step-sprite.new.regs; last = c.step-plane.new.self; kinds = c.step-sprite.new.self }
 
-abbrev fetched : goal.After-owner_ask → List ℕ
+abbrev fetched : goal.After-owner_ask → Registers
 fetched c = move_planes c.args.beam.now.h c.step-plane.new.self c.self.inside.registers
 
 has_fetched : (c : goal.After-owner_ask) → HasFetched c.args.beam.now (before c) (between c) c.step-plane.result c.step-sprite.result

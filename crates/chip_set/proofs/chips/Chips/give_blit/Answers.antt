@@ -1,7 +1,7 @@
 use Rattle.std.proofs.Common.{◌≡◌, Some, sym, ap, subst, ◌∙◌}
 use Rattle.std.specs.Option.{option_copied_mut}
 use Rattle.chip_set.specs.Chips.{WorkingChips, IsChipsOf}
-use Rattle.chip_set.proofs.BlitLaws.{blit_ended}
+use Rattle.chip_set.proofs.BlitLaws.{blit_ended, blit_goes_on}
 use Rattle.chip_set.proofs.chips.Chips.give_blit.Goals as goal
 
 pub returns-then-is_done : goal.returns-then-is_done
@@ -24,3 +24,23 @@ returns-then-is_done c chips is =
     blit_ended c.args.word old c.end_blit.new.self c.in-Some.blit.now c.give.new.self kept c.give.ensures
     (λ s ws stands. sym c.if-is_done.true ∙ c.is_done.ensures.ask s ws stands) c.end_blit.ensures chips
     (subst (λ now. IsChipsOf now chips) (sym c.self.view_is) is)
+
+pub returns-else-is_done : goal.returns-else-is_done
+returns-else-is_done c chips is =
+    let old : WorkingChips = record {
+      registers = c.self.inside.registers;
+      last = c.self.inside.fetcher;
+      kinds = c.self.inside.sprites;
+      copper = c.self.inside.copper;
+      blit = c.self.inside.blit;
+      zero = c.self.inside.zero;
+      irq = c.self.inside.irq;
+      processor = c.self.inside.processor;
+      missed = c.self.inside.missed;
+      cia_a = c.self.inside.cia_a;
+      cia_b = c.self.inside.cia_b;
+      inputs = c.self.inside.inputs;
+    } in
+    let kept : c.self.inside.blit ≡ Some c.in-Some.blit.now = sym c.as_mut.ensures.value ∙ ap (λ r. option_copied_mut r) c.in-Some.is in
+    blit_goes_on c.args.word old c.in-Some.blit.now c.give.new.self kept c.give.ensures
+    (λ s ws stands. sym c.if-is_done.false ∙ c.is_done.ensures.ask s ws stands) chips (subst (λ now. IsChipsOf now chips) (sym c.self.view_is) is)

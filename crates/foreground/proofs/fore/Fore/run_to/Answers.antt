@@ -1,5 +1,5 @@
 -- Clock by clock.
-use Rattle.std.proofs.Common.{◌≡◌, ◌≤◌, ◌<◌, ◌+◌, max, false, ap, arith, refl, sym, ◌∙◌}
+use Rattle.std.proofs.Common.{◌≡◌, ◌<◌, ◌+◌, false, arith, refl, ◌∙◌}
 use Rattle.ocs_io.proofs.MapLaws.{on_err}
 use Rattle.foreground.specs.Fore.{over, GivesPart}
 use Rattle.foreground.specs.RunTo.{RisesInSome}

@@ -1,5 +1,5 @@
 -- A write keeps the present words those at the last cut, changed by the writes since.
-use Rattle.std.proofs.Common.{◌/◌, ◌<◌, ◌≤◌, ap, arith}
+use Rattle.std.proofs.Common.{◌/◌, ◌≤◌, ap, arith}
 use Rattle.mem_versions.specs.declared.write.Write.{Write}
 use Rattle.mem_versions.proofs.MemoryLaws.{IsSound-write}
 use Rattle.mem_versions.proofs.chip.Chip.write.Goals as goal
@@ -7,8 +7,7 @@ use Rattle.mem_versions.proofs.chip.Chip.write.Goals as goal
 pub invariant_of-self-2 : goal.invariant_of-self-2
 invariant_of-self-2 c =
     let place = c.args.at.value / 2 in
-    let inside : place < 262144 = omega (arith, c.args.at.below) in
     let later : c.self.inside.newest ≤ c.args.now.0 = omega (arith, ap (λ v. v.newest) c.self.view_is) in
     let write : Write = record { clock = c.args.now.0; place = place; word = c.args.word } in
     IsSound-write c.self.inside.base c.self.inside.words c.set_word.new.self c.self.inside.writes.items c.push.new.self.items c.self.inside.newest write
-    c.self.invariant later inside c.in_default.ensures.ok c.in_ok-push.ensures.items
+    c.self.invariant later c.in_default.ensures.ok c.in_ok-push.ensures.items

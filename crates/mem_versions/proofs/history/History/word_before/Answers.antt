@@ -13,9 +13,9 @@ returns-clause-word g c =
     let clock = c.args.clock in
     c.last_before.ensures.word
     ∙ ap (λ (ws : List Write). word_before place clock ws c.args.word) c.page-writes.ensures.writes
-    ∙ word_before-filter (λ w. w.place / 256 == place / 256) place clock c.args.self.now c.args.word (λ w counts. same-page place clock w counts)
+    ∙ word_before-filter (λ w. w.place / 256 == place / 256) place clock c.args.self.now.writes c.args.word (λ w counts. same-page place clock w counts)
 
 pub returns-clause-cost : goal.returns-clause-cost
 returns-clause-cost g c =
-    let writes = c.args.self.now in
+    let writes = c.args.self.now.writes in
     omega (arith, c.last_before.ensures.cost, ap length c.page-writes.ensures.writes, length-filter (λ (w : Write). w.place / 256 == c.args.place / 256) writes)

@@ -1,5 +1,5 @@
 -- Shared pages have the same words.
-use Rattle.std.proofs.Common.{◌≡◌, sym, ◌∙◌}
+use Rattle.std.proofs.Common.{◌≡◌, ◌∙◌, arith}
 use Rattle.std.specs.Arc.{arc_value}
 use Rattle.std.proofs.lemmas.List.Elements.{length_all_zip}
 use Rattle.mem_versions.proofs.PagesLaws.{joined-shared, ArePages-shared}
@@ -7,7 +7,11 @@ use Rattle.mem_versions.proofs.pages.Pages.share.Goals as goal
 
 pub invariant_of-result : goal.invariant_of-result
 invariant_of-result c = (
-  sym (length_all_zip (λ p q. arc_value q ≡ arc_value p) c.self.inside.list.items c.in_ok-list.list.items c.in_ok-list.ensures.cases.0) ∙ c.self.invariant.0,
+  omega (
+    arith,
+    length_all_zip (λ p q. arc_value q ≡ arc_value p) c.self.inside.list.items c.in_ok-list.list.items c.in_ok-list.ensures.cases.0,
+    c.self.invariant.0,
+  ),
   ArePages-shared arc_value c.self.inside.list.items c.in_ok-list.list.items c.in_ok-list.ensures.cases.0 c.self.invariant.1,
 )
 
