@@ -8,9 +8,9 @@ from typing import Iterator, Union
 from copper_words import Names, decimal, hexadecimal, is_hexadecimal, is_name, register, split
 from faults import BadFile
 from frames import PAL, SYSTEMS, System
-from script_reader import head_lines
+from script_reader import CHIPS, USUAL_CHIP, head_lines
 
-LIST_AT, MEMORY = 0x100, 0x80000
+LIST_AT = 0x100
 LAST_CLOCK = 226
 # the last wait of line 255, behind which the line's low eight bits begin again
 LINE_255, END = (0xFFDF, 0xFFFE), (0xFFFF, 0xFFFE)
@@ -56,6 +56,8 @@ class CopperText:
     # the line that is read
     number: int = 0
     system: System = PAL
+    # the bytes of chip memory
+    chip: int = USUAL_CHIP
     frames: int = 1
     at: int = LIST_AT
     start: int | None = None
@@ -153,8 +155,9 @@ class CopperText:
 
     def put(self, line: Line, *words: Word) -> None:
         """Puts words at the address where the text is."""
-        if self.at + 2 * len(words) > MEMORY:
-            raise ValueError(f"this is behind the end of chip memory, {MEMORY:x}")
+        if self.at + 2 * len(words) > self.chip:
+            more = "; 'chip 1024' makes it twice as long" if self.chip == USUAL_CHIP else ""
+            raise ValueError(f"this is behind the end of chip memory, {self.chip:x}{more}")
         self.made.append(Instruction(self.at, list(words), line))
         self.at += 2 * len(words)
 
@@ -217,7 +220,7 @@ class CopperText:
         if is_name(text) and text not in line.names and not is_hexadecimal(text):
             return [Half(text, True), Half(text, False)] if whole else [Half(text, False)]
         if whole:
-            number = hexadecimal(text, "address", MEMORY - 1, line.names)
+            number = hexadecimal(text, "address", self.chip - 1, line.names)
             return [number >> 16, number & 0xFFFF]
         return [hexadecimal(text, "word", 0xFFFF, line.names)]
 
@@ -235,7 +238,7 @@ class CopperText:
 
     def take_at(self, line: Line, words: list[str]) -> None:
         self.close()
-        address = hexadecimal(words[0], "address", MEMORY - 2, line.names)
+        address = hexadecimal(words[0], "address", self.chip - 2, line.names)
         if address % 2:
             raise ValueError(f"the address {address:x} is odd")
         self.at = address
@@ -246,7 +249,7 @@ class CopperText:
         self.files.append(place)
         try:
             with open(place, "rb") as file:
-                data = file.read(MEMORY + 1)
+                data = file.read(self.chip + 1)
         except OSError as fault:
             raise ValueError(f"{place}: {(fault.strerror or str(fault)).lower()}") from None
         data += bytes(len(data) % 2)
@@ -264,6 +267,14 @@ class CopperText:
         if self.made:
             raise ValueError("the system stands before all that becomes words in memory")
         self.system = names[words[0]]
+
+    def take_chip(self, line: Line, words: list[str]) -> None:
+        sizes = {name.split()[1]: size for name, size in CHIPS.items()}
+        if words[0] not in sizes:
+            raise ValueError(f"the size '{words[0]}' of chip memory is none of {', '.join(sizes)}")
+        if self.made:
+            raise ValueError("the size of chip memory stands before all that becomes words in memory")
+        self.chip = sizes[words[0]]
 
     def word(self, word: Word, line: Line) -> int:
         """A word of the image."""
@@ -292,7 +303,7 @@ class CopperText:
         assert self.start is not None
         high = [f"poke 080 {self.start >> 16:04x}"] if self.start >> 16 else []
         pokes = [*high, f"poke 082 {self.start & 0xFFFF:04x}", "poke 088 0000", "poke 096 8280"]
-        head = head_lines("off", self.frames, self.system)
+        head = head_lines("off", self.frames, self.system, self.chip)
         return "\n".join([*head, *(f"at 0 0 0 {poke}" for poke in pokes), "end"]) + "\n"
 
     def listing(self) -> Iterator[str]:
@@ -318,6 +329,7 @@ WAYS = {
     "file": (1, 1, "file NAME", CopperText.take_file),
     "frames": (1, 1, "frames N", CopperText.take_frames),
     "system": (1, 1, "system pal|ntsc", CopperText.take_system),
+    "chip": (1, 1, "chip 512|1024", CopperText.take_chip),
 }
 
 

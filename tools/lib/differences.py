@@ -9,9 +9,10 @@ from dataclasses import dataclass, field
 
 from faults import BadFile, plural
 from frames import FIRST_CLOCK, PIXELS_A_CLOCK, ROW_BYTES, Frame, FramesFile, System, colour_word
+from script_reader import CHIPS
 from trace import TraceLine, read_lines
 
-MEMORY_SIZES = (524288, 1048576)
+MEMORY_SIZES = tuple(CHIPS.values())
 # the names that a folder's files may have
 NAMES = {"frames": ("frames.ppm", "frames"), "trace": ("trace.txt", "trace"), "memory": ("memory.bin", "memory")}
 LINES_BEFORE, LINES_AFTER = 4, 24
@@ -95,7 +96,7 @@ def open_run(frames: str, trace: str, memory: str) -> Run:
         raise BadFile(frames, file.cut_short)
     size = os.path.getsize(memory)
     if size not in MEMORY_SIZES:
-        raise BadFile(memory, f"is not a whole memory: it has {size:,} bytes, not {MEMORY_SIZES[0]:,}")
+        raise BadFile(memory, f"is not a whole memory: it has {size:,} bytes, not {MEMORY_SIZES[0]:,} or {MEMORY_SIZES[1]:,}")
     return Run(file, trace, memory)
 
 

@@ -9,11 +9,13 @@ import tempfile
 import time
 
 from frames import NTSC, PAL, System
+from script_reader import USUAL_CHIP
 from uae_boot import boot_rom
 
 PROGRAMS = {"fs-uae": "fs-uae", "Xvfb": "xvfb", "xdotool": "xdotool"}
 SETTINGS = """[fs-uae]
 amiga_model = A500
+chip_memory = {chip}
 slow_memory = 0
 accuracy = 1
 ntsc_mode = {ntsc}
@@ -61,7 +63,8 @@ class FsUae:
     """
 
     def __init__(
-        self, image: bytes | None = None, disk: str | None = None, kickstart: str = INTERNAL, system: System = PAL
+        self, image: bytes | None = None, disk: str | None = None, kickstart: str = INTERNAL, system: System = PAL,
+        chip: int = USUAL_CHIP,
     ) -> None:
         if absent_programs():
             raise EmulatorFault(absent_programs())
@@ -70,15 +73,15 @@ class FsUae:
         if image is not None:
             kickstart = os.path.join(self.folder, "boot.rom")
             with open(kickstart, "wb") as file:
-                file.write(boot_rom(image))
+                file.write(boot_rom(image, chip))
         for name in ("states", "pictures"):
             os.mkdir(os.path.join(self.folder, name))
         keys = "\n".join(f"keyboard_key_f{slot} = action_save_state_{slot}" for slot in range(1, SLOTS + 1))
         drive = f"floppy_drive_0 = {disk}" if disk else ""
         self.settings = os.path.join(self.folder, "machine.fs-uae")
         with open(self.settings, "w", encoding="utf-8", errors="surrogateescape") as file:
-            ntsc = int(system == NTSC)
-            file.write(SETTINGS.format(folder=self.folder, keys=keys, kickstart=kickstart, disk=drive, ntsc=ntsc))
+            told = {"kickstart": kickstart, "disk": drive, "ntsc": int(system == NTSC), "chip": chip // 1024}
+            file.write(SETTINGS.format(folder=self.folder, keys=keys, **told))
 
     def __enter__(self) -> FsUae:
         try:

@@ -10,7 +10,7 @@ from copper_text import read_copper
 from faults import BadFile
 from frames import System
 from program import TOP
-from script_reader import head_lines
+from script_reader import USUAL_CHIP, head_lines
 
 CROSS = "m68k-linux-gnu-"
 PACKAGES = {"as": "binutils-m68k-linux-gnu", "gcc": "gcc-m68k-linux-gnu"}
@@ -22,12 +22,13 @@ MOST_TOLD = 20
 
 @dataclass
 class Source:
-    """A file that is run, and how: the script that is named for it, or frames and system of one that is made."""
+    """A file that is run, and how: the script that is named for it, or frames, system and chip memory of one that is made."""
 
     path: str
     script: str | None
     frames: int
     system: System
+    chip: int = USUAL_CHIP
     # the other files that the last build read
     read: list[str] = field(default_factory=list)
 
@@ -41,7 +42,7 @@ def build(source: Source, folder: str) -> tuple[str, str]:
     """Makes image and script in a folder; gives their places. BadFile says what is wrong with the source."""
     end = os.path.splitext(source.path)[1]
     image, made = os.path.join(folder, "image"), os.path.join(folder, "script")
-    text = "\n".join([*head_lines("on", source.frames, source.system), "end"]) + "\n"
+    text = "\n".join([*head_lines("on", source.frames, source.system, source.chip), "end"]) + "\n"
     source.read = []
     if end in COPPER_ENDS:
         copper = read_copper(source.path)

@@ -12,7 +12,9 @@ MOST_BYTES, MOST_LINES, MOST_FRAMES = 4_194_304, 100_000, 1000
 CLOCKS = 227
 # the first lines, by which the versions are known, and the lines of each one's head
 VERSIONS = {"ocs 1": 3, "ocs 2": 4, "ocs 3": 5}
-CHIPS = ("chip 512",)
+# the lines that name a size of chip memory, and its bytes
+CHIPS = {"chip 512": 0x80000, "chip 1024": 0x100000}
+USUAL_CHIP = CHIPS["chip 512"]
 NAMED_SYSTEMS = {f"system {system.name.lower()}": system for system in SYSTEMS}
 DIGITS, HEXADECIMAL = "0123456789", "0123456789abcdef"
 REGISTERS = {register.name: register.offset for register in all_registers()}
@@ -103,10 +105,11 @@ def check_spaces(line: str) -> None:
 
 @dataclass
 class Head:
-    """What the head of a script says: its lines, how many frames there are, and which system."""
+    """What the head of a script says: its lines, how many frames there are, the bytes of chip memory, and which system."""
 
     lines: int = 3
     frames: int = MOST_FRAMES
+    chip: int = USUAL_CHIP
     system: System = PAL
 
 
@@ -156,10 +159,13 @@ def but_for(line: str) -> str:
     return ": a carriage return stands before the line's end" if line.endswith("\r") else f", and not {shown(line)}"
 
 
-def head_lines(cpu: str, frames: int, system: System) -> list[str]:
-    """The head of a script, of the lowest version that can say it."""
+def head_lines(cpu: str, frames: int, system: System, chip: int = USUAL_CHIP) -> list[str]:
+    """The head of a script for so many bytes of chip memory, of the lowest version that can say it."""
     lines = [f"cpu {cpu}", f"frames {frames}"]
-    return ["ocs 1", *lines] if system == PAL else ["ocs 3", *lines, CHIPS[0], f"system {system.name.lower()}"]
+    if system == PAL and chip == USUAL_CHIP:
+        return ["ocs 1", *lines]
+    lines.append(f"chip {chip // 1024}")
+    return ["ocs 2", *lines] if system == PAL else ["ocs 3", *lines, f"system {system.name.lower()}"]
 
 
 def one_of(texts: list[str]) -> str:
@@ -190,6 +196,8 @@ def head_of(lines: list[str]) -> tuple[list[Fault], Head]:
                 head.frames = frame_count(line)
             except Wrong as fault:
                 found.append(Fault(at, kind, str(fault)))
+    if head.lines > 3:
+        head.chip = CHIPS.get(lines[3] if len(lines) > 3 else "", USUAL_CHIP)
     if head.lines == 5:
         head.system = NAMED_SYSTEMS.get(lines[4] if len(lines) > 4 else "", PAL)
     return found, head
@@ -199,6 +207,11 @@ def lines_of(data: bytes) -> list[str]:
     """The lines of a text; the last may lack its line feed."""
     lines = data.decode("latin-1").split("\n")
     return lines[:-1] if lines[-1] == "" else lines
+
+
+def chip_of(data: bytes) -> int:
+    """The bytes of chip memory of a good script."""
+    return head_of(lines_of(data))[1].chip
 
 
 def event_count(data: bytes) -> int:

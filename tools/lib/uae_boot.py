@@ -4,21 +4,22 @@ from __future__ import annotations
 
 import struct
 
+from script_reader import USUAL_CHIP
+
 ROM_BYTES = 0x80000
 BASE = 0x1000000 - ROM_BYTES
 CODE_AT, IMAGE_AT = 0x100, 0x400
-CHIP_MEMORY = 0x80000
 MOST_IMAGE = ROM_BYTES - IMAGE_AT - 0x100
 
 
-def boot_rom(image: bytes) -> bytes:
-    """The ROM for an image."""
+def boot_rom(image: bytes, chip: int = USUAL_CHIP) -> bytes:
+    """The ROM for an image, and a machine with so many bytes of chip memory."""
     whole = image + bytes(-len(image) % 4)
     assert 8 <= len(whole) <= MOST_IMAGE, "the image is too long for a ROM"
     rom = bytearray(ROM_BYTES)
     # what the reset reads: a stack that is not used, and the first instruction
     rom[:8] = struct.pack(">II", 0x11144EF9, BASE + CODE_AT)
-    code = b"".join(word.to_bytes(2, "big") for word in boot_code(whole))
+    code = b"".join(word.to_bytes(2, "big") for word in boot_code(whole, chip))
     rom[CODE_AT : CODE_AT + len(code)] = code
     rom[IMAGE_AT : IMAGE_AT + len(whole)] = whole
     # the machine takes the numbers of the interrupts' vectors from the last words of its ROM
@@ -28,10 +29,10 @@ def boot_rom(image: bytes) -> bytes:
     return bytes(rom)
 
 
-def boot_code(image: bytes) -> list[int]:
-    """The instructions, for an image of whole longs."""
+def boot_code(image: bytes, chip: int) -> list[int]:
+    """The instructions, for an image of whole longs and a size of chip memory."""
     stack, start = struct.unpack_from(">II", image)
-    copied, cleared = len(image) // 4, (CHIP_MEMORY - len(image)) // 4
+    copied, cleared = len(image) // 4, (chip - len(image)) // 4
     return [
         *(0x13FC, 0x0003, 0x00BF, 0xE201),  # move.b #3,bfe201
         *(0x13FC, 0x0002, 0x00BF, 0xE001),  # move.b #2,bfe001: chip memory in place of the ROM at 0

@@ -14,8 +14,8 @@ from dataclasses import dataclass, field
 from faults import BadFile, plural
 from program import program
 from uae_beam import Beam
-from uae_setup import CIA_ADDRESS, SetUp, counts_ticks, script
-from uae_state import MEMORY_BYTES, Cia, State
+from uae_setup import CIA_ADDRESS, SetUp, counts_ticks
+from uae_state import Cia, State
 
 PLACES = (0x3000, 0x4000, 0x5000, 0x6000)
 REPORT_BYTES = 0x200
@@ -85,7 +85,7 @@ def run(runner: str, state: State, base: int) -> tuple[Report, bytes, dict[int, 
         with open(names[0], "wb") as file:
             file.write(made.image)
         with open(names[1], "w", encoding="ascii") as file:
-            file.write(script(frames, events, made.beam))
+            file.write(made.script(frames, events))
         done = subprocess.run([runner, "run", *names, "20", "0"], capture_output=True, text=True)
         if done.returncode != 0:
             raise BadFile(runner, f"ended with status {done.returncode}: {(done.stderr + done.stdout).strip()}")
@@ -123,7 +123,7 @@ def check(state: State) -> list[str]:
 
 def differing_bytes(left: bytes, right: bytes) -> list[int]:
     """The places at which two memories differ."""
-    rows = [at for at in range(0, MEMORY_BYTES, 256) if left[at : at + 256] != right[at : at + 256]]
+    rows = [at for at in range(0, len(right), 256) if left[at : at + 256] != right[at : at + 256]]
     return [at for row in rows for at in range(row, row + 256) if left[at] != right[at]]
 
 

@@ -4,7 +4,7 @@ from __future__ import annotations
 import re
 
 from faults import BadFile
-from uae_state import MEMORY_BYTES, SERIAL, STOP_OPCODE, Cia, State
+from uae_state import MEMORY_SIZES, SERIAL, STOP_OPCODE, Cia, State
 
 HEX = r"([0-9A-Fa-f]+)"
 REGISTER = re.compile(rf"\b([DA][0-7])\s+{HEX}\b")
@@ -87,11 +87,13 @@ def status_word(digits: list[int]) -> int:
 def read_memory(path: str, memory_path: str | None) -> bytearray:
     """The chip memory that the debugger saved."""
     if memory_path is None:
-        raise BadFile(path, "is no save state; a debugger's text wants its memory (S FILE 0 80000) by --memory FILE")
+        memory = "its memory (S FILE 0 80000, or 100000 of 1 MiB) by --memory FILE"
+        raise BadFile(path, f"is no save state; a debugger's text wants {memory}")
     with open(memory_path, "rb") as file:
         memory = bytearray(file.read())
-    if len(memory) != MEMORY_BYTES:
-        raise BadFile(memory_path, f"has {len(memory):,} bytes, not the {MEMORY_BYTES:,} of S FILE 0 80000")
+    if len(memory) not in MEMORY_SIZES:
+        sizes = " or ".join(f"the {size:,} of S FILE 0 {size:x}" for size in MEMORY_SIZES)
+        raise BadFile(memory_path, f"has {len(memory):,} bytes, not {sizes}")
     return memory
 
 

@@ -8,7 +8,7 @@ from dataclasses import dataclass
 from faults import BadFile
 from uae_blit import finish_blit
 from uae_instruction import Begun, read_begun, restarted
-from uae_state import BLIT, MEMORY_BYTES, STOP_OPCODE, VERTB, Cia, State
+from uae_state import BLIT, MEMORY_SIZES, STOP_OPCODE, VERTB, Cia, State
 
 PACKED = 1
 HEADING = 12
@@ -94,9 +94,10 @@ def read_save_state(path: str, data: bytes) -> State:
     if model != PROCESSOR:
         raise BadFile(path, f"is of a machine with a {model} processor; only the 68000 can go on")
     memory = bytearray(chunks["CRAM"].body)
-    if len(memory) != MEMORY_BYTES:
-        sizes = f"{len(memory) // 1024:,} KiB of chip memory, not {MEMORY_BYTES // 1024}"
-        raise BadFile(path, f"is of a machine with {sizes}: only that size can go on")
+    if len(memory) not in MEMORY_SIZES:
+        sizes = " or ".join(f"{size // 1024:,}" for size in MEMORY_SIZES)
+        said = f"{len(memory) // 1024:,} KiB of chip memory, not {sizes}"
+        raise BadFile(path, f"is of a machine with {said}: only these sizes can go on")
     return state_of(path, chunks, memory)
 
 

@@ -6,7 +6,7 @@ import struct
 from dataclasses import dataclass
 
 from faults import BadFile
-from uae_state import MEMORY_BYTES, SUPERVISOR, State
+from uae_state import SUPERVISOR, State
 
 INSTRUCTION = 1
 READ, WRITE = 0, 1
@@ -157,7 +157,7 @@ def undo_writes(state: State, begun: Begun) -> None:
         if one.kind == READ and one.address in INTERRUPT_CONTROL:
             state.cias[INTERRUPT_CONTROL[one.address]].pending |= one.data[-1] & 0x1F
         places = range(one.address, one.address + len(one.data))
-        if one.address + len(one.data) > MEMORY_BYTES:
+        if one.address + len(one.data) > state.chip:
             continue
         if one.kind == READ:
             for place, byte in zip(places, one.data):

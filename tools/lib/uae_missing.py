@@ -6,7 +6,7 @@ from typing import Iterator
 from faults import BadFile
 from frames import NTSC
 from uae_setup import counts_ticks
-from uae_state import ALARM, BEAMCON0, FLAG, INTEN, MEMORY_BYTES, SUPERVISOR, State
+from uae_state import ALARM, BEAMCON0, FLAG, INTEN, SUPERVISOR, State
 
 # the bits of INTENA that ask for each level
 LEVELS = {1: 0x0007, 2: 0x0008, 3: 0x0070, 4: 0x0780, 5: 0x1800, 6: 0x2000}
@@ -23,13 +23,13 @@ SET_UP_TICKS = 140
 def refuse(state: State) -> None:
     """BadFile where a state cannot go on."""
     pc, ssp = state.pc & 0xFFFFFF, state.ssp & 0xFFFFFF
-    if pc >= MEMORY_BYTES:
+    if pc >= state.chip:
         kind = "in the system's ROM" if pc in ROM else "outside chip memory"
-        said = f"the processor is {kind} at {pc:06x}: only a program that runs in the 512 KiB of chip memory can go on"
-        raise BadFile(state.path, said)
+        runs = f"a program that runs in the {state.chip // 1024:,} KiB of chip memory"
+        raise BadFile(state.path, f"the processor is {kind} at {pc:06x}: only {runs} can go on")
     if pc & 1 or ssp & 1:
         raise BadFile(state.path, f"is broken: the processor is at {pc:06x} and its stack at {ssp:06x}, an odd address")
-    if ssp > MEMORY_BYTES:
+    if ssp > state.chip:
         said = f"the supervisor stack is outside chip memory at {ssp:06x}: the set-up needs six bytes below it"
         raise BadFile(state.path, said)
     if ssp < 14:
@@ -46,7 +46,7 @@ def missing(state: State) -> list[str]:
 def of_system(state: State) -> Iterator[str]:
     """Signs that the operating system is still in use, which is not there."""
     enabled = [level for level, bits in LEVELS.items() if state.word(0x09A) & bits]
-    alive = [level for level in enabled if vector(state, level) >= MEMORY_BYTES]
+    alive = [level for level in enabled if vector(state, level) >= state.chip]
     if alive and state.word(0x09A) & INTEN:
         levels = ", ".join(f"level {level} to {vector(state, level):06x}" for level in alive)
         yield f"the system is alive: enabled interrupts go outside chip memory, where nothing is ({levels})"
@@ -56,10 +56,10 @@ def of_system(state: State) -> Iterator[str]:
         if found:
             said = f"on the {name} stack stands an address of the system's ROM ({found[0]:06x})"
             yield f"{said}: if it is a return address, the program will go there and find nothing"
-    if not state.sr & SUPERVISOR and state.usp & 0xFFFFFF > MEMORY_BYTES:
+    if not state.sr & SUPERVISOR and state.usp & 0xFFFFFF > state.chip:
         yield f"the user stack is outside chip memory at {state.usp & 0xFFFFFF:06x}: what is pushed there is lost"
     base = state.long_at(SYSTEM_BASE)
-    if base % 2 == 0 and 0 < base < MEMORY_BYTES - BASE_CHECK - 4:
+    if base % 2 == 0 and 0 < base < state.chip - BASE_CHECK - 4:
         if state.long_at(base + BASE_CHECK) == base ^ 0xFFFFFFFF:
             yield f"memory holds the system's library at {base:06x}: a program that still calls it will go astray"
 
@@ -71,7 +71,7 @@ def vector(state: State, level: int) -> int:
 
 def rom_addresses(state: State, stack: int) -> Iterator[int]:
     """The longs near the top of a stack that are addresses of the ROM."""
-    for place in range(stack, min(stack + 2 * STACK_LONGS, MEMORY_BYTES - 3), 2):
+    for place in range(stack, min(stack + 2 * STACK_LONGS, state.chip - 3), 2):
         if state.long_at(place) in ROM:
             yield state.long_at(place)
 

@@ -44,12 +44,6 @@ def poke(register: int, word: int) -> str:
     return f"poke {register:03x} {word & 0xFFFF:04x}"
 
 
-def script(frames: int, events: list[Event], beam: Beam) -> str:
-    """A script of so many frames; events of one clock stay in their order."""
-    lines = [str(event) for event in sorted(events, key=lambda event: event.clock)]
-    return "\n".join([*head_lines("on", frames, beam.system), *lines, "end"]) + "\n"
-
-
 @dataclass
 class Code:
     """Words of the trampoline."""
@@ -178,12 +172,17 @@ class SetUp:
     def make_image(self, words: list[int]) -> bytearray:
         """The state's memory with the reset's words, the trampoline, and what RTE reads."""
         image = bytearray(self.state.memory)
-        image[0:8] = (0x80000).to_bytes(4, "big") + self.base.to_bytes(4, "big")
+        image[0:8] = self.state.chip.to_bytes(4, "big") + self.base.to_bytes(4, "big")
         image[self.base : self.base + 2 * len(words)] = b"".join(word.to_bytes(2, "big") for word in words)
         image[self.frame : self.frame + 6] = self.sr.to_bytes(2, "big") + self.pc.to_bytes(4, "big")
         return image
 
     # the script
+
+    def script(self, frames: int, events: list[Event]) -> str:
+        """A script of so many frames; events of one clock stay in their order."""
+        lines = [str(event) for event in sorted(events, key=lambda event: event.clock)]
+        return "\n".join([*head_lines("on", frames, self.state.system, self.state.chip), *lines, "end"]) + "\n"
 
     def events(self) -> list[Event]:
         """The whole way in, from reset to the state's clock."""
@@ -237,7 +236,7 @@ class SetUp:
             yield from self.at(COPPER, *lists)
         else:
             # the instruction before: a WAIT that is waited for is read again
-            place = (state.copper - 4) & 0x7FFFE
+            place = (state.copper - 4) & (state.chip - 2)
             yield from self.at(0, (0x080, place >> 16), (0x082, place), (0x088, 0), *lists)
         yield from self.at(0, (0x02A, 0x8000 if state.long_field else 0), *self.custom_words())
         for port, word in enumerate(state.mice):

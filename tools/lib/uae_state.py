@@ -4,8 +4,10 @@ from __future__ import annotations
 from dataclasses import dataclass, field
 
 from frames import NTSC, PAL, System
+from script_reader import CHIPS
 
-MEMORY_BYTES = 0x80000
+# the sizes of chip memory that a script can name
+MEMORY_SIZES = tuple(CHIPS.values())
 SUPERVISOR = 0x2000
 STOP_OPCODE = 0x4E72
 # bits of a CIA's interrupt control
@@ -64,6 +66,11 @@ class State:
     def system(self) -> System:
         """The system that the emulator's beam runs by."""
         return PAL if self.words.get(BEAMCON0, PAL_BEAM) & PAL_BEAM else NTSC
+
+    @property
+    def chip(self) -> int:
+        """The bytes of chip memory."""
+        return len(self.memory)
 
     def word(self, register: int) -> int:
         """A custom register's word; 0 for one that was never told."""

@@ -12,7 +12,8 @@ from typing import Generator
 
 # the clocks of each line of a short field: 312 lines, or 262 of which the odd ones are longer
 FIELDS = {"pal": [227] * 312, "ntsc": [227, 228] * 131}
-HEADS = {"ocs 1": 3, "ocs 3": 5}
+HEADS = {"ocs 1": 3, "ocs 2": 4, "ocs 3": 5}
+USUAL_CHIP = "chip 512"
 REFRESH = (1, 3, 5, 225)
 EVENT = re.compile(r"at (\d+) (\d+) (\d+) (.*)")
 # what the processor asks for: a word at an address, a store there with its size above it, a CIA's register with a byte
@@ -114,13 +115,14 @@ class Model:
     """The machine from reset on, by a script."""
 
     def __init__(self, image: bytes, script: str) -> None:
-        self.memory = bytearray(image) + bytes(0x80000 - len(image))
         self.words: dict[int, int] = {}
         # DMACON, INTENA and INTREQ
         self.kept = {0x096: 0, 0x09A: 0, 0x09C: 0}
         self.joysticks = [0, 0]
         self.trace: list[str] = []
         self.events = self.read_script(script)
+        assert len(image) <= self.chip
+        self.memory = bytearray(image) + bytes(self.chip - len(image))
         self.cias = (CiaModel(), CiaModel())
         self.registers = [0] * 16
         self.usp = self.pc = 0
@@ -138,6 +140,8 @@ class Model:
         lines = script.splitlines()
         head = HEADS[lines[0]]
         system = lines[4].split()[1] if head == 5 else "pal"
+        # the bytes of chip memory
+        self.chip = 1024 * int((lines[3] if head > 3 else USUAL_CHIP).split()[1])
         self.lines = FIELDS[system]
         # the clocks at which the lines of three fields begin
         self.starts = [0, *itertools.accumulate(3 * self.lines)]
@@ -216,7 +220,7 @@ class Model:
         if self.blit and not taken:
             taken = True
             if self.blit.pop(0) == "write":
-                place = (self.words[0x054] << 16 | self.words[0x056]) & 0x7FFFE
+                place = (self.words[0x054] << 16 | self.words[0x056]) & (self.chip - 2)
                 self.memory[place : place + 2] = self.words[0x074].to_bytes(2, "big")
                 place += 2 + (self.words[0x066] ^ 0x8000) - 0x8000
                 self.words[0x054], self.words[0x056] = place >> 16, place & 0xFFFF

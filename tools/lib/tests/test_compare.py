@@ -36,6 +36,17 @@ class CompareTest(Tools):
         with open(self.place("page.html"), encoding="utf-8") as file:
             self.assertIn(first, file.read())
 
+    def test_memories_of_one_mib(self) -> None:
+        """A byte above the smaller size, and the two sizes beside one another."""
+        memory = bytearray(1048576)
+        memory[0xABCDE] = 0x12
+        self.write_run("a", frame({}), TRACE, bytes(1048576))
+        self.write_run("b", frame({}), TRACE, bytes(memory))
+        self.write_run("small", frame({}))
+        self.assertEqual(self.compared("a", "a"), (0, ["equal: 1 frame, 5 trace lines, 1,048,576 bytes of memory"]))
+        self.assertEqual(self.compared("a", "b")[1], ["different", "memory: first at byte abcde: 00 and 12; 1 byte"])
+        self.assertEqual(self.compared("small", "a")[1], ["different", "memory: 524,288 and 1,048,576 bytes"])
+
     def test_first_difference_in_ntsc(self) -> None:
         """Line 100 is row 80, and a frame has 242 rows."""
         self.write_run("a", frame({}, NTSC) + frame({(212, 80): RED, (719, 241): RED}, NTSC))
@@ -65,7 +76,7 @@ class CompareTest(Tools):
         cases = {
             "cut": "cut/frames: is cut short: 0 whole frames",
             "cut trace": "cut trace/trace: is cut short in line 5",
-            "cut memory": "cut memory/memory: is not a whole memory: it has 524,286 bytes",
+            "cut memory": "cut memory/memory: is not a whole memory: it has 524,286 bytes, not 524,288 or 1,048,576",
             "less": "less: has no trace (trace.txt or trace)",
             "both": "both: has both trace.txt or trace: name the three files",
             "absent": "absent: is not there",

@@ -17,10 +17,10 @@ from uae_beam import Beam
 from uae_dump import read_dump
 from uae_file import read_save_state
 from uae_missing import missing, refuse
-from uae_setup import SetUp, place_for_set_up, script
+from uae_setup import SetUp, place_for_set_up
 from uae_state import State
 
-STATES = ("busy", "entry", "blit", "busy-ntsc")
+STATES = ("busy", "entry", "blit", "busy-ntsc", "high", "high-ntsc")
 MODEL = set_up_model.__file__
 
 
@@ -69,6 +69,14 @@ class ReadTest(Tools):
         self.assertEqual(pointers, [0x21000 + 100 * 38, 0x22000 + 100 * 44, 0x24000 + 100 * 40])
         self.assertTrue(found.word(0x09C) & 0x40)
 
+    def test_one_mib(self) -> None:
+        """Program, stack, Copper list and blits of the state lie above the first half of chip memory."""
+        for name in ("high", "high-ntsc"):
+            found = state(name)
+            self.assertEqual((found.chip, found.pc >> 12, found.ssp, found.usp), (0x100000, 0x90, 0x100000, 0xE0000))
+            self.assertEqual((found.pointer(0x080), found.pointer(0x050) >> 16), (0xA0000, 0xF))
+            self.assertEqual(found.long_at(0xFF008), sum(range(found.long_at(0xFF000) + 1)))
+
     def test_debugger(self) -> None:
         text, memory = kept("busy-debugger.txt"), zlib.decompress(kept("busy-debugger.memory.zlib"))
         found = read_dump("text", text, self.write("memory", memory))
@@ -106,7 +114,7 @@ class SetUpTest(Tools):
         place_for_set_up(found)
         made = SetUp(found)
         events = [event for event in made.events() if event.clock < made.clock]
-        model = Model(bytes(made.image), script(2, events, made.beam))
+        model = Model(bytes(made.image), made.script(2, events))
         model.run(made.clock)
         frame = range(found.ssp - 6, found.ssp)
         differing = [at for at in range(len(model.memory)) if model.memory[at] != found.memory[at] and at not in frame]
@@ -158,7 +166,7 @@ class SetUpTest(Tools):
         found = state("busy")
         found.words[0x1DC], found.line, found.clock = 0, 0, 0
         made = SetUp(found)
-        lines = script(4, made.events(), made.beam).splitlines()
+        lines = made.script(4, made.events()).splitlines()
         self.assertEqual(lines[:6], ["ocs 3", "cpu on", "frames 4", "chip 512", "system ntsc", "at 0 0 0 poke 02a 0000"])
         self.assertIn("at 0 261 226 poke 080 0000", lines)
 
@@ -176,11 +184,12 @@ class SetUpTest(Tools):
                 self.set_up(found)
 
     def test_memory_without_a_free_word(self) -> None:
-        for ssp in (14, 0x1100, 0x80000):
-            found = state("busy")
-            found.memory[:] = (bytes(range(1, 256)) * 2057)[: len(found.memory)]
+        places = [("busy", ssp) for ssp in (14, 0x1100, 0x80000)] + [("high", ssp) for ssp in (14, 0x80000, 0x100000)]
+        for name, ssp in places:
+            found = state(name)
+            found.memory[:] = (bytes(range(1, 256)) * 4113)[: len(found.memory)]
             found.ssp = ssp
-            with self.subTest(ssp=ssp):
+            with self.subTest(name=name, ssp=ssp):
                 self.set_up(found)
 
     def test_registers_at_the_clock(self) -> None:
@@ -206,6 +215,12 @@ class SetUpTest(Tools):
         begin = lines.index("at 1 100 50 poke 080 0000")
         wanted = ["080 0000", "082 0108", "088 0000", "080 0000", "082 0100", "084 0000", "086 0000"]
         self.assertEqual([line[17:] for line in lines[begin : begin + 7]], wanted)
+        found = state("high")
+        found.line, found.clock, found.copper = 100, 50, 0xA0034
+        lines = [str(event) for event in SetUp(found).events()]
+        begin = lines.index("at 1 100 50 poke 080 000a")
+        wanted = ["082 0030", "088 0000", "080 000a", "082 0000"]
+        self.assertEqual([line[17:] for line in lines[begin + 1 : begin + 5]], wanted)
 
 
 class RefusalTest(Tools):
@@ -227,8 +242,13 @@ class RefusalTest(Tools):
             "it has no chunk 'SPR3'": written(without),
             "chunk 'CHIP' has 300 bytes, not 356": written({**chunks, "CHIP": chunks["CHIP"][:300]}),
             "a 68020 processor": changed("blit", "CPU ", 0, struct.pack(">I", 68020)),
-            "with 1,024 KiB of chip memory, not 512": written({**chunks, "CRAM": bytes(0x100000)}),
+            "with 2,048 KiB of chip memory, not 512 or 1,024": written({**chunks, "CRAM": bytes(0x200000)}),
             "in the system's ROM at f80010": changed("blit", "CPUT", 70, struct.pack(">I", 0xF80010)),
+            "outside chip memory at 100010: only a program that runs in the 1,024 KiB":
+                changed("high", "CPUT", 70, struct.pack(">I", 0x100010)),
+            "outside chip memory at 080010: only a program that runs in the 512 KiB":
+                changed("blit", "CPUT", 70, struct.pack(">I", 0x80010)),
+            "stack is outside chip memory at 100002": changed("high", "CPUT", 82, struct.pack(">I", 0x100002)),
             "outside chip memory at c00010": changed("blit", "CPUT", 70, struct.pack(">I", 0xC00010)),
             "stack is outside chip memory at c80000": changed("blit", "CPUT", 66, struct.pack(">I", 0xC80000)),
             "an odd address": changed("blit", "CPUT", 70, struct.pack(">I", 0x1001)),
@@ -252,7 +272,8 @@ class RefusalTest(Tools):
                 read_dump("text", data, place)
         with self.assertRaisesRegex(BadFile, "wants its memory"):
             read_dump("text", text, None)
-        with self.assertRaisesRegex(BadFile, "has 16 bytes, not the 524,288"):
+        said = "has 16 bytes, not the 524,288 of S FILE 0 80000 or the 1,048,576 of S FILE 0 100000"
+        with self.assertRaisesRegex(BadFile, said):
             read_dump("text", text, self.write("short", bytes(16)))
 
     def test_middle_of_a_blit_s_start(self) -> None:
@@ -311,7 +332,7 @@ class CommandTest(Tools):
         self.assertEqual(self.run_tool("from-uae", "busy.uss", "image", "script", "--force").returncode, 0)
 
     def test_a_state_of_ntsc(self) -> None:
-        self.assertEqual([state(name).system.name for name in STATES], ["PAL", "PAL", "PAL", "NTSC"])
+        self.assertEqual([name for name in STATES if state(name).system == NTSC], ["busy-ntsc", "high-ntsc"])
         self.write("ntsc.uss", kept("busy-ntsc.uss"))
         done = self.run_tool("from-uae", "ntsc.uss", "image", "script", "--frames", "3")
         self.assertEqual((done.returncode, done.stderr.count("\n")), (0, 1))
@@ -320,6 +341,18 @@ class CommandTest(Tools):
             head = [next(file) for _ in range(6)]
         self.assertEqual("".join(head), "ocs 3\ncpu on\nframes 4\nchip 512\nsystem ntsc\nat 0 0 0 poke 02a 0000\n")
         self.assertEqual(self.run_tool("script-check", "script").returncode, 0)
+
+    def test_a_state_of_one_mib(self) -> None:
+        """By version 2 of the script, in NTSC by version 3; the image is longer than 512 KiB."""
+        head = "cpu on\nframes 4\nchip 1024\n"
+        for name, head in (("high", f"ocs 2\n{head}"), ("high-ntsc", f"ocs 3\n{head}system ntsc\n")):
+            self.write(f"{name}.uss", kept(f"{name}.uss"))
+            done = self.run_tool("from-uae", f"{name}.uss", "image", "script", "--frames", "3", "--force")
+            self.assertEqual(done.returncode, 0, done.stderr)
+            with open(self.place("script"), encoding="ascii") as file:
+                self.assertTrue(file.read().startswith(head + "at 0 0 0 poke 02a 0000\n"))
+            self.assertEqual(self.run_tool("script-check", "script").returncode, 0)
+            self.assertTrue(0x80000 < os.path.getsize(self.place("image")) <= 0x100000)
 
     def test_nothing_is_made_of_a_bad_state(self) -> None:
         self.write("bad.uss", kept("busy.uss")[:1000])
@@ -343,8 +376,8 @@ class CommandTest(Tools):
 class CheckTest(Tools):
     """The check, with the model in place of the program."""
 
-    def checked(self, program: str) -> tuple[int, str]:
-        self.write("state", kept("busy.uss"))
+    def checked(self, program: str, name: str = "busy") -> tuple[int, str]:
+        self.write("state", kept(f"{name}.uss"))
         with mock.patch.dict(os.environ, OCS=program):
             done = self.run_tool("from-uae", "state", "image", "script", "--force", "--check")
         return done.returncode, (done.stderr if done.returncode == 2 else done.stdout).splitlines()[-1]
@@ -366,9 +399,10 @@ class CheckTest(Tools):
         return place
 
     def test_equal(self) -> None:
-        status, said = self.checked(MODEL)
-        self.assertEqual(status, 0)
-        self.assertTrue(said.startswith("check: at its clock the machine is the state's"))
+        for name in ("busy", "high", "high-ntsc"):
+            status, said = self.checked(MODEL, name)
+            self.assertEqual(status, 0)
+            self.assertTrue(said.startswith("check: at its clock the machine is the state's"))
 
     def test_differences(self) -> None:
         # the report of the first run writes from 3200 on: A3 is the twelfth long; the ports of the CIAs begin at 3246
@@ -380,6 +414,8 @@ class CheckTest(Tools):
         for said, change in cases.items():
             with self.subTest(said=said):
                 self.assertEqual(self.checked(self.wrong(change)), (1, said))
+        said = "check: memory differs in 1 byte, first at abcde: 77, not 00"
+        self.assertEqual(self.checked(self.wrong("memory[0xABCDE] = 0x77"), "high"), (1, said))
 
     def test_program_that_cannot_check(self) -> None:
         said = f"from-uae: {self.place('absent')}: is no program, and the environment's OCS names it"

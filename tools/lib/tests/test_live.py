@@ -10,6 +10,7 @@ import urllib.error
 import urllib.request
 
 from browser import Browser, BrowserFault, find_browser
+from faults import BadFile
 from frames import NTSC, PAL
 from live_build import Source, build
 from runs import TOOLS, Tools
@@ -122,6 +123,24 @@ class LiveTest(Tools):
             _, script = build(Source(self.place(name), None, 7, system), self.folder)
             with open(script, encoding="ascii") as file:
                 self.assertEqual(file.read(), wanted)
+
+    def test_chip_memory_of_a_program(self) -> None:
+        """By its size; a text for Copper lists names its own. An image that is too long is told."""
+        self.write("other/long", bytes(0x80002))
+        said = "other/long: is longer than the script&#x27;s chip memory: 524,290 bytes, and not at most 524,288"
+        self.wait_for(self.start("other/long"), said)
+        self.write("bytes", bytes(8))
+        self.write("list.copper", "chip 1024\nat c0000\nmove COLOR00 f00\n")
+        heads = {"bytes": "ocs 2\ncpu on\nframes 7\nchip 1024\nend\n"}
+        start = "".join(f"at 0 0 0 poke {poke}\n" for poke in ("080 000c", "082 0000", "088 0000", "096 8280"))
+        heads["list.copper"] = "ocs 2\ncpu off\nframes 1\nchip 1024\n" + start + "end\n"
+        for name, wanted in heads.items():
+            _, script = build(Source(self.place(name), None, 7, PAL, 0x100000), self.folder)
+            with open(script, encoding="ascii") as file:
+                self.assertEqual(file.read(), wanted)
+        self.write("list.copper", "chip 512\nat c0000\nmove COLOR00 f00\n")
+        with self.assertRaisesRegex(BadFile, "the address c0000 is above 7fffe"):
+            build(Source(self.place("list.copper"), None, 7, PAL), self.folder)
 
     def test_only_this_machine_asks(self) -> None:
         self.write("list.copper", "move COLOR00 f00\n")

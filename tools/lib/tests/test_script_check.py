@@ -4,12 +4,14 @@ from __future__ import annotations
 import subprocess
 
 from faults import BadFile
+from frames import NTSC, PAL
 from runs import Tools
-from script_reader import faults_of
+from script_reader import chip_of, faults_of, head_lines
 from program import program
 
 HEAD = "ocs 1\ncpu off\nframes 3\n"
 HEAD_2 = "ocs 2\ncpu off\nframes 3\nchip 512\n"
+HEAD_WIDE = "ocs 2\ncpu off\nframes 3\nchip 1024\n"
 HEAD_PAL, HEAD_NTSC = (f"ocs 3\ncpu on\nframes 3\nchip 512\nsystem {name}\n" for name in ("pal", "ntsc"))
 # an event that is refused, and a part of the reason
 EVENTS = {
@@ -75,11 +77,20 @@ LATER_TEXTS = {
     "ocs 2\ncpu on\nframes 3\nend\n": (4, "chip"),
     "ocs 2\ncpu on\nframes 3\nchip 2048\nend\n": (4, "chip"),
     "ocs 2\ncpu on\nframes 3\nchip  512\nend\n": (4, "chip"),
+    "ocs 2\ncpu on\nframes 3\nchip 1025\nend\n": (4, "chip"),
+    "ocs 2\ncpu on\nframes 3\nchip 01024\nend\n": (4, "chip"),
+    "ocs 3\ncpu on\nframes 3\nchip 1024 \nsystem pal\nend\n": (4, "chip"),
+    "ocs 1\ncpu on\nframes 3\nchip 1024\nend\n": (4, "event"),
     "ocs 3\ncpu on\nframes 3\nchip 512\nend\n": (5, "system"),
     "ocs 3\ncpu on\nframes 3\nchip 512\nsystem NTSC\nend\n": (5, "system"),
     "ocs 3\ncpu on\nframes 0\nchip 512\nsystem secam\nend\n": (3, "frames"),
     HEAD_2 + "system pal\nend\n": (5, "event"),
     HEAD_2 + "at 2 311 226 peek 002\nend": None,
+    HEAD_WIDE + "at 2 311 226 peek 002\nend": None,
+    HEAD_WIDE + "at 0 0 0 peek 002\n" * 99_995 + "end": None,
+    HEAD_WIDE + "at 0 0 0 peek 002\n" * 99_996 + "end": (100_001, "lines"),
+    HEAD_NTSC.replace("512", "1024") + "at 2 261 226 peek 002\nend": None,
+    HEAD_NTSC.replace("512", "1024") + "at 2 262 0 peek 002\nend": (6, "event"),
     HEAD_PAL + "at 2 311 226 peek 002\nend": None,
     HEAD_PAL + "at 2 312 0 peek 002\nend": (6, "event"),
     HEAD_NTSC + "at 2 261 226 peek 002\nend": None,
@@ -120,13 +131,26 @@ class ScriptCheckTest(Tools):
                 "the third line is 'frames N', N from 1 to 1000, and not 'frames'",
             ],
             "ocs 3\ncpu on\nframes 1\nchip 512\r\nsystem\nend\n": [
-                "the fourth line is 'chip 512': a carriage return stands before the line's end",
+                "the fourth line is 'chip 512' or 'chip 1024': a carriage return stands before the line's end",
                 "the fifth line is 'system pal' or 'system ntsc', and not 'system'",
             ],
             HEAD_NTSC + "at 0 262 0 peek 002\nend\n": ["the line '262' is above 261"],
         }
         for text, wanted in said.items():
             self.assertEqual([fault.why for fault in faults_of(text.encode())], wanted)
+
+    def test_heads_that_are_made(self) -> None:
+        """In the lowest version that can say them; the bytes of chip memory are read again."""
+        heads = {
+            (PAL, 0x80000): "ocs 1\ncpu on\nframes 3\n",
+            (PAL, 0x100000): "ocs 2\ncpu on\nframes 3\nchip 1024\n",
+            (NTSC, 0x80000): "ocs 3\ncpu on\nframes 3\nchip 512\nsystem ntsc\n",
+            (NTSC, 0x100000): "ocs 3\ncpu on\nframes 3\nchip 1024\nsystem ntsc\n",
+        }
+        for (system, chip), wanted in heads.items():
+            text = "".join(f"{line}\n" for line in head_lines("on", 3, system, chip))
+            self.assertEqual(text, wanted)
+            self.assertEqual((faults_of(f"{text}end".encode()), chip_of(f"{text}end".encode())), ([], chip))
 
     def test_tool(self) -> None:
         self.write("good", HEAD + "at 0 0 0 peek 002\nend\n")
