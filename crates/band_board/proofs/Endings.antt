@@ -11,7 +11,8 @@ use Rattle.band_board.specs.declared.view.View.{View}
 use Rattle.band_board.specs.declared.view.Role.{Role}
 use Rattle.band_board.specs.declared.view.Role.TheVariants.{Front, Hand, Spent}
 use Rattle.band_board.specs.View.{spent_view, after_split, next_hand, after_join}
-use Rattle.band_board.specs.BoardRule.{Cell, Slot, one_if, times, times_joined, joined_count, claims_in, live_count, hand_count, list_count, claim_count, total, KeepsToRole, Knows, Ruled, BoardRule}
+use Rattle.band_board.specs.BoardRule.{Cell, Slot, one_if, times, times_joined, joined_count, claims_in, live_count}
+use Rattle.band_board.specs.BoardRule.{hand_count, list_count, claim_count, total, KeepsToRole, Knows, Ruled, BoardRule}
 use Rattle.band_board.specs.Steps.{Seated, TellsLists}
 use Rattle.band_board.proofs.Counted.{one_if_same, one_if_other, none_no_some, each_joined, times_joined_more, joined_count_more}
 use Rattle.band_board.proofs.Totals.{set_at, total_set, total_same, total_at, total_more, total_two, total_only}

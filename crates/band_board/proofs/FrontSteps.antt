@@ -1,5 +1,6 @@
 -- The front's steps keep the board's rule: open, look, offer, collect and close.
-use Rattle.std.proofs.Common.{◌≡◌, ℕ, ◌+◌, ◌*◌, ◌%◌, ◌^◌, ◌<◌, Bool, true, false, ◌||◌, ◌⊎◌, inl, inr, List, ◌∷◌, get_or, set, sym, refl, ap, ◌∙◌, subst, ⊎_elim, eqb, eqb-true, mod-lt, le_refl, suc-ne-zero, length-set, get_or-set_same, get_or-set_other, arith}
+use Rattle.std.proofs.Common.{◌≡◌, ℕ, ◌+◌, ◌*◌, ◌%◌, ◌^◌, ◌<◌, Bool, true, false, ◌||◌, ◌⊎◌, inl, inr, List, ◌∷◌, get_or, set, sym, refl, ap, ◌∙◌}
+use Rattle.std.proofs.Common.{subst, ⊎_elim, eqb, eqb-true, mod-lt, le_refl, suc-ne-zero, length-set, get_or-set_same, get_or-set_other, arith}
 use mathlib.Core.Option.{none, some}
 use native.Mathlib.Nat.{add-mod_right}
 use lib.ListN.{get_elem?}
@@ -10,7 +11,8 @@ use Rattle.band_board.specs.declared.view.View.{View}
 use Rattle.band_board.specs.declared.view.Role.TheVariants.{Front}
 use Rattle.band_board.specs.declared.view.Parcel.TheVariants.{Job, Drawn}
 use Rattle.band_board.specs.View.{after_opening, after_watch, after_offer, after_collection, after_close}
-use Rattle.band_board.specs.BoardRule.{Phase, vacant, offered, claimed, drawn, Cell, word_of, Slot, one_if, KeepsToRole, Knows, InPhase, CellOk, Ruled, BoardRule}
+use Rattle.band_board.specs.BoardRule.{Phase, vacant, offered, claimed, drawn, Cell, word_of, Slot}
+use Rattle.band_board.specs.BoardRule.{one_if, KeepsToRole, Knows, InPhase, CellOk, Ruled, BoardRule}
 use Rattle.band_board.specs.Steps.{RightFor, Seated, TellsOpening, TellsWatch, TellsOffer, TellsCollection, TellsClose}
 use Rattle.band_board.proofs.Counted.{none_no_some}
 use Rattle.band_board.proofs.Totals.{set_at, tally_same}

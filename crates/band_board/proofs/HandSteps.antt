@@ -1,5 +1,6 @@
 -- The steps of a hand keep the board's rule: look, claim and deliver.
-use Rattle.std.proofs.Common.{◌≡◌, ℕ, suc, ◌+◌, ◌*◌, ◌%◌, ◌^◌, ◌<◌, ◌≤◌, eqb, List, ◌∷◌, length, get_or, set, sym, refl, ap, ◌∙◌, subst, mod-lt, le_refl, suc-ne-zero, lt_of_not-le, length-set, get_or-set_same, arith}
+use Rattle.std.proofs.Common.{◌≡◌, ℕ, suc, ◌+◌, ◌*◌, ◌%◌, ◌^◌, ◌<◌, ◌≤◌, eqb, List, ◌∷◌, length, get_or, set, sym, refl, ap}
+use Rattle.std.proofs.Common.{◌∙◌, subst, mod-lt, le_refl, suc-ne-zero, lt_of_not-le, length-set, get_or-set_same, arith}
 use mathlib.Core.Logic.{dite}
 use mathlib.Core.Option.{none, some}
 use native.Mathlib.Decide.{dec_le}
@@ -12,7 +13,8 @@ use Rattle.band_board.specs.declared.view.View.{View}
 use Rattle.band_board.specs.declared.view.Role.TheVariants.{Hand}
 use Rattle.band_board.specs.declared.view.Parcel.TheVariants.{Job, Drawn}
 use Rattle.band_board.specs.View.{after_look, after_claim, after_delivery}
-use Rattle.band_board.specs.BoardRule.{Phase, vacant, offered, claimed, drawn, Cell, word_of, Slot, live_count, hand_count, list_count, claim_count, claims_in, total, Tally, KeepsToRole, Knows, InPhase, CellOk, Ruled, BoardRule}
+use Rattle.band_board.specs.BoardRule.{Phase, vacant, offered, claimed, drawn, Cell, word_of, Slot, live_count, hand_count, list_count}
+use Rattle.band_board.specs.BoardRule.{claim_count, claims_in, total, Tally, KeepsToRole, Knows, InPhase, CellOk, Ruled, BoardRule}
 use Rattle.band_board.specs.Steps.{RightFor, Seated, TellsLook, TellsTry, TellsDelivery}
 use Rattle.band_board.proofs.Counted.{at_most_one, one_if_same, one_if_other, some_is, none_no_some, times_more, length_below}
 use Rattle.band_board.proofs.Totals.{set_at, total_set, total_same, total_at}

@@ -1,5 +1,6 @@
 -- What stays of the board's rule when one place, one band and one seat move.
-use Rattle.std.proofs.Common.{◌≡◌, ℕ, suc, ◌+◌, ◌%◌, ◌^◌, ◌<◌, ◌≤◌, ◌≢◌, true, length, set, sym, refl, ap, ◌∙◌, subst, ⊎_elim, lt_of_not-le, arith, length-set, get_or-set_other}
+use Rattle.std.proofs.Common.{◌≡◌, ℕ, suc, ◌+◌, ◌%◌, ◌^◌, ◌<◌, ◌≤◌, ◌≢◌, true, length, set, sym, refl}
+use Rattle.std.proofs.Common.{ap, ◌∙◌, subst, ⊎_elim, lt_of_not-le, arith, length-set, get_or-set_other}
 use mathlib.Core.Path.{Path}
 use mathlib.Core.Logic.{dite}
 use mathlib.Core.Option.{some, some-injective}
@@ -10,7 +11,8 @@ use Rattle.atomic_table.specs.Table.{State}
 use Rattle.atomic_table.proofs.Lists.{at_set, set_else}
 use Rattle.band_board.specs.declared.view.View.{View}
 use Rattle.band_board.specs.declared.view.Role.TheVariants.{Front}
-use Rattle.band_board.specs.BoardRule.{Phase, vacant, offered, claimed, drawn, Cell, Slot, one_if, Homes, hand_count, list_count, claim_count, Tally, Knows, HasClaimed, HasDrawn, InPhase, CellOk, Ruled}
+use Rattle.band_board.specs.BoardRule.{Phase, vacant, offered, claimed, drawn, Cell, Slot, one_if, Homes, hand_count}
+use Rattle.band_board.specs.BoardRule.{list_count, claim_count, Tally, Knows, HasClaimed, HasDrawn, InPhase, CellOk, Ruled}
 use Rattle.band_board.proofs.Totals.{total_same, tally_same}
 
 abbrev pick : {P : Type 0} → Dec P → Cell → Cell → Cell

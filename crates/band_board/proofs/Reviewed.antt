@@ -10,7 +10,8 @@ use Rattle.atomic_table.proofs.Lists.{at_set, set_else}
 use Rattle.band_board.specs.declared.view.View.{View}
 use Rattle.band_board.specs.declared.view.Role.{Role}
 use Rattle.band_board.specs.declared.view.Role.TheVariants.{Front, Hand, Spent}
-use Rattle.band_board.specs.BoardRule.{Phase, vacant, offered, claimed, drawn, Cell, Slot, one_if, times, times_joined, joined_count, claims_in, live_count, hand_count, list_count, claim_count, total, Tally, Knows, HasClaimed, HasDrawn, InPhase, Ruled, BoardRule}
+use Rattle.band_board.specs.BoardRule.{Phase, vacant, offered, claimed, drawn, Cell, Slot, one_if, times, times_joined, joined_count, claims_in, live_count}
+use Rattle.band_board.specs.BoardRule.{hand_count, list_count, claim_count, total, Tally, Knows, HasClaimed, HasDrawn, InPhase, Ruled, BoardRule}
 use Rattle.band_board.specs.Steps.{Seated}
 use Rattle.band_board.proofs.Totals.{total_same, set_at}
 

@@ -1,5 +1,6 @@
 -- The rule holds of a new board; and the slots that are out with the front.
-use Rattle.std.proofs.Common.{◌≡◌, ℕ, zero, suc, ◌+◌, ◌-◌, ◌*◌, ◌%◌, ◌<◌, ◌≤◌, List, [], ◌∷◌, ◌++◌, map, length, get_or, sym, refl, ap, ◌∙◌, subst, mod-eq_of_lt, arith}
+use Rattle.std.proofs.Common.{◌≡◌, ℕ, zero, suc, ◌+◌, ◌-◌, ◌*◌, ◌%◌, ◌<◌, ◌≤◌, List, [], ◌∷◌, ◌++◌}
+use Rattle.std.proofs.Common.{map, length, get_or, sym, refl, ap, ◌∙◌, subst, mod-eq_of_lt, arith}
 use mathlib.Core.Option.{some, some-injective, some-ne-none}
 use native.Mathlib.Nat.{add-mod_right}
 use lib.ListN.{get_elem?}

@@ -2,7 +2,8 @@
 -- Word j of the first sixteen is 256 n + 4 hand + phase, where n is a number with n % 16 = j, and the phase is
 -- 0 vacant, 1 offered, 2 claimed or 3 drawn. Word 16 is 0, and 1 once the board is closed.
 -- Each place has a slot. A slot is at home, where anybody's step may take it, or out with one seat.
-use Rattle.std.specs.Prelude.{◌≡◌, ◌≢◌, ℕ, ◌+◌, ◌*◌, ◌^◌, ◌%◌, ◌<◌, ◌≤◌, ◌==◌, Bool, true, if◌then◌else◌, List, [], ◌∷◌, length, Option, Some, None, slice_index}
+use Rattle.std.specs.Prelude.{◌≡◌, ◌≢◌, ℕ, ◌+◌, ◌*◌, ◌^◌, ◌%◌, ◌<◌, ◌≤◌, ◌==◌, Bool, true}
+use Rattle.std.specs.Prelude.{if◌then◌else◌, List, [], ◌∷◌, length, Option, Some, None, slice_index}
 use mathlib.Core.Option.{some, none}
 use mathlib.Core.Option as maybe
 use lib.ListN.{get_elem?}

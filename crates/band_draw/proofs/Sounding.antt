@@ -1,19 +1,22 @@
 -- Each picture state of a run is sound, and so is one that stands for it.
-use Rattle.std.proofs.Common.{◌≤◌, ◌<◌, ℕ, zero, suc, ◌+◌, ◌-◌, ◌*◌, ◌/◌, ◌%◌, Bool, true, false, ◌==◌, List, [], ◌∷◌, length, Option, Some, None, refl, sym, ap, ◌∙◌, subst, arith, slice_index, slice_set, replicate}
+use Rattle.std.proofs.Common.{◌≤◌, ◌<◌, ℕ, zero, suc, ◌+◌, ◌-◌, ◌*◌, ◌/◌, ◌%◌, Bool, true, false, ◌==◌, List, [], ◌∷◌, length}
+use Rattle.std.proofs.Common.{Option, Some, None, refl, sym, ap, ◌∙◌, subst, arith, slice_index, slice_set, replicate}
 use Rattle.std.specs.Bool.{if◌then◌else◌}
 use Rattle.std.specs.List.{All}
 use Rattle.std.proofs.lemmas.List.Elements.{All-set}
 use Rattle.std.proofs.lemmas.List.{get_or-replicate, length-replicate}
 use Rattle.ocs_base.specs.declared.beam.Beam.{Beam}
 use Rattle.ocs_base.specs.declared.system.System.{System}
-use Rattle.priority_ham.specs.PixelColour.{Mode, DualPlayfield, HoldAndModify, ExtraHalfBrite, Plain, colour_in, mode_of, playfield_colour, colour_of, dual_number, plane}
+use Rattle.priority_ham.specs.PixelColour.{Mode, DualPlayfield, HoldAndModify, ExtraHalfBrite, Plain}
+use Rattle.priority_ham.specs.PixelColour.{colour_in, mode_of, playfield_colour, colour_of, dual_number, plane}
 use Rattle.serial_model.specs.Beam.{is_line_start}
 use Rattle.serial_model.specs.Window.{is_inside}
 use Rattle.serial_model.specs.declared.picture.Denise.{Denise}
 use Rattle.serial_model.specs.declared.picture.Touch.{Touch}
 use Rattle.serial_model.specs.declared.picture.Touch.TheVariants.{Set, Plane, Sprite}
 use Rattle.serial_model.specs.Made.{word_of}
-use Rattle.serial_model.specs.Picture.{reset_picture, set_picture, set_sprite, is_latch, is_sprite, is_colour, plane_latch, sprite_data, touch_if_any, touch_in_order, clear_line, pixel_colour, held_after, runs_after, step_of, after_step}
+use Rattle.serial_model.specs.Picture.{reset_picture, set_picture, set_sprite, is_latch, is_sprite, is_colour, plane_latch, sprite_data}
+use Rattle.serial_model.specs.Picture.{touch_if_any, touch_in_order, clear_line, pixel_colour, held_after, runs_after, step_of, after_step}
 use Rattle.serial_model.specs.Serial.{state_over}
 use Rattle.serial_model.specs.State.{reset}
 use Rattle.serial_bands.specs.Run.{RunValue, beam_at, run_memory}

@@ -109,7 +109,7 @@ pub fn next_place(system: System, beam: &mut Beam)
     requires { beam.old.v < 313 }
     ensures { IsNextInField system beam.old beam.new }
 {
-    if beam.h < system.last_clock(beam.v) {
+    if beam.h < 226 || beam.h < system.last_clock(beam.v) {
         beam.h += 1;
     } else {
         beam.h = 0;

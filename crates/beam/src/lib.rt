@@ -42,7 +42,7 @@ pub fn advance_in(b: &mut Beam, lace: bool, system: System)
     requires { b.old.frame + 1 < 2 ^ 32 }
     ensures { b.new ≡ next_place system lace b.old }
 {
-    if b.h < system.last_clock(b.v) {
+    if b.h < 226 || b.h < system.last_clock(b.v) {
         b.h += 1;
     } else if b.v < system.lines(b.lof) - 1 {
         b.v += 1;

@@ -1,5 +1,6 @@
 -- Fill by the parity of the bits up to each.
-use Rattle.std.proofs.Common.{arith, ◌≡◌, ℕ, zero, suc, ◌+◌, ◌-◌, ◌/◌, ◌%◌, ◌^◌, ◌<◌, max, Bool, true, false, if◌then◌else◌, nat_eq, count_ones, bit_or, ap, ◌∙◌, refl}
+use Rattle.std.proofs.Common.{arith, ◌≡◌, ℕ, zero, suc, ◌+◌, ◌-◌, ◌/◌, ◌%◌, ◌^◌, ◌<◌, max, Bool}
+use Rattle.std.proofs.Common.{true, false, if◌then◌else◌, nat_eq, count_ones, bit_or, ap, ◌∙◌, refl}
 use Rattle.std.proofs.lemmas.Nat.{or_lt}
 use Rattle.std.proofs.lemmas.Nat.Bits.{bit_at-lt, bit_at_or, bit_at_not}
 use Rattle.std.specs.Int.{bit_at, w16}

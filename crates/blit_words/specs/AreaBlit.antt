@@ -3,7 +3,8 @@
 -- A blit is its registers at the start and the answers to its asks so far. The answer to a read is the word that was read;
 -- any other ask has an answer too, which does not count. Words are taken row by row: word j of the blit is word j mod w of
 -- row j / w, where w is the width.
-use Rattle.std.specs.Prelude.{ℕ, zero, suc, ◌+◌, ◌*◌, ◌/◌, ◌%◌, Bool, true, false, ◌&&◌, ◌||◌, ◌==◌, nat_lt, if◌then◌else◌, List, [], ◌∷◌, length, slice_index, slice_index_or, Option, Some, None, ℤ, pos, ◌+ℤ◌, ◌-ℤ◌, ◌*ℤ◌, count_ones}
+use Rattle.std.specs.Prelude.{ℕ, zero, suc, ◌+◌, ◌*◌, ◌/◌, ◌%◌, Bool, true, false, ◌&&◌, ◌||◌, ◌==◌, nat_lt, if◌then◌else◌, List, []}
+use Rattle.std.specs.Prelude.{◌∷◌, length, slice_index, slice_index_or, Option, Some, None, ℤ, pos, ◌+ℤ◌, ◌-ℤ◌, ◌*ℤ◌, count_ones}
 use Rattle.std.specs.List.{position}
 use Rattle.ocs_base.specs.AddressOf.{addr_at}
 use Rattle.ocs_base.specs.declared.addr.Addr.{Addr}

@@ -3,7 +3,8 @@
 -- A blit is its registers at the start and the answers to its asks so far. The answer to a read is the word that was read;
 -- any other ask has an answer too, which does not count. The line steps by the axis of the greater distance at each point, and
 -- by the other where the accumulator is not negative (Bresenham's algorithm).
-use Rattle.std.specs.Prelude.{ℕ, zero, suc, ◌+◌, ◌-◌, ◌*◌, ◌/◌, ◌%◌, ◌^◌, Bool, true, false, ◌&&◌, ◌==◌, nat_lt, if◌then◌else◌, List, length, slice_index, ℤ, pos, negsuc, ◌+ℤ◌, ◌-ℤ◌, bit_and}
+use Rattle.std.specs.Prelude.{ℕ, zero, suc, ◌+◌, ◌-◌, ◌*◌, ◌/◌, ◌%◌, ◌^◌, Bool, true, false, ◌&&◌, ◌==◌, nat_lt}
+use Rattle.std.specs.Prelude.{if◌then◌else◌, List, length, slice_index, ℤ, pos, negsuc, ◌+ℤ◌, ◌-ℤ◌, bit_and}
 use Rattle.std.specs.Int.{w16, cast_signed, cast_unsigned, int_wrap, is_negative}
 use Rattle.blit_words.specs.declared.blit.BlitRegs.{BlitRegs}
 use Rattle.blit_words.specs.declared.blit.LinePoint.{LinePoint}

@@ -1,5 +1,6 @@
 -- The data registers from ask to ask, and words of a blit that later answers leave as they are.
-use Rattle.std.proofs.Common.{arith, ◌≡◌, inl, inr, ℕ, zero, suc, ◌+◌, ◌*◌, ◌/◌, ◌%◌, ◌<◌, ◌≤◌, Bool, true, false, if◌then◌else◌, nat_eq, nat_lt, List, [], ◌∷◌, ◌++◌, length, Option, Some, None, sym, ap, ◌∙◌, refl, eq-eqb}
+use Rattle.std.proofs.Common.{arith, ◌≡◌, inl, inr, ℕ, zero, suc, ◌+◌, ◌*◌, ◌/◌, ◌%◌, ◌<◌, ◌≤◌, Bool, true, false, if◌then◌else◌}
+use Rattle.std.proofs.Common.{nat_eq, nat_lt, List, [], ◌∷◌, ◌++◌, length, Option, Some, None, sym, ap, ◌∙◌, refl, eq-eqb}
 use Rattle.std.proofs.lemmas.Bool.{cases_lt}
 use Rattle.std.proofs.lemmas.List.{get_or_append_left, get_or_push}
 use Rattle.std.proofs.lemmas.Nat.{div-add-mod'}
@@ -8,7 +9,8 @@ use Rattle.blit_words.specs.declared.blit.WordAsk.{WordAsk}
 use Rattle.blit_words.specs.declared.blit.WordAsk.TheVariants.{A, B, C}
 use Rattle.blit_words.specs.BlitWords.{masked_word}
 use Rattle.blit_words.specs.Blit.{width_of}
-use Rattle.blit_words.specs.AreaBlit.{asks_per_word, word_ask, place_of, is_same, word_at_place, channel_word, data_register, masked_a, previous_a, previous_b, joined_word, ones_in_row, result_word, are_zero, is_before, word_held_before, held_word}
+use Rattle.blit_words.specs.AreaBlit.{asks_per_word, word_ask, place_of, is_same, word_at_place, channel_word, data_register, masked_a, previous_a}
+use Rattle.blit_words.specs.AreaBlit.{previous_b, joined_word, ones_in_row, result_word, are_zero, is_before, word_held_before, held_word}
 use Rattle.blitter_area.proofs.Rows.{AllBefore, is_at, asked_at, place_within}
 
 -- ---- later answers

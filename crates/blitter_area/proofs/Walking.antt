@@ -1,5 +1,6 @@
 -- What an area blit stands for, from ask to ask.
-use Rattle.std.proofs.Common.{arith, ◌≡◌, ◌≢◌, inl, inr, ℕ, suc, ◌+◌, ◌*◌, ◌/◌, ◌%◌, ◌<◌, ◌≤◌, Bool, true, false, if◌then◌else◌, ◌&&◌, nat_lt, nat_le, ◌==◌, List, [], ◌∷◌, ◌++◌, length, sym, ap, subst, ◌∙◌, refl}
+use Rattle.std.proofs.Common.{arith, ◌≡◌, ◌≢◌, inl, inr, ℕ, suc, ◌+◌, ◌*◌, ◌/◌, ◌%◌, ◌<◌, ◌≤◌, Bool, true, false, if◌then◌else◌}
+use Rattle.std.proofs.Common.{◌&&◌, nat_lt, nat_le, ◌==◌, List, [], ◌∷◌, ◌++◌, length, sym, ap, subst, ◌∙◌, refl}
 use Rattle.std.proofs.Math.Nat.{mul-le-mul_right}
 use Rattle.std.proofs.lemmas.Bool.{cases_lt, le-leb, lt-leb}
 use Rattle.std.proofs.lemmas.List.{length_push}
@@ -12,7 +13,8 @@ use Rattle.blit_words.specs.declared.blit.WordAsk.{WordAsk}
 use Rattle.blit_words.specs.declared.blit.WordAsk.TheVariants.{A, B, C, D, Rest}
 use Rattle.blit_words.specs.BlitWords.{is_set}
 use Rattle.blit_words.specs.Blit.{is_line, height_of, width_of}
-use Rattle.blit_words.specs.AreaBlit.{asks_per_word, word_ask, is_same, is_used, is_filling, previous_a, previous_b, ones_in_row, are_zero, ask_of, ask_at, area_ask, area_zero, area_end, held_word, address_of}
+use Rattle.blit_words.specs.AreaBlit.{asks_per_word, word_ask, is_same, is_used, is_filling, previous_a, previous_b, ones_in_row}
+use Rattle.blit_words.specs.AreaBlit.{are_zero, ask_of, ask_at, area_ask, area_zero, area_end, held_word, address_of}
 use Rattle.blit_words.specs.LineBlit.{line_ask, line_zero, line_end}
 use Rattle.blit_words.specs.Blitter.{blit_ask, is_done, blit_zero, blit_end}
 use Rattle.blit_words.specs.Parity.{is_carry}

@@ -1,5 +1,6 @@
 -- What a line blit stands for, from ask to ask.
-use Rattle.std.proofs.Common.{arith, ◌≡◌, ◌≢◌, inl, inr, ℕ, zero, suc, ◌+◌, ◌*◌, ◌/◌, ◌%◌, ◌<◌, ◌≤◌, Bool, true, false, if◌then◌else◌, ◌&&◌, nat_eq, nat_lt, nat_le, ◌==◌, List, [], ◌∷◌, ◌++◌, length, get_or, sym, ap, subst, ◌∙◌, refl}
+use Rattle.std.proofs.Common.{arith, ◌≡◌, ◌≢◌, inl, inr, ℕ, zero, suc, ◌+◌, ◌*◌, ◌/◌, ◌%◌, ◌<◌, ◌≤◌, Bool, true, false, if◌then◌else◌}
+use Rattle.std.proofs.Common.{◌&&◌, nat_eq, nat_lt, nat_le, ◌==◌, List, [], ◌∷◌, ◌++◌, length, get_or, sym, ap, subst, ◌∙◌, refl}
 use Rattle.std.proofs.lemmas.Bool.{cases_lt, le-leb, lt-leb}
 use Rattle.std.proofs.lemmas.List.{length_push, get_or_append_left, get_or_push}
 use Rattle.std.specs.Int.{w16, cast_unsigned}
@@ -10,7 +11,8 @@ use Rattle.blit_words.specs.declared.blit.SlotAsk.TheVariants as S
 use Rattle.blit_words.specs.BlitWords.{minterm_of}
 use Rattle.blit_words.specs.Blit.{is_line, height_of, minterms_of}
 use Rattle.blit_words.specs.AreaBlit.{area_ask, area_zero, area_end}
-use Rattle.blit_words.specs.LineBlit.{uses_source, uses_target, first_point, line_point, point_after, dot_of, texture_of, source_after, point_word, points_are_zero, point_ask, line_ask, line_zero, line_end}
+use Rattle.blit_words.specs.LineBlit.{uses_source, uses_target, first_point, line_point, point_after, dot_of, texture_of}
+use Rattle.blit_words.specs.LineBlit.{source_after, point_word, points_are_zero, point_ask, line_ask, line_zero, line_end}
 use Rattle.blit_words.specs.Blitter.{blit_ask, is_done, blit_zero, blit_end}
 use Rattle.blitter_line.specs.declared.line.LineBlit.{LineBlit}
 use Rattle.blitter_line.specs.Walk.{Walks, Stands, IsDoneAfterAll, reads_source, source_with, word_now, shown_ask, shown_by, shown}

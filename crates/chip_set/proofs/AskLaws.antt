@@ -1,5 +1,6 @@
 -- The access of a clock: the code's way to the ask and to its answer is the definition's.
-use Rattle.std.proofs.Common.{◌≡◌, ℕ, ◌+◌, ◌*◌, ◌%◌, ◌<◌, ◌≤◌, bit_and, Bool, true, false, ◌==◌, ◌&&◌, ◌||◌, if◌then◌else◌, List, [], ◌∷◌, ◌++◌, Option, Some, None, is_some, IfSome, arith, refl, ap, subst, inl, ◌∙◌, sym}
+use Rattle.std.proofs.Common.{◌≡◌, ℕ, ◌+◌, ◌*◌, ◌%◌, ◌<◌, ◌≤◌, bit_and, Bool, true, false, ◌==◌, ◌&&◌, ◌||◌, if◌then◌else◌}
+use Rattle.std.proofs.Common.{List, [], ◌∷◌, ◌++◌, Option, Some, None, is_some, IfSome, arith, refl, ap, subst, inl, ◌∙◌, sym}
 use Rattle.std.proofs.lemmas.Bool.{false≢true}
 use Rattle.std.proofs.lemmas.Bool.Decides.{nat_tests}
 use Rattle.std.specs.Option.{option_map}
@@ -33,10 +34,13 @@ use Rattle.serial_model.specs.declared.slots.Owner.TheVariants.{Refresh, Disk, A
 use Rattle.serial_model.specs.declared.slots.SlotState.{SlotState}
 use Rattle.cpu_bus.specs.Bus.{IsProcessorOf, wish_shown}
 use Rattle.cpu_bus.proofs.BusLaws.{wish_shown-is}
-use Rattle.serial_model.specs.Bus.{Wishes, copper_after, units_now, plane_wish, kinds_now, sprite_wish, is_disk, channel_of, ask_of_blit, blit_wish, slot_state, owner_ask, ask_at, answer_to, answer_owner, answer_chips, end_blit, give_blit, give_chips, missed_after, copper_word, answer_processor}
+use Rattle.serial_model.specs.Bus.{Wishes, copper_after, units_now, plane_wish, kinds_now, sprite_wish, is_disk, channel_of}
+use Rattle.serial_model.specs.Bus.{ask_of_blit, blit_wish, slot_state, owner_ask, ask_at, answer_to, answer_owner}
+use Rattle.serial_model.specs.Bus.{answer_chips, end_blit, give_blit, give_chips, missed_after, copper_word, answer_processor}
 use Rattle.serial_model.specs.Copper.{wish_of, copper_act, step_copper}
 use Rattle.serial_model.specs.Owner.{owner_of, is_refresh}
-use Rattle.serial_model.specs.PlaneFetch.{units_at, last_unit, IsLastUnit, plane_ask, fetched_plane, ask_for_plane, move_planes, move_plane_pointer, move_if_fetched}
+use Rattle.serial_model.specs.PlaneFetch.{units_at, last_unit, IsLastUnit, plane_ask, fetched_plane}
+use Rattle.serial_model.specs.PlaneFetch.{ask_for_plane, move_planes, move_plane_pointer, move_if_fetched}
 use Rattle.irq_cia.specs.Bits.{has_bits}
 use Rattle.serial_model.specs.Processor.{processor_wish}
 use Rattle.serial_model.specs.RegisterTable.{reading_at}
@@ -45,8 +49,10 @@ use Rattle.serial_model.specs.Side.{IsInTime}
 use Rattle.serial_model.specs.SpriteFetch.{kinds_at, is_sprite_slot, sprite_ask, asking_sprite, move_sprites, move_sprite_pointer, move_if_asked}
 use Rattle.serial_model.specs.State.{BlitUnderWay, Chips, is_busy, live_words, read_word}
 use Rattle.serial_model.proofs.FetchLaws.{IsFetch, fetched_plane-is, kept_word-move_planes}
-use Rattle.serial_model.proofs.SlotLaws.{SameForSprites, move_planes-same, kinds_at-same, sprite_ask-same, sprite_ask-slot, sprite_ask-taken, kept_word-move_sprites, AsksBefore, owner_by, plane_wins, sprite_wins}
-use Rattle.chip_set.specs.Chips.{WorkingChips, IsBlitOf, IsChipsOf, some_blit, plain_chips, kept_wish, wishes_with, ask_with, IsBlitAsk, AnswersOwner, answering, act_at, made_with, IsAnswer, fetched_registers, fetched_chips, HasAsked, HasAccessed}
+use Rattle.serial_model.proofs.SlotLaws.{SameForSprites, move_planes-same, kinds_at-same, sprite_ask-same, sprite_ask-slot}
+use Rattle.serial_model.proofs.SlotLaws.{sprite_ask-taken, kept_word-move_sprites, AsksBefore, owner_by, plane_wins, sprite_wins}
+use Rattle.chip_set.specs.Chips.{WorkingChips, IsBlitOf, IsChipsOf, some_blit, plain_chips, kept_wish, wishes_with, ask_with, IsBlitAsk}
+use Rattle.chip_set.specs.Chips.{AnswersOwner, answering, act_at, made_with, IsAnswer, fetched_registers, fetched_chips, HasAsked, HasAccessed}
 use Rattle.chip_set.proofs.BlitLaws.{read_is_none, write_is_none, rest_is_none}
 use Rattle.chip_set.proofs.MadeLaws.{made-act, Serves, made_by_answer, copper_by_answer}
 

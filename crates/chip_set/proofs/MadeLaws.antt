@@ -19,7 +19,8 @@ use Rattle.serial_model.specs.declared.fetch.SpriteAsk.{SpriteAsk}
 use Rattle.serial_model.specs.declared.fetch.SpriteAsk.TheVariants.{Control, Words}
 use Rattle.serial_model.specs.declared.slots.Owner.{Owner}
 use Rattle.serial_model.specs.declared.slots.Owner.TheVariants.{Refresh, Disk, Audio, Plane, Sprite, Copper, Blitter, Processor, Free}
-use Rattle.serial_model.specs.Bus.{Wishes, copper_runs, plane_wish, sprite_wish, blit_wish, wishes_of, slot_state, owner_ask, ask_at, answer_to, copper_word, made_by_copper, made_by_ask}
+use Rattle.serial_model.specs.Bus.{Wishes, copper_runs, plane_wish, sprite_wish, blit_wish, wishes_of, slot_state}
+use Rattle.serial_model.specs.Bus.{owner_ask, ask_at, answer_to, copper_word, made_by_copper, made_by_ask}
 use Rattle.serial_model.specs.Copper.{wish_of, copper_act, act_in}
 use Rattle.serial_model.specs.Owner.{owner_of}
 use Rattle.serial_model.specs.Processor.{processor_wish}

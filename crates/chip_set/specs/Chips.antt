@@ -29,7 +29,9 @@ use Rattle.serial_model.specs.declared.fetch.SpriteKind.{SpriteKind}
 use Rattle.serial_model.specs.declared.registers.Inputs.{Inputs}
 use Rattle.mem_versions.specs.Chip.{ChipValue, after_reads}
 use Rattle.serial_bands.specs.BusReads.{reads_of_processor}
-use Rattle.serial_model.specs.Bus.{Wishes, copper_wish, plane_wish, units_now, kinds_now, slot_state, owner_ask, copper_runs, copper_word, copper_after, missed_after, ask_at, answer_processor, answer_to, answer_chips, give_blit, give_chips, end_blit, made_by_copper, made_by_processor, made_by_sprite, made_by_ask, answer_blit}
+use Rattle.serial_model.specs.Bus.{Wishes, copper_wish, plane_wish, units_now, kinds_now, slot_state, owner_ask, copper_runs}
+use Rattle.serial_model.specs.Bus.{copper_word, copper_after, missed_after, ask_at, answer_processor, answer_to, answer_chips, give_blit}
+use Rattle.serial_model.specs.Bus.{give_chips, end_blit, made_by_copper, made_by_processor, made_by_sprite, made_by_ask, answer_blit}
 use Rattle.serial_model.specs.BlitRegisters.{blit_start}
 use Rattle.irq_cia.specs.Interrupts.{Interrupts}
 use Rattle.serial_model.specs.Copper.{copper_act}

@@ -14,7 +14,8 @@ use Rattle.serial_model.specs.declared.processor.Wait.TheVariants as W
 use Rattle.serial_model.specs.Processor.{Processor, target_of, read_wait, write_wait, processor_wait, slot_wish, stage_after, go_on}
 use Rattle.cpu_bus.specs.declared.BusCpu.{BusCpu}
 
--- it has a chip memory of the same size on its bus, is on or off as that is, its registers and answers are kept by the working processor, and what it waits for is kept
+-- it has a chip memory of the same size on its bus, is on or off as that is, its registers and answers are kept by the working
+-- processor, and what it waits for is kept
 pub record IsProcessorOf (now : BusCpu) (p : Processor) : Type 0 where
   pub chip : p.chip ≡ now.chip
   pub on : p.on ≡ now.on

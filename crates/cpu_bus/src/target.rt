@@ -3,8 +3,9 @@
 ghost use Rattle.std.specs.Prelude.{◌≡◌};
 ghost use Rattle.cpu_bus.specs.Bus.{wait_by};
 ghost use Rattle.ocs_base.specs.Register.{register_of};
-ghost use Rattle.serial_model.specs.Processor.{target_of, target_at, read_wait as read_wait_of, write_wait as write_wait_of};
-ghost use Rattle.serial_model.specs.Processor.{half_of, register_word as register_word_of, cia_byte as cia_byte_of, cia_register as cia_register_of, reaches_cia_a as reaches_a, reaches_cia_b as reaches_b};
+ghost use Rattle.serial_model.specs.Processor.{target_of, target_at, read_wait as read_wait_of, write_wait as write_wait_of, half_of};
+ghost use Rattle.serial_model.specs.Processor.{register_word as register_word_of, cia_byte as cia_byte_of};
+ghost use Rattle.serial_model.specs.Processor.{cia_register as cia_register_of, reaches_cia_a as reaches_a, reaches_cia_b as reaches_b};
 
 use m68k_exec::Ask as Access;
 use ocs_base::{Addr, ChipSize, Reg};

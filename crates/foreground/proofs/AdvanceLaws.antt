@@ -1,5 +1,6 @@
 -- One colour clock of the foreground, from its parts.
-use Rattle.std.proofs.Common.{◌≡◌, ◌≤◌, ◌<◌, ◌==◌, ◌^◌, ℕ, zero, suc, ◌+◌, ◌-◌, min, Bool, true, false, List, [], ◌∷◌, ◌++◌, drop, arith, refl, ap, subst, ◌∙◌, sym, append_assoc, add-one, below_more}
+use Rattle.std.proofs.Common.{◌≡◌, ◌≤◌, ◌<◌, ◌==◌, ◌^◌, ℕ, zero, suc, ◌+◌, ◌-◌, min, Bool, true, false, List, []}
+use Rattle.std.proofs.Common.{◌∷◌, ◌++◌, drop, arith, refl, ap, subst, ◌∙◌, sym, append_assoc, add-one, below_more}
 use Rattle.std.proofs.lemmas.Bool.Decides.{nat_tests}
 use Rattle.ocs_base.specs.Limits.{IsRunnable, AreInLimits}
 use Rattle.ocs_base.specs.declared.beam.Beam.{Beam}
@@ -25,7 +26,8 @@ use Rattle.foreground.specs.Script.{IsLeft, IsMachine}
 use Rattle.foreground.specs.Gathered.{tinted_range}
 use Rattle.foreground.specs.Clock.{AreLeftFrom, IsAt, IsBehindAccess, Tells, HasGiven, HasGivenPart, Rises, access_state, accessed_state}
 use Rattle.foreground.specs.Fore.{ForeValue, HasScript, IsUnderway, HasAdvanced, Advances, GivesPart, is_done}
-use Rattle.foreground.specs.Steps.{IsBefore, IsBehind, KeepsClock, HasBegunClock, BeginsClock, HasScriptBehind, ReachesAccess, HasMadeAccess, MakesItsAccess, AccessesPart, EndsClock, reads_more}
+use Rattle.foreground.specs.Steps.{IsBefore, IsBehind, KeepsClock, HasBegunClock, BeginsClock, HasScriptBehind}
+use Rattle.foreground.specs.Steps.{ReachesAccess, HasMadeAccess, MakesItsAccess, AccessesPart, EndsClock, reads_more}
 use Rattle.foreground.specs.declared.log.Log.{Log}
 use Rattle.foreground.proofs.OutLaws.{gives_then}
 use Rattle.foreground.proofs.RunLaws.{stands_from, stands_behind_access}

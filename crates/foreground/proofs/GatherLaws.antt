@@ -1,5 +1,6 @@
 -- Gathering band by band.
-use Rattle.std.proofs.Common.{◌≡◌, ◌≤◌, ◌<◌, ◌↔◌, ℕ, zero, suc, ◌+◌, ◌-◌, List, [], ◌∷◌, ◌++◌, length, drop, bit_or, Option, Some, None, IsSome, is_some, true, false, refl, sym, ap, ◌∙◌, subst, arith, append_assoc, add-one, length-drop}
+use Rattle.std.proofs.Common.{◌≡◌, ◌≤◌, ◌<◌, ◌↔◌, ℕ, zero, suc, ◌+◌, ◌-◌, List, [], ◌∷◌, ◌++◌, length, drop, bit_or, Option, Some}
+use Rattle.std.proofs.Common.{None, IsSome, is_some, true, false, refl, sym, ap, ◌∙◌, subst, arith, append_assoc, add-one, length-drop}
 use Rattle.out_files.specs.OutFiles.{OutFilesValue}
 use Rattle.serial_model.specs.declared.picture.Denise.{Denise}
 use Rattle.serial_model.specs.Side.{SideValue}
@@ -14,7 +15,8 @@ use Rattle.band_log.specs.declared.job.Drawn.{Drawn}
 use Rattle.band_log.specs.Right.{IsRightFor}
 use Rattle.band_log.specs.Raster.{RasterValue, Outstanding, Takes, IsRightForFirst, with_submitted, without_first}
 use Rattle.foreground.specs.Out.{Gives}
-use Rattle.foreground.specs.Gathered.{outstanding_from, Fits, KeepsMark, tinted_range, IsClosing, HasGathered, HasGatheredPart, HasGatheredOne, HasGatheredTo, GathersOne, GathersSome, GathersUpTo, GathersAll, GathersPart, Submits}
+use Rattle.foreground.specs.Gathered.{outstanding_from, Fits, KeepsMark, tinted_range, IsClosing, HasGathered, HasGatheredPart}
+use Rattle.foreground.specs.Gathered.{HasGatheredOne, HasGatheredTo, GathersOne, GathersSome, GathersUpTo, GathersAll, GathersPart, Submits}
 use Rattle.foreground.proofs.OutLaws.{gives_nothing, gives_then}
 
 -- a range without clocks

@@ -1,5 +1,6 @@
 -- The log from clock to clock.
-use Rattle.std.proofs.Common.{◌≡◌, ◌≤◌, ◌<◌, inl, inr, ℕ, suc, ◌+◌, ◌-◌, Bool, true, false, ◌==◌, ◌%◌, ◌&&◌, ◌||◌, List, [], ◌∷◌, ◌++◌, length, map, Option, Some, None, refl, ap, ◌∙◌, sym, subst, arith, true≢false, add-one, append_assoc, append-nil}
+use Rattle.std.proofs.Common.{◌≡◌, ◌≤◌, ◌<◌, inl, inr, ℕ, suc, ◌+◌, ◌-◌, Bool, true, false, ◌==◌, ◌%◌, ◌&&◌, ◌||◌, List, [], ◌∷◌, ◌++◌, length}
+use Rattle.std.proofs.Common.{map, Option, Some, None, refl, ap, ◌∙◌, sym, subst, arith, true≢false, add-one, append_assoc, append-nil}
 use Rattle.ocs_base.specs.declared.beam.Beam.{Beam}
 use Rattle.mem_versions.specs.Chip.{ChipValue}
 use Rattle.mem_versions.specs.declared.write.Write.{Write}
@@ -28,7 +29,8 @@ use Rattle.serial_bands.proofs.Shading.{shadow_sets, shadow_access}
 use Rattle.serial_bands.proofs.WholeRun.{frames_rise}
 use Rattle.foreground.specs.declared.band.OpenBand.{OpenBand}
 use Rattle.foreground.specs.declared.log.Log.{Log}
-use Rattle.foreground.specs.Log.{waiting_list, IsBeginning, IsGrowing, IsLogOf, Grows, IsShown, with_begin, with_access_touch, with_script_touch, with_script_touches, waiting_write, size_to}
+use Rattle.foreground.specs.Log.{waiting_list, IsBeginning, IsGrowing, IsLogOf, Grows, IsShown, with_begin}
+use Rattle.foreground.specs.Log.{with_access_touch, with_script_touch, with_script_touches, waiting_write, size_to}
 use Rattle.foreground.specs.LogLaws.{LogStarts, LogBegins, OneTouchMore, LogShown, LogAccessed, BeginsWithLine, LogRead, ReadBegins, LogEnds}
 
 not_both : (b : Bool) → b ≡ true → b ≡ false → ⊥

@@ -1,5 +1,6 @@
 -- The access of a clock by the foreground, over plain values.
-use Rattle.std.proofs.Common.{◌≡◌, ◌≤◌, ℕ, ◌+◌, true, false, List, [], ◌++◌, Option, Result, Ok, Err, OnErr, OnOk, arith, refl, ap, subst, ◌∙◌, sym, inl, inr, append-nil}
+use Rattle.std.proofs.Common.{◌≡◌, ◌≤◌, ℕ, ◌+◌, true, false, List, [], ◌++◌, Option, Result, Ok, Err}
+use Rattle.std.proofs.Common.{OnErr, OnOk, arith, refl, ap, subst, ◌∙◌, sym, inl, inr, append-nil}
 use Rattle.mem_versions.specs.Chip.{ChipValue}
 use Rattle.out_files.specs.OutFiles.{OutFilesValue}
 use Rattle.serial_model.specs.declared.bus.Ask.{Ask}
@@ -28,7 +29,8 @@ use Rattle.foreground.specs.Log.{IsLogOf, IsBandOf, IsShown, with_access_touch}
 use Rattle.foreground.specs.Gathered.{Fits, tinted_range}
 use Rattle.foreground.specs.Clock.{AreLeftFrom, IsLogged, IsBeforeAccess, IsBehindAccess, HasGiven, HasGivenPart, access_state, accessed_state}
 use Rattle.foreground.specs.Fore.{ForeValue}
-use Rattle.foreground.specs.Steps.{IsBefore, IsLoggedBefore, HasReadByAccess, HasMadeAccess, MakesItsAccess, MakesReadingAccess, HasAskedNow, StandsBeforeRead, ReadsBits, AccessesPart, reads_more}
+use Rattle.foreground.specs.Steps.{IsBefore, IsLoggedBefore, HasReadByAccess, HasMadeAccess, MakesItsAccess}
+use Rattle.foreground.specs.Steps.{MakesReadingAccess, HasAskedNow, StandsBeforeRead, ReadsBits, AccessesPart, reads_more}
 use Rattle.foreground.specs.declared.log.Log.{Log}
 use Rattle.foreground.proofs.OutLaws.{gives_nothing, gives_then}
 use Rattle.foreground.proofs.GatherLaws.{no_bytes}

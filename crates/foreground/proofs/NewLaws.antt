@@ -45,7 +45,8 @@ none_begun : (run : RunValue) → begun run 0 ≡ 0
 unfolding begun
 none_begun run = refl
 
-first_at : (run : RunValue) (m : MachineValue) (log : Log) (seen : RasterValue) → IsReset run.side run.image run.script.chip run.script.cpu m → IsLogOf run 0 log m.chip →
+first_at : (run : RunValue) (m : MachineValue) (log : Log) (seen : RasterValue) →
+    IsReset run.side run.image run.script.chip run.script.cpu m → IsLogOf run 0 log m.chip →
     seen.outstanding ≡ [] → seen.next ≡ 0 → Takes seen.bound run → IsAt run 0 0 m log 0 seen
 first_at run m log seen is logged none next takes =
     let from : log.band.from ≡ 0 = (let least : log.band.from ≤ 0 = logged.least in omega (arith, least)) in

@@ -10,7 +10,8 @@ use Rattle.serial_model.specs.Events.{due_events, do_events}
 use Rattle.serial_model.specs.Made.{touch_of}
 use Rattle.serial_model.specs.Serial.{state_over}
 use Rattle.serial_model.specs.State.{State, reset}
-use Rattle.serial_model.specs.Tick.{start_clock, run_script, count_timers, show_pixels, before_access, ask_of, made_of, make_access, run_processor, advance_beam, tick}
+use Rattle.serial_model.specs.Tick.{start_clock, run_script, count_timers, show_pixels, before_access}
+use Rattle.serial_model.specs.Tick.{ask_of, made_of, make_access, run_processor, advance_beam, tick}
 use Rattle.serial_model.proofs.NextLaws.{memory_kept, count_kept, place_kept}
 use Rattle.serial_bands.specs.BusReads.{reads_of_ask, bus_reads}
 use Rattle.serial_bands.specs.Bands.{has_clx_read}

@@ -1,5 +1,6 @@
 -- Many clocks of the foreground in one call, from single ones.
-use Rattle.std.proofs.Common.{◌≡◌, ◌≤◌, ◌<◌, ◌^◌, ℕ, suc, ◌+◌, ◌-◌, min, Bool, true, false, if◌then◌else◌, [], ◌++◌, length, arith, ap, subst, ◌∙◌, sym, append_assoc, append-nil}
+use Rattle.std.proofs.Common.{◌≡◌, ◌≤◌, ◌<◌, ◌^◌, ℕ, suc, ◌+◌, ◌-◌, min, Bool, true, false, if◌then◌else◌}
+use Rattle.std.proofs.Common.{[], ◌++◌, length, arith, ap, subst, ◌∙◌, sym, append_assoc, append-nil}
 use Rattle.std.proofs.lemmas.Bool.Decides.{nat_tests}
 use Rattle.std.proofs.lemmas.List.Sums.{count_by-le-length}
 use Rattle.out_files.specs.OutFiles.{OutFilesValue}

@@ -1,5 +1,6 @@
 -- How many pixel bytes a run has shown before a clock: by the place of the beam there, and by a band that ends there.
-use Rattle.std.proofs.Common.{◌≡◌, ◌≤◌, ◌<◌, ℕ, ◌+◌, ◌-◌, Bool, true, false, if◌then◌else◌, [], ◌++◌, length, refl, ap, ◌∙◌, sym, subst, arith, length-append, add-one}
+use Rattle.std.proofs.Common.{◌≡◌, ◌≤◌, ◌<◌, ℕ, ◌+◌, ◌-◌, Bool, true, false, if◌then◌else◌, [], ◌++◌}
+use Rattle.std.proofs.Common.{length, refl, ap, ◌∙◌, sym, subst, arith, length-append, add-one}
 use Rattle.mem_versions.specs.Chip.{ChipValue}
 use Rattle.ocs_base.specs.declared.beam.Beam.{Beam}
 use Rattle.ocs_base.specs.Systems.{is_visible}

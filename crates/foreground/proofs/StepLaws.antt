@@ -1,5 +1,6 @@
 -- The steps of the machine without its picture over plain values.
-use Rattle.std.proofs.Common.{◌≡◌, ℕ, ◌+◌, ◌/◌, ◌==◌, Bool, true, false, if◌then◌else◌, [], ◌∷◌, slice_index, Option, Some, None, Result, Ok, Err, OnOk, refl, ap, subst, ◌∙◌, sym}
+use Rattle.std.proofs.Common.{◌≡◌, ℕ, ◌+◌, ◌/◌, ◌==◌, Bool, true, false, if◌then◌else◌, [], ◌∷◌, slice_index}
+use Rattle.std.proofs.Common.{Option, Some, None, Result, Ok, Err, OnOk, refl, ap, subst, ◌∙◌, sym}
 use Rattle.mem_versions.specs.Chip.{ChipValue, after_write}
 use Rattle.ocs_base.specs.declared.addr.Addr.{Addr}
 use Rattle.ocs_base.specs.declared.beam.Beam.{Beam}

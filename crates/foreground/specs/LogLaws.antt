@@ -12,7 +12,8 @@ use Rattle.serial_bands.specs.BusReads.{latched_words}
 use Rattle.serial_bands.specs.Stores.{stores_at}
 use Rattle.serial_bands.specs.Shadows.{IsInRange}
 use Rattle.serial_bands.specs.Fetches.{fetches_in}
-use Rattle.foreground.specs.Log.{IsLogOf, IsEnding, IsCut, IsStarted, IsShown, with_waiting, with_begin, with_script_touch, with_script_touches, with_access_touch, blank_after}
+use Rattle.foreground.specs.Log.{IsLogOf, IsEnding, IsCut, IsStarted, IsShown, with_waiting, with_begin}
+use Rattle.foreground.specs.Log.{with_script_touch, with_script_touches, with_access_touch, blank_after}
 use Rattle.foreground.specs.declared.log.Log.{Log}
 
 -- a clock starts: with no band the write that waited is an event, and with a band its beam and its cleared opening are noted

@@ -1,6 +1,7 @@
 //! Laws of the definitions, each the contract of a function that does nothing.
 
-ghost use Rattle.foreground.specs.LogLaws.{LogStarts, LogBegins, OneTouchMore, LogShown, LogAccessed, LogRead, ReadBegins, BeginsWithLine, LogEnds, LogCuts, NumberFits, FetchesAreFew};
+ghost use Rattle.foreground.specs.LogLaws.{LogStarts, LogBegins, OneTouchMore, LogShown, LogAccessed, LogRead};
+ghost use Rattle.foreground.specs.LogLaws.{ReadBegins, BeginsWithLine, LogEnds, LogCuts, NumberFits, FetchesAreFew};
 
 /// The log goes from clock to clock: a clock starts, within a band or with one, the script's touches
 /// are noted, and then the touch of its access is noted. A read of

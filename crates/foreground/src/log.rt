@@ -14,7 +14,8 @@ ghost use Rattle.serial_bands.specs.Fetches.{fetches_in};
 ghost use Rattle.serial_model.specs.Keeps.{Keeps};
 ghost use Rattle.foreground.specs.Cuts.{IsClockBefore};
 ghost use Rattle.foreground.specs.Gathered.{IsClosing};
-ghost use Rattle.foreground.specs.Log.{IsLogOf, IsEnding, IsCut, IsJobOf, with_waiting, with_begin, with_script_touch, with_access_touch, with_write_at, blank_after};
+ghost use Rattle.foreground.specs.Log.{IsLogOf, IsEnding, IsCut, IsJobOf, with_waiting, with_begin};
+ghost use Rattle.foreground.specs.Log.{with_script_touch, with_access_touch, with_write_at, blank_after};
 
 use crate::band::OpenBand;
 use crate::shadow;

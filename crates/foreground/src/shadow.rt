@@ -7,7 +7,8 @@ ghost use Rattle.serial_bands.specs.Run.{RunValue};
 ghost use Rattle.serial_bands.specs.declared.shadow.Filling.{Filling as FillingValue};
 ghost use Rattle.serial_bands.specs.declared.shadow.Filling.TheVariants as F;
 ghost use Rattle.serial_bands.specs.RightJob.{clock_of};
-ghost use Rattle.serial_bands.specs.Shadows.{IsInRange, IsOfRange, AreOfRange, filling_word, set_shadow, set_shadow_sprite, fetch_shadow_sprite, touch_shadow, shadow_of as shadow_of_picture, found_filling, found_shadow, line_opening};
+ghost use Rattle.serial_bands.specs.Shadows.{IsInRange, IsOfRange, AreOfRange, filling_word, set_shadow, set_shadow_sprite, fetch_shadow_sprite};
+ghost use Rattle.serial_bands.specs.Shadows.{touch_shadow, shadow_of as shadow_of_picture, found_filling, found_shadow, line_opening};
 ghost use Rattle.serial_bands.specs.Fetches.{is_fetched_filling, fetches_in, IsInRangeOf};
 
 use mem_versions::{Chip, MemView};

@@ -2,8 +2,8 @@
 
 ghost use Rattle.std.specs.Prelude.{◌≡◌, ◌<◌};
 ghost use Rattle.m68k_decode.specs.Results.{span};
-ghost use Rattle.m68k_decode.specs.ResultsSums.{sum, sum_carries, sum_overflows, sum_of, difference, difference_borrows, difference_overflows, difference_of, checked};
-ghost use Rattle.m68k_decode.specs.ResultsSums.{add_of, sub_of, neg_of, cmp_of, addx_of, subx_of, negx_of, chk_of};
+ghost use Rattle.m68k_decode.specs.ResultsSums.{sum, sum_carries, sum_overflows, sum_of, difference, difference_borrows, difference_overflows};
+ghost use Rattle.m68k_decode.specs.ResultsSums.{difference_of, checked, add_of, sub_of, neg_of, cmp_of, addx_of, subx_of, negx_of, chk_of};
 
 use crate::size::{low_part, sign, with_sign};
 use m68k_decode::{Flags, Outcome, Size};

@@ -12,7 +12,8 @@ use Rattle.m68k_decode.specs.declared.trap.Trap.TheVariants as T
 use Rattle.m68k_decode.specs.declared.under.Under.TheVariants as U
 use Rattle.m68k_decode.specs.Registers.{word32, extended_word, extended_byte, data_of, address_of, with_data, with_address}
 use Rattle.m68k_decode.specs.Access.{Prog, End, Enter}
-use Rattle.m68k_decode.specs.Run.{Run, with_regs, with_stack, stack_of, jumped, address_after, address_before, row_clocks, finish, fetch, place, read, write, merged}
+use Rattle.m68k_decode.specs.Run.{Run, with_regs, with_stack, stack_of, jumped, address_after}
+use Rattle.m68k_decode.specs.Run.{address_before, row_clocks, finish, fetch, place, read, write, merged}
 use Rattle.m68k_decode.specs.Status.{flags_of, with_code, kept_status, condition}
 use Rattle.m68k_decode.specs.General.{with_status}
 use Rattle.m68k_decode.specs.Lists.{several, spread}

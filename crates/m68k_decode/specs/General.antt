@@ -10,7 +10,8 @@ use Rattle.m68k_decode.specs.declared.trap.Trap.{Trap}
 use Rattle.m68k_decode.specs.declared.under.Under.TheVariants as U
 use Rattle.m68k_decode.specs.Access.{Prog, Enter}
 use Rattle.m68k_decode.specs.Run.{Run, with_regs, row_clocks, place, load, store}
-use Rattle.m68k_decode.specs.RowData.{dest_size, source_size, has_source, source_mode, constant, has_dest, dest_mode, takes_old, target, result_of, status_after, count_of, trap_of, trap_ea}
+use Rattle.m68k_decode.specs.RowData.{dest_size, source_size, has_source, source_mode, constant, has_dest, dest_mode}
+use Rattle.m68k_decode.specs.RowData.{takes_old, target, result_of, status_after, count_of, trap_of, trap_ea}
 
 -- whether what a mode names is read as program: the PC-relative modes
 unfoldable pub is_program : Mode → Bool

@@ -6,7 +6,8 @@ ghost use Rattle.m68k_opcodes.specs.declared.operand.Mode.TheVariants as M;
 ghost use Rattle.m68k_decode.specs.Registers.{extended_byte};
 ghost use Rattle.m68k_decode.specs.declared.row.Op.TheVariants as Q;
 ghost use Rattle.m68k_decode.specs.RowWords.{is_an, bit_size, eight_if_zero, pair_mode};
-ghost use Rattle.m68k_decode.specs.Rows.{general_row, both, tests, moves, one, status, logic_op, sum_op, immediate_op, bit_op, unary_op, memory_op, address_op, quick_op, left_op, right_op, shift_op, shift_source};
+ghost use Rattle.m68k_decode.specs.Rows.{general_row, both, tests, moves, one, status, logic_op, sum_op, immediate_op, bit_op};
+ghost use Rattle.m68k_decode.specs.Rows.{unary_op, memory_op, address_op, quick_op, left_op, right_op, shift_op, shift_source};
 
 use m68k_opcodes::{Instr, Mode, Size};
 

@@ -5,7 +5,8 @@ ghost use Rattle.m68k_opcodes.specs.declared.operand.Size.TheVariants as S;
 ghost use Rattle.m68k_decode.specs.Access.{Prog, Enter, End};
 ghost use Rattle.m68k_decode.specs.Registers.{word32};
 ghost use Rattle.m68k_decode.specs.Results.{low};
-ghost use Rattle.m68k_decode.specs.Run.{Run, fault, finish, ended, fetch, read, read_word, write, write_word, load, store, merged, address_after, address_before, width_of};
+ghost use Rattle.m68k_decode.specs.Run.{Run, fault, finish, ended, fetch, read, read_word, write, write_word};
+ghost use Rattle.m68k_decode.specs.Run.{load, store, merged, address_after, address_before, width_of};
 ghost use Rattle.m68k_exec.specs.declared.state.Context.{Context};
 ghost use Rattle.m68k_exec.specs.Meaning.{is_memory, meaning, run_of, fetched, valued, written};
 

@@ -4,7 +4,8 @@ ghost use Rattle.std.specs.Prelude.{◌≡◌, ◌≤◌, ◌<◌, ◌+◌, ◌-
 ghost use Rattle.std.specs.List.{slice_get};
 ghost use Rattle.m68k_decode.specs.Run.{write_word};
 ghost use Rattle.m68k_decode.specs.Frames.{vector_of, frame_of};
-ghost use Rattle.m68k_decode.specs.Entries.{is_instruction, exception_clocks, accesses_before, entry_clocks, handled, vectored, pushes, entry, reset_done, reset_stack, reset};
+ghost use Rattle.m68k_decode.specs.Entries.{is_instruction, exception_clocks, accesses_before, entry_clocks};
+ghost use Rattle.m68k_decode.specs.Entries.{handled, vectored, pushes, entry, reset_done, reset_stack, reset};
 ghost use Rattle.m68k_exec.specs.Meaning.{meaning, run_of};
 
 use crate::access::{address_before, fault, read};

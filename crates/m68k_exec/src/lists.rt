@@ -4,7 +4,8 @@ ghost use Rattle.std.specs.Prelude.{◌≡◌, ◌≤◌, ◌<◌, ◌+◌, ◌*
 ghost use Rattle.m68k_decode.specs.Registers.{word32, extended_word, data_of, address_of};
 ghost use Rattle.m68k_decode.specs.Run.{at_place, place, with_regs};
 ghost use Rattle.m68k_decode.specs.RowWords.{extended};
-ghost use Rattle.m68k_decode.specs.Lists.{list_mode, list_size, is_downward, unstepped, numbers, register_of, with_register, stored_number, stored_at, stored_next, list_end, list_ended, stores, loads, listing, several, scatter, gathered, gather, bytes_moved, spread};
+ghost use Rattle.m68k_decode.specs.Lists.{list_mode, list_size, is_downward, unstepped, numbers, register_of, with_register, stored_number, stored_at};
+ghost use Rattle.m68k_decode.specs.Lists.{stored_next, list_end, list_ended, stores, loads, listing, several, scatter, gathered, gather, bytes_moved, spread};
 ghost use Rattle.m68k_exec.specs.Meaning.{meaning, run_of, numbers_left, taken};
 
 use crate::access::{address_after, address_before, fetch, finish, merge, read, write};

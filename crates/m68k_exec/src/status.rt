@@ -2,7 +2,8 @@
 
 ghost use Rattle.std.specs.Prelude.{◌≡◌, ◌≤◌, ◌<◌, ◌+◌, ◌*◌, ◌/◌, ◌%◌};
 ghost use Rattle.m68k_decode.specs.Results.{one_if};
-ghost use Rattle.m68k_decode.specs.Status.{flags_of, with_flags, with_code, kept_status, condition, even_condition, needs_supervisor, entered_status, supervised, with_mask, has_trace, mask_of};
+ghost use Rattle.m68k_decode.specs.Status.{flags_of, with_flags, with_code, kept_status, condition, even_condition};
+ghost use Rattle.m68k_decode.specs.Status.{needs_supervisor, entered_status, supervised, with_mask, has_trace, mask_of};
 
 use m68k_decode::{Flags, Instr, Trap};
 

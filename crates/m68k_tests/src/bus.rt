@@ -105,7 +105,8 @@ fn where_accesses_go(rt: HostRuntime) {
     );
 }
 
-/// What a processor with a chip memory of this size asks for when it reads the word at 080000: MOVE.W 00080000,D0.
+/// What a processor with a chip memory of this size asks for when it reads the word at 080000:
+/// MOVE.W 00080000,D0.
 fn wish_above_512_kib(chip: ChipSize) -> Option<ProcessorAsk> {
     let mut cpu = BusCpu::reset(chip, true);
     for word in [0, 0x1000, 0, 8] {

@@ -1,5 +1,6 @@
 -- The processor halts exactly where an address error comes while one is being taken.
-use Rattle.std.proofs.Common.{◌≡◌, ℕ, ◌<◌, ◌%◌, ◌==◌, ◌⊎◌, Bool, true, false, if◌then◌else◌, nat_lt, List, [], ◌∷◌, ◌++◌, length, Some, inl, inr, refl, ap, sym, subst, ◌∙◌}
+use Rattle.std.proofs.Common.{◌≡◌, ℕ, ◌<◌, ◌%◌, ◌==◌, ◌⊎◌, Bool, true, false, if◌then◌else◌, nat_lt}
+use Rattle.std.proofs.Common.{List, [], ◌∷◌, ◌++◌, length, Some, inl, inr, refl, ap, sym, subst, ◌∙◌}
 use Rattle.m68k_decode.specs.declared.regs.CpuRegs.{CpuRegs}
 use Rattle.m68k_decode.specs.declared.trap.Trap.{Trap}
 use Rattle.m68k_decode.specs.declared.trap.Trap.TheVariants as T
@@ -10,7 +11,8 @@ use Rattle.m68k_decode.specs.Status.{mask_of}
 use Rattle.m68k_decode.specs.Access.{Read, Prog, Ask, End, Enter, Halt, idle_clocks}
 use Rattle.m68k_decode.specs.Run.{moved, fault, read_word, fetch}
 use Rattle.m68k_decode.specs.Entries.{entry}
-use Rattle.m68k_decode.specs.Walk.{Stage, stage, program, instruction, opcode_read, begun, entering, replaced, begin_again, begin, taking_of, is_traced, boundary, settled, answered, advance}
+use Rattle.m68k_decode.specs.Walk.{Stage, stage, program, instruction, opcode_read, begun, entering, replaced}
+use Rattle.m68k_decode.specs.Walk.{begin_again, begin, taking_of, is_traced, boundary, settled, answered, advance}
 use Rattle.m68k_time.specs.Time.{ComesTo, AreWords, GoesOn, IsExact}
 use Rattle.m68k_time.specs.Boundaries.{EndsNow, HasAddressError, IsDouble, ProgramHalts, at_end, BeginsNow, HaltsAtOnce, IsHaltedBy, WalkHalts}
 use Rattle.m68k_time.proofs.Counting.{Anything, Begins, at_begin, goes_on_at_end}

@@ -1,5 +1,6 @@
 -- Laws of writes in order of place and then of happening.
-use Rattle.std.proofs.Common.{◌≡◌, ℕ, ◌+◌, ◌-◌, ◌*◌, ◌/◌, ◌<◌, ◌≤◌, ◌≢◌, Bool, true, false, ◌==◌, ◌&&◌, not, nat_lt, List, length, take, drop, get_or, zero, suc, refl, sym, ap, subst, ◌∙◌, arith, length-take, length-drop, ◌⊎◌, inl, inr}
+use Rattle.std.proofs.Common.{◌≡◌, ℕ, ◌+◌, ◌-◌, ◌*◌, ◌/◌, ◌<◌, ◌≤◌, ◌≢◌, Bool, true, false, ◌==◌, ◌&&◌, not, nat_lt, List, length}
+use Rattle.std.proofs.Common.{take, drop, get_or, zero, suc, refl, sym, ap, subst, ◌∙◌, arith, length-take, length-drop, ◌⊎◌, inl, inr}
 use Rattle.std.specs.List.{filter}
 use Rattle.std.specs.Ordering.{is_lt, nat_cmp}
 use Rattle.std.specs.List.Sorted.{IsNonDecreasingBy, IsSortedByKey, IsStableByKey, ties}
@@ -114,7 +115,8 @@ starts-rise writes page start end begin stop = by_cases (cases_lt end start)
     by_cases (inr le) = le
 
 -- a start that was read from the table
-pub start-at : (writes : List Write) (starts : List ℕ) (page x : ℕ) → AreStarts writes starts (length starts - 1) → page < length starts → x ≡ get_or starts page x → IsStart writes page x
+pub start-at : (writes : List Write) (starts : List ℕ) (page x : ℕ) → AreStarts writes starts (length starts - 1) → page < length starts →
+    x ≡ get_or starts page x → IsStart writes page x
 start-at writes starts page x are within read =
     let is : get_or starts page 0 ≡ x = sym (read ∙ get_or_default_zero starts page x within) in
     let P : ℕ → Type 0 = λ start. IsStart writes page start in

@@ -1,5 +1,6 @@
 -- Laws of the search for the last write to a place before a clock.
-use Rattle.std.proofs.Common.{◌≡◌, ℕ, ◌+◌, ◌-◌, ◌*◌, ◌^◌, ◌<◌, ◌≤◌, Bool, true, false, cond, ◌==◌, ◌&&◌, nat_lt, List, [], ◌∷◌, length, All, take, drop, get_or, suc, refl, sym, ap, ◌∙◌, arith, pow-suc, mul_assoc}
+use Rattle.std.proofs.Common.{◌≡◌, ℕ, ◌+◌, ◌-◌, ◌*◌, ◌^◌, ◌<◌, ◌≤◌, Bool, true, false, cond, ◌==◌, ◌&&◌, nat_lt, List, []}
+use Rattle.std.proofs.Common.{◌∷◌, length, All, take, drop, get_or, suc, refl, sym, ap, ◌∙◌, arith, pow-suc, mul_assoc}
 use Rattle.std.proofs.lemmas.Bool.Decides.{nat_tests}
 use Rattle.std.proofs.lemmas.List.{take-append-drop, take_more, get_or_default}
 use Rattle.std.proofs.lemmas.List.Elements.{All-head, All-tail}

@@ -36,6 +36,7 @@ impl System {
     }
 
     /// The first line that a frame's picture shows.
+    #[inline(always)]
     pub fn top_line(self) -> u16
         ensures { result ≡ top_line self }
     {
@@ -46,6 +47,7 @@ impl System {
     }
 
     /// The number of lines that a frame's picture shows.
+    #[inline(always)]
     pub fn shown_lines(self) -> u16
         ensures { result ≡ shown_lines self }
     {

@@ -1,5 +1,6 @@
 -- What the exact answers of a place in memory tell of it as a place.
-use Rattle.std.proofs.Common.{◌≡◌, ℕ, ◌/◌, ◌^◌, ◌<◌, ◌≤◌, inl, Bool, true, false, cond, List, [], ◌++◌, length, take, refl, sym, ap, subst, ◌∙◌, Option, Some, is_some, Result, Ok, Err, arith, unwrap_or}
+use Rattle.std.proofs.Common.{◌≡◌, ℕ, ◌/◌, ◌^◌, ◌<◌, ◌≤◌, inl, Bool, true, false, cond, List, [], ◌++◌, length, take}
+use Rattle.std.proofs.Common.{refl, sym, ap, subst, ◌∙◌, Option, Some, is_some, Result, Ok, Err, arith, unwrap_or}
 use Rattle.std.specs.FinMap.{get, insert}
 use Rattle.ocs_io.specs.Place.{Files, with_file, grown, Rose, OnlyReads, OnlyWrites, OnlySays, KeepsNames}
 use Rattle.ocs_io.specs.Answers.{ReadAnswers, CreateAnswers, AppendAnswers, SayAnswers, GrowsIfOk}

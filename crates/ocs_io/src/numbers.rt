@@ -1,6 +1,7 @@
 //! Numbers as text: decimal and lower-case hexadecimal.
 
-ghost use Rattle.std.specs.Prelude.{◌≡◌, ◌++◌, ◌^◌, ◌*◌, ◌+◌, ◌<◌, ◌≤◌, ◌&&◌, ◌||◌, ◌==◌, not, nat_le, nat_lt, length, slice_index, if◌then◌else◌, Some, None, IfSome, OnOk, OnErr, decimal};
+ghost use Rattle.std.specs.Prelude.{◌≡◌, ◌++◌, ◌^◌, ◌*◌, ◌+◌, ◌<◌, ◌≤◌, ◌&&◌, ◌||◌, ◌==◌, not, nat_le, nat_lt};
+ghost use Rattle.std.specs.Prelude.{length, slice_index, if◌then◌else◌, Some, None, IfSome, OnOk, OnErr, decimal};
 ghost use Rattle.std.specs.Str.Parse.{digits_value};
 ghost use Rattle.std.specs.Char.{digit_value};
 ghost use Rattle.ocs_io.specs.Numbers.{is_digit, is_lower_hex, all_bytes, dec_of, hex_of, hex_digit, hex_text};

@@ -1,5 +1,6 @@
 -- The run over plain values: its start, its turns, its end and its stops.
-use Rattle.std.proofs.Common.{◌≡◌, ℕ, ◌+◌, ◌-◌, ◌*◌, ◌^◌, ◌<◌, ◌≤◌, Bool, true, false, nat_lt, ◌==◌, List, [], ◌++◌, length, Option, Some, None, Result, Ok, Err, OnErr, IfErr, IsErrAnd, arith, refl, ap, ◌∙◌, sym, subst, append_assoc, append-nil, inl}
+use Rattle.std.proofs.Common.{◌≡◌, ℕ, ◌+◌, ◌-◌, ◌*◌, ◌^◌, ◌<◌, ◌≤◌, Bool, true, false, nat_lt, ◌==◌, List, [], ◌++◌, length, Option, Some}
+use Rattle.std.proofs.Common.{None, Result, Ok, Err, OnErr, IfErr, IsErrAnd, arith, refl, ap, ◌∙◌, sym, subst, append_assoc, append-nil, inl}
 use Rattle.ocs_base.specs.Script.{ScriptValue}
 use Rattle.ocs_base.specs.declared.system.System.{System}
 use Rattle.ocs_io.specs.Place.{Files, Outside, OnlyWrites, Rose}
@@ -31,7 +32,8 @@ use Rattle.foreground.specs.RunTo.{HasRunOn, RunsOn, HasCome}
 use Rattle.foreground.specs.Gathered.{tinted_range}
 use Rattle.ocs_run.specs.Prefix.{LeavesPrefixesOver}
 use Rattle.ocs_run.specs.Run.{HasFilesOver, HasRun, HasParts, HasEndParts}
-use Rattle.ocs_run.specs.Underway.{IsUnderway, CanRun, Runs, IsStopped, IsFresh, IsEmpty, Ends, IsCut, IsSettledRun, IsWritten, StartsRun, EndsFromStart, IsCutFromStart}
+use Rattle.ocs_run.specs.Underway.{IsUnderway, CanRun, Runs, IsStopped, IsFresh, IsEmpty, Ends, IsCut}
+use Rattle.ocs_run.specs.Underway.{IsSettledRun, IsWritten, StartsRun, EndsFromStart, IsCutFromStart}
 use Rattle.ocs_run.proofs.PrefixLaws.{LeavesPrefixes-parts, LeavesPrefixes-end, LeavesPrefixes-all}
 
 -- what a run has shown at a clock are the bytes of its clocks

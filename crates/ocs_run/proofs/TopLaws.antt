@@ -1,5 +1,6 @@
 -- The clauses of the top call, from what stands after the command and what was said.
-use Rattle.std.proofs.Common.{◌≡◌, ℕ, zero, suc, ◌≤◌, ◌⊎◌, Bool, true, false, if◌then◌else◌, List, [], take, Option, Some, None, Ok, Err, inl, inr, refl, sym, ap, subst, ◌∙◌, append-nil, arith}
+use Rattle.std.proofs.Common.{◌≡◌, ℕ, zero, suc, ◌≤◌, ◌⊎◌, Bool, true, false, if◌then◌else◌, List, [], take}
+use Rattle.std.proofs.Common.{Option, Some, None, Ok, Err, inl, inr, refl, sym, ap, subst, ◌∙◌, append-nil, arith}
 use Rattle.ocs_base.specs.Image.{is_image, fits_chip}
 use Rattle.ocs_io.specs.Answers.{WhereTold}
 use Rattle.ocs_io.specs.Place.{Files, Outside, Rose, OnlySays, file, said_more}
@@ -9,8 +10,10 @@ use Rattle.ocs_run.specs.Fault.{status_of}
 use Rattle.ocs_run.specs.Order.{OrderValue}
 use Rattle.ocs_run.specs.SceneAnswers.{SceneAnswers, SaysSummaryPart}
 use Rattle.ocs_run.specs.Texts.{usage_text, fault_text, text_of, Says, SaysSurely}
-use Rattle.ocs_run.specs.Top.{UsageAnswers, CommandAnswers, SaysNothingElse, IsEarly, IsScene, IsRefused, HasBadScript, Completed, IsToldOfRun, IsTold, SaysFault, SaysOwn, SaysStatus}
-use Rattle.ocs_run.specs.Verdict.{Verdict, Usage as UsageVerdict, Absent, BadImage as BadImageVerdict, BadScript as BadScriptVerdict, Good, Scene, of_order, of_command, of_image, of_text, of_script}
+use Rattle.ocs_run.specs.Top.{UsageAnswers, CommandAnswers, SaysNothingElse, IsEarly, IsScene, IsRefused}
+use Rattle.ocs_run.specs.Top.{HasBadScript, Completed, IsToldOfRun, IsTold, SaysFault, SaysOwn, SaysStatus}
+use Rattle.ocs_run.specs.Verdict.{Verdict, Usage as UsageVerdict, Absent, BadImage as BadImageVerdict}
+use Rattle.ocs_run.specs.Verdict.{BadScript as BadScriptVerdict, Good, Scene, of_order, of_command, of_image, of_text, of_script}
 use Rattle.ocs_run.specs.Words.{CommandValue, Run, Gen, command_of}
 use Rattle.ocs_run.specs.declared.fault.Fault.{Fault}
 use Rattle.ocs_run.specs.declared.fault.Fault.TheVariants.{Usage, BadImage, BadScript, Unread, Unwritten, Unsaid, OutOfMemory}

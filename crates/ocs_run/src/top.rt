@@ -6,7 +6,8 @@ ghost use Rattle.ocs_io.specs.Place.{Rose};
 ghost use Rattle.ocs_run.specs.Words.{command_of};
 ghost use Rattle.ocs_run.specs.Verdict.{of_command};
 ghost use Rattle.ocs_run.specs.Command.{IsDone, IsUnwritten, IsWanting};
-ghost use Rattle.ocs_run.specs.Top.{ReadableInputs, CommandAnswers, SaysNothingElse, SaysStatus, IsEarly, IsScene, IsRefused, HasBadImage, HasBadScript, Completed, HasRunEnd};
+ghost use Rattle.ocs_run.specs.Top.{ReadableInputs, CommandAnswers, SaysNothingElse, SaysStatus, IsEarly};
+ghost use Rattle.ocs_run.specs.Top.{IsScene, IsRefused, HasBadImage, HasBadScript, Completed, HasRunEnd};
 ghost use Rattle.ocs_run.specs.Texts.{SaysSurely, usage_text};
 
 use crate::command::run_order;

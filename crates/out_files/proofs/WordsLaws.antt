@@ -1,5 +1,6 @@
 -- The bytes of words that grow at the end, and the count of their reads.
-use Rattle.std.proofs.Common.{◌≡◌, ℕ, ◌+◌, ◌*◌, ◌/◌, ◌%◌, ◌<◌, List, [], ◌∷◌, ◌++◌, length, take, drop, get_or, zero, suc, ◌^◌, ◌-◌, min, arith, refl, ap, ◌∙◌, sym, append_assoc}
+use Rattle.std.proofs.Common.{◌≡◌, ℕ, ◌+◌, ◌*◌, ◌/◌, ◌%◌, ◌<◌, List, [], ◌∷◌, ◌++◌, length, take, drop}
+use Rattle.std.proofs.Common.{get_or, zero, suc, ◌^◌, ◌-◌, min, arith, refl, ap, ◌∙◌, sym, append_assoc}
 use Rattle.std.proofs.lemmas.List.{take_more, take-append-drop, take-take, drop-take}
 use Rattle.serial_model.specs.MemoryText.{word_bytes, memory_text}
 use Rattle.mem_versions.specs.Chip.{ChipValue, after_reads}

@@ -1,5 +1,6 @@
 -- The sprites' words that run, and from where on none shows.
-use Rattle.std.proofs.Common.{◌≡◌, ℕ, zero, suc, ◌+◌, ◌-◌, ◌*◌, ◌/◌, ◌%◌, ◌^◌, ◌≤◌, ◌<◌, ◌==◌, ◌&&◌, ◌||◌, Bool, true, false, not, nat_eq, nat_le, max, List, [], ◌∷◌, length, map, slice_index, slice_index_or, slice_set, replicate, Option, Some, None, refl, sym, ◌∙◌, ap, arith}
+use Rattle.std.proofs.Common.{◌≡◌, ℕ, zero, suc, ◌+◌, ◌-◌, ◌*◌, ◌/◌, ◌%◌, ◌^◌, ◌≤◌, ◌<◌, ◌==◌, ◌&&◌, ◌||◌, Bool, true, false, not, nat_eq, nat_le, max}
+use Rattle.std.proofs.Common.{List, [], ◌∷◌, length, map, slice_index, slice_index_or, slice_set, replicate, Option, Some, None, refl, sym, ◌∙◌, ap, arith}
 use Rattle.std.specs.Bool.{if◌then◌else◌}
 use Rattle.std.proofs.Math.ListN.{set, length-set, get_or-eq_default}
 use Rattle.std.proofs.Math.Nat.{zero-div}
@@ -10,7 +11,8 @@ use Rattle.std.specs.Option.{option_to_list}
 use Rattle.sprites.specs.declared.runs.Start.{Start}
 use Rattle.sprites.specs.SpriteValue.{sprite_value, kept_start}
 use Rattle.serial_model.specs.Picture.{all_sprites, sprite_values}
-use Rattle.painter.specs.SpriteState.{SpriteRegisters, IsQuiet, IsIdle, begins_at, run_or, run_in, runs_in, first_runs, quiet_or, first_quiet, first_begun, words_begun, has_start, is_known_idle}
+use Rattle.painter.specs.SpriteState.{SpriteRegisters, IsQuiet, IsIdle, begins_at, run_or, run_in, runs_in, first_runs}
+use Rattle.painter.specs.SpriteState.{quiet_or, first_quiet, first_begun, words_begun, has_start, is_known_idle}
 
 pub not_true : (b : Bool) → not b ≡ true → b ≡ false
 not_true true is = cc

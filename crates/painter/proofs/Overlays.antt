@@ -1,5 +1,6 @@
 -- Sprites over the playfields' pixels, and what collides, by column and by clock.
-use Rattle.std.proofs.Common.{◌≡◌, ℕ, zero, suc, ◌+◌, ◌*◌, ◌/◌, ◌%◌, ◌^◌, ◌≤◌, ◌<◌, ◌==◌, ◌&&◌, Bool, true, false, List, [], ◌∷◌, ◌++◌, length, slice_index, slice_index_or, slice_set, flat_map, replicate, bit_or, Option, Some, None, refl, sym, ◌∙◌, ap, arith}
+use Rattle.std.proofs.Common.{◌≡◌, ℕ, zero, suc, ◌+◌, ◌*◌, ◌/◌, ◌%◌, ◌^◌, ◌≤◌, ◌<◌, ◌==◌, ◌&&◌, Bool, true, false, List, [], ◌∷◌, ◌++◌, length}
+use Rattle.std.proofs.Common.{slice_index, slice_index_or, slice_set, flat_map, replicate, bit_or, Option, Some, None, refl, sym, ◌∙◌, ap, arith}
 use Rattle.std.specs.Bool.{if◌then◌else◌}
 use Rattle.std.specs.Option.{option_or}
 use Rattle.std.proofs.Math.ListN.{set}
@@ -14,11 +15,13 @@ use Rattle.collisions.specs.Collision.{collision_bits, playfield_matches}
 use Rattle.collisions.proofs.Quiet.{quiet_bits}
 use Rattle.serial_model.specs.declared.picture.Denise.{Denise}
 use Rattle.ocs_base.specs.Systems.{is_visible}
-use Rattle.serial_model.specs.Picture.{colour_bytes, pixel_colour, held_after, runs_at, runs_after, sprite_values, attached_pairs, shown_at, collisions_at, values_after, pixel_bytes, pixels, clock_collisions, step_of, after_step}
+use Rattle.serial_model.specs.Picture.{colour_bytes, pixel_colour, held_after, runs_at, runs_after, sprite_values, attached_pairs}
+use Rattle.serial_model.specs.Picture.{shown_at, collisions_at, values_after, pixel_bytes, pixels, clock_collisions, step_of, after_step}
 use Rattle.serial_model.specs.Window.{is_inside}
 use Rattle.painter.specs.declared.painter.Painter.{Painter}
 use Rattle.painter.specs.SpriteState.{SpriteRegisters, IsIdle, runs_in, words_begun, attached_in}
-use Rattle.painter.specs.Overlay.{with_runs, shown_bits, with_front, with_front_at, shown_over, two_changed, covered_column, covered_collisions, column_over, column_collisions, clock_over, quiet_in_column, quiet_collisions}
+use Rattle.painter.specs.Overlay.{with_runs, shown_bits, with_front, with_front_at, shown_over, two_changed, covered_column}
+use Rattle.painter.specs.Overlay.{covered_collisions, column_over, column_collisions, clock_over, quiet_in_column, quiet_collisions}
 use Rattle.painter.specs.Painter.{IsPainterOf, with_held, clock_bytes}
 use Rattle.painter.specs.Inks.{backdrop, counted_bits}
 use Rattle.painter.specs.Line.{row_bits}

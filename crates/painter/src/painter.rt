@@ -1,12 +1,14 @@
 //! What paints: Denise as a working state, and the pixels of a clock.
 
-ghost use Rattle.std.specs.Prelude.{ℕ, bit_or, ◌≡◌, ◌≤◌, ◌<◌, ◌+◌, ◌*◌, ◌/◌, ◌%◌, ◌∷◌, ◌++◌, [], length, replicate, slice_index, slice_set, None, true, false, flat_map};
+ghost use Rattle.std.specs.Prelude.{ℕ, bit_or, ◌≡◌, ◌≤◌, ◌<◌, ◌+◌, ◌*◌, ◌/◌, ◌%◌, ◌∷◌, ◌++◌, [], length};
+ghost use Rattle.std.specs.Prelude.{replicate, slice_index, slice_set, None, true, false, flat_map};
 ghost use Rattle.planes.specs.PlaneBit.{ShowsSame, load_of};
 ghost use Rattle.priority_ham.specs.PlaneCount.{is_hires};
 ghost use Rattle.serial_model.specs.Picture.{pixels, colour_bytes, held_after, runs_after, runs_at, sprite_values, clock_collisions};
 ghost use Rattle.collisions.specs.Collision.{collision_bits};
 ghost use Rattle.serial_model.specs.Window.{is_inside};
-ghost use Rattle.painter.specs.Overlay.{with_runs, shown_bits, covered_column, covered_collisions, column_over, column_collisions, clock_over, quiet_in_column, quiet_collisions};
+ghost use Rattle.painter.specs.Overlay.{with_runs, shown_bits, covered_column, covered_collisions, column_over};
+ghost use Rattle.painter.specs.Overlay.{column_collisions, clock_over, quiet_in_column, quiet_collisions};
 ghost use Rattle.painter.specs.Inks.{is_held, backdrop};
 ghost use Rattle.painter.specs.SpriteState.{IsIdle};
 ghost use Rattle.painter.specs.Line.{row_bits};
@@ -51,7 +53,8 @@ pub struct Painter {
 impl Painter {
     ghost use Rattle.serial_model.specs.declared.picture.Denise.{Denise as DeniseValue};
     ghost use Rattle.serial_model.specs.Picture.{reset_picture, set_picture, set_sprite as set_sprite_of, add_load, clear_line as cleared, step_of, after_step};
-    ghost use Rattle.painter.specs.Painter.{IsPainterOf, first_colour, second_colour, with_held, clock_bytes, is_known_gathered, is_known_blank, is_known_backdrop};
+    ghost use Rattle.painter.specs.Painter.{IsPainterOf, first_colour, second_colour, with_held, clock_bytes};
+    ghost use Rattle.painter.specs.Painter.{is_known_gathered, is_known_blank, is_known_backdrop};
 
     /// Denise at reset: every register is 0, and so every colour black.
     #[tactic(auto, unfolding(serial_model::specs::Picture::reset_picture))]

@@ -1,6 +1,7 @@
 //! The sprites' registers, and the words that run on a line.
 
-ghost use Rattle.std.specs.Prelude.{◌≡◌, ◌≤◌, ◌<◌, ◌-◌, ◌*◌, ◌%◌, ◌^◌, ℕ, None, true, false, bit_and, bit_or, length, replicate, slice_index, slice_set, IfSome};
+ghost use Rattle.std.specs.Prelude.{◌≡◌, ◌≤◌, ◌<◌, ◌-◌, ◌*◌, ◌%◌, ◌^◌, ℕ, None, true, false, bit_and};
+ghost use Rattle.std.specs.Prelude.{bit_or, length, replicate, slice_index, slice_set, IfSome};
 ghost use Rattle.std.specs.List.{All};
 ghost use Rattle.serial_model.specs.Picture.{sprite_values};
 ghost use Rattle.sprites.specs.SpriteFront.{front_pixel as pixel_of_front};

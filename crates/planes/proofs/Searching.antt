@@ -1,5 +1,6 @@
 -- The last load that has started, looked for from the end of the list.
-use Rattle.std.proofs.Common.{◌≡◌, ℕ, ◌+◌, ◌-◌, ◌*◌, ◌/◌, ◌%◌, ◌^◌, ◌≤◌, ◌<◌, zero, bit_and, List, [], ◌∷◌, ◌++◌, Bool, true, false, Option, None, Some, length, take, drop, get_or, sym, ◌∙◌, ap, nat_le, suc, refl, arith}
+use Rattle.std.proofs.Common.{◌≡◌, ℕ, ◌+◌, ◌-◌, ◌*◌, ◌/◌, ◌%◌, ◌^◌, ◌≤◌, ◌<◌, zero, bit_and, List, [], ◌∷◌, ◌++◌, Bool, true}
+use Rattle.std.proofs.Common.{false, Option, None, Some, length, take, drop, get_or, sym, ◌∙◌, ap, nat_le, suc, refl, arith}
 use Rattle.std.specs.Bool.{if◌then◌else◌}
 use Rattle.std.specs.Option.{option_map, unwrap_or}
 use Rattle.std.specs.Prelude.{slice_index}

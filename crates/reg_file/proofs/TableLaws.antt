@@ -1,5 +1,6 @@
 -- The code's ways to find a register agree with the table of registers: computed over all offsets.
-use Rattle.std.proofs.Common.{◌≡◌, ℕ, Bool, true, not, subst, nat_lt, ◌*◌, ◌/◌, ◌%◌, ◌<◌, ◌==◌, ◌||◌, if◌then◌else◌, List, get_or, map, refl, ap, sym, ◌∙◌, arith}
+use Rattle.std.proofs.Common.{◌≡◌, ℕ, Bool, true, not, subst, nat_lt, ◌*◌, ◌/◌, ◌%◌, ◌<◌, ◌==◌}
+use Rattle.std.proofs.Common.{◌||◌, if◌then◌else◌, List, get_or, map, refl, ap, sym, ◌∙◌, arith}
 use Rattle.std.specs.List.{range_with_len}
 use Rattle.std.proofs.lemmas.Bool.{ltb-true}
 use Rattle.std.proofs.lemmas.List.FromFn.{get_or-map-range_with_len}

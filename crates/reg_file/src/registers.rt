@@ -143,8 +143,9 @@ impl Regs {
         )
     }
 
-    /// A pointer gets an address, which is to have the span of the chip memory: the register at `high` its bits above 15, and the next one
-    /// bits 15 to 0, of which bit 0 is 0. This is no write on the bus, so a busy blitter does not close it.
+    /// A pointer gets an address, which is to have the span of the chip memory: the register at `high` its bits
+    /// above 15, and the next one bits 15 to 0, of which bit 0 is 0. This is no write on the bus, so a busy
+    /// blitter does not close it.
     #[tactic(auto, using(crate::proofs::TableLaws::low_follows))]
     pub fn set_pointer(&mut self, high: Reg, to: Addr)
         requires { is_pointer_high high.offset ≡ true }

@@ -4,7 +4,8 @@ use Rattle.std.specs.List.{range_with_len}
 use Rattle.ocs_base.specs.Image.{is_image, fits_chip}
 use Rattle.ocs_base.specs.declared.chip_size.ChipSize.TheVariants.{Kib512}
 use Rattle.scene_gen.specs.Blocks.{bytes_of, bytes_by, byte_at}
-use Rattle.scene_gen.specs.Scene.{start_vectors, level_3_vector, main_program, level_3_handler, sprite_list, sprite_pointer, plane_pointer, colour_change, copper_list, pattern_byte, scene_blocks, scene_image}
+use Rattle.scene_gen.specs.Scene.{start_vectors, level_3_vector, main_program, level_3_handler, sprite_list, sprite_pointer}
+use Rattle.scene_gen.specs.Scene.{plane_pointer, colour_change, copper_list, pattern_byte, scene_blocks, scene_image}
 use Rattle.scene_gen.proofs.Growth.{length-bytes_of, length-bytes_by}
 use Rattle.scene_gen.proofs.BlockLaws.{AreApart, placed, laid_after, laid_is}
 

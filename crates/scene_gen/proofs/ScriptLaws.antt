@@ -1,5 +1,6 @@
 -- The script of a scene, event by event.
-use Rattle.std.proofs.Common.{◌≡◌, ℕ, ◌+◌, ◌*◌, ◌%◌, ◌≤◌, Bool, true, false, ◌&&◌, cond, nat_lt, nat_le, List, [], ◌∷◌, ◌++◌, length, flat_map, refl, sym, ap, ◌∙◌, arith, append_assoc, eq-eqb}
+use Rattle.std.proofs.Common.{◌≡◌, ℕ, ◌+◌, ◌*◌, ◌%◌, ◌≤◌, Bool, true, false, ◌&&◌, cond, nat_lt, nat_le, List}
+use Rattle.std.proofs.Common.{[], ◌∷◌, ◌++◌, length, flat_map, refl, sym, ap, ◌∙◌, arith, append_assoc, eq-eqb}
 use borrow.Author.Tests.{ltb-true, leb-true}
 use Rattle.std.specs.List.{range_with_len}
 use Rattle.ocs_base.specs.Limits.{time_of, HasPort, AreInLimits, AreFrom, AreInOrder, IsRunnable}

@@ -1,5 +1,6 @@
 -- The words of an event: what fits, and what is none.
-use Rattle.std.proofs.Common.{◌≡◌, ◌≢◌, ℕ, ◌%◌, ◌^◌, ◌<◌, Bool, true, false, ◌&&◌, ◌==◌, List, [], ◌∷◌, length, refl, sym, ap, subst, ◌∙◌, Option, Some, None, IsSome, IfSome, arith, nat_lt, nat_le, if◌then◌else◌, ◌↔◌, bytes_eq, codes}
+use Rattle.std.proofs.Common.{◌≡◌, ◌≢◌, ℕ, ◌%◌, ◌^◌, ◌<◌, Bool, true, false, ◌&&◌, ◌==◌, List, [], ◌∷◌, length, refl, sym, ap, subst}
+use Rattle.std.proofs.Common.{◌∙◌, Option, Some, None, IsSome, IfSome, arith, nat_lt, nat_le, if◌then◌else◌, ◌↔◌, bytes_eq, codes}
 use Rattle.std.proofs.lemmas.Bool.Decides.{nat_tests}
 use Rattle.std.proofs.lemmas.Int.Digits.{digits_value-lt}
 use borrow.Author.Tests.{eqb-true, ltb-true}
@@ -9,7 +10,8 @@ use Rattle.ocs_base.proofs.Registers.{same_register}
 use Rattle.ocs_base.specs.Register.{register_of}
 use Rattle.ocs_base.specs.declared.reg.Reg.{Reg}
 use Rattle.ocs_io.specs.Numbers.{hex_of, all_bytes, is_lower_hex}
-use Rattle.script_read.specs.Words.{below, hex_number, kept_register, register_named, poke_of, peek_of, joy_of, fire_of, key_of, act_of, event_in, event_of, poke_with, peek_with, joy_with, fire_with, key_with, timed}
+use Rattle.script_read.specs.Words.{below, hex_number, kept_register, register_named, poke_of, peek_of, joy_of, fire_of, key_of}
+use Rattle.script_read.specs.Words.{act_of, event_in, event_of, poke_with, peek_with, joy_with, fire_with, key_with, timed}
 use Rattle.script_read.specs.Split.{words_of}
 use Rattle.ocs_base.specs.declared.script.Act.{Act}
 use Rattle.ocs_base.specs.declared.system.System.{System}

@@ -1,5 +1,7 @@
 -- The canonical text of a script is read as the script.
-use Rattle.std.proofs.Common.{◌≡◌, ℕ, zero, suc, ◌+◌, ◌*◌, ◌^◌, ◌/◌, ◌%◌, ◌<◌, ◌≤◌, Bool, true, false, ◌&&◌, ◌==◌, cond, List, [], ◌∷◌, ◌++◌, map, length, flat_map, codes, decimal, refl, sym, ap, ◌∙◌, Some, None, Ok, Err, arith, nat_lt, if◌then◌else◌, append_assoc, append-nil, length-append, bytes_eq}
+use Rattle.std.proofs.Common.{◌≡◌, ℕ, zero, suc, ◌+◌, ◌*◌, ◌^◌, ◌/◌, ◌%◌, ◌<◌, ◌≤◌, Bool, true, false, ◌&&◌, ◌==◌, cond}
+use Rattle.std.proofs.Common.{List, [], ◌∷◌, ◌++◌, map, length, flat_map, codes, decimal, refl, sym, ap, ◌∙◌, Some, None}
+use Rattle.std.proofs.Common.{Ok, Err, arith, nat_lt, if◌then◌else◌, append_assoc, append-nil, length-append, bytes_eq}
 use Rattle.std.proofs.lemmas.Fmt.{decimal_is_IsNumeral, length-decimal-le}
 use Rattle.std.proofs.lemmas.Str.Parse.{digit_from_value}
 use Rattle.std.proofs.lemmas.List.Splits.{length-slice_split}
@@ -21,10 +23,14 @@ use Rattle.ocs_base.specs.Systems.{lines}
 use Rattle.ocs_io.specs.Numbers.{all_bytes, hex_of, hex_digit, hex_text}
 use Rattle.ocs_io.proofs.TextLaws.{dec_of-decimal, hex_of-hex_text}
 use Rattle.script_read.specs.Split.{without_empty_last, lines_of, words_of}
-use Rattle.script_read.specs.Words.{below, kept_below, hex_number, kept_register, register_named, poke_with, peek_with, joy_with, fire_with, key_with, poke_of, peek_of, joy_of, fire_of, key_of, act_of, timed, event_in, event_of}
-use Rattle.script_read.specs.Grammar.{Good, Bad, in_order, body_line, body_of, after_end, with_event, from_line, from_head, head_of, with_frames, kept_frames, frames_in, with_cpu, cpu_in, with_chip, chip_in, with_system, system_in, version_in, from_version, from_header, script_of}
+use Rattle.script_read.specs.Words.{below, kept_below, hex_number, kept_register, register_named, poke_with, peek_with, joy_with}
+use Rattle.script_read.specs.Words.{fire_with, key_with, poke_of, peek_of, joy_of, fire_of, key_of, act_of, timed, event_in, event_of}
+use Rattle.script_read.specs.Grammar.{Good, Bad, in_order, body_line, body_of, after_end, with_event, from_line, from_head}
+use Rattle.script_read.specs.Grammar.{head_of, with_frames, kept_frames, frames_in, with_cpu, cpu_in, with_chip, chip_in}
+use Rattle.script_read.specs.Grammar.{with_system, system_in, version_in, from_version, from_header, script_of}
 use Rattle.script_read.specs.declared.fault.BadKind.TheVariants.{Long, Lines, Order, Cpu, Frames, Chip, System as BadSystem}
-use Rattle.script_read.specs.Canonical.{spaced, line_of, line_text, digit_of, act_words, time_words, event_text, cpu_word, chip_word, system_word, version_word, head_word, head_line, head_text, script_text, HasWords, AllHaveWords}
+use Rattle.script_read.specs.Canonical.{spaced, line_of, line_text, digit_of, act_words, time_words, event_text, cpu_word, chip_word}
+use Rattle.script_read.specs.Canonical.{system_word, version_word, head_word, head_line, head_text, script_text, HasWords, AllHaveWords}
 use Rattle.script_read.specs.KindName.{kind_name}
 use Rattle.script_read.specs.Printable.{IsPrintable}
 use Rattle.script_read.specs.Versions.{HeadLine, CpuLine, FramesLine, ChipLine, SystemLine, kind_of, later_lines, head_lines, head_size, says, lowest, blank}

@@ -1,5 +1,6 @@
 -- A script that is read is one that a run takes.
-use Rattle.std.proofs.Common.{◌≡◌, ℕ, ◌+◌, ◌<◌, ◌≤◌, Bool, true, false, ◌&&◌, List, [], ◌∷◌, length, refl, sym, ◌∙◌, subst, Option, Some, None, IfSome, Result, Ok, Err, IfOk, arith, nat_lt, nat_le, if◌then◌else◌, bytes_eq, codes}
+use Rattle.std.proofs.Common.{◌≡◌, ℕ, ◌+◌, ◌<◌, ◌≤◌, Bool, true, false, ◌&&◌, List, [], ◌∷◌, length, refl, sym, ◌∙◌, subst, Option}
+use Rattle.std.proofs.Common.{Some, None, IfSome, Result, Ok, Err, IfOk, arith, nat_lt, nat_le, if◌then◌else◌, bytes_eq, codes}
 use borrow.Author.Tests.{ltb-true, ltb-false, leb-true}
 use Rattle.ocs_base.specs.Limits.{time_of, HasPort, IsInLimits, AreInLimits, AreFrom, AreInOrder}
 use Rattle.ocs_base.specs.Script.{ScriptValue}
@@ -13,8 +14,11 @@ use Rattle.ocs_base.specs.declared.system.System.TheVariants.{Pal, Ntsc}
 use Rattle.ocs_base.specs.Systems.{lines}
 use Rattle.ocs_io.specs.Numbers.{dec_of}
 use Rattle.script_read.specs.Split.{lines_of, words_of}
-use Rattle.script_read.specs.Words.{below, kept_below, hex_number, register_named, poke_with, peek_with, joy_with, fire_with, key_with, poke_of, peek_of, joy_of, fire_of, key_of, act_of, timed, event_in, event_of}
-use Rattle.script_read.specs.Grammar.{Verdict, Good, Bad, in_order, body_line, body_of, after_end, with_event, from_line, from_head, head_of, with_frames, kept_frames, frames_in, with_cpu, cpu_in, with_chip, chip_in, with_system, system_in, version_in, from_version, from_header, script_of}
+use Rattle.script_read.specs.Words.{below, kept_below, hex_number, register_named, poke_with, peek_with, joy_with, fire_with}
+use Rattle.script_read.specs.Words.{key_with, poke_of, peek_of, joy_of, fire_of, key_of, act_of, timed, event_in, event_of}
+use Rattle.script_read.specs.Grammar.{Verdict, Good, Bad, in_order, body_line, body_of, after_end, with_event, from_line}
+use Rattle.script_read.specs.Grammar.{from_head, head_of, with_frames, kept_frames, frames_in, with_cpu, cpu_in, with_chip}
+use Rattle.script_read.specs.Grammar.{chip_in, with_system, system_in, version_in, from_version, from_header, script_of}
 use Rattle.script_read.specs.Versions.{HeadLine, FramesLine, ChipLine, SystemLine, later_lines, head_lines, head_size, says, lowest, blank}
 use Rattle.script_read.specs.Printable.{IsPrintable}
 use Rattle.script_read.specs.Said.{IsSaidIn, IsSaid}

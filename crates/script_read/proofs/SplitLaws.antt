@@ -1,5 +1,6 @@
 -- The lines and words of a text, cut at the first line feed or space.
-use Rattle.std.proofs.Common.{◌≡◌, ℕ, suc, ◌+◌, ◌-◌, ◌<◌, ◌≤◌, Bool, true, false, not, ◌==◌, cond, List, [], ◌∷◌, length, take, drop, refl, sym, ap, ◌∙◌, Some, None, arith, nat_lt, length-drop}
+use Rattle.std.proofs.Common.{◌≡◌, ℕ, suc, ◌+◌, ◌-◌, ◌<◌, ◌≤◌, Bool, true, false, not, ◌==◌, cond, List, [], ◌∷◌}
+use Rattle.std.proofs.Common.{length, take, drop, refl, sym, ap, ◌∙◌, Some, None, arith, nat_lt, length-drop}
 use Rattle.std.proofs.lemmas.List.{take_all}
 use Rattle.std.specs.List.{position, position_or_len, slice_split, onto_first}
 use Rattle.std.proofs.lemmas.List.Splits.{slice_split_first, length-slice_split}

@@ -2,7 +2,8 @@
 
 ghost use Rattle.std.specs.Prelude.{◌≡◌, ◌<◌, ◌≤◌, ◌^◌, [], ◌∷◌, ◌++◌, length, flat_map, codes, decimal, OnOk, OnErr};
 ghost use Rattle.ocs_io.specs.Numbers.{hex_text};
-ghost use Rattle.script_read.specs.Canonical.{spaced, act_words, event_text, first_text, cpu_text, last_text, head_text, script_text, digit_of, HasWords, AllHaveWords};
+ghost use Rattle.script_read.specs.Canonical.{spaced, act_words, event_text, first_text, cpu_text, last_text};
+ghost use Rattle.script_read.specs.Canonical.{head_text, script_text, digit_of, HasWords, AllHaveWords};
 ghost use Rattle.script_read.specs.Extends.{Extends};
 ghost use Rattle.script_read.specs.Printable.{IsPrintable};
 ghost use Rattle.script_read.specs.Versions.{lowest};

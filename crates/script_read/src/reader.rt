@@ -2,7 +2,8 @@
 
 ghost use Rattle.std.specs.Prelude.{◌≡◌, ◌<◌, ◌≤◌, [], ◌∷◌, if◌then◌else◌, OnOk, IfOk, IfSome};
 ghost use Rattle.script_read.specs.Split.{lines_of, words_of};
-ghost use Rattle.script_read.specs.Grammar.{script_of, from_header, version_in, head_of, frames_in, kept_frames, cpu_in, chip_in, system_in, body_of, body_line, after_end};
+ghost use Rattle.script_read.specs.Grammar.{script_of, from_header, version_in, head_of, frames_in, kept_frames};
+ghost use Rattle.script_read.specs.Grammar.{cpu_in, chip_in, system_in, body_of, body_line, after_end};
 ghost use Rattle.script_read.specs.Versions.{CpuLine, FramesLine, ChipLine, SystemLine, head_lines, later_lines, blank, begun};
 ghost use Rattle.ocs_io.specs.Numbers.{dec_of};
 ghost use Rattle.script_read.specs.Printable.{IsPrintable};

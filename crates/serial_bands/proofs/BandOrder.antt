@@ -1,5 +1,6 @@
 -- The order of bands.
-use Rattle.std.proofs.Common.{◌≡◌, ◌<◌, ◌≤◌, ℕ, zero, suc, ◌+◌, ◌-◌, Bool, true, false, if◌then◌else◌, refl, ap, ◌∙◌, sym, subst, arith, inl, inr, ◌++◌, bit_or, lit<}
+use Rattle.std.proofs.Common.{◌≡◌, ◌<◌, ◌≤◌, ℕ, zero, suc, ◌+◌, ◌-◌, Bool, true, false, if◌then◌else◌}
+use Rattle.std.proofs.Common.{refl, ap, ◌∙◌, sym, subst, arith, inl, inr, ◌++◌, bit_or, lit<}
 use Rattle.std.proofs.lemmas.Bool.{cases_eq}
 use Rattle.serial_model.specs.Serial.{state_over}
 use Rattle.serial_model.specs.State.{reset}
@@ -10,7 +11,8 @@ use Rattle.serial_model.specs.Picture.{clear_line, touch_if_any}
 use Rattle.serial_bands.proofs.NextClock.{next_opening}
 use Rattle.serial_bands.specs.Bands.{begins, begun, IsBand, AreBands}
 use Rattle.serial_bands.specs.BandShown.{bytes_from, clx_from}
-use Rattle.serial_bands.specs.BandLaws.{FirstBand, NextBand, OneBand, BegunInBand, OneBandMore, BytesOfBands, ClxOfBands, OpeningOfNextBand, ShownByBands, ReadAfterBands, PeekAfterBands}
+use Rattle.serial_bands.specs.BandLaws.{FirstBand, NextBand, OneBand, BegunInBand, OneBandMore, BytesOfBands}
+use Rattle.serial_bands.specs.BandLaws.{ClxOfBands, OpeningOfNextBand, ShownByBands, ReadAfterBands, PeekAfterBands}
 use Rattle.serial_bands.proofs.Ranges.{bytes_of_two, clx_of_two, shown_in_range, read_by_access, read_by_script}
 
 -- the count of begins rises by one where a band begins

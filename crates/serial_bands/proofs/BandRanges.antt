@@ -1,5 +1,6 @@
 -- Ranges of bands.
-use Rattle.std.proofs.Common.{◌≡◌, ◌≤◌, ℕ, zero, suc, ◌+◌, ◌-◌, ◌*◌, Bool, true, false, if◌then◌else◌, [], ◌++◌, length, ap, ◌∙◌, sym, subst, arith, bit_xor, length-append}
+use Rattle.std.proofs.Common.{◌≡◌, ◌≤◌, ℕ, zero, suc, ◌+◌, ◌-◌, ◌*◌, Bool, true, false, if◌then◌else◌}
+use Rattle.std.proofs.Common.{[], ◌++◌, length, ap, ◌∙◌, sym, subst, arith, bit_xor, length-append}
 use Rattle.std.proofs.lemmas.List.{map-append, length-map}
 use Rattle.ocs_base.specs.declared.system.System.{System}
 use Rattle.serial_model.specs.declared.picture.Denise.{Denise}

@@ -13,7 +13,8 @@ use Rattle.serial_bands.specs.BandShown.{bytes_from, clx_from}
 use Rattle.serial_bands.specs.RightJob.{bus_events, events_from}
 use Rattle.serial_bands.specs.EventReading.{bus_touch_of}
 use Rattle.serial_bands.specs.ReplayLaws.{step_of_kept, after_kept, with_fetch, with_write}
-use Rattle.serial_bands.specs.DrawnTo.{IsDrawnTo, behind_script, with_access, WordsAreFound, DrawingBegins, TouchIsNext, DrawingGoesOn, LastFetchIsNext, DrawingEnds}
+use Rattle.serial_bands.specs.DrawnTo.{IsDrawnTo, behind_script, with_access, WordsAreFound, DrawingBegins}
+use Rattle.serial_bands.specs.DrawnTo.{TouchIsNext, DrawingGoesOn, LastFetchIsNext, DrawingEnds}
 use Rattle.serial_bands.proofs.Counts.{no_tint}
 use Rattle.serial_bands.proofs.NextClock.{touched_twice}
 use Rattle.serial_model.proofs.Standing.{stands_on}

@@ -1,5 +1,6 @@
 -- The fetches of a shadow, and the events that left them.
-use Rattle.std.proofs.Common.{◌≡◌, ◌<◌, ◌≤◌, ℕ, zero, suc, ◌+◌, ◌-◌, ◌/◌, ◌%◌, Bool, true, false, ◌==◌, ◌&&◌, nat_le, if◌then◌else◌, List, [], ◌∷◌, ◌++◌, length, map, Option, Some, None, inl, inr, refl, ap, ◌∙◌, sym, subst, arith, slice_index, slice_set, append_assoc, append-nil}
+use Rattle.std.proofs.Common.{◌≡◌, ◌<◌, ◌≤◌, ℕ, zero, suc, ◌+◌, ◌-◌, ◌/◌, ◌%◌, Bool, true, false, ◌==◌, ◌&&◌, nat_le, if◌then◌else◌, List, [], ◌∷◌, ◌++◌}
+use Rattle.std.proofs.Common.{length, map, Option, Some, None, inl, inr, refl, ap, ◌∙◌, sym, subst, arith, slice_index, slice_set, append_assoc, append-nil}
 use Rattle.std.specs.List.{sum_by, count_by}
 use Rattle.std.proofs.lemmas.Bool.{false≢true, cases_eq, ne_eqb, eqb-true, eqb-false, eq-eqb, leb-true, le-leb, and_parts, and_from}
 use Rattle.std.proofs.lemmas.List.{length-map, length-set, get_or-set_same, get_or-set_other}
@@ -17,7 +18,8 @@ use Rattle.serial_bands.specs.Clock.{sets_at, due_at, write_alone}
 use Rattle.serial_bands.specs.RightJob.{clock_of, event_at, bus_events}
 use Rattle.serial_bands.specs.BusReads.{filled_register, is_fetch, is_fetched, all_planes, word_registers}
 use Rattle.serial_bands.specs.Shadows.{found_filling, set_shadow, set_shadow_sprite, fetch_shadow_sprite, touch_shadow_in_order}
-use Rattle.serial_bands.specs.Fetches.{is_fetched_filling, fills_fetch, IsLeftBy, LeftOfPicture, LeftOfFound, LeftBySets, LeftByTouch, TouchInTwo, FewerWithWrite, FetchesAreLatched}
+use Rattle.serial_bands.specs.Fetches.{is_fetched_filling, fills_fetch, IsLeftBy, LeftOfPicture, LeftOfFound}
+use Rattle.serial_bands.specs.Fetches.{LeftBySets, LeftByTouch, TouchInTwo, FewerWithWrite, FetchesAreLatched}
 use Rattle.serial_bands.proofs.Ranges.{parted}
 use Rattle.serial_bands.proofs.Reading.{AreSets, are_sets}
 

@@ -5,7 +5,8 @@ use Rattle.serial_model.specs.State.{reset}
 use Rattle.serial_bands.specs.Run.{RunValue, state_of}
 use Rattle.serial_bands.specs.Clock.{clx_at, clx_after_at}
 use Rattle.serial_bands.specs.BandShown.{clx_from}
-use Rattle.serial_bands.specs.Gathering.{GatheredFirst, GatheredMore, GatheredMoreIn, GatheredWhole, GatheredStart, GatheredCleared, GatheredAtAccess, GatheredNext, GatheredRead, ClxOfRange}
+use Rattle.serial_bands.specs.Gathering.{GatheredFirst, GatheredMore, GatheredMoreIn, GatheredWhole, GatheredStart}
+use Rattle.serial_bands.specs.Gathering.{GatheredCleared, GatheredAtAccess, GatheredNext, GatheredRead, ClxOfRange}
 use Rattle.serial_bands.proofs.NextClock.{clx_at_start, clx_at_access, next_clx}
 use Rattle.serial_bands.proofs.Ors.{or_assoc, or_none}
 use Rattle.serial_bands.proofs.Ranges.{clx_of_two}

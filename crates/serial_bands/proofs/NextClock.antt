@@ -1,5 +1,6 @@
 -- One colour clock: its picture, its collision bits and its place.
-use Rattle.std.proofs.Common.{◌≡◌, ℕ, suc, Bool, true, false, ◌||◌, ◌&&◌, ◌%◌, ◌==◌, if◌then◌else◌, List, [], ◌∷◌, Option, Some, None, refl, ap, ◌∙◌, sym, subst, arith, bit_or}
+use Rattle.std.proofs.Common.{◌≡◌, ℕ, suc, Bool, true, false, ◌||◌, ◌&&◌, ◌%◌, ◌==◌, if◌then◌else◌, List}
+use Rattle.std.proofs.Common.{[], ◌∷◌, Option, Some, None, refl, ap, ◌∙◌, sym, subst, arith, bit_or}
 use Rattle.std.proofs.lemmas.Bool.Decides.{nat_tests}
 use Rattle.ocs_base.specs.declared.beam.Beam.{Beam}
 use Rattle.ocs_base.specs.declared.script.At.{At}
@@ -18,9 +19,12 @@ use Rattle.serial_model.specs.State.{State, read_word}
 use Rattle.serial_model.specs.Tick.{start_clock, run_script, before_access, make_access, tick}
 use Rattle.serial_model.proofs.NextLaws.{memory_next, picture_next, shown_next, beam_next, place_kept, picture_touched}
 use Rattle.serial_bands.specs.Run.{state_of, beam_at}
-use Rattle.serial_bands.specs.Clock.{bus_touch_in, displayed_in, write_alone, fetch_alone, opening_at, displayed_at, made_at, closing_at, bytes_at, clx_at, clx_before_at, clx_after_at}
+use Rattle.serial_bands.specs.Clock.{bus_touch_in, displayed_in, write_alone, fetch_alone, opening_at, displayed_at}
+use Rattle.serial_bands.specs.Clock.{made_at, closing_at, bytes_at, clx_at, clx_before_at, clx_after_at}
 use Rattle.serial_bands.specs.Bands.{has_clx_read, has_read_at, begins}
-use Rattle.serial_bands.specs.ClockLaws.{WritesReadNothing, PictureOfTick, OpeningOfTick, ReadGivesClx, ClxOfEvents, ClxBefore, ClxAfter, ClxOfTick, IsNextInField, PlaceOfTick, NextMemory, NextOpening, DisplayedIsStep, BytesAreOfStep, ClxIsOfStep, ClosingHasFetch, NextShown, ClxAtStart, ClxAtAccess, NextClx, NextInBand, EventsByPlace}
+use Rattle.serial_bands.specs.ClockLaws.{WritesReadNothing, PictureOfTick, OpeningOfTick, ReadGivesClx, ClxOfEvents, ClxBefore, ClxAfter}
+use Rattle.serial_bands.specs.ClockLaws.{ClxOfTick, IsNextInField, PlaceOfTick, NextMemory, NextOpening, DisplayedIsStep, BytesAreOfStep}
+use Rattle.serial_bands.specs.ClockLaws.{ClxIsOfStep, ClosingHasFetch, NextShown, ClxAtStart, ClxAtAccess, NextClx, NextInBand, EventsByPlace}
 
 pub writes_read_nothing : WritesReadNothing
 writes_read_nothing h words others None p = refl

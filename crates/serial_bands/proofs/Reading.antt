@@ -1,5 +1,6 @@
 -- The events of a range, read back.
-use Rattle.std.proofs.Common.{◌≡◌, ◌≤◌, ℕ, zero, suc, ◌+◌, Bool, true, false, ◌==◌, if◌then◌else◌, List, [], ◌∷◌, ◌++◌, length, map, take, drop, Option, Some, None, refl, ap, ◌∙◌, sym, subst, arith}
+use Rattle.std.proofs.Common.{◌≡◌, ◌≤◌, ℕ, zero, suc, ◌+◌, Bool, true, false, ◌==◌, if◌then◌else◌, List, [], ◌∷◌}
+use Rattle.std.proofs.Common.{◌++◌, length, map, take, drop, Option, Some, None, refl, ap, ◌∙◌, sym, subst, arith}
 use Rattle.std.specs.List.{slice_get}
 use Rattle.std.proofs.lemmas.Bool.Decides.{nat_tests}
 use Rattle.ocs_base.specs.declared.reg.Reg.{Reg}
@@ -16,7 +17,8 @@ use Rattle.serial_bands.specs.declared.event.Event.TheVariants as E
 use Rattle.serial_bands.specs.Run.{RunValue}
 use Rattle.serial_bands.specs.Clock.{bus_touch_at, sets_at, due_at, fetch_alone}
 use Rattle.serial_bands.specs.RightJob.{event_at, bus_event, bus_events, script_events, events_from}
-use Rattle.serial_bands.specs.EventReading.{touch_of_event, is_write_at, bus_touch_of, ScriptEventsAreSets, ScriptComesFirst, RestBehindScript, LastBehindScript, BusTouchIsFound, LastFetchIsFound}
+use Rattle.serial_bands.specs.EventReading.{touch_of_event, is_write_at, bus_touch_of, ScriptEventsAreSets, ScriptComesFirst}
+use Rattle.serial_bands.specs.EventReading.{RestBehindScript, LastBehindScript, BusTouchIsFound, LastFetchIsFound}
 
 touch_again : (c : ℕ) (touch : Touch) → touch_of_event (event_at c touch) ≡ touch
 touch_again c (T.Set reg word) = refl

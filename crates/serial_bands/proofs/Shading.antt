@@ -1,5 +1,6 @@
 -- Shadows of picture states.
-use Rattle.std.proofs.Common.{◌≡◌, ◌≤◌, ℕ, zero, suc, ◌-◌, ◌/◌, ◌%◌, ◌^◌, Bool, true, false, ◌==◌, if◌then◌else◌, List, [], ◌∷◌, map, Option, Some, None, refl, ap, ◌∙◌, sym, subst, arith, replicate, slice_index, slice_set, bit_and, bit_or}
+use Rattle.std.proofs.Common.{◌≡◌, ◌≤◌, ℕ, zero, suc, ◌-◌, ◌/◌, ◌%◌, ◌^◌, Bool, true, false, ◌==◌, if◌then◌else◌, List, [], ◌∷◌, map}
+use Rattle.std.proofs.Common.{Option, Some, None, refl, ap, ◌∙◌, sym, subst, arith, replicate, slice_index, slice_set, bit_and, bit_or}
 use Rattle.std.proofs.lemmas.List.{map-set}
 use Rattle.ocs_base.specs.declared.addr.Addr.{Addr}
 use Rattle.serial_model.specs.declared.picture.Denise.{Denise}
@@ -7,7 +8,8 @@ use Rattle.serial_model.specs.declared.picture.Touch.{Touch}
 use Rattle.serial_model.specs.declared.picture.Touch.TheVariants as T
 use Rattle.serial_model.specs.Beam.{is_line_start}
 use Rattle.serial_model.specs.Made.{word_of}
-use Rattle.serial_model.specs.Picture.{reset_picture, set_picture, set_sprite, plane_latch, sprite_data, is_latch, is_sprite, is_colour, touch_if_any, touch_in_order, clear_line}
+use Rattle.serial_model.specs.Picture.{reset_picture, set_picture, set_sprite, plane_latch, sprite_data}
+use Rattle.serial_model.specs.Picture.{is_latch, is_sprite, is_colour, touch_if_any, touch_in_order, clear_line}
 use Rattle.serial_bands.specs.declared.shadow.Filling.{Filling}
 use Rattle.serial_bands.specs.declared.shadow.Filling.TheVariants.{Word, Fetched}
 use Rattle.serial_bands.specs.declared.shadow.Shadow.{Shadow}
@@ -17,7 +19,9 @@ use Rattle.serial_bands.specs.Run.{RunValue, state_of, beam_at, run_memory}
 use Rattle.serial_bands.specs.Clock.{opening_at, closing_at, displayed_at, picture_at, sets_at, bus_touch_at, due_at, write_alone}
 use Rattle.serial_bands.specs.ClockLaws.{step_at}
 use Rattle.serial_bands.specs.RightJob.{clock_of, HasMemory}
-use Rattle.serial_bands.specs.Shadows.{filling_word, controls_of, shadow_controls, IsShadowOf, set_shadow_sprite, set_shadow, fetch_shadow_sprite, touch_shadow_if_any, touch_shadow_in_order, ShadowTouched, ShadowShown, ShadowCleared, NextShadow, found_filling, IsOfRange, AreOfRange, ShadowFound, line_opening, LineOpens, shadow_of, ShadowOfPicture, ShadowOfKept, FirstShadow}
+use Rattle.serial_bands.specs.Shadows.{filling_word, controls_of, shadow_controls, IsShadowOf, set_shadow_sprite, set_shadow, fetch_shadow_sprite}
+use Rattle.serial_bands.specs.Shadows.{touch_shadow_if_any, touch_shadow_in_order, ShadowTouched, ShadowShown, ShadowCleared, NextShadow, found_filling}
+use Rattle.serial_bands.specs.Shadows.{IsOfRange, AreOfRange, ShadowFound, line_opening, LineOpens, shadow_of, ShadowOfPicture, ShadowOfKept, FirstShadow}
 use Rattle.serial_bands.specs.Fetches.{ShadowSets, ShadowAccess}
 use Rattle.serial_bands.proofs.NextClock.{next_opening, displayed_is_step, closing_has_fetch, touched_twice}
 use Rattle.serial_bands.proofs.Reading.{AreSets, are_sets}

@@ -13,7 +13,8 @@ use Rattle.serial_model.specs.Picture.{clear_line, step_of, after_step, touch_if
 use Rattle.serial_model.specs.State.{Chips, State, read_word}
 use Rattle.serial_model.specs.Tick.{tick}
 use Rattle.serial_bands.specs.Run.{RunValue, state_of, beam_at, run_memory}
-use Rattle.serial_bands.specs.Clock.{opening_in, closing_in, bus_touch_in, write_alone, fetch_alone, clx_before_in, clx_after_in, opening_at, displayed_at, made_at, closing_at, bus_touch_at, picture_at, bytes_at, clx_at, clx_before_at, clx_after_at, due_at}
+use Rattle.serial_bands.specs.Clock.{opening_in, closing_in, bus_touch_in, write_alone, fetch_alone, clx_before_in, clx_after_in, opening_at}
+use Rattle.serial_bands.specs.Clock.{displayed_at, made_at, closing_at, bus_touch_at, picture_at, bytes_at, clx_at, clx_before_at, clx_after_at, due_at}
 use Rattle.serial_bands.specs.Bands.{has_clx_read, begins}
 
 -- a write of a register reads no memory

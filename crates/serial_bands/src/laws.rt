@@ -1,17 +1,25 @@
 //! Laws of the definitions, each the contract of a function that does nothing.
 
-ghost use Rattle.serial_bands.specs.ClockLaws.{WritesReadNothing, PictureOfTick, OpeningOfTick, ReadGivesClx, ClxOfEvents, ClxBefore, ClxAfter, ClxOfTick, PlaceOfTick, NextMemory, NextOpening, DisplayedIsStep, BytesAreOfStep, ClxIsOfStep, ClosingHasFetch, NextShown, ClxAtStart, ClxAtAccess, NextClx, NextInBand, EventsByPlace, FramesRise};
+ghost use Rattle.serial_bands.specs.ClockLaws.{WritesReadNothing, PictureOfTick, OpeningOfTick, ReadGivesClx, ClxOfEvents, ClxBefore, ClxAfter};
+ghost use Rattle.serial_bands.specs.ClockLaws.{ClxOfTick, PlaceOfTick, NextMemory, NextOpening, DisplayedIsStep, BytesAreOfStep, ClxIsOfStep};
+ghost use Rattle.serial_bands.specs.ClockLaws.{ClosingHasFetch, NextShown, ClxAtStart, ClxAtAccess, NextClx, NextInBand, EventsByPlace, FramesRise};
 ghost use Rattle.serial_bands.specs.RangeLaws.{ShownInRange, BytesOfTwo, ClxOfTwo, ReadByAccess, ReadByScript, EventsOfOneMore};
-ghost use Rattle.serial_bands.specs.BandLaws.{FirstBand, NextBand, OneBand, BegunInBand, OneBandMore, BytesOfBands, ClxOfBands, OpeningOfNextBand, ClockHasBand, NumberHasBand, BandsOfRun, ShownByBands, ReadAfterBands, PeekAfterBands, BandsAreFew, NumberIsSmall, NoTint, AccessReadsFew, LatchedAreFew};
+ghost use Rattle.serial_bands.specs.BandLaws.{FirstBand, NextBand, OneBand, BegunInBand, OneBandMore, BytesOfBands, ClxOfBands};
+ghost use Rattle.serial_bands.specs.BandLaws.{OpeningOfNextBand, ClockHasBand, NumberHasBand, BandsOfRun, ShownByBands, ReadAfterBands};
+ghost use Rattle.serial_bands.specs.BandLaws.{PeekAfterBands, BandsAreFew, NumberIsSmall, NoTint, AccessReadsFew, LatchedAreFew};
 ghost use Rattle.serial_bands.specs.ReplayLaws.{BytesOfKept, ClxOfKept, ClosingOfKept, OpeningOfKept};
 ghost use Rattle.serial_bands.specs.EventReading.{ScriptEventsAreSets, ScriptComesFirst, RestBehindScript, LastBehindScript, BusTouchIsFound, LastFetchIsFound};
 ghost use Rattle.serial_bands.specs.Stores.{StoresMakeMemory, MemoryByStores, ViewHasMemory};
 ghost use Rattle.serial_bands.specs.OpenBand.{BandOpens, BandGoesOn, BandCloses};
 ghost use Rattle.serial_bands.specs.DrawnTo.{WordsAreFound, DrawingBegins, TouchIsNext, DrawingGoesOn, LastFetchIsNext, DrawingEnds};
-ghost use Rattle.serial_bands.specs.Shadows.{ShadowOfPicture, ShadowOfKept, FirstShadow, ShadowTouched, ShadowShown, ShadowCleared, NextShadow, ShadowFound, LineOpens};
-ghost use Rattle.serial_bands.specs.Fetches.{LeftOfPicture, LeftOfFound, LeftBySets, LeftByTouch, TouchInTwo, FewerWithWrite, FetchesAreLatched, RangeOfPicture, RangeOfFound, RangeOfSets, RangeOfTouch, ShadowFoundIn, ShadowSets, ShadowAccess};
-ghost use Rattle.serial_bands.specs.Gathering.{GatheredFirst, GatheredMore, GatheredMoreIn, GatheredWhole, GatheredStart, GatheredCleared, GatheredAtAccess, GatheredNext, GatheredRead, ClxOfRange};
-ghost use Rattle.serial_bands.specs.BandRanges.{TintOfTwo, LengthOfTint, BandsRise, BandsBegin, BandsAreAlone, BandsOfTwo, BytesOfBandsTinted, OpenIsBand, BytesRise};
+ghost use Rattle.serial_bands.specs.Shadows.{ShadowOfPicture, ShadowOfKept, FirstShadow, ShadowTouched};
+ghost use Rattle.serial_bands.specs.Shadows.{ShadowShown, ShadowCleared, NextShadow, ShadowFound, LineOpens};
+ghost use Rattle.serial_bands.specs.Fetches.{LeftOfPicture, LeftOfFound, LeftBySets, LeftByTouch, TouchInTwo, FewerWithWrite, FetchesAreLatched};
+ghost use Rattle.serial_bands.specs.Fetches.{RangeOfPicture, RangeOfFound, RangeOfSets, RangeOfTouch, ShadowFoundIn, ShadowSets, ShadowAccess};
+ghost use Rattle.serial_bands.specs.Gathering.{GatheredFirst, GatheredMore, GatheredMoreIn, GatheredWhole, GatheredStart};
+ghost use Rattle.serial_bands.specs.Gathering.{GatheredCleared, GatheredAtAccess, GatheredNext, GatheredRead, ClxOfRange};
+ghost use Rattle.serial_bands.specs.BandRanges.{TintOfTwo, LengthOfTint, BandsRise, BandsBegin, BandsAreAlone};
+ghost use Rattle.serial_bands.specs.BandRanges.{BandsOfTwo, BytesOfBandsTinted, OpenIsBand, BytesRise};
 
 /// What one colour clock makes of any state: the picture with the access's write of a register apart,
 /// the collision bits before and after the picture step, and the place of the beam where no field

@@ -1,12 +1,14 @@
 -- Plane and sprite fetch: where units begin, which slots planes use, and what their fetches leave as it is.
-use Rattle.std.proofs.Common.{◌≡◌, ◌≢◌, ℕ, zero, suc, ◌+◌, ◌-◌, ◌/◌, ◌%◌, ◌<◌, ◌≤◌, ◌^◌, ◌⊎◌, inl, inr, min, IfSome, Bool, true, false, ◌&&◌, nat_le, if◌then◌else◌, List, [], ◌∷◌, Option, Some, None, arith, refl, ap, ◌∙◌, sym, subst}
+use Rattle.std.proofs.Common.{◌≡◌, ◌≢◌, ℕ, zero, suc, ◌+◌, ◌-◌, ◌/◌, ◌%◌, ◌<◌, ◌≤◌, ◌^◌, ◌⊎◌, inl, inr, min, IfSome, Bool, true}
+use Rattle.std.proofs.Common.{false, ◌&&◌, nat_le, if◌then◌else◌, List, [], ◌∷◌, Option, Some, None, arith, refl, ap, ◌∙◌, sym, subst}
 use Rattle.std.proofs.lemmas.Bool.Decides.{nat_tests}
 use Rattle.std.proofs.lemmas.List.{get_or-set_other}
 use Rattle.ocs_base.specs.Addr.{even_address}
 use Rattle.ocs_base.specs.declared.beam.Beam.{Beam}
 use Rattle.priority_ham.specs.PlaneCount.{planes_of}
 use Rattle.serial_model.specs.Beam.{is_line_start}
-use Rattle.serial_model.specs.PlaneFetch.{units_at, last_unit, last_unit_at, begins_unit, plane_pointer, is_in_unit, slot_plane, high_resolution, fetches_plane, fetched_plane, plane_dma, move_pointer, move_if_fetched, move_planes, IsUnitStart, IsLastUnit}
+use Rattle.serial_model.specs.PlaneFetch.{units_at, last_unit, last_unit_at, begins_unit, plane_pointer, is_in_unit, slot_plane, high_resolution}
+use Rattle.serial_model.specs.PlaneFetch.{fetches_plane, fetched_plane, plane_dma, move_pointer, move_if_fetched, move_planes, IsUnitStart, IsLastUnit}
 use Rattle.serial_model.specs.RegisterTable.{rows, row_at, is_pointer_high}
 use Rattle.serial_model.specs.Registers.{Registers, kept_word, with_word}
 use Rattle.serial_model.specs.SpriteFetch.{sprite_pointer}
@@ -44,7 +46,8 @@ last_before : (c : Bool) (units : List ℕ) → last_unit (if c then [] else uni
 last_before true units = refl
 last_before false units = refl
 
-pub last_unit-units_at : (b : Beam) (registers : Registers) (units : List ℕ) → last_unit (units_at b registers units) ≡ last_unit_at b registers (last_unit units)
+pub last_unit-units_at : (b : Beam) (registers : Registers) (units : List ℕ) →
+    last_unit (units_at b registers units) ≡ last_unit_at b registers (last_unit units)
 unfolding units_at last_unit_at
 last_unit-units_at b registers units =
     let before : List ℕ = if is_line_start b then [] else units in

@@ -1,5 +1,6 @@
 -- Planes and sprites in their slots: those that ask get them, and the fetches of planes are seen by no sprite.
-use Rattle.std.proofs.Common.{◌≡◌, ℕ, slice_set, ◌+◌, ◌*◌, ◌<◌, ◌≤◌, inl, inr, IfSome, Bool, true, false, not, ◌&&◌, ◌++◌, if◌then◌else◌, List, Option, Some, None, get_or, is_some, arith, refl, ap, ◌∙◌, sym}
+use Rattle.std.proofs.Common.{◌≡◌, ℕ, slice_set, ◌+◌, ◌*◌, ◌<◌, ◌≤◌, inl, inr, IfSome, Bool, true, false, not, ◌&&◌}
+use Rattle.std.proofs.Common.{◌++◌, if◌then◌else◌, List, Option, Some, None, get_or, is_some, arith, refl, ap, ◌∙◌, sym}
 use Rattle.std.proofs.lemmas.Bool.Decides.{nat_tests}
 use Rattle.std.proofs.lemmas.Option.{none-some}
 use Rattle.std.proofs.Math.Bool.{and-false}
@@ -19,7 +20,9 @@ use Rattle.serial_model.specs.Owner.{owner_of, is_refresh, if_asking, by_channel
 use Rattle.serial_model.specs.PlaneFetch.{IsLastUnit, fetched_plane, plane_ask, move_planes, move_if_fetched, move_plane_pointer, ask_for_plane}
 use Rattle.irq_cia.specs.Bits.{has_bits}
 use Rattle.serial_model.specs.Registers.{Registers, kept_word, pointer_at}
-use Rattle.serial_model.specs.SpriteFetch.{kinds_at, kind_of, kind_by, no_kinds, sprite_of, is_sprite_slot, is_second_slot, sprite_in_slot, sprite_ask, ask_in_slot, ask_by_kind, asking_sprite, sprite_pointer, position_word, control_word, sprite_dma, move_sprites, move_sprite_pointer, move_if_asked}
+use Rattle.serial_model.specs.SpriteFetch.{kinds_at, kind_of, kind_by, no_kinds, sprite_of, is_sprite_slot, is_second_slot}
+use Rattle.serial_model.specs.SpriteFetch.{sprite_in_slot, sprite_ask, ask_in_slot, ask_by_kind, asking_sprite, sprite_pointer}
+use Rattle.serial_model.specs.SpriteFetch.{position_word, control_word, sprite_dma, move_sprites, move_sprite_pointer, move_if_asked}
 use Rattle.serial_model.proofs.FetchLaws.{IsFetch, IsNoPlanePointer, fetched_plane-is, kept_word-move_planes, move_pointer-other}
 
 -- registers that differ in the planes' pointers at most

@@ -1,5 +1,6 @@
 -- Kept picture states.
-use Rattle.std.proofs.Common.{◌≡◌, ◌≤◌, ℕ, zero, suc, ◌+◌, ◌-◌, ◌*◌, ◌/◌, ◌%◌, Bool, true, false, ◌==◌, if◌then◌else◌, List, [], ◌∷◌, ◌++◌, Option, Some, None, refl, ap, ◌∙◌, sym, subst, arith, replicate, slice_index, slice_set, bit_or}
+use Rattle.std.proofs.Common.{◌≡◌, ◌≤◌, ℕ, zero, suc, ◌+◌, ◌-◌, ◌*◌, ◌/◌, ◌%◌, Bool, true, false, ◌==◌, if◌then◌else◌, List, [], ◌∷◌}
+use Rattle.std.proofs.Common.{◌++◌, Option, Some, None, refl, ap, ◌∙◌, sym, subst, arith, replicate, slice_index, slice_set, bit_or}
 use Rattle.ocs_base.specs.declared.system.System.{System}
 use Rattle.planes.specs.PlaneBit.{ShowsSame, all_bits, load_of}
 use Rattle.planes.specs.declared.load.Load.{Load}
@@ -10,14 +11,18 @@ use Rattle.serial_model.specs.declared.picture.Touch.{Touch}
 use Rattle.serial_model.specs.declared.picture.Touch.TheVariants.{Set, Plane, Sprite}
 use Rattle.ocs_base.specs.Systems.{is_visible}
 use Rattle.serial_model.specs.Beam.{is_line_start}
-use Rattle.serial_model.specs.Picture.{clear_line, set_picture, set_sprite, is_latch, is_sprite, is_colour, plane_latch, sprite_data, touch_picture, touch_in_order, pixel_colour, held_after, runs_after, runs_at, shown_at, collisions_at, values_after, pixel_bytes, pixel_collisions, pixels, clock_collisions, PictureStep, step_of, after_step, sprite_values, attached_pairs, colour_bytes}
+use Rattle.serial_model.specs.Picture.{clear_line, set_picture, set_sprite, is_latch, is_sprite, is_colour, plane_latch, sprite_data}
+use Rattle.serial_model.specs.Picture.{touch_picture, touch_in_order, pixel_colour, held_after, runs_after, runs_at, shown_at}
+use Rattle.serial_model.specs.Picture.{collisions_at, values_after, pixel_bytes, pixel_collisions, pixels, clock_collisions}
+use Rattle.serial_model.specs.Picture.{PictureStep, step_of, after_step, sprite_values, attached_pairs, colour_bytes}
 use Rattle.serial_model.specs.Window.{is_inside}
 use Rattle.sprites.specs.declared.runs.Start.{Start}
 use Rattle.sprites.specs.SpriteFront.{front_pixel}
 use Rattle.collisions.specs.Collision.{collision_bits}
 use Rattle.priority_ham.specs.PixelColour.{playfield_colour, shown_colour}
 use Rattle.serial_model.specs.StandsFor.{StandsFor, with_loads}
-use Rattle.serial_model.specs.StandsLaws.{StandsForItself, StandsLater, StandsOn, StandsWritten, StandsTouched, StandsTouchedInOrder, StandsCleared, StandsShown, StandsAfter}
+use Rattle.serial_model.specs.StandsLaws.{StandsForItself, StandsLater, StandsOn, StandsWritten, StandsTouched}
+use Rattle.serial_model.specs.StandsLaws.{StandsTouchedInOrder, StandsCleared, StandsShown, StandsAfter}
 
 pub stands_for_itself : StandsForItself
 stands_for_itself from p = record { loads = ShowsSame-refl from p.loads; rest = refl }

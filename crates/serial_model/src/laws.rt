@@ -1,8 +1,9 @@
 //! Laws of the definitions, each the contract of a function that does nothing.
 
-ghost use Rattle.serial_model.specs.Laws.{MemoryNext, PictureNext, ShownNext, ClxNext, TraceNext, BeamNext, FramesAreWhole, HasEnd};
-ghost use Rattle.serial_model.specs.Laws.{FitIsKept, AskOfFitIsBelow, NoneFitsEach};
-ghost use Rattle.serial_model.specs.StandsLaws.{StandsForItself, StandsLater, StandsOn, StandsWritten, StandsTouched, StandsTouchedInOrder, StandsCleared, StandsShown, StandsAfter};
+ghost use Rattle.serial_model.specs.Laws.{MemoryNext, PictureNext, ShownNext, ClxNext, TraceNext, BeamNext};
+ghost use Rattle.serial_model.specs.Laws.{FramesAreWhole, HasEnd, FitIsKept, AskOfFitIsBelow, NoneFitsEach};
+ghost use Rattle.serial_model.specs.StandsLaws.{StandsForItself, StandsLater, StandsOn, StandsWritten, StandsTouched};
+ghost use Rattle.serial_model.specs.StandsLaws.{StandsTouchedInOrder, StandsCleared, StandsShown, StandsAfter};
 
 /// What one colour clock makes of a state, part by part, by the script's touches, the picture step
 /// and what the access makes. Drawing a part of the picture later, from the writes that were noted

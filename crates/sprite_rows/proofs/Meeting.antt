@@ -1,5 +1,6 @@
 -- The collisions of a pixel are those of its playfields alone, with those of the pairs that are present.
-use Rattle.std.proofs.Common.{◌≡◌, ℕ, zero, suc, ◌+◌, ◌*◌, ◌%◌, ◌<◌, ◌≤◌, Bool, true, false, not, ◌&&◌, ◌||◌, nat_eq, List, [], ◌∷◌, slice_index, replicate, refl, sym, ◌∙◌, ap, subst, arith}
+use Rattle.std.proofs.Common.{◌≡◌, ℕ, zero, suc, ◌+◌, ◌*◌, ◌%◌, ◌<◌, ◌≤◌, Bool, true, false, not, ◌&&◌, ◌||◌}
+use Rattle.std.proofs.Common.{nat_eq, List, [], ◌∷◌, slice_index, replicate, refl, sym, ◌∙◌, ap, subst, arith}
 use Rattle.std.specs.Bool.{if◌then◌else◌}
 use Rattle.std.proofs.lemmas.Bool.Decides.{nat_tests}
 use Rattle.collisions.specs.Collision.{bit, playfield_matches, is_present, number_of, collisions_among, collision_bits}

@@ -23,10 +23,14 @@ returns c =
     (word_is regs c.word-6.result _ 0x74 c.word-6.ensures c.masked-6.ensures.offset)
     (word_is regs c.word-7.result _ 0x72 c.word-7.ensures c.masked-7.ensures.offset)
     (word_is regs c.word-8.result _ 0x70 c.word-8.ensures c.masked-8.ensures.offset)
-    (to_z-of_z w16 c.cast_signed.result fits_amod ∙ modulo_is regs c.cast_signed.result c.word-9.result _ 0x64 c.cast_signed.ensures c.word-9.ensures c.masked-9.ensures.offset)
-    (to_z-of_z w16 c.cast_signed-2.result fits_bmod ∙ modulo_is regs c.cast_signed-2.result c.word-10.result _ 0x62 c.cast_signed-2.ensures c.word-10.ensures c.masked-10.ensures.offset)
-    (to_z-of_z w16 c.cast_signed-3.result fits_cmod ∙ modulo_is regs c.cast_signed-3.result c.word-11.result _ 0x60 c.cast_signed-3.ensures c.word-11.ensures c.masked-11.ensures.offset)
-    (to_z-of_z w16 c.cast_signed-4.result fits_dmod ∙ modulo_is regs c.cast_signed-4.result c.word-12.result _ 0x66 c.cast_signed-4.ensures c.word-12.ensures c.masked-12.ensures.offset)
+    (to_z-of_z w16 c.cast_signed.result fits_amod
+    ∙ modulo_is regs c.cast_signed.result c.word-9.result _ 0x64 c.cast_signed.ensures c.word-9.ensures c.masked-9.ensures.offset)
+    (to_z-of_z w16 c.cast_signed-2.result fits_bmod
+    ∙ modulo_is regs c.cast_signed-2.result c.word-10.result _ 0x62 c.cast_signed-2.ensures c.word-10.ensures c.masked-10.ensures.offset)
+    (to_z-of_z w16 c.cast_signed-3.result fits_cmod
+    ∙ modulo_is regs c.cast_signed-3.result c.word-11.result _ 0x60 c.cast_signed-3.ensures c.word-11.ensures c.masked-11.ensures.offset)
+    (to_z-of_z w16 c.cast_signed-4.result fits_dmod
+    ∙ modulo_is regs c.cast_signed-4.result c.word-12.result _ 0x66 c.cast_signed-4.ensures c.word-12.ensures c.masked-12.ensures.offset)
     (pointer_is regs c.pointer.result _ 0x50 c.pointer.ensures c.masked-13.ensures.offset)
     (pointer_is regs c.pointer-2.result _ 0x4c c.pointer-2.ensures c.masked-14.ensures.offset)
     (pointer_is regs c.pointer-3.result _ 0x48 c.pointer-3.ensures c.masked-15.ensures.offset)

@@ -1,5 +1,6 @@
 use Rattle.std.proofs.Common.{rules, sym, ◌∙◌}
-use Rattle.foreground.proofs.ScriptLaws.{HasDone-start, turn, MakesEvents-all, noted-all, IsOver-later, IsOver-empty, lines_none, lines_then, rest_all, rest_more}
+use Rattle.foreground.proofs.ScriptLaws.{HasDone-start, turn, MakesEvents-all, noted-all, IsOver-later}
+use Rattle.foreground.proofs.ScriptLaws.{IsOver-empty, lines_none, lines_then, rest_all, rest_more}
 use Rattle.foreground.proofs.script.run_script.Goals as goal
 
 pub loop-event-init : goal.loop-event-init

@@ -14,4 +14,5 @@ returns c =
     let filled : c.resize.new.self.items ≡ take count c.push_words.new.into.items ++ replicate (count - length c.push_words.new.into.items) 0 =
     c.in_ok-resize.ensures.items ∙ ap (λ (n : ℕ). take count c.push_words.new.into.items ++ replicate (count - n) 0) c.push_words.new.into.ok.0
     in
-    filled ∙ ap (λ (xs : List ℕ). take count xs ++ replicate (count - length xs) 0) pushed ∙ memory_of-filled c.args.size image count c.requires (ap (λ (n : ℕ). n / 2) c.bytes.ensures)
+    filled ∙ ap (λ (xs : List ℕ). take count xs ++ replicate (count - length xs) 0) pushed
+    ∙ memory_of-filled c.args.size image count c.requires (ap (λ (n : ℕ). n / 2) c.bytes.ensures)

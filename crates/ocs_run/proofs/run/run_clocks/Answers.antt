@@ -1,7 +1,8 @@
 use Rattle.std.proofs.Common.{◌≡◌, ◌∙◌}
 use Rattle.ocs_run.specs.Underway.{fore_of}
 use Rattle.ocs_run.proofs.KeptLaws.{OnlyWrites-more, KeepsNames-more, AreGrowable-kept}
-use Rattle.ocs_run.proofs.RunLaws.{on_err, cause_err, fewer_clocks, room_for_clocks, line_is_later, stop-advance, stop-flush, IsUnderway-ran, IsUnderway-flushed, CanRun-ran, mark_ran, names_ran}
+use Rattle.ocs_run.proofs.RunLaws.{on_err, cause_err, fewer_clocks, room_for_clocks, line_is_later, stop-advance}
+use Rattle.ocs_run.proofs.RunLaws.{stop-flush, IsUnderway-ran, IsUnderway-flushed, CanRun-ran, mark_ran, names_ran}
 use Rattle.ocs_run.proofs.run.run_clocks.Goals as goal
 
 pub returns-in_err-run_to-clause-stopped : goal.returns-in_err-run_to-clause-stopped

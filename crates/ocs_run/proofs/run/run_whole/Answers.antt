@@ -1,7 +1,8 @@
 use Rattle.std.proofs.Common.{◌≡◌, ◌∙◌, ap}
 use Rattle.ocs_run.specs.Underway.{fore_of}
 use Rattle.ocs_run.proofs.KeptLaws.{OnlyWrites-more, KeepsNames-more, AreGrowable-kept}
-use Rattle.ocs_run.proofs.RunLaws.{on_err, cause_err, IsCut-clocks, IsCut-settle, IsCut-flush, IsSettling-settled, Ends-flushed, mark_part, mark_settled, names_settled}
+use Rattle.ocs_run.proofs.RunLaws.{on_err, cause_err, IsCut-clocks, IsCut-settle, IsCut-flush}
+use Rattle.ocs_run.proofs.RunLaws.{IsSettling-settled, Ends-flushed, mark_part, mark_settled, names_settled}
 use Rattle.ocs_run.proofs.run.run_whole.Goals as goal
 
 pub returns-in_err-run_clocks-clause-stopped : goal.returns-in_err-run_clocks-clause-stopped

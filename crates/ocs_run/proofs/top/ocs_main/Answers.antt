@@ -1,5 +1,6 @@
 use Rattle.ocs_run.proofs.EndLaws.{ends_where_told}
-use Rattle.ocs_run.proofs.TopLaws.{script_clause, unread_clause, unwritten_clause, kept_clause, apart_clause, complete_clause, refused_clause, said_clause, usage_clause, apart_done_clause, said_done_clause}
+use Rattle.ocs_run.proofs.TopLaws.{script_clause, unread_clause, unwritten_clause, kept_clause, apart_clause, complete_clause}
+use Rattle.ocs_run.proofs.TopLaws.{refused_clause, said_clause, usage_clause, apart_done_clause, said_done_clause}
 use Rattle.ocs_run.proofs.top.ocs_main.Goals as goal
 
 pub returns-in-Ok-clause-said : goal.returns-in-Ok-clause-said

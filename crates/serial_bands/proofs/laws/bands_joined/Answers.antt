@@ -1,4 +1,5 @@
-use Rattle.serial_bands.proofs.BandRanges.{tint_of_two, length_of_tint, bands_rise, bands_begin, bands_are_alone, bands_of_two, bytes_of_bands_tinted, open_is_band, bytes_rise}
+use Rattle.serial_bands.proofs.BandRanges.{tint_of_two, length_of_tint, bands_rise, bands_begin, bands_are_alone}
+use Rattle.serial_bands.proofs.BandRanges.{bands_of_two, bytes_of_bands_tinted, open_is_band, bytes_rise}
 use Rattle.serial_bands.proofs.laws.bands_joined.Goals as goal
 
 pub returns-clause-tint : goal.returns-clause-tint

@@ -1,4 +1,5 @@
-use Rattle.serial_bands.proofs.NextClock.{read_gives_clx, writes_read_nothing, picture_of_tick, opening_of_tick, cleared, clx_before, clx_after, clx_of_tick, place_of_tick}
+use Rattle.serial_bands.proofs.NextClock.{read_gives_clx, writes_read_nothing, picture_of_tick, opening_of_tick}
+use Rattle.serial_bands.proofs.NextClock.{cleared, clx_before, clx_after, clx_of_tick, place_of_tick}
 use Rattle.serial_bands.proofs.laws.clock_of_state.Goals as goal
 
 pub returns-clause-write : goal.returns-clause-write

@@ -1,4 +1,5 @@
-use Rattle.serial_bands.proofs.Gathering.{gathered_first, gathered_more, gathered_more_in, gathered_whole, gathered_start, gathered_cleared, gathered_at_access, gathered_next, gathered_read, clx_of_range}
+use Rattle.serial_bands.proofs.Gathering.{gathered_first, gathered_more, gathered_more_in, gathered_whole, gathered_start}
+use Rattle.serial_bands.proofs.Gathering.{gathered_cleared, gathered_at_access, gathered_next, gathered_read, clx_of_range}
 use Rattle.serial_bands.proofs.laws.collisions_gathered.Goals as goal
 
 pub returns-clause-first : goal.returns-clause-first

@@ -1,4 +1,5 @@
-use Rattle.serial_bands.proofs.Reading.{script_events_are_sets, script_comes_first, rest_behind_script, last_behind_script, bus_touch_is_found, last_fetch_is_found}
+use Rattle.serial_bands.proofs.Reading.{script_events_are_sets, script_comes_first, rest_behind_script}
+use Rattle.serial_bands.proofs.Reading.{last_behind_script, bus_touch_is_found, last_fetch_is_found}
 use Rattle.serial_bands.proofs.laws.events_read_back.Goals as goal
 
 pub returns-clause-sets : goal.returns-clause-sets

@@ -1,4 +1,5 @@
-use Rattle.serial_bands.proofs.Shading.{shadow_of_picture, shadow_of_kept, first_shadow, shadow_touched, shadow_shown, shadow_cleared, next_shadow, shadow_found, line_opens}
+use Rattle.serial_bands.proofs.Shading.{shadow_of_picture, shadow_of_kept, first_shadow, shadow_touched}
+use Rattle.serial_bands.proofs.Shading.{shadow_shown, shadow_cleared, next_shadow, shadow_found, line_opens}
 use Rattle.serial_bands.proofs.laws.shadow_of_picture.Goals as goal
 
 pub returns-clause-touched : goal.returns-clause-touched

@@ -1,4 +1,5 @@
-use Rattle.serial_model.proofs.Standing.{stands_for_itself, stands_later, stands_on, stands_written, stands_touched, stands_touched_in_order, stands_cleared, stands_shown, stands_after}
+use Rattle.serial_model.proofs.Standing.{stands_for_itself, stands_later, stands_on, stands_written, stands_touched}
+use Rattle.serial_model.proofs.Standing.{stands_touched_in_order, stands_cleared, stands_shown, stands_after}
 use Rattle.serial_model.proofs.laws.kept_picture.Goals as goal
 
 pub returns-clause-itself : goal.returns-clause-itself

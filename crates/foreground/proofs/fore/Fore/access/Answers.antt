@@ -3,7 +3,8 @@ use Rattle.foreground.specs.Fore.{over}
 use Rattle.std.proofs.Common.{sym, ◌∙◌, ap}
 use Rattle.std.proofs.lemmas.Result.{on_ok_weaker}
 use Rattle.foreground.proofs.ScriptLaws.{lines_same}
-use Rattle.foreground.proofs.MadeLaws.{before_view, some_state_asked, asked_now, reads_by_access, reads_of_access, lines_of_access, makes_quietly_of, quiet_part, on_err}
+use Rattle.foreground.proofs.MadeLaws.{before_view, some_state_asked, asked_now, reads_by_access}
+use Rattle.foreground.proofs.MadeLaws.{reads_of_access, lines_of_access, makes_quietly_of, quiet_part, on_err}
 use Rattle.foreground.proofs.fore.Fore.access.Goals as goal
 
 pub access_clxdat-requires-clause-asked : goal.access_clxdat-requires-clause-asked

@@ -11,9 +11,11 @@ part-requires-clause-order c =
     let writes = c.self.inside.writes.items in
     let starts = c.self.inside.starts.items in
     let n = c.args.number in
-    let begin : IsStart writes n c.index.result.now = start-at writes starts n c.index.result.now c.self.invariant.parted (omega (arith, ap (λ (h : HistoryValue). h.pages) c.self.view_is)) c.index.ensures in
+    let begin : IsStart writes n c.index.result.now =
+    start-at writes starts n c.index.result.now c.self.invariant.parted (omega (arith, ap (λ (h : HistoryValue). h.pages) c.self.view_is)) c.index.ensures in
     let stop : IsStart writes (n + 1) c.index-2.result.now =
-    start-at writes starts (n + 1) c.index-2.result.now c.self.invariant.parted (omega (arith, ap (λ (h : HistoryValue). h.pages) c.self.view_is)) c.index-2.ensures in
+    start-at writes starts (n + 1) c.index-2.result.now c.self.invariant.parted
+    (omega (arith, ap (λ (h : HistoryValue). h.pages) c.self.view_is)) c.index-2.ensures in
     starts-rise writes n c.index.result.now c.index-2.result.now begin stop
 
 pub part-requires-clause-within : goal.part-requires-clause-within
@@ -21,7 +23,8 @@ part-requires-clause-within c =
     let writes = c.self.inside.writes.items in
     let n = c.args.number in
     let stop : IsStart writes (n + 1) c.index-2.result.now =
-    start-at writes c.self.inside.starts.items (n + 1) c.index-2.result.now c.self.invariant.parted (omega (arith, ap (λ (h : HistoryValue). h.pages) c.self.view_is)) c.index-2.ensures in
+    start-at writes c.self.inside.starts.items (n + 1) c.index-2.result.now c.self.invariant.parted
+    (omega (arith, ap (λ (h : HistoryValue). h.pages) c.self.view_is)) c.index-2.ensures in
     rw c.deref.ensures.value stop.before.within
 
 pub returns-clause-writes : goal.returns-clause-writes
@@ -31,10 +34,13 @@ returns-clause-writes c =
     let n = c.args.number in
     let a = c.index.result.now in
     let b = c.index-2.result.now in
-    let begin : IsStart writes n a = start-at writes starts n a c.self.invariant.parted (omega (arith, ap (λ (h : HistoryValue). h.pages) c.self.view_is)) c.index.ensures in
-    let stop : IsStart writes (n + 1) b = start-at writes starts (n + 1) b c.self.invariant.parted (omega (arith, ap (λ (h : HistoryValue). h.pages) c.self.view_is)) c.index-2.ensures in
+    let begin : IsStart writes n a =
+    start-at writes starts n a c.self.invariant.parted (omega (arith, ap (λ (h : HistoryValue). h.pages) c.self.view_is)) c.index.ensures in
+    let stop : IsStart writes (n + 1) b =
+    start-at writes starts (n + 1) b c.self.invariant.parted (omega (arith, ap (λ (h : HistoryValue). h.pages) c.self.view_is)) c.index-2.ensures in
     c.part.ensures ∙ ap (λ (ws : List Write). take (b - a) (drop a ws)) c.deref.ensures.value
-    ∙ page-writes writes n a b begin stop (starts-rise writes n a b begin stop) ∙ ap (λ (h : HistoryValue). filter (λ w. w.place / 256 == n) h.writes) c.self.view_is
+    ∙ page-writes writes n a b begin stop (starts-rise writes n a b begin stop)
+    ∙ ap (λ (h : HistoryValue). filter (λ w. w.place / 256 == n) h.writes) c.self.view_is
 
 pub returns-clause-order : goal.returns-clause-order
 returns-clause-order c =

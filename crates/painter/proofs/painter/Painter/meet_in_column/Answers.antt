@@ -2,7 +2,8 @@ use Rattle.std.proofs.Common.{◌≡◌, ◌+◌, ◌*◌, ◌∙◌, bit_or, tr
 use Rattle.serial_model.specs.Window.{is_inside}
 use Rattle.painter.proofs.Overlays.{same_bits, bits_outside, inside_same, meets_same, first_meets, second_meets, none_meets}
 use Rattle.painter.proofs.painter.Painter.meet_in_column.Goals as goal
-use Rattle.painter.proofs.painter.Painter.meet_in_column.Goals.{then-do_playfields_meet-via-then-do_playfields_meet, then-do_playfields_meet-via-else-do_playfields_meet+then-do_playfields_meet-2}
+use Rattle.painter.proofs.painter.Painter.meet_in_column.Goals.{then-do_playfields_meet-via-then-do_playfields_meet}
+use Rattle.painter.proofs.painter.Painter.meet_in_column.Goals.{then-do_playfields_meet-via-else-do_playfields_meet+then-do_playfields_meet-2}
 
 pub returns-then-not-has : goal.returns-then-not-has
 returns-then-not-has c p stands =
