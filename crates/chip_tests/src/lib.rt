@@ -1,5 +1,5 @@
-//! Tests of the crates of the clock loop: numbers and script, beam, registers, slots, Copper, fetches and
-//! the memory with versions, a module a crate.
+//! Tests of the crates of the clock loop: numbers and addresses, beam, registers, slots, Copper and fetches, a
+//! module a crate.
 //!
 //! A crate with tests is proved twice, so these crates have none of their own, and this one has nothing else.
 #![tactic(auto)]
@@ -12,8 +12,6 @@ mod beam_places;
 mod bitplane_lines;
 #[cfg(test)]
 mod copper_steps;
-#[cfg(test)]
-mod memory_views;
 #[cfg(test)]
 mod register_file;
 #[cfg(test)]

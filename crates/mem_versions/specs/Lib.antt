@@ -1,5 +1,6 @@
 pub mod Chip
 pub mod History
+pub mod Kept
 pub mod Lending
 pub mod MemView
 pub mod MemoryAt

@@ -22,13 +22,13 @@ use std::mem;
 /// still at the greatest u64.
 #[derive(Drop)]
 pub struct Chip {
-    alloc: Global,
-    words: Pages,
-    base: Pages,
-    writes: Vec<Write>,
-    last: u64,
-    newest: u64,
-    reads: u64,
+    pub(crate) alloc: Global,
+    pub(crate) words: Pages,
+    pub(crate) base: Pages,
+    pub(crate) writes: Vec<Write>,
+    pub(crate) last: u64,
+    pub(crate) newest: u64,
+    pub(crate) reads: u64,
 }
 
 impl Model for Chip {

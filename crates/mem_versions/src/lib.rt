@@ -4,12 +4,14 @@
 
 pub mod chip;
 mod history;
+pub mod kept;
 mod pages;
 pub mod steps;
 pub mod view;
 pub mod write;
 
 pub use chip::Chip;
+pub use kept::Kept;
 pub use steps::Steps;
 pub use view::MemView;
 pub use write::Write;
