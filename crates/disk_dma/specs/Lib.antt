@@ -1,0 +1,3 @@
+pub mod Track
+pub mod Queue
+pub mod Disk

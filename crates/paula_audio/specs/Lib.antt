@@ -1,0 +1,3 @@
+pub mod Channel
+pub mod Sound
+pub mod Paula
