@@ -316,10 +316,12 @@ impl Chips {
         ensures wish { IsBlitAsk result (kept_wish self.new) }
     {
         let plane = self.fetcher.step(beam, &mut self.registers);
-        let sprite = self
-            .sprites
-            .step(beam, &mut self.registers, plane.is_some());
-        self.owner_ask(beam, side, plane, sprite)
+        let Some(wish) = plane else {
+            let sprite = self.sprites.step(beam, &mut self.registers, false);
+            return self.owner_ask(beam, side, None, sprite);
+        };
+        let sprite = self.sprites.step(beam, &mut self.registers, true);
+        self.owner_ask(beam, side, Some(wish), sprite)
     }
 
     /// The access of this clock, by what `ask` said of it: the owner of the slot has its word, and

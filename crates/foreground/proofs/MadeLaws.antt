@@ -30,7 +30,7 @@ use Rattle.foreground.specs.Gathered.{Fits, tinted_range}
 use Rattle.foreground.specs.Clock.{AreLeftFrom, IsLogged, IsBeforeAccess, IsBehindAccess, HasGiven, HasGivenPart, access_state, accessed_state}
 use Rattle.foreground.specs.Fore.{ForeValue}
 use Rattle.foreground.specs.Steps.{IsBefore, IsLoggedBefore, HasReadByAccess, HasMadeAccess, MakesItsAccess}
-use Rattle.foreground.specs.Steps.{MakesReadingAccess, HasAskedNow, StandsBeforeRead, ReadsBits, AccessesPart, reads_more}
+use Rattle.foreground.specs.Steps.{MakesAskedAccess, HasAskedNow, StandsBeforeRead, ReadsBits, AccessesPart, reads_more}
 use Rattle.foreground.specs.declared.log.Log.{Log}
 use Rattle.foreground.proofs.OutLaws.{gives_nothing, gives_then}
 use Rattle.foreground.proofs.GatherLaws.{no_bytes}
@@ -133,12 +133,12 @@ made_from run c clx ask made old new out given is asked bits makes =
     makes (record { out = out; trace = (access_state run c).trace }) (access_state run c) is bits asked (told_none out (access_state run c))
 
 -- an access that does not read CLXDAT: `m1` has asked, `m2` has the answer
-pub accessed_quietly : (run : RunValue) (c first clx : ℕ) (ask : Ask) (made : Made) (touch : Option Touch) (m0 m1 m2 : MachineValue) (log noted : Log)
-    (seen : RasterValue) (out given : OutFilesValue) → IsBeforeAccess run c first m0 log clx seen → ask ≡ ask_of (access_state run c)
-    → HasAskedOf m1 (access_state run c) → m1.t ≡ c → m1.chip ≡ m0.chip → is_clx_ask ask ≡ false → MakesAccess ask 0 made m1 out m2 given → CanDo made
+pub accessed_quietly : (run : RunValue) (c first clx : ℕ) (ask : Ask) (made : Made) (touch : Option Touch) (m1 m2 : MachineValue) (log noted : Log)
+    (seen : RasterValue) (out given : OutFilesValue) → IsLogged run c first m1.chip log clx seen → ask ≡ ask_of (access_state run c)
+    → HasAskedOf m1 (access_state run c) → m1.t ≡ c → is_clx_ask ask ≡ false → MakesAccess ask 0 made m1 out m2 given → CanDo made
     → StoresMade m1.t ask made m1.chip m2.chip → touch ≡ touch_of made → (CanDo made → IsInRange touch) → noted ≡ with_access_touch c touch log
     → IsBehindAccess run c first m2 noted clx seen × HasMade (record { out = out; trace = (access_state run c).trace }) made m2 given (access_state run c)
-accessed_quietly run c first clx ask made touch m0 m1 m2 log noted seen out given is asks asked t chip quiet makes able stores by range notes =
+accessed_quietly run c first clx ask made touch m1 m2 log noted seen out given logged asks asked t quiet makes able stores by range notes =
     let has : HasMade (record { out = out; trace = (access_state run c).trace }) made m2 given (access_state run c) =
     made_from run c 0 ask made m1 m2 out given asks asked (λ read. absurd (true_false (sym read ∙ quiet))) makes in
     let at_clock : made ≡ made_at run c = made_at_clock run c made has.makes in
@@ -148,17 +148,16 @@ accessed_quietly run c first clx ask made touch m0 m1 m2 log noted seen out give
     stores_at_clock run c m1.t ask made m1.chip m2.chip stores t at_clock words in
     let touched : noted ≡ with_access_touch c (bus_touch_at run c) log =
     notes ∙ ap (λ x. with_access_touch c x log) (touch_at_clock run c made touch at_clock by) in
-    let shown : IsShown run c log m1.chip = subst (λ x. IsShown run c log x) (sym chip) is.logged.shown in
     let low : first ≤ c =
-    (let most : first ≤ log.band.from = first_before run log.band.number log.band.from first seen is.logged.fits in omega (arith, most, shown.least)) in
-    let time : m1.chip.newest ≤ c = subst (λ (x : ChipValue). x.newest ≤ c) (sym chip) is.logged.time in (
+    (let most : first ≤ log.band.from = first_before run log.band.number log.band.from first seen logged.fits in
+    let least = logged.shown.least in omega (arith, most, least)) in (
       subst (λ l. IsBehindAccess run c first m2 l clx seen) (sym touched) (record {
         machine = has.stands.machine;
-        logged = log_accessed run c log m1.chip m2.chip shown (range_at_clock run c made touch at_clock by range able) stores.base stores.last stored;
-        fits = is.logged.fits;
-        gathered = gathered_next run c clx first low unread is.logged.gathered;
+        logged = log_accessed run c log m1.chip m2.chip logged.shown (range_at_clock run c made touch at_clock by range able) stores.base stores.last stored;
+        fits = logged.fits;
+        gathered = gathered_next run c clx first low unread logged.gathered;
         cut = λ read. absurd (true_false (sym read ∙ unread));
-        time = stores.time (c + 1) (omega (arith, time)) (omega (arith, t));
+        time = stores.time (c + 1) (let time = logged.time in omega (arith, time)) (omega (arith, t));
       }),
       has,
     )
@@ -187,24 +186,18 @@ accessed_clxdat run c bits ask made m1 m2 log after out given logged fits begin 
       has,
     )
 
--- the foreground's access, where it does not read CLXDAT; `g` is the view of the foreground once its chips have asked
-pub makes_quietly : (f : ForeValue) (ask : Ask) (made : Made) (touch : Option Touch) (m1 m2 : MachineValue) (noted : Log) (seen : RasterValue)
-    (out given : OutFilesValue)
-    → ((s : State) → IsMachineOf f.machine s → ask ≡ ask_of s) → ((s : State) → IsMachineOf f.machine s → HasAskedOf m1 s)
-    → m1 ≡ record f.machine { chips = m1.chips } → is_clx_ask ask ≡ false → MakesAccess ask 0 made m1 out m2 given → CanDo made
-    → StaysInPlace m1 m2 → StoresMade m1.t ask made m1.chip m2.chip → touch ≡ touch_of made → (CanDo made → IsInRange touch)
-    → noted ≡ with_access_touch m2.t touch f.log
-    → MakesItsAccess f (record f { machine = m2; log = noted }) seen seen out given
-makes_quietly f ask made touch m1 m2 noted seen out given asks asked same quiet makes able place stores by range notes first is =
+-- the foreground's access once its chips have asked, where it does not read CLXDAT
+pub makes_quietly : (f : ForeValue) (ask : Ask) (made : Made) (touch : Option Touch) (m2 : MachineValue) (noted : Log) (seen : RasterValue)
+    (out given : OutFilesValue) → HasAskedNow ask f → is_clx_ask ask ≡ false → MakesAccess ask 0 made f.machine out m2 given → CanDo made
+    → StaysInPlace f.machine m2 → StoresMade f.machine.t ask made f.machine.chip m2.chip → touch ≡ touch_of made → (CanDo made → IsInRange touch)
+    → noted ≡ with_access_touch m2.t touch f.log → MakesAskedAccess f (record f { machine = m2; log = noted }) seen seen out given
+makes_quietly f ask made touch m2 noted seen out given now quiet makes able place stores by range notes first logged =
     let c : ℕ = f.machine.t in
-    let t : m1.t ≡ c = ap (λ (m : MachineValue). m.t) same in
-    let count : m2.t ≡ c = place.t ∙ t in
-    let both = accessed_quietly f.run c first f.clx ask made touch f.machine m1 m2 f.log noted seen out given is (asks (access_state f.run c) is.machine)
-    (asked (access_state f.run c) is.machine) t (ap (λ (m : MachineValue). m.chip) same) quiet makes able stores by range
-    (notes ∙ ap (λ k. with_access_touch k touch f.log) count) in
+    let both = accessed_quietly f.run c first f.clx ask made touch f.machine m2 f.log noted seen out given logged now.asks now.asked refl quiet makes able
+    stores by range (notes ∙ ap (λ k. with_access_touch k touch f.log) place.t) in
     record {
       until = first;
-      behind = subst (λ k. IsBehindAccess f.run k first m2 noted f.clx seen) (sym count) both.0;
+      behind = subst (λ k. IsBehindAccess f.run k first m2 noted f.clx seen) (sym place.t) both.0;
       lines = both.1.stands.told.lines;
       trace = both.1.stands.told.trace;
       gives = given_more f.run first first seen seen out out given [] both.1.stands.told.lines (given_none f.run first seen out) both.1.stands.told.text;
@@ -313,10 +306,10 @@ logged_once_asked g m1 first seen is same =
     subst (λ k. IsLogged g.run k first m1.chip g.log g.clx seen) (sym (ap (λ (m : MachineValue). m.t) same))
     (subst (λ x. IsLogged g.run g.machine.t first x g.log g.clx seen) (sym (ap (λ (m : MachineValue). m.chip) same)) is.logged)
 
-pub reads_by_access : (f g new : ForeValue) (m1 : MachineValue) (ask : Ask) (seen after : RasterValue) (out given : OutFilesValue) → g ≡ f
-    → m1 ≡ record g.machine { chips = m1.chips } → MakesReadingAccess (record g { machine = m1 }) new seen after out given
+pub makes_by_access : (f g new : ForeValue) (m1 : MachineValue) (ask : Ask) (seen after : RasterValue) (out given : OutFilesValue) → g ≡ f
+    → m1 ≡ record g.machine { chips = m1.chips } → MakesAskedAccess (record g { machine = m1 }) new seen after out given
     → MakesItsAccess f new seen after out given
-reads_by_access f g new m1 ask seen after out given view same makes =
+makes_by_access f g new m1 ask seen after out given view same makes =
     subst (λ x. MakesItsAccess x new seen after out given) view (λ first is.
     let made : HasMadeAccess (record g { machine = m1 }) new first seen after out given = makes first (logged_once_asked g m1 first seen is same) in
     record {
@@ -339,30 +332,26 @@ reads_of_access f g m1 ask first reads seen view is asks same count =
     ∙ ap (λ (m : MachineValue). reads_more (bus_reads g.run g.machine.t) m.chip.reads) same)
 
 -- the lines of an access were given, also where memory was wanted for its touch
-pub lines_of_access : (f g : ForeValue) (m1 m2 : MachineValue) (ask : Ask) (made : Made) (first : ℕ) (seen : RasterValue) (out given : OutFilesValue)
-    → g ≡ f → IsBefore f first seen → ((s : State) → IsMachineOf g.machine s → ask ≡ ask_of s)
-    → ((s : State) → IsMachineOf g.machine s → HasAskedOf m1 s) → is_clx_ask ask ≡ false → MakesAccess ask 0 made m1 out m2 given → GivesLines out given
-lines_of_access f g m1 m2 ask made first seen out given view is asks asked quiet makes =
-    let so : IsBefore g first seen = subst (λ x. IsBefore x first seen) (sym view) is in
-    let has = made_from g.run g.machine.t 0 ask made m1 m2 out given (asks (access_state g.run g.machine.t) so.machine)
-    (asked (access_state g.run g.machine.t) so.machine) (λ read. absurd (true_false (sym read ∙ quiet))) makes in
+pub lines_of_access : (f g : ForeValue) (m2 : MachineValue) (ask : Ask) (made : Made) (out given : OutFilesValue) → g ≡ f → HasAskedNow ask f
+    → is_clx_ask ask ≡ false → MakesAccess ask 0 made g.machine out m2 given → GivesLines out given
+lines_of_access f g m2 ask made out given view now quiet makes =
+    let so : HasAskedNow ask g = subst (λ x. HasAskedNow ask x) (sym view) now in
+    let has = made_from g.run g.machine.t 0 ask made g.machine m2 out given so.asks so.asked (λ read. absurd (true_false (sym read ∙ quiet))) makes in
     (has.stands.told.lines, has.stands.told.text)
 
-pub makes_quietly_of : (f g : ForeValue) (ask : Ask) (made : Made) (touch : Option Touch) (m1 m2 : MachineValue) (noted : Log) (seen : RasterValue)
-    (out given : OutFilesValue) → g ≡ f
-    → ((s : State) → IsMachineOf g.machine s → ask ≡ ask_of s) → ((s : State) → IsMachineOf g.machine s → HasAskedOf m1 s)
-    → m1 ≡ record g.machine { chips = m1.chips } → is_clx_ask ask ≡ false → MakesAccess ask 0 made m1 out m2 given → CanDo made
-    → StaysInPlace m1 m2 → StoresMade m1.t ask made m1.chip m2.chip → touch ≡ touch_of made → (CanDo made → IsInRange touch)
-    → noted ≡ with_access_touch m2.t touch g.log → MakesItsAccess f (record g { machine = m2; log = noted }) seen seen out given
-makes_quietly_of f g ask made touch m1 m2 noted seen out given view asks asked same quiet makes able place stores by range notes =
-    subst (λ x. MakesItsAccess x (record g { machine = m2; log = noted }) seen seen out given) view
-    (makes_quietly g ask made touch m1 m2 noted seen out given asks asked same quiet makes able place stores by range notes)
+pub makes_quietly_of : (f g : ForeValue) (ask : Ask) (made : Made) (touch : Option Touch) (m2 : MachineValue) (noted : Log) (seen : RasterValue)
+    (out given : OutFilesValue) → g ≡ f → HasAskedNow ask f → is_clx_ask ask ≡ false → MakesAccess ask 0 made g.machine out m2 given → CanDo made
+    → StaysInPlace g.machine m2 → StoresMade g.machine.t ask made g.machine.chip m2.chip → touch ≡ touch_of made → (CanDo made → IsInRange touch)
+    → noted ≡ with_access_touch m2.t touch g.log → MakesAskedAccess f (record g { machine = m2; log = noted }) seen seen out given
+makes_quietly_of f g ask made touch m2 noted seen out given view now quiet makes able place stores by range notes =
+    subst (λ x. MakesAskedAccess x (record g { machine = m2; log = noted }) seen seen out given) view
+    (makes_quietly g ask made touch m2 noted seen out given (subst (λ x. HasAskedNow ask x) (sym view) now) quiet makes able place stores by range notes)
 
 pub makes_with_read_of : (f f1 g : ForeValue) (bits : ℕ) (ask : Ask) (made : Made) (m2 : MachineValue) (seen after : RasterValue)
     (out between given : OutFilesValue)
     → g ≡ f1 → ReadsBits true f f1 bits seen after out between → HasAskedNow ask f → is_clx_ask ask ≡ true
     → MakesAccess ask bits made g.machine between m2 given → StaysInPlace g.machine m2 → StoresMade g.machine.t ask made g.machine.chip m2.chip
-    → MakesReadingAccess f (record g { machine = m2 }) seen after out given
+    → MakesAskedAccess f (record g { machine = m2 }) seen after out given
 makes_with_read_of f f1 g bits ask made m2 seen after out between given view reads now is makes place stores first logged =
     makes_with_read f g first bits ask made m2 seen after out between given
     (subst (λ x. HasReadByAccess f x first bits seen after out between) (sym view) (reads first logged)) now.asks now.asked is makes place stores
@@ -382,12 +371,10 @@ part_of_read f f1 bits seen after out between given reads same first logged =
 pub before_view : (f g : ForeValue) (first : ℕ) (seen : RasterValue) → g ≡ f → IsBefore f first seen → IsBefore g first seen
 before_view f g first seen view is = subst (λ x. IsBefore x first seen) (sym view) is
 
-pub some_state_asked : (f g : ForeValue) (m1 : MachineValue) (ask : Ask) (first : ℕ) (seen : RasterValue) → g ≡ f → IsBefore f first seen
-    → ((s : State) → IsMachineOf g.machine s → ask ≡ ask_of s) → ((s : State) → IsMachineOf g.machine s → HasAskedOf m1 s)
-    → (s : State) × (ask ≡ ask_of s) × HasAskedOf m1 s
-some_state_asked f g m1 ask first seen view is asks asked =
-    let so : IsBefore g first seen = before_view f g first seen view is in
-    (access_state g.run g.machine.t, asks (access_state g.run g.machine.t) so.machine, asked (access_state g.run g.machine.t) so.machine)
+pub some_state_asked : (f g : ForeValue) (ask : Ask) → g ≡ f → HasAskedNow ask f → (s : State) × (ask ≡ ask_of s) × HasAskedOf g.machine s
+some_state_asked f g ask view now =
+    let so : HasAskedNow ask g = subst (λ x. HasAskedNow ask x) (sym view) now in
+    (access_state g.run g.machine.t, so.asks, so.asked)
 
 -- what holds whatever was answered holds after a refusal
 pub on_err : {T E P : Type 0} (r : Result T E) → P → OnErr r P

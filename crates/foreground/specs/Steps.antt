@@ -103,9 +103,9 @@ pub record HasMadeAccess (old new : ForeValue) (first : ℕ) (seen after : Raste
 abbrev pub MakesItsAccess : ForeValue → ForeValue → RasterValue → RasterValue → OutFilesValue → OutFilesValue → Type 0
 MakesItsAccess old new seen after out given = (first : ℕ) → IsBefore old first seen → HasMadeAccess old new first seen after out given
 
--- the same of an access that reads CLXDAT, once its chips have asked
-abbrev pub MakesReadingAccess : ForeValue → ForeValue → RasterValue → RasterValue → OutFilesValue → OutFilesValue → Type 0
-MakesReadingAccess old new seen after out given =
+-- the same once its chips have asked
+abbrev pub MakesAskedAccess : ForeValue → ForeValue → RasterValue → RasterValue → OutFilesValue → OutFilesValue → Type 0
+MakesAskedAccess old new seen after out given =
     (first : ℕ) → IsLoggedBefore old first seen → HasMadeAccess old new first seen after out given
 
 -- the steps behind the access: it stands at the start of the next clock

@@ -7,6 +7,7 @@ ghost use Rattle.serial_bands.specs.Bands.{has_clx_read};
 ghost use Rattle.serial_bands.specs.BusReads.{bus_reads, reads_of_ask};
 ghost use Rattle.chip_set.specs.AskLaws.{is_clx_ask as is_clx_asked};
 ghost use Rattle.chip_set.specs.Chips.{CanAsk, IsBlitAsk, kept_wish};
+ghost use Rattle.band_log.specs.Raster.{RasterValue};
 ghost use Rattle.foreground.specs.Out.{GivesLines};
 ghost use Rattle.foreground.specs.Machine.{KeepsPlace};
 ghost use Rattle.foreground.specs.Log.{with_script_touches};
@@ -14,7 +15,7 @@ ghost use Rattle.foreground.specs.Script.{IsMachine, MakesEvents};
 ghost use Rattle.foreground.specs.Clock.{Rises};
 ghost use Rattle.foreground.specs.Fore.{over, HasScript, IsUnderway, Advances, GivesPart, is_done, looked_up};
 ghost use Rattle.foreground.specs.Steps.{IsBefore, IsLoggedBefore, HasScriptBehind, ReachesAccess, KeepsClock};
-ghost use Rattle.foreground.specs.Steps.{HasAskedNow, MakesItsAccess, MakesReadingAccess, AccessesPart, EndsClock, reads_more};
+ghost use Rattle.foreground.specs.Steps.{HasAskedNow, MakesItsAccess, MakesAskedAccess, AccessesPart, EndsClock, reads_more};
 
 use crate::fore::Fore;
 use crate::script::{reads_clxdat, run_script};
@@ -176,11 +177,61 @@ impl<S: Side> Fore<S> {
             (bus_reads (over S.seen self.old).run self.old.machine.t) self.old.machine.chip.reads }
     {
         let ask = self.machine.ask();
-        if is_clx_ask(&ask) {
-            let reading = ask;
-            return self.access_clxdat(&reading, raster, out);
+        self.access_asked(&ask, raster, out)
+    }
+
+    /// The access, once the chips have asked. The owners of most clocks stand apart: what follows is
+    /// then that of the one owner, and no ask is put in memory.
+    #[inline(always)]
+    fn access_asked<Q: Raster<S>>(
+        &mut self,
+        ask: &Ask,
+        raster: &mut Q,
+        out: &mut OutFiles,
+    ) -> Result<(), OutOfMemory>
+        requires logged { (first : ℕ) × IsLoggedBefore (over S.seen self.old) first
+            (Q.seen raster.old) }
+        requires asked { HasAskedNow ask.now (over S.seen self.old) }
+        requires able { CanAsk ask.now }
+        requires wish { IsBlitAsk ask.now (kept_wish self.old.machine.chips) }
+        requires room { self.old.machine.t + 1 < 2 ^ 64 }
+        ensures makes { OnOk result (MakesAskedAccess (over S.seen self.old)
+            (over S.seen self.new)
+            (Q.seen raster.old) (Q.seen raster.new) out.old out.new) }
+        ensures part { OnErr result (AccessesPart (over S.seen self.old)
+            (Q.seen raster.old) (Q.seen raster.new) out.old out.new) }
+        ensures kept { KeepsClock (over S.seen self.old) (over S.seen self.new) }
+        ensures reads { self.new.machine.chip.reads ≡ reads_more
+            (reads_of_ask ask.now) self.old.machine.chip.reads }
+    {
+        match *ask {
+            Ask::Free => self.make_access(&Ask::Free, out),
+            Ask::Plane { ask } => self.make_access(&Ask::Plane { ask }, out),
+            Ask::Sprite { ask } => self.make_access(&Ask::Sprite { ask }, out),
+            other if is_clx_ask(&other) => self.access_clxdat(&other, raster, out),
+            other => self.make_access(&other, out),
         }
-        let made = self.machine.answer(&ask, 0, out)?;
+    }
+
+    /// The access, which does not read CLXDAT.
+    #[inline(always)]
+    fn make_access(&mut self, ask: &Ask, out: &mut OutFiles) -> Result<(), OutOfMemory>
+        requires logged { (first : ℕ) × (seen : RasterValue) × IsLoggedBefore
+            (over S.seen self.old) first seen }
+        requires asked { HasAskedNow ask.now (over S.seen self.old) }
+        requires quiet { is_clx_asked ask.now ≡ false }
+        requires able { CanAsk ask.now }
+        requires wish { IsBlitAsk ask.now (kept_wish self.old.machine.chips) }
+        requires room { self.old.machine.t + 1 < 2 ^ 64 }
+        ensures makes { OnOk result ((seen : RasterValue) → MakesAskedAccess
+            (over S.seen self.old) (over S.seen self.new) seen seen out.old out.new) }
+        ensures part { OnErr result ((seen : RasterValue) → AccessesPart
+            (over S.seen self.old) seen seen out.old out.new) }
+        ensures kept { KeepsClock (over S.seen self.old) (over S.seen self.new) }
+        ensures reads { self.new.machine.chip.reads ≡ reads_more
+            (reads_of_ask ask.now) self.old.machine.chip.reads }
+    {
+        let made = self.machine.answer(ask, 0, out)?;
         let t = self.machine.t;
         self.log.note_access(t, &touch_of(&made))
     }
@@ -199,7 +250,7 @@ impl<S: Side> Fore<S> {
         requires read { is_clx_asked ask.now ≡ true }
         requires able { CanAsk ask.now }
         requires wish { IsBlitAsk ask.now (kept_wish self.old.machine.chips) }
-        ensures makes { OnOk result (MakesReadingAccess (over S.seen self.old)
+        ensures makes { OnOk result (MakesAskedAccess (over S.seen self.old)
             (over S.seen self.new)
             (Q.seen raster.old) (Q.seen raster.new) out.old out.new) }
         ensures part { OnErr result (AccessesPart (over S.seen self.old)

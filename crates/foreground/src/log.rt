@@ -102,7 +102,9 @@ impl Log {
         requires room { t + 1 < 2 ^ 64 }
         ensures { OnOk result (self.new ≡ with_access_touch t touch.now self.old) }
     {
-        self.waiting = None;
+        if self.waiting.is_some() {
+            self.waiting = None;
+        }
         let Some(touch) = touch else {
             return Ok(());
         };
@@ -235,6 +237,7 @@ fn make_write(d: &mut Denise, h: u16, waiting: &Option<Event>)
 }
 
 /// A touch at a clock as an event.
+#[inline(always)]
 fn event_at(t: u64, touch: &Touch) -> Event
     ensures { result ≡ event_of t touch.now }
 {

@@ -239,7 +239,7 @@ impl Painter {
     {
         if self.is_backdrop(beam.v, beam.h, *clx) {
             self.show_backdrop(into);
-            return system.shows(beam.v, beam.h);
+            return is_shown(system, beam);
         }
         self.show_any(system, beam, into, clx)
     }
@@ -311,7 +311,7 @@ impl Painter {
     {
         self.show_playfields(beam.v, beam.h, into);
         self.show_sprites(beam.v, beam.h, into, clx);
-        system.shows(beam.v, beam.h)
+        is_shown(system, beam)
     }
 
     /// The four pixels of a clock without sprites.
@@ -559,5 +559,17 @@ impl Painter {
         if do_playfields_meet(self.clxcon, first) || do_playfields_meet(self.clxcon, second) {
             *clx |= 1;
         }
+    }
+}
+
+/// Whether a frame's picture shows the beam's clock. Each system stands apart, so that its lines are
+/// constants.
+#[inline(always)]
+fn is_shown(system: System, beam: &Beam) -> bool
+    ensures { result ≡ is_visible system beam.now.v beam.now.h }
+{
+    match system {
+        System::Pal => System::Pal.shows(beam.v, beam.h),
+        System::Ntsc => System::Ntsc.shows(beam.v, beam.h),
     }
 }

@@ -1,7 +1,10 @@
-use Rattle.std.proofs.Common.{◌≡◌, refl, subst, sym, ap, ◌∙◌}
+use Rattle.std.proofs.Common.{◌≡◌, ℕ, List, Option, Some, None, is_some, refl, subst, sym, ap, ◌∙◌}
+use Rattle.ocs_base.specs.declared.beam.Beam.{Beam}
+use Rattle.serial_model.specs.declared.fetch.PlaneAsk.{PlaneAsk}
+use Rattle.serial_model.specs.declared.fetch.SpriteAsk.{SpriteAsk}
 use Rattle.serial_model.specs.State.{Chips}
 use Rattle.serial_model.specs.Bus.{ask_at}
-use Rattle.serial_model.specs.PlaneFetch.{move_planes}
+use Rattle.serial_model.specs.PlaneFetch.{units_at, move_planes, plane_ask, last_unit, IsLastUnit}
 use Rattle.serial_model.specs.Registers.{Registers}
 use Rattle.serial_model.specs.SpriteFetch.{kinds_at, sprite_ask, move_sprites}
 use Rattle.chip_set.specs.Chips.{WorkingChips, IsChipsOf, HasAsked, IsBlitAsk, kept_wish, plain_chips}
@@ -10,9 +13,25 @@ use Rattle.chip_set.proofs.AbleLaws.{ask_can}
 use Rattle.chip_set.proofs.AskLaws.{HasFetched, ask_is_at, has_asked, ask_is_of_blit}
 use Rattle.chip_set.proofs.chips.Chips.ask.Goals as goal
 
--- the chips before, and after the fetches had their steps
-abbrev before : goal.After-owner_ask → WorkingChips
-before c = record {
+-- the fetches had their steps, where the sprites are told whether a plane has the slot
+fetched : (b : Beam) (old mid : WorkingChips) (moved : Registers) (plane : Option PlaneAsk) (sprite : Option SpriteAsk) → IsLastUnit mid.last
+    → ((units : List ℕ) → old.last ≡ last_unit units → mid.last ≡ last_unit (units_at b old.registers units))
+    → plane ≡ plane_ask b.h old.registers mid.last → moved ≡ move_planes b.h mid.last old.registers → mid.kinds ≡ kinds_at b moved old.kinds
+    → sprite ≡ sprite_ask b.h moved mid.kinds (is_some plane) → mid.registers ≡ move_sprites b.h mid.kinds (is_some plane) moved
+    → mid ≡ record old { registers = mid.registers; last = mid.last; kinds = mid.kinds } → HasFetched b old mid plane sprite
+fetched b old mid moved plane sprite begun units asks moves kinds sprites registers rest = record {
+  begun = begun;
+  units = units;
+  plane_ask = asks;
+  kinds = kinds ∙ ap (λ r. kinds_at b r old.kinds) moves;
+  sprite_ask = sprites ∙ ap (λ r. sprite_ask b.h r mid.kinds (is_some plane)) moves;
+  moved = registers ∙ ap (λ r. move_sprites b.h mid.kinds (is_some plane) r) moves;
+  rest = rest;
+}
+
+-- the chips before, and after the steps: where no plane fetches, and where one does
+abbrev before_free : goal.After-owner_ask → WorkingChips
+before_free c = record {
   registers = c.self.inside.registers;
   last = c.self.inside.fetcher;
   kinds = c.self.inside.sprites;
@@ -27,45 +46,82 @@ before c = record {
   inputs = c.self.inside.inputs;
 }
 
-abbrev between : goal.After-owner_ask → WorkingChips
-between c = record (before c) { registers = c.step-sprite.new.regs; last = c.step-plane.new.self; kinds = c.step-sprite.new.self }
+abbrev between_free : goal.After-owner_ask → WorkingChips
+between_free c = record (before_free c) { registers = c.step-sprite.new.regs; last = c.step-plane.new.self; kinds = c.step-sprite.new.self }
 
-abbrev fetched : goal.After-owner_ask → Registers
-fetched c = move_planes c.args.beam.now.h c.step-plane.new.self c.self.inside.registers
+free : (c : goal.After-owner_ask) → HasFetched c.args.beam.now (before_free c) (between_free c) None c.step-sprite.result
+free c =
+    fetched c.args.beam.now (before_free c) (between_free c) c.step-plane.new.regs None c.step-sprite.result c.step-plane.ensures.begun
+    c.step-plane.ensures.units (sym c.in_default.is ∙ c.step-plane.ensures.ask) c.step-plane.ensures.moved c.step-sprite.ensures.kinds
+    c.step-sprite.ensures.ask c.step-sprite.ensures.moved refl
 
-has_fetched : (c : goal.After-owner_ask) → HasFetched c.args.beam.now (before c) (between c) c.step-plane.result c.step-sprite.result
-has_fetched c = record {
-  begun = c.step-plane.ensures.begun;
-  units = c.step-plane.ensures.units;
-  plane_ask = c.step-plane.ensures.ask;
-  kinds = c.step-sprite.ensures.kinds ∙ ap (λ r. kinds_at c.args.beam.now r c.self.inside.sprites) c.step-plane.ensures.moved;
-  sprite_ask = c.step-sprite.ensures.ask
-      ∙ ap (λ r. sprite_ask c.args.beam.now.h r c.step-sprite.new.self c.is_some.result) c.step-plane.ensures.moved
-      ∙ ap (λ taken. sprite_ask c.args.beam.now.h (fetched c) c.step-sprite.new.self taken) c.is_some.ensures;
-  moved = c.step-sprite.ensures.moved
-      ∙ ap (λ r. move_sprites c.args.beam.now.h c.step-sprite.new.self c.is_some.result r) c.step-plane.ensures.moved
-      ∙ ap (λ taken. move_sprites c.args.beam.now.h c.step-sprite.new.self taken (fetched c)) c.is_some.ensures;
-  rest = refl;
+abbrev before_plane : goal.After-owner_ask-2 → WorkingChips
+before_plane c = record {
+  registers = c.self.inside.registers;
+  last = c.self.inside.fetcher;
+  kinds = c.self.inside.sprites;
+  copper = c.self.inside.copper;
+  blit = c.self.inside.blit;
+  zero = c.self.inside.zero;
+  irq = c.self.inside.irq;
+  processor = c.self.inside.processor;
+  missed = c.self.inside.missed;
+  cia_a = c.self.inside.cia_a;
+  cia_b = c.self.inside.cia_b;
+  inputs = c.self.inside.inputs;
 }
+
+abbrev between_plane : goal.After-owner_ask-2 → WorkingChips
+between_plane c = record (before_plane c) { registers = c.step-sprite-2.new.regs; last = c.step-plane.new.self; kinds = c.step-sprite-2.new.self }
+
+taken : (c : goal.After-owner_ask-2)
+    → HasFetched c.args.beam.now (before_plane c) (between_plane c) (Some c.in-Some.wish) c.step-sprite-2.result
+taken c =
+    fetched c.args.beam.now (before_plane c) (between_plane c) c.step-plane.new.regs (Some c.in-Some.wish) c.step-sprite-2.result
+    c.step-plane.ensures.begun c.step-plane.ensures.units (sym c.in-Some.is ∙ c.step-plane.ensures.ask) c.step-plane.ensures.moved
+    c.step-sprite-2.ensures.kinds c.step-sprite-2.ensures.ask c.step-sprite-2.ensures.moved refl
+
+pub returns-in_default-clause-ask : goal.returns-in_default-clause-ask
+returns-in_default-clause-ask c =
+    subst (λ old. (x : Chips) → IsChipsOf old x → c.owner_ask.result ≡ ask_at c.args.side c.args.beam.now x) c.self.view_is
+    (ask_is_at c.args.side c.args.beam.now c.owner_ask.result (before_free c) (between_free c) None c.step-sprite.result (free c)
+    c.owner_ask.ensures)
+
+pub returns-in_default-clause-chips : goal.returns-in_default-clause-chips
+returns-in_default-clause-chips c =
+    subst (λ old. (x : Chips) → IsChipsOf old x → HasAsked c.args.beam.now x (between_free c)) c.self.view_is
+    (has_asked c.args.beam.now (before_free c) (between_free c) None c.step-sprite.result (free c))
+
+pub returns-in_default-clause-able : goal.returns-in_default-clause-able
+returns-in_default-clause-able c =
+    ask_can c.args.side c.args.beam.now c.owner_ask.result (before_free c) (between_free c) None c.step-sprite.result (free c) c.owner_ask.ensures
+
+pub returns-in_default-clause-wish : goal.returns-in_default-clause-wish
+returns-in_default-clause-wish c =
+    subst (λ a. IsBlitAsk a (kept_wish (between_free c))) (sym c.owner_ask.ensures)
+    (ask_is_of_blit c.args.side c.args.beam.now None c.step-sprite.result (kept_wish (between_free c)) (wish_shown (between_free c).processor)
+    (plain_chips (between_free c)))
 
 pub returns-clause-ask : goal.returns-clause-ask
 returns-clause-ask c =
-    subst (λ old. (x : Chips) → IsChipsOf old x → c.owner_ask.result ≡ ask_at c.args.side c.args.beam.now x) c.self.view_is
-    (ask_is_at c.args.side c.args.beam.now c.owner_ask.result (before c) (between c) c.step-plane.result c.step-sprite.result (has_fetched c)
-    c.owner_ask.ensures)
+    subst (λ old. (x : Chips) → IsChipsOf old x → c.owner_ask-2.result ≡ ask_at c.args.side c.args.beam.now x) c.self.view_is
+    (ask_is_at c.args.side c.args.beam.now c.owner_ask-2.result (before_plane c) (between_plane c) (Some c.in-Some.wish) c.step-sprite-2.result
+    (taken c)
+    c.owner_ask-2.ensures)
 
 pub returns-clause-chips : goal.returns-clause-chips
 returns-clause-chips c =
-    subst (λ old. (x : Chips) → IsChipsOf old x → HasAsked c.args.beam.now x (between c)) c.self.view_is
-    (has_asked c.args.beam.now (before c) (between c) c.step-plane.result c.step-sprite.result (has_fetched c))
+    subst (λ old. (x : Chips) → IsChipsOf old x → HasAsked c.args.beam.now x (between_plane c)) c.self.view_is
+    (has_asked c.args.beam.now (before_plane c) (between_plane c) (Some c.in-Some.wish) c.step-sprite-2.result (taken c))
 
 pub returns-clause-able : goal.returns-clause-able
 returns-clause-able c =
-    ask_can c.args.side c.args.beam.now c.owner_ask.result (before c) (between c) c.step-plane.result c.step-sprite.result (has_fetched c)
-    c.owner_ask.ensures
+    ask_can c.args.side c.args.beam.now c.owner_ask-2.result (before_plane c) (between_plane c) (Some c.in-Some.wish) c.step-sprite-2.result (taken c)
+    c.owner_ask-2.ensures
 
 pub returns-clause-wish : goal.returns-clause-wish
 returns-clause-wish c =
-    subst (λ a. IsBlitAsk a (kept_wish (between c))) (sym c.owner_ask.ensures)
-    (ask_is_of_blit c.args.side c.args.beam.now c.step-plane.result c.step-sprite.result (kept_wish (between c)) (wish_shown (between c).processor)
-    (plain_chips (between c)))
+    subst (λ a. IsBlitAsk a (kept_wish (between_plane c))) (sym c.owner_ask-2.ensures)
+    (ask_is_of_blit c.args.side c.args.beam.now (Some c.in-Some.wish) c.step-sprite-2.result (kept_wish (between_plane c))
+    (wish_shown (between_plane c).processor)
+    (plain_chips (between_plane c)))

@@ -6,7 +6,7 @@ use Rattle.painter.proofs.painter.Painter.show.Goals as goal
 
 pub returns-then-is_backdrop-clause-pixels : goal.returns-then-is_backdrop-clause-pixels
 returns-then-is_backdrop-clause-pixels c p stands shown =
-    let visible : is_visible c.args.system c.args.beam.now.v c.args.beam.now.h ≡ true = sym c.shows.ensures ∙ shown in
+    let visible : is_visible c.args.system c.args.beam.now.v c.args.beam.now.h ≡ true = sym c.is_shown.ensures ∙ shown in
     backdrop_shown c.args.system c.args.beam.now.v c.args.beam.now.h c.args.self.now p c.show_backdrop.new.into stands
     (c.is_backdrop.ensures.idle c.if-is_backdrop.true) (c.is_backdrop.ensures.pixels c.if-is_backdrop.true p stands) visible
     c.show_backdrop.ensures.pixels

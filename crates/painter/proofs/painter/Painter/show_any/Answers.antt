@@ -11,7 +11,7 @@ returns-clause-pixels c p stands shown =
     let v = c.args.beam.now.v in
     let h = c.args.beam.now.h in
     let next : Denise = with_held (held_after c.args.beam.now.v c.args.beam.now.h 4 p) p in
-    let visible : is_visible c.args.system c.args.beam.now.v c.args.beam.now.h ≡ true = sym c.shows.ensures ∙ shown in
+    let visible : is_visible c.args.system c.args.beam.now.v c.args.beam.now.h ≡ true = sym c.is_shown.ensures ∙ shown in
     clock_shown c.args.system v h (held_after v h 4 p) p c.show_sprites.new.into c.show_playfields.new.into visible
     (c.show_playfields.ensures.pixels p stands)
     (c.show_sprites.ensures.pixels next (c.show_playfields.ensures.held p stands))
