@@ -69,6 +69,7 @@ class CopperText:
     open: Line | None = None
     skipped: bool = False
     past_255: bool = False
+    # the script lets the Copper write 040 to 07e too, by CDANG of COPCON
     danger: bool = False
 
     def read(self, text: str) -> None:
@@ -203,17 +204,15 @@ class CopperText:
         offset, whole = register(words[0])
         self.check_register(offset, line)
         halves = self.value(words[1], line, whole)
-        if offset == COPCON:
-            self.danger = bool(isinstance(halves[-1], int) and halves[-1] & 2)
         moved = [word for at, half in enumerate(halves) for word in (offset + 2 * at, half)]
         self.instruction(line, *moved, ends=offset in (0x088, COPJMP2))
 
     def check_register(self, offset: int, line: Line) -> None:
         """Refuses what would stop the Copper."""
-        if offset < 0x040 and offset != COPCON:
+        if offset < 0x040:
             raise ValueError(f"a move to the register {offset:03x} stops the Copper: it writes from 040 on")
-        if offset < 0x080 and offset != COPCON and not self.danger:
-            raise ValueError(f"a move to the register {offset:03x} stops the Copper unless 'move COPCON 2' went before")
+        if offset < 0x080 and not self.danger:
+            raise ValueError(f"a move to the register {offset:03x} stops the Copper unless a line 'danger' stands before it")
 
     def value(self, text: str, line: Line, whole: bool) -> list[Word]:
         """A word to move, or both halves of an address."""
@@ -223,6 +222,9 @@ class CopperText:
             number = hexadecimal(text, "address", self.chip - 1, line.names)
             return [number >> 16, number & 0xFFFF]
         return [hexadecimal(text, "word", 0xFFFF, line.names)]
+
+    def take_danger(self, line: Line, words: list[str]) -> None:
+        self.danger = True
 
     def take_jump(self, line: Line, words: list[str]) -> None:
         halves: list[Word] = []
@@ -302,7 +304,8 @@ class CopperText:
         """The script that starts the list."""
         assert self.start is not None
         high = [f"poke 080 {self.start >> 16:04x}"] if self.start >> 16 else []
-        pokes = [*high, f"poke 082 {self.start & 0xFFFF:04x}", "poke 088 0000", "poke 096 8280"]
+        danger = [f"poke {COPCON:03x} 0002"] if self.danger else []
+        pokes = [*danger, *high, f"poke 082 {self.start & 0xFFFF:04x}", "poke 088 0000", "poke 096 8280"]
         head = head_lines("off", self.frames, self.system, self.chip)
         return "\n".join([*head, *(f"at 0 0 0 {poke}" for poke in pokes), "end"]) + "\n"
 
@@ -327,6 +330,7 @@ WAYS = {
     "words": (1, 65536, "words WORD ..", CopperText.take_words),
     "at": (1, 1, "at ADDRESS", CopperText.take_at),
     "file": (1, 1, "file NAME", CopperText.take_file),
+    "danger": (0, 0, "danger", CopperText.take_danger),
     "frames": (1, 1, "frames N", CopperText.take_frames),
     "system": (1, 1, "system pal|ntsc", CopperText.take_system),
     "chip": (1, 1, "chip 512|1024", CopperText.take_chip),

@@ -24,7 +24,7 @@ TEXTS = {
     "move color1 FFF": "0182 0fff",
     "move 180 f00": "0180 0f00",
     "move BPL1PT 12345": "00e0 0001 00e2 2345",
-    "move COPCON 2\nmove BLTSIZE 41": "002e 0002 0058 0041",
+    "danger\nmove BLTSIZE 41": "0058 0041",
     "# nothing\n\n  move COLOR00 f00 ; red\n": "0180 0f00",
     "wait 255\nwait 256\nwait 300 2": "ff01 fffe ffdf fffe 0001 fffe 2c03 fffe",
     "wait 260\nskip 262\nmove COLOR00 1": "ffdf fffe 0401 fffe 0601 ff01 0180 0001",
@@ -58,7 +58,8 @@ FAULTS = {
     "move COLOR00 red": "there is no label 'red', and it is no number",
     "move 181 0": "the register 181 is odd",
     "move 03e 0": "a move to the register 03e stops the Copper: it writes from 040 on",
-    "move BLTSIZE 41": "a move to the register 058 stops the Copper unless",
+    "danger\nmove COPCON 2": "a move to the register 02e stops the Copper: it writes from 040 on",
+    "move BLTSIZE 41": "a move to the register 058 stops the Copper unless a line 'danger'",
     "colour 0 f00": "'colour' is none of wait, skip, move",
     "top:\ntop:": "line 2: the label 'top' is there already",
     "fade:": "the label 'fade' would be read as a number",
@@ -133,6 +134,11 @@ class CopperTest(Tools):
         self.assertEqual(words_at(image, 0x3000)[:4], "1234")
         head = SCRIPT.replace("at 0 0 0 poke 082 0100", "at 0 0 0 poke 080 0001\nat 0 0 0 poke 082 2000")
         self.assertEqual(made.script(), head)
+
+    def test_danger(self) -> None:
+        """The Copper cannot reach COPCON, which is below 040, so the script writes it before the list starts."""
+        script = read("danger\nmove BLTSIZE 41").script()
+        self.assertEqual(script, SCRIPT.replace("at 0 0 0 poke 082", "at 0 0 0 poke 02e 0002\nat 0 0 0 poke 082"))
 
     def test_ntsc(self) -> None:
         """A long field of NTSC ends with line 262; a script of version 3 names the system."""
