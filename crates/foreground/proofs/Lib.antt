@@ -24,3 +24,5 @@ pub mod CutLaws
 pub mod EmptyLaws
 pub mod ShownLaws
 pub mod Sizes
+pub mod SaveLaws
+pub mod SumLaws

@@ -11,3 +11,5 @@ pub mod Fore
 pub mod Cuts
 pub mod Steps
 pub mod RunTo
+pub mod Checkpoint
+pub mod Save

@@ -6,6 +6,7 @@
 mod advance;
 pub mod band;
 mod begin;
+pub mod checkpoint;
 mod clock;
 mod cuts;
 pub mod fore;
@@ -13,12 +14,15 @@ pub mod gather;
 pub mod laws;
 pub mod log;
 pub mod machine;
+mod memory_sum;
 mod reading;
 mod run_to;
+mod save;
 pub mod script;
 mod settle;
 pub mod shadow;
 pub mod shown_count;
 pub mod touches;
 
+pub use checkpoint::Checkpoint;
 pub use fore::Fore;

@@ -92,7 +92,7 @@ impl<S: Side> Machine<S> {
     }
 
     /// Third step: the timers of the CIAs tick at each fifth clock, the side ticks, and CIAs and
-    /// side request their interrupts.
+    /// side request their interrupts. A clock at which the side requests nothing stands apart.
     #[inline(always)]
     pub fn count_timers(&mut self)
         ensures step { MakesQuietly count_timers_of (machine_over S.seen self.old)
@@ -104,11 +104,16 @@ impl<S: Side> Machine<S> {
     {
         let dmacon = self.chips.dmacon();
         let bits = self.side.tick(&self.beam, dmacon);
-        self.chips.count_timers(self.t, bits);
+        if bits == 0 {
+            self.chips.count_timers(self.t, 0);
+        } else {
+            self.chips.count_timers(self.t, bits);
+        }
     }
 
     /// Fifth step, its beginning: what the owner of the slot asks for. The fetches of bitplanes and
-    /// sprites are done with it. `answer` is to be called next.
+    /// sprites are done with it. `answer` is to be called next. A clock at which the side asks for
+    /// nothing stands apart.
     #[inline(always)]
     pub fn ask(&mut self) -> Ask
         ensures ask { (s : State) → IsMachineOf (machine_over S.seen self.old) s → result ≡ ask_of
@@ -121,6 +126,9 @@ impl<S: Side> Machine<S> {
     {
         let dmacon = self.chips.dmacon();
         let wish = self.side.ask(&self.beam, dmacon);
+        if let SideAsk::Nothing = wish {
+            return self.chips.ask(&self.beam, SideAsk::Nothing);
+        }
         self.chips.ask(&self.beam, wish)
     }
 

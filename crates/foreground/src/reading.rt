@@ -134,7 +134,7 @@ impl<S: Side> Fore<S> {
 
 /// The clock of a line before this one. Where this is the first, the write that waits may be made at any: its
 /// load is of the line that has ended.
-fn clock_before(h: u16) -> u16
+pub(crate) fn clock_before(h: u16) -> u16
     ensures { result ≡ h - 1 }
 {
     h.saturating_sub(1)

@@ -3,6 +3,8 @@
 #![tactic(auto)]
 
 #[cfg(test)]
+mod clocks_gone_to;
+#[cfg(test)]
 mod copies;
 #[cfg(test)]
 mod rasters;

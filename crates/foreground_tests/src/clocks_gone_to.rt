@@ -1,0 +1,109 @@
+//! Clocks of a run that are gone to, forwards and back, from reset and from checkpoints. The expected
+//! places, words and sums are worked by hand.
+
+ghost use Rattle.std.specs.Prelude.{◌≡◌, IfOk};
+ghost use Rattle.ocs_base.specs.Limits.{IsRunnable};
+ghost use Rattle.ocs_base.specs.declared.chip_size.ChipSize.TheVariants.{Kib512};
+
+use band_log::Run;
+use ocs_base::{ChipSize, Script};
+use rewind_loop::{Arrived, Rewind};
+use script_read::read_script;
+use std::alloc::Global;
+use std::sync::Arc;
+use std::test::Fail;
+
+/// A script of three frames, for 512 KiB, that writes COLOR00 at clock 22,800, which is clock 100 of line
+/// 100, and at clock 77,861, which is the first of line 30 of frame 1.
+fn three_frames(alloc: Global) -> Result<Script, Fail>
+    ensures runnable { IfOk result IsRunnable }
+    ensures chip { IfOk result (λ script. script.chip ≡ Kib512) }
+{
+    let text =
+        b"ocs 1\ncpu off\nframes 3\nat 0 100 100 poke 180 0f00\nat 1 30 0 poke 180 00f0\nend\n";
+    let script = read_script(alloc, text)?;
+    match script.chip_size() {
+        ChipSize::Kib512 => Ok(script),
+        ChipSize::Mib1 => Err(Fail::from("a script of version 1 is for 512 KiB")),
+    }
+}
+
+/// What is told of clocks of its run, of which the checkpoints of the latest two frames are kept. The memory
+/// has the words 1234 and 1.
+fn told_of(alloc: Global, clocks: &[u64]) -> Result<Vec<Arrived>, Fail> {
+    let script = three_frames(alloc)?;
+    let image = Vec::from_slice(alloc, &[0x12, 0x34, 0, 1, 0, 0, 0, 0])?;
+    let run = Arc::new(alloc, Run::new(image, script, 313))?;
+    let mut rewind = Rewind::new(alloc, run, 1, 2)?;
+    let told = rewind.go_all(clocks)?;
+    Ok(told)
+}
+
+/// The clock that was gone to, and from where; zeros where there is none.
+fn clocks_of(told: &[Arrived], place: usize) -> (u64, u64) {
+    match told.get(place) {
+        Some(arrived) => (arrived.at, arrived.from),
+        None => (0, 0),
+    }
+}
+
+/// Frame, line and clock of the line.
+fn beam_of(told: &[Arrived], place: usize) -> (u32, u16, u16) {
+    match told.get(place) {
+        Some(arrived) => (arrived.beam.frame, arrived.beam.v, arrived.beam.h),
+        None => (0, 0, 0),
+    }
+}
+
+/// COLOR00, and the sum of the memory.
+fn words_of(told: &[Arrived], place: usize) -> (u16, u64) {
+    match told.get(place) {
+        Some(arrived) => (arrived.colour, arrived.sum),
+        None => (0, 0),
+    }
+}
+
+/// Of frames 0, 1 and 2 the last two checkpoints are left, at 71,051 and 142,102: below them the run begins
+/// anew, and from 22,800 to 22,801 it goes on.
+#[test]
+fn from_checkpoints_and_from_reset(rt: HostRuntime) -> Result<(), Fail> {
+    let told = told_of(rt.alloc(), &[150_000, 80_000, 22_800, 22_801])?;
+    let told = told.as_slice();
+    assert_eq!(rt; clocks_of(told, 0), (150_000, 0));
+    assert_eq!(rt; clocks_of(told, 1), (80_000, 71_051));
+    assert_eq!(rt; clocks_of(told, 2), (22_800, 0));
+    assert_eq!(rt; clocks_of(told, 3), (22_801, 22_800));
+    assert_eq!(rt; beam_of(told, 0), (2, 34, 180));
+    assert_eq!(rt; beam_of(told, 1), (1, 39, 96));
+    assert_eq!(rt; beam_of(told, 2), (0, 100, 100));
+    assert_eq!(rt; words_of(told, 2), (0, 4661));
+    assert_eq!(rt; words_of(told, 3), (0x0f00, 4661));
+    Ok(())
+}
+
+/// A run that goes on from a checkpoint comes to the states of the one that was never left.
+#[test]
+fn a_loaded_run_goes_on(rt: HostRuntime) -> Result<(), Fail> {
+    let told = told_of(rt.alloc(), &[80_000, 75_000, 80_000])?;
+    let told = told.as_slice();
+    assert_eq!(rt; clocks_of(told, 1), (75_000, 71_051));
+    assert_eq!(rt; words_of(told, 1), (0x0f00, 4661));
+    assert_eq!(rt; clocks_of(told, 2), (80_000, 75_000));
+    assert_eq!(rt; words_of(told, 2), (0x00f0, 4661));
+    assert_eq!(rt; words_of(told, 0), (0x00f0, 4661));
+    assert_eq!(rt; beam_of(told, 2), (1, 39, 96));
+    assert_eq!(rt; beam_of(told, 0), (1, 39, 96));
+    Ok(())
+}
+
+/// Behind the run's end there is its last state, from wherever it was reached.
+#[test]
+fn the_end_of_the_run(rt: HostRuntime) -> Result<(), Fail> {
+    let told = told_of(rt.alloc(), &[1_000_000, 213_152])?;
+    let told = told.as_slice();
+    assert_eq!(rt; clocks_of(told, 0), (213_153, 0));
+    assert_eq!(rt; beam_of(told, 0), (3, 0, 0));
+    assert_eq!(rt; clocks_of(told, 1), (213_152, 142_102));
+    assert_eq!(rt; beam_of(told, 1), (2, 312, 226));
+    Ok(())
+}

@@ -1,0 +1,5 @@
+pub mod ClockLaws
+pub mod PlaceLaws
+pub mod PresentLaws
+pub mod BackLaws
+pub mod GoLaws

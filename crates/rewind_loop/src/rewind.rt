@@ -1,0 +1,243 @@
+//! The run and its ring of checkpoints, and how clocks are gone to.
+
+ghost use Rattle.std.specs.Prelude.{◌≡◌, ◌≤◌, ◌+◌, ℕ, true, false, [], map, IfOk, OnOk};
+ghost use Rattle.std.specs.Arc.{arc_value};
+ghost use Rattle.serial_bands.specs.Run.{IsEndOf};
+ghost use Rattle.foreground.specs.Fore.{is_done};
+ghost use Rattle.rewind_loop.specs.Places.{Place, first_place, is_due as due_of, due_in, is_that, last_of, visited};
+ghost use Rattle.rewind_loop.specs.Places.{reached_from, run_to as ran_to, gone_to, arrival_at, arrivals};
+ghost use Rattle.rewind_loop.specs.Present.{IsPresent, run_in, fore_of, told_of};
+
+use crate::arrived::Arrived;
+use band_draw::Direct;
+use band_log::Run;
+use foreground::{Checkpoint, Fore};
+use ocs_base::offset::{COLOR00, DMACON};
+use ocs_base::{Beam, Clock, OutOfMemory, Reg};
+use ocs_rewind::Ring;
+use out_files::OutFiles;
+use serial_model::NoSide;
+use std::alloc::Global;
+use std::sync::Arc;
+
+/// A run without a side, at some clock of it, with its latest checkpoints.
+#[derive(Drop)]
+pub struct Rewind {
+    alloc: Global,
+    run: Arc<Run<NoSide>>,
+    /// Of every how many frames one begins with a checkpoint.
+    every: u32,
+    fore: Fore<NoSide>,
+    raster: Direct<NoSide>,
+    ring: Ring<Checkpoint<NoSide>>,
+    /// What the foreground is given for its texts, anew with each frame; nobody reads it.
+    out: OutFiles,
+}
+
+impl Rewind {
+    /// A run at its reset. Each frame whose number is a multiple of `every` will begin with a checkpoint; of
+    /// these the latest `keep` are kept.
+    pub fn new(
+        alloc: Global,
+        run: Arc<Run<NoSide>>,
+        every: u32,
+        keep: usize,
+    ) -> Result<Rewind, OutOfMemory>
+        requires every { 1 ≤ every }
+        requires keep { 1 ≤ keep }
+        ensures run { IfOk result (λ rewind. arc_value rewind.run ≡ arc_value run) }
+        ensures every { IfOk result (λ rewind. rewind.every ≡ every) }
+        ensures first { IfOk result (IsPresent keep first_place) }
+    {
+        Ok(Rewind {
+            alloc,
+            run: Arc::try_clone(&run)?,
+            every,
+            fore: Fore::new(alloc, run)?,
+            raster: Direct::new(alloc)?,
+            ring: Ring::new(alloc, keep)?,
+            out: unread_files(alloc)?,
+        })
+    }
+
+    /// Whether the last checkpoint is of the present clock.
+    fn is_kept(&self) -> bool
+        requires { (keep : ℕ) × (p : Place) × IsPresent keep p self.now }
+        ensures { (keep : ℕ) (p : Place) → IsPresent keep p self.now
+            → result ≡ is_that p.now (last_of p.ring) }
+    {
+        match self.ring.best(Clock(self.fore.clocks())) {
+            Some((at, _)) => at.0 == self.fore.clocks(),
+            None => false,
+        }
+    }
+
+    /// The present clock is visited: where a checkpoint is due and the last one is not of this clock, one is
+    /// pushed.
+    fn visit(&mut self) -> Result<(), OutOfMemory>
+        requires every { 1 ≤ self.old.every }
+        requires at { (keep : ℕ) × (p : Place) × IsPresent keep p self.old }
+        ensures run { self.new.run ≡ self.old.run }
+        ensures every { self.new.every ≡ self.old.every }
+        ensures visits { OnOk result ((keep : ℕ) (p : Place) → IsPresent keep p self.old
+            → IsPresent keep (record p {
+              ring = visited (due_in (run_in self.old) self.old.every) keep p.now p.ring;
+            }) self.new) }
+    {
+        if !is_due(&self.fore.beam(), self.every) {
+            return Ok(());
+        }
+        if self.is_kept() {
+            return Ok(());
+        }
+        let kept = self.fore.save(&mut self.raster, &mut self.out)?;
+        self.ring.push(Clock(self.fore.clocks()), kept);
+        Ok(())
+    }
+
+    /// Goes to a clock of the run, or to its end where that comes before it: forwards from the present clock,
+    /// or from the best checkpoint, or from reset. The answer tells the state there.
+    pub fn go_to(&mut self, clock: u64) -> Result<Arrived, OutOfMemory>
+        requires every { 1 ≤ self.old.every }
+        requires at { (keep : ℕ) × (p : Place) × IsPresent keep p self.old }
+        ensures run { self.new.run ≡ self.old.run }
+        ensures every { self.new.every ≡ self.old.every }
+        ensures stands { OnOk result ((keep : ℕ) × (p : Place) × IsPresent keep p self.new) }
+        ensures goes { OnOk result ((keep end : ℕ) (p : Place) → IsPresent keep p self.old
+            → IsEndOf (run_in self.old) end → IsPresent keep
+            (gone_to (due_in (run_in self.old) self.old.every) keep end clock p) self.new) }
+        ensures arrives { IfOk result (λ arrived. (keep end : ℕ) (p : Place)
+            → IsPresent keep p self.old → IsEndOf (run_in self.old) end
+            → arrived ≡ told_of (run_in self.old) (arrival_at end clock p)) }
+    {
+        self.go_back(clock)?;
+        let from = self.fore.clocks();
+        self.run_to(clock)?;
+        Ok(self.tell(from))
+    }
+
+    /// Where the present clock is above one, the run goes back: to the best checkpoint for it, and the later
+    /// ones are dropped, or to reset.
+    fn go_back(&mut self, clock: u64) -> Result<(), OutOfMemory>
+        requires at { (keep : ℕ) × (p : Place) × IsPresent keep p self.old }
+        ensures run { self.new.run ≡ self.old.run }
+        ensures every { self.new.every ≡ self.old.every }
+        ensures back { OnOk result ((keep : ℕ) (p : Place) → IsPresent keep p self.old
+            → IsPresent keep (reached_from clock p) self.new) }
+    {
+        if self.fore.clocks() <= clock {
+            return Ok(());
+        }
+        match self.ring.best(Clock(clock)) {
+            Some((_, kept)) => {
+                self.fore = Fore::load(self.alloc, Arc::try_clone(&self.run)?, kept)?;
+                self.raster = Direct::starting(self.alloc, kept.band())?;
+                self.ring.cut_after(Clock(clock));
+                Ok(())
+            }
+            None => {
+                self.fore = Fore::new(self.alloc, Arc::try_clone(&self.run)?)?;
+                self.raster = Direct::new(self.alloc)?;
+                self.ring.cut_after(Clock(clock));
+                Ok(())
+            }
+        }
+    }
+
+    /// The run goes on to a clock that is not below the present one, or to its end; each clock is visited.
+    fn run_to(&mut self, clock: u64) -> Result<(), OutOfMemory>
+        requires every { 1 ≤ self.old.every }
+        requires at { (keep : ℕ) × (p : Place) × IsPresent keep p self.old × (p.now ≤ clock) }
+        ensures run { self.new.run ≡ self.old.run }
+        ensures every { self.new.every ≡ self.old.every }
+        ensures stands { OnOk result ((keep : ℕ) × (p : Place) × IsPresent keep p self.new) }
+        ensures runs { OnOk result ((keep end : ℕ) (p : Place) → IsPresent keep p self.old
+            → IsEndOf (run_in self.old) end → IsPresent keep
+            (ran_to (due_in (run_in self.old) self.old.every) keep end clock p) self.new) }
+    {
+        self.visit()?;
+        while self.fore.clocks() < clock && !self.fore.done() {
+            self.advance()?;
+            self.visit()?;
+        }
+        Ok(())
+    }
+
+    /// One clock.
+    fn advance(&mut self) -> Result<(), OutOfMemory>
+        requires at { (keep : ℕ) × (p : Place) × IsPresent keep p self.old }
+        requires running { is_done (fore_of self.old.fore) ≡ false }
+        ensures run { self.new.run ≡ self.old.run }
+        ensures every { self.new.every ≡ self.old.every }
+        ensures clock { OnOk result ((keep : ℕ) (p : Place) → IsPresent keep p self.old
+            → IsPresent keep (record p { now = p.now + 1 }) self.new) }
+    {
+        renew_at_frame(self.alloc, &self.fore.beam(), &mut self.out)?;
+        self.fore.advance(&mut self.raster, &mut self.out)?;
+        Ok(())
+    }
+
+    /// What is told of the present clock, which was reached from another.
+    fn tell(&mut self, from: u64) -> Arrived
+        requires { (keep : ℕ) × (p : Place) × IsPresent keep p self.old }
+        ensures same { (keep : ℕ) (p : Place) → IsPresent keep p self.old
+            → IsPresent keep p self.new }
+        ensures run { self.new.run ≡ self.old.run }
+        ensures every { self.new.every ≡ self.old.every }
+        ensures told { (keep : ℕ) (p : Place) → IsPresent keep p self.old
+            → result ≡ told_of (run_in self.old) (record { at = p.now; from = from }) }
+    {
+        let registers = self.fore.regs();
+        let dmacon = registers.word(Reg::masked(DMACON));
+        let colour = registers.word(Reg::masked(COLOR00));
+        Arrived {
+            at: self.fore.clocks(),
+            from,
+            beam: self.fore.beam(),
+            dmacon,
+            colour,
+            sum: self.fore.sum(),
+        }
+    }
+
+    /// Goes to clocks in the order given, and tells of each.
+    pub fn go_all(&mut self, clocks: &[u64]) -> Result<Vec<Arrived>, OutOfMemory>
+        requires every { 1 ≤ self.old.every }
+        requires at { (keep : ℕ) × (p : Place) × IsPresent keep p self.old }
+        ensures { IfOk result (λ list. (keep end : ℕ) (p : Place)
+            → IsPresent keep p self.old → IsEndOf (run_in self.old) end
+            → list.items ≡ map (told_of (run_in self.old))
+            (arrivals (due_in (run_in self.old) self.old.every) keep end clocks.now p)) }
+    {
+        let mut list = Vec::new(self.alloc);
+        for clock in clocks {
+            list.push(self.go_to(*clock)?)?;
+        }
+        Ok(list)
+    }
+}
+
+/// Whether a checkpoint is due at a place of the beam: it begins a frame whose number is a multiple of
+/// `every`.
+fn is_due(beam: &Beam, every: u32) -> bool
+    requires { 1 ≤ every }
+    ensures { result ≡ due_of every beam.now }
+{
+    beam.v == 0 && beam.h == 0 && beam.frame % every == 0
+}
+
+/// Files that nobody reads, with nothing pending.
+fn unread_files(alloc: Global) -> Result<OutFiles, OutOfMemory> {
+    let frames = String::from_str(alloc, "f")?;
+    let trace = String::from_str(alloc, "t")?;
+    let memory = String::from_str(alloc, "m")?;
+    Ok(OutFiles::new(alloc, frames, trace, memory))
+}
+
+/// At the start of a frame the files are made anew: what was pending for the frame before is given up.
+fn renew_at_frame(alloc: Global, beam: &Beam, out: &mut OutFiles) -> Result<(), OutOfMemory> {
+    if beam.v == 0 && beam.h == 0 {
+        *out = unread_files(alloc)?;
+    }
+    Ok(())
+}

@@ -1,0 +1,55 @@
+//! A ring of the latest states; the expected entries are worked by hand.
+
+ghost use Rattle.std.specs.Prelude.{◌≡◌, ◌∷◌, [], IfOk};
+
+use ocs_base::{Clock, OutOfMemory};
+use ocs_rewind::Ring;
+use std::alloc::Global;
+
+/// A ring of two after pushes at clocks 1, 2 and 3.
+fn after_three_pushes(alloc: Global) -> Result<Ring<u32>, OutOfMemory>
+    ensures { IfOk result (λ ring. ring ≡ record {
+      entries =
+          record { at = record { 0 = 2 }; state = 20 }
+          ∷ record { at = record { 0 = 3 }; state = 30 } ∷ [];
+      keep = 2;
+    }) }
+{
+    let mut ring = Ring::new(alloc, 2)?;
+    ring.push(Clock(1), 10);
+    ring.push(Clock(2), 20);
+    ring.push(Clock(3), 30);
+    Ok(ring)
+}
+
+/// The clock and the state of the best entry, 0 and 0 where there is none.
+fn best_of(ring: &Ring<u32>, clock: u64) -> (u64, u32) {
+    match ring.best(Clock(clock)) {
+        Some((at, state)) => (at.0, *state),
+        None => (0, 0),
+    }
+}
+
+/// The oldest entry of a full ring went.
+#[test]
+fn the_best_for_a_clock(rt: HostRuntime) -> Result<(), OutOfMemory> {
+    let ring = after_three_pushes(rt.alloc())?;
+    assert!(rt; ring.best(Clock(1)).is_none());
+    assert_eq!(rt; best_of(&ring, 2), (2, 20));
+    assert_eq!(rt; best_of(&ring, 3), (3, 30));
+    assert_eq!(rt; best_of(&ring, 9), (3, 30));
+    Ok(())
+}
+
+#[test]
+fn a_ring_is_cut(rt: HostRuntime) -> Result<(), OutOfMemory> {
+    let mut ring = after_three_pushes(rt.alloc())?;
+    ring.cut_after(Clock(2));
+    assert_eq!(rt; best_of(&ring, 9), (2, 20));
+    ring.push(Clock(7), 70);
+    assert_eq!(rt; best_of(&ring, 6), (2, 20));
+    assert_eq!(rt; best_of(&ring, 9), (7, 70));
+    ring.cut_after(Clock(0));
+    assert!(rt; ring.best(Clock(9)).is_none());
+    Ok(())
+}
