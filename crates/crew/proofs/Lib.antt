@@ -3,3 +3,4 @@ mod Gathering
 mod Counting
 mod Marks
 mod Ending
+mod Drawing

@@ -2,8 +2,9 @@
 use Rattle.std.specs.Prelude.{◌≡◌, ◌<◌, ◌^◌, [], Some}
 use Rattle.std.proofs.Common.{lit<}
 use Rattle.std.specs.Arc.{arc_value}
-use Rattle.serial_model.specs.Side.{SideValue, no_side}
-use Rattle.serial_model.specs.declared.side.NoSide.{NoSide}
+use Rattle.run_side.specs.Side.{side_of}
+use Rattle.run_side.specs.declared.side.RunSide.{RunSide}
+use Rattle.serial_model.specs.Side.{SideValue}
 use Rattle.serial_bands.specs.Run.{RunValue}
 use Rattle.band_log.specs.Raster.{RasterValue}
 use Rattle.band_board.specs.Answers.{front_view}
@@ -11,8 +12,8 @@ use Rattle.crew.specs.declared.crew.Crew.{Crew}
 use Rattle.crew.specs.Parts.{seen_of}
 
 -- what a side of a crew's runs does
-abbrev pub side_seen : NoSide → SideValue
-side_seen side = no_side
+abbrev pub side_seen : RunSide → SideValue
+side_seen side = side_of side
 
 module _ {R G : Type 0} where
   -- the crew as a raster

@@ -14,7 +14,7 @@ use std::sync::atomic::{AtomicU64, Ordering};
 fn small_run(alloc: Global) -> Result<Run<CrewSide>, OutOfMemory> {
     let mut image = Vec::new(alloc);
     image.resize(8, 7)?;
-    Ok(Run::new(image, Script::new(alloc, true, 2), 20))
+    Ok(Run::over(image, Script::new(alloc, true, 2), 20, CrewSide::Nothing))
 }
 
 /// How many bands are outstanding, whatever draws them.

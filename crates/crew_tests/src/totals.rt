@@ -1,22 +1,22 @@
 //! Who draws the bands of a run over a crew: a worker that does not wait to be collected, or the crew itself.
 
-ghost use Rattle.std.specs.Prelude.{◌≡◌, ◌≤◌, OnOk};
+ghost use Rattle.std.specs.Prelude.{◌≡◌, ◌≤◌, OnOk, IfOk};
 ghost use Rattle.std.specs.Arc.{arc_value};
 ghost use Rattle.ocs_base.specs.Image.{is_image as good_image, fits_chip};
-ghost use Rattle.crew.specs.Crew.{crew_seen};
+ghost use Rattle.serial_model.specs.Side.{no_side};
+ghost use Rattle.crew.specs.Crew.{crew_seen, side_seen};
 ghost use Rattle.foreground.specs.Fore.{IsNew};
 ghost use Rattle.ocs_run.specs.Underway.{fore_of, run_of, CanRun};
 
 use crate::bars::{BANDS, SCRIPT, image, shows_bars};
 use crate::told::{Told, Watch};
 use band_log::{Raster, Run};
-use crew::{Crew, Totals, with_crew};
+use crew::{Crew, CrewSide, Totals, with_crew};
 use foreground::Fore;
 use ocs_base::{OutOfMemory, Script};
 use ocs_io::Shelf;
 use out_files::OutFiles;
 use script_read::read_script;
-use serial_model::NoSide;
 use std::alloc::Global;
 use std::sync::atomic::Ordering;
 use std::sync::{Arc, Wait};
@@ -24,15 +24,15 @@ use std::test::Fail;
 use std::thread::Threads;
 
 /// Where a band is outstanding it may wait until band 0 is about to be drawn.
-fn wait_if_outstanding<Q: Raster<NoSide>>(raster: &Q, told: &Told, waits: bool) {
+fn wait_if_outstanding<Q: Raster<CrewSide>>(raster: &Q, told: &Told, waits: bool) {
     if waits && raster.outstanding() == 1 {
         told.wait_for(&told.first);
     }
 }
 
 /// Does all clocks of a run, and gathers the bands that are left. After each line it may wait.
-fn run_clocks<Q: Raster<NoSide>>(
-    fore: &mut Fore<NoSide>,
+fn run_clocks<Q: Raster<CrewSide>>(
+    fore: &mut Fore<CrewSide>,
     raster: &mut Q,
     out: &mut OutFiles,
     told: &Told,
@@ -67,8 +67,8 @@ fn draw_over_crew<R: Threads + Wait + Clone + Drop + Send + Sync + 'static>(
     workers: u8,
     told: &Arc<Told>,
     waits: bool,
-    run: Arc<Run<NoSide>>,
-    fore: &mut Fore<NoSide>,
+    run: Arc<Run<CrewSide>>,
+    fore: &mut Fore<CrewSide>,
     out: &mut OutFiles,
 ) -> Result<Totals, OutOfMemory>
     requires workers { workers ≤ 32 }
@@ -104,13 +104,15 @@ fn fits(image: &[u8], script: &Script) -> bool
 }
 
 /// The bars' run in bands of 20 lines.
-fn run_of_bars(alloc: Global) -> Result<Arc<Run<NoSide>>, Fail> {
+fn run_of_bars(alloc: Global) -> Result<Arc<Run<CrewSide>>, Fail>
+    ensures { IfOk result (λ run. side_seen (arc_value run).side ≡ no_side) }
+{
     let script = read_script(alloc, SCRIPT.as_bytes())?;
     let image = image(alloc)?;
     if !is_image(&image) || !fits(&image, &script) {
         return Err(Fail::from("image"));
     }
-    Ok(Arc::new(alloc, Run::new(image, script, 20))?)
+    Ok(Arc::new(alloc, Run::over(image, script, 20, CrewSide::Nothing))?)
 }
 
 /// A shelf with the files of a run.
@@ -133,7 +135,7 @@ fn run_over_crew<R: Threads + Wait + Clone + Drop + Send + Sync + 'static>(
     requires { workers ≤ 32 }
 {
     let run = run_of_bars(alloc)?;
-    let mut fore = Fore::new(alloc, Arc::try_clone(&run)?)?;
+    let mut fore = Fore::with_side(alloc, Arc::try_clone(&run)?, CrewSide::Nothing)?;
     let mut out = out_files(alloc)?;
     let totals = draw_over_crew(rt, alloc, workers, told, waits, run, &mut fore, &mut out)?;
     Ok((shelf_with(alloc, out)?, totals))

@@ -1,7 +1,8 @@
 -- A disk fits the chip memory that its pointer is an address of.
 use Rattle.std.proofs.Common.{◌≡◌, refl, sym, ap, subst, ◌∙◌, ℕ, Bool, true, false, if◌then◌else◌, List, [], ◌∷◌, ◌%◌}
 use Rattle.disk_dma.specs.Disk.{DiskValue, new_disk, after_end, after_begin, after_length, with_length, with_high_half}
-use Rattle.disk_dma.specs.Disk.{with_low_half, disk_write, is_arrival, word_at_head, after_arrival, join_if_taken, with_control, with_joined, after_last, after_one}
+use Rattle.disk_dma.specs.Disk.{with_low_half, disk_write, is_arrival, word_at_head, after_arrival, join_if_taken}
+use Rattle.disk_dma.specs.Disk.{with_control, with_joined, after_last, after_one}
 use Rattle.disk_dma.specs.Disk.{arrive_if_time, ask_first, disk_ask, with_queue}
 use Rattle.disk_dma.specs.Disk.{after_leave, disk_after, disk_side}
 use Rattle.ocs_base.specs.Sizes.{bytes_of, size_of_bytes}

@@ -28,7 +28,8 @@ impl Queue {
     /// The queue with a word at its end; as it is, where three words wait.
     pub fn with_word(self, word: u16) -> Queue
         ensures { words_in result
-            ≡ (if nat_lt (length (words_in self)) 3 then words_in self ++ word ∷ [] else words_in self) }
+            ≡ (if nat_lt (length (words_in self)) 3 then words_in self ++ word ∷ []
+            else words_in self) }
     {
         match self {
             Queue::Empty => Queue::One(word),

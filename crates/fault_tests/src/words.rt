@@ -16,6 +16,14 @@ fn usage_of_gen() -> &'static [u8] {
     b"usage: ocs gen N BAND WORKERS\n"
 }
 
+fn usage_of_sound() -> &'static [u8] {
+    b"usage: ocs sound IMAGE SCRIPT FRAMES TRACE MEMORY AUDIO BAND WORKERS\n"
+}
+
+fn usage_of_disk() -> &'static [u8] {
+    b"usage: ocs disk IMAGE SCRIPT FRAMES TRACE MEMORY TRACK BAND WORKERS\n"
+}
+
 /// Words that are no run: 33 workers; bands of no line, a leading zero, too many lines; six words; equal
 /// names; an empty name; another command; no word.
 fn no_run() -> [&'static str; 10] {
@@ -44,6 +52,24 @@ fn no_scene() -> [&'static str; 8] {
         "gen 0 20",
         "gen 0 20 0 0",
         "gen",
+    ]
+}
+
+/// Words that begin with `sound` and are not of its form: a name too few, two names that are one.
+fn no_sound() -> [&'static str; 3] {
+    [
+        "sound image script frames trace memory 313 2",
+        "sound image script frames trace memory memory 313 2",
+        "sound",
+    ]
+}
+
+/// Words that begin with `disk` and are not of its form: a name too few, two names that are one.
+fn no_disk() -> [&'static str; 3] {
+    [
+        "disk image script frames trace memory 313 2",
+        "disk image script frames trace memory image 313 2",
+        "disk",
     ]
 }
 
@@ -112,6 +138,12 @@ fn words_of_no_form(rt: HostRuntime) -> Result<(), Fail> {
     }
     for text in no_scene() {
         check_usage(&rt, alloc, text, usage_of_gen())?;
+    }
+    for text in no_sound() {
+        check_usage(&rt, alloc, text, usage_of_sound())?;
+    }
+    for text in no_disk() {
+        check_usage(&rt, alloc, text, usage_of_disk())?;
     }
     Ok(())
 }

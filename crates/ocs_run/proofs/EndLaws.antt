@@ -11,34 +11,44 @@ use Rattle.script_read.specs.Grammar.{script_of, Good as GoodScript, Bad as BadL
 use Rattle.script_read.proofs.RunnableLaws.{IsPrintable-script_of}
 use Rattle.serial_model.specs.Side.{no_side}
 use Rattle.serial_model.proofs.EndLaws.{has_end}
-use Rattle.ocs_run.specs.Order.{OrderValue}
+use Rattle.disk_dma.specs.Disk.{disk_side, new_disk}
+use Rattle.disk_dma.specs.Track.{is_track}
+use Rattle.paula_audio.specs.Paula.{paula_side, reset_paula}
+use Rattle.ocs_run.specs.Order.{OrderValue, ExtraValue, NoFile, AudioFile, TrackFile}
 use Rattle.ocs_run.specs.Top.{HasRunEnd}
-use Rattle.ocs_run.specs.Verdict.{BadImage, Good, of_script, of_text, of_image, of_order, of_command}
+use Rattle.ocs_run.specs.Verdict.{Verdict, of_track, of_extra, of_script, of_text, of_image, of_order, of_command}
 use Rattle.ocs_run.specs.Words.{CommandValue, Run, Gen}
 
-if_fits : (order : OrderValue) (image : List ℕ) (script : ScriptValue) (fits : Bool) → IsRunnable script
-    → HasRunEnd (if fits then Good image script order else BadImage)
-if_fits order image script true good = has_end no_side image script good
-if_fits order image script false good = tt
+if_ends : (good : Bool) (v w : Verdict) → HasRunEnd v → HasRunEnd w → HasRunEnd (if good then v else w)
+if_ends true v w first second = first
+if_ends false v w first second = second
 
-script_ends : (order : OrderValue) (image text : List ℕ) (verdict : ScriptVerdict) → script_of text ≡ verdict
-    → HasRunEnd (of_script order image verdict)
-script_ends order image text (GoodScript script) is =
-    if_fits order image script (fits_chip script.chip image) (IsPrintable-script_of text script is).runnable
-script_ends order image text (BadLine line kind) is = tt
+track_ends : (order : OrderValue) (image : List ℕ) (script : ScriptValue) (name : List ℕ) (track : Option (List ℕ)) → IsRunnable script
+    → HasRunEnd (of_track order image script name track)
+track_ends order image script name None good = tt
+track_ends order image script name (Some track) good =
+    if_ends (is_track track) _ _ (has_end (disk_side (new_disk track script.chip)) image script good) tt
 
-text_ends : (order : OrderValue) (image : List ℕ) (text : Option (List ℕ)) → HasRunEnd (of_text order image text)
-text_ends order image None = tt
-text_ends order image (Some text) = script_ends order image text (script_of text) refl
+extra_ends : (order : OrderValue) (files : Files) (image : List ℕ) (script : ScriptValue) (extra : ExtraValue) → IsRunnable script
+    → HasRunEnd (of_extra order files image script extra)
+extra_ends order files image script NoFile good = has_end no_side image script good
+extra_ends order files image script (AudioFile name) good = has_end (paula_side (reset_paula script.chip)) image script good
+extra_ends order files image script (TrackFile name) good = track_ends order image script name (file files name) good
 
-if_image : (order : OrderValue) (files : Files) (image : List ℕ) (good : Bool)
-    → HasRunEnd (if good then of_text order image (file files order.script) else BadImage)
-if_image order files image true = text_ends order image (file files order.script)
-if_image order files image false = tt
+script_ends : (order : OrderValue) (files : Files) (image text : List ℕ) (verdict : ScriptVerdict) → script_of text ≡ verdict
+    → HasRunEnd (of_script order files image verdict)
+script_ends order files image text (GoodScript script) is =
+    if_ends (fits_chip script.chip image) _ _
+    (extra_ends order files image script order.extra (IsPrintable-script_of text script is).runnable) tt
+script_ends order files image text (BadLine line kind) is = tt
+
+text_ends : (order : OrderValue) (files : Files) (image : List ℕ) (text : Option (List ℕ)) → HasRunEnd (of_text order files image text)
+text_ends order files image None = tt
+text_ends order files image (Some text) = script_ends order files image text (script_of text) refl
 
 image_ends : (order : OrderValue) (files : Files) (image : Option (List ℕ)) → HasRunEnd (of_image order files image)
 image_ends order files None = tt
-image_ends order files (Some image) = if_image order files image (is_image image)
+image_ends order files (Some image) = if_ends (is_image image) _ _ (text_ends order files image (file files order.script)) tt
 
 order_ends : (order : OrderValue) (files : Files) → HasRunEnd (of_order order files)
 order_ends order files = image_ends order files (file files order.image)

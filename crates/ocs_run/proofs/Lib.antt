@@ -1,7 +1,12 @@
+pub mod AudioLaws
 pub mod CrewLaws
 pub mod EndLaws
+pub mod FaultLaws
 pub mod InputLaws
 pub mod KeptLaws
+pub mod NameLaws
+pub mod OrderLaws
+pub mod ReadableLaws
 pub mod RunLaws
 pub mod SceneLaws
 pub mod TextLaws

@@ -1,6 +1,6 @@
 -- What a stopped run leaves are parts of the texts of its end.
 use Rattle.std.proofs.Common.{◌≡◌, ℕ, zero, suc, ◌+◌, ◌-◌, ◌<◌, ◌≤◌, ◌⊎◌, List, [], ◌∷◌, ◌++◌, length, take}
-use Rattle.std.proofs.Common.{Option, Some, None, inl, inr, refl, ap, ◌∙◌, sym, subst, append_assoc, arith}
+use Rattle.std.proofs.Common.{Option, Some, None, inl, inr, refl, ap, ◌∙◌, sym, subst, append_assoc, append-nil, arith}
 use Rattle.std.proofs.lemmas.Grind.{flat_map-append}
 use Rattle.ocs_base.specs.Script.{ScriptValue}
 use Rattle.ocs_base.specs.declared.system.System.{System}
@@ -12,10 +12,11 @@ use Rattle.serial_model.specs.MemoryText.{memory_text}
 use Rattle.serial_model.specs.Outputs.{with_headings, frames_text}
 use Rattle.serial_model.specs.Side.{SideValue}
 use Rattle.serial_model.specs.Serial.{state_over, IsEndOver}
+use Rattle.serial_model.specs.State.{State}
 use Rattle.serial_model.specs.TraceText.{line_text, trace_text}
 use Rattle.serial_model.proofs.HeadingLaws.{with_headings-append}
 use Rattle.ocs_run.specs.Prefix.{IsPartOf, LeavesPrefixesOver}
-use Rattle.ocs_run.specs.Run.{HasRun, HasParts, HasEndParts, Remains}
+use Rattle.ocs_run.specs.Run.{HasRun, HasFilesOver, HasParts, HasEndParts, Remains}
 use Rattle.ocs_run.proofs.GrowthLaws.{Extends, shown-later, trace-later}
 
 -- a state of the run is no later than its end
@@ -77,7 +78,7 @@ nothing-first : (bytes rest text : List ℕ) → bytes ++ rest ≡ [] → IsPart
 nothing-first [] rest text e = (text, refl)
 nothing-first (byte ∷ bytes) rest text e = cc
 
-one_end : (side : SideValue) (image : List ℕ) (script : ScriptValue) (a b : ℕ) → IsEndOver side image script a → IsEndOver side image script b → a ≡ b
+pub one_end : (side : SideValue) (image : List ℕ) (script : ScriptValue) (a b : ℕ) → IsEndOver side image script a → IsEndOver side image script b → a ≡ b
 one_end side image script a b first second =
     let le : a ≤ b = not_later side image script a b first.running second in
     let ge : b ≤ a = not_later side image script b a second.running first in
@@ -108,6 +109,25 @@ LeavesPrefixes-end side image script names base new clocks has = record {
       (one_end side image script clocks end has.end is)
       (has.parts.bytes_rest, has.parts.bytes_part);
 }
+
+whole_part : (text at_end : List ℕ) → text ≡ at_end → IsPartOf at_end (Some text)
+whole_part text at_end is = ([], append-nil text ∙ is)
+
+-- the whole texts are parts of themselves
+pub LeavesPrefixes-whole : (side : SideValue) (image : List ℕ) (script : ScriptValue) (names : OutNames) (base new : Option Files)
+    → HasFilesOver side image script names base new → LeavesPrefixesOver side image script names base new
+LeavesPrefixes-whole side image script names base new has =
+    let s : State = state_over side image script has.clocks in
+    let same : (end : ℕ) → IsEndOver side image script end → has.clocks ≡ end = λ end is. one_end side image script has.clocks end has.end is in
+    record {
+      frames = Some (frames_text script.system s.shown);
+      trace = Some (trace_text s.trace);
+      memory = Some (memory_text s.memory);
+      held = has.files;
+      frames_part = λ end is. whole_part _ _ (ap (λ n. frames_text script.system (state_over side image script n).shown) (same end is));
+      trace_part = λ end is. whole_part _ _ (ap (λ n. trace_text (state_over side image script n).trace) (same end is));
+      memory_part = λ end is. whole_part _ _ (ap (λ n. memory_text (state_over side image script n).memory) (same end is));
+    }
 
 empty_part : (text : List ℕ) → IsPartOf text (Some [])
 empty_part text = (text, refl)

@@ -1,6 +1,6 @@
 -- The run over plain values: its start, its turns, its end and its stops.
 use Rattle.std.proofs.Common.{◌≡◌, ℕ, ◌+◌, ◌-◌, ◌*◌, ◌^◌, ◌<◌, ◌≤◌, Bool, true, false, nat_lt, ◌==◌, List, [], ◌++◌, length, Option, Some}
-use Rattle.std.proofs.Common.{None, Result, Ok, Err, OnErr, IfErr, IsErrAnd, arith, refl, ap, ◌∙◌, sym, subst, append_assoc, append-nil, inl}
+use Rattle.std.proofs.Common.{None, Result, Ok, Err, OnOk, OnErr, IfErr, IsErrAnd, arith, refl, ap, ◌∙◌, sym, subst, append_assoc, append-nil, inl}
 use Rattle.ocs_base.specs.Script.{ScriptValue}
 use Rattle.ocs_base.specs.declared.system.System.{System}
 use Rattle.ocs_io.specs.Place.{Files, Outside, OnlyWrites, Rose}
@@ -178,6 +178,15 @@ HasParts-refused base before after fore seen out leaves is = record {
 pub on_err : {T E : Type 0} (r : Result T E) (P : Type 0) → P → OnErr r P
 on_err (Ok v) P p = tt
 on_err (Err e) P p = p
+
+-- and what stands where none came
+pub on_ok : {T E : Type 0} (r : Result T E) (P : Type 0) → P → OnOk r P
+on_ok (Ok v) P p = p
+on_ok (Err e) P p = tt
+
+pub ok_then : {T E : Type 0} (r : Result T E) (P Q : Type 0) → OnOk r P → (P → Q) → OnOk r Q
+ok_then (Ok v) P Q p f = f p
+ok_then (Err e) P Q p f = tt
 
 abbrev RunParts : RunValue → OutNames → Option Files → Option Files → Type 0
 RunParts run names base files = (clocks : ℕ) × HasParts run.side run.image run.script names base files clocks
@@ -395,7 +404,7 @@ LeavesPrefixes-create_refused side image script names old new (Failed file) made
     LeavesPrefixes-all side image script names old.files new.files (inl (made.0, made.3))
 LeavesPrefixes-create_refused side image script names old new NoRoomToWrite made = LeavesPrefixes-all side image script names old.files new.files (inl made)
 
-begins_created : (base mid : Option Files) (run : RunValue) (fore : ForeValue) (out created : OutFilesValue) → IsFresh run.script.system out
+pub begins_created : (base mid : Option Files) (run : RunValue) (fore : ForeValue) (out created : OutFilesValue) → IsFresh run.script.system out
     → created ≡ out → Begins created base mid → IsNew run fore → StartsRun run base mid fore created
 begins_created base mid run fore out created fresh same begins new seen empty =
     IsUnderway-start base mid run fore seen created (subst (IsFresh run.script.system) (sym same) fresh) begins new empty
@@ -443,6 +452,13 @@ names_settled old new seen after out given settles can =
     let so : HasSettled old new can.first seen after out given = settles can.first can.stands in
     so.gives.text.names
 
+-- and so does the clock
+pub clock_settled : (old new : ForeValue) (seen after : RasterValue) (out given : OutFilesValue) → Settles old new seen after out given → CanRun old seen
+    → new.machine.t ≡ old.machine.t
+clock_settled old new seen after out given settles can =
+    let so : HasSettled old new can.first seen after out given = settles can.first can.stands in
+    so.clock
+
 -- the clocks that are left grow fewer
 clock_below : (fore : ForeValue) (first : ℕ) (seen : RasterValue) → IsForeUnderway fore first seen → fore.machine.beam.frame < fore.run.script.frames
     → fore.machine.t < fore.run.script.frames * 71364
@@ -486,17 +502,28 @@ rise_by false old new limit come before is same = omega (arith, come.all is, bef
 rise_by true old new limit come before is same =
     later_by _ old.machine.t new.machine.t refl come.on (λ t. absurd (true_is_false (sym is ∙ same t)))
 
+-- clocks that a run goes on are some
+pub later_clock : (old new : ForeValue) (seen after : RasterValue) (out given : OutFilesValue) (limit : ℕ) → CanRun old seen → is_done old ≡ false
+    → RunsOn old new seen after out given → HasCome limit old new → old.machine.t < limit → new.run ≡ old.run → old.machine.t < new.machine.t
+later_clock old new seen after out given limit can not runs come before run =
+    let so : HasRunOn old new can.first seen after out given = runs can.first can.stands in
+    rise_by _ old new limit come before refl
+    (λ t. same_clock old new can.first so.until seen after can.stands so.stands run t ∙ not)
+
+-- fewer are left then
+pub fewer_left : (old new : ForeValue) (seen : RasterValue) (done : Bool) → CanRun old seen → done ≡ is_done old → done ≡ false
+    → old.machine.t < new.machine.t → new.run ≡ old.run
+    → new.run.script.frames * 71364 - new.machine.t < old.run.script.frames * 71364 - old.machine.t
+fewer_left old new seen done can is not later run =
+    let below : old.machine.t < old.run.script.frames * 71364 = few_clocks old seen done can is not in
+    let same : new.run.script.frames ≡ old.run.script.frames = ap (λ (r : RunValue). r.script.frames) run in
+    omega (arith, below, same, later)
+
 pub fewer_clocks : (old new : ForeValue) (seen after : RasterValue) (out given : OutFilesValue) (done : Bool) (limit : ℕ) → CanRun old seen
     → done ≡ is_done old → done ≡ false → RunsOn old new seen after out given → HasCome limit old new → old.machine.t < limit → new.run ≡ old.run
     → new.run.script.frames * 71364 - new.machine.t < old.run.script.frames * 71364 - old.machine.t
 fewer_clocks old new seen after out given done limit can is not runs come before run =
-    let so : HasRunOn old new can.first seen after out given = runs can.first can.stands in
-    let below : old.machine.t < old.run.script.frames * 71364 = few_clocks old seen done can is not in
-    let same : new.run.script.frames ≡ old.run.script.frames = ap (λ (r : RunValue). r.script.frames) run in
-    let later : old.machine.t < new.machine.t =
-    rise_by _ old new limit come before refl
-    (λ t. same_clock old new can.first so.until seen after can.stands so.stands run t ∙ sym is ∙ not) in
-    omega (arith, below, same, later)
+    fewer_left old new seen done can is not (later_clock old new seen after out given limit can (sym is ∙ not) runs come before run) run
 
 -- a count that has risen since later has risen since before
 rose_later : (a b c : ℕ) → a ≤ b → Rose b c → Rose a c

@@ -1,23 +1,24 @@
 -- The clauses of the top call, from what stands after the command and what was said.
-use Rattle.std.proofs.Common.{◌≡◌, ℕ, zero, suc, ◌≤◌, ◌⊎◌, Bool, true, false, if◌then◌else◌, List, [], take}
+use Rattle.std.proofs.Common.{◌≡◌, ℕ, zero, suc, ◌≤◌, ◌⊎◌, ◌↔◌, Bool, true, false, if◌then◌else◌, List, [], take}
 use Rattle.std.proofs.Common.{Option, Some, None, Ok, Err, inl, inr, refl, sym, ap, subst, ◌∙◌, append-nil, arith}
 use Rattle.ocs_base.specs.Image.{is_image, fits_chip}
 use Rattle.ocs_io.specs.Answers.{WhereTold}
 use Rattle.ocs_io.specs.Place.{Files, Outside, Rose, OnlySays, file, said_more}
 use Rattle.script_read.specs.Grammar.{script_of, Good as GoodScript, Bad as BadLine, Verdict as ScriptVerdict}
-use Rattle.ocs_run.specs.Command.{OrderAnswers, IsUnwritten, IsWanting, KeepsSaid}
+use Rattle.ocs_run.specs.Command.{OrderAnswers, IsDone, IsUnwritten, IsWanting, KeepsSaid}
 use Rattle.ocs_run.specs.Fault.{status_of}
 use Rattle.ocs_run.specs.Order.{OrderValue}
 use Rattle.ocs_run.specs.SceneAnswers.{SceneAnswers, SaysSummaryPart}
 use Rattle.ocs_run.specs.Texts.{usage_text, fault_text, text_of, Says, SaysSurely}
 use Rattle.ocs_run.specs.Top.{UsageAnswers, CommandAnswers, SaysNothingElse, IsEarly, IsScene, IsRefused}
-use Rattle.ocs_run.specs.Top.{HasBadScript, Completed, IsToldOfRun, IsTold, SaysFault, SaysOwn, SaysStatus}
+use Rattle.ocs_run.specs.Top.{HasBadImage, HasBadScript, HasBadTrack, Completed, IsToldOfRun, IsTold, SaysFault, SaysOwn, SaysStatus}
 use Rattle.ocs_run.specs.Verdict.{Verdict, Usage as UsageVerdict, Absent, BadImage as BadImageVerdict}
-use Rattle.ocs_run.specs.Verdict.{BadScript as BadScriptVerdict, Good, Scene, of_order, of_command, of_image, of_text, of_script}
+use Rattle.ocs_run.specs.Verdict.{BadScript as BadScriptVerdict, BadTrack as BadTrackVerdict, Good, Scene, of_order, of_command}
 use Rattle.ocs_run.specs.Words.{CommandValue, Run, Gen, command_of}
 use Rattle.ocs_run.specs.declared.fault.Fault.{Fault}
-use Rattle.ocs_run.specs.declared.fault.Fault.TheVariants.{Usage, BadImage, BadScript, Unread, Unwritten, Unsaid, OutOfMemory}
-use Rattle.ocs_run.specs.declared.fault.Input.TheVariants.{Image, Script}
+use Rattle.ocs_run.specs.declared.fault.Fault.TheVariants.{Usage, BadImage, BadScript, BadTrack, Unread, Unwritten, Unsaid, OutOfMemory}
+use Rattle.ocs_run.specs.declared.fault.Input.TheVariants.{Image, Script, Track}
+use Rattle.ocs_run.proofs.OrderLaws.{IsOfRun, of_run}
 
 told_more : (files : Option Files) (P Q : Files → Type 0) → ((f : Files) → P f → Q f) → WhereTold files P → WhereTold files Q
 told_more None P Q f told = tt
@@ -28,8 +29,9 @@ usage_fault : (old mid : Outside) (fault : Fault) → UsageAnswers old mid (Err 
 usage_fault old mid Usage is = (refl, is)
 usage_fault old mid BadImage is = absurd is
 usage_fault old mid (BadScript line kind) is = absurd is
+usage_fault old mid BadTrack is = absurd is
 usage_fault old mid (Unread input) is = absurd is
-usage_fault old mid (Unwritten file) is = absurd is
+usage_fault old mid (Unwritten output) is = absurd is
 usage_fault old mid Unsaid is = absurd is
 usage_fault old mid OutOfMemory is = absurd is
 
@@ -38,8 +40,9 @@ scene_fault : (number : ℕ) (old mid : Outside) (fault : Fault) → SceneAnswer
 scene_fault number old mid Usage is = absurd is
 scene_fault number old mid BadImage is = absurd is
 scene_fault number old mid (BadScript line kind) is = absurd is
+scene_fault number old mid BadTrack is = absurd is
 scene_fault number old mid (Unread input) is = absurd is
-scene_fault number old mid (Unwritten file) is = absurd is
+scene_fault number old mid (Unwritten output) is = absurd is
 scene_fault number old mid Unsaid is = inl (refl, is)
 scene_fault number old mid OutOfMemory is = inr (refl, is)
 
@@ -59,8 +62,9 @@ order_script order old mid Usage s is e four = absurd is
 order_script order old mid BadImage s is e four = absurd (omega arith)
 order_script order old mid (BadScript line kind) s is e four =
     told_more old.files (λ f. of_order order f ≡ BadScriptVerdict line kind) (λ f. HasBadScript (of_order order f)) (λ f v. (line, kind, v)) is.0
+order_script order old mid BadTrack s is e four = absurd (omega arith)
 order_script order old mid (Unread input) s is e four = absurd (omega arith)
-order_script order old mid (Unwritten file) s is e four = absurd (omega arith)
+order_script order old mid (Unwritten output) s is e four = absurd (omega arith)
 order_script order old mid Unsaid s is e four = absurd is
 order_script order old mid OutOfMemory s is e four = absurd (omega arith)
 
@@ -71,22 +75,50 @@ script_clause (Some (Run order)) old mid fault s is e four = order_script order 
 script_clause (Some (Gen scene)) old mid fault s is e four =
     absurd (let more : 6 ≤ s = scene_status scene.number old mid fault s is.0 e in omega arith)
 
-not_early : (s n : ℕ) → s ≡ n → 6 ≤ n → IsEarly s → ⊥
-not_early s n e big (inl two) = omega arith
-not_early s n e big (inr (inl three)) = omega arith
-not_early s n e big (inr (inr (inl four))) = omega arith
-not_early s n e big (inr (inr (inr five))) = omega arith
+order_track : (order : OrderValue) (old mid : Outside) (fault : Fault) (s : ℕ) → OrderAnswers order old mid (Err fault) → s ≡ status_of fault
+    → s ≡ 9 → WhereTold old.files (λ files. HasBadTrack (of_order order files))
+order_track order old mid Usage s is e nine = absurd is
+order_track order old mid BadImage s is e nine = absurd (omega arith)
+order_track order old mid (BadScript line kind) s is e nine = absurd (omega arith)
+order_track order old mid BadTrack s is e nine = is.0
+order_track order old mid (Unread input) s is e nine = absurd (omega arith)
+order_track order old mid (Unwritten output) s is e nine = absurd (omega arith)
+order_track order old mid Unsaid s is e nine = absurd is
+order_track order old mid OutOfMemory s is e nine = absurd (omega arith)
+
+scene_below : (number : ℕ) (old mid : Outside) (fault : Fault) (s : ℕ) → SceneAnswers number old mid (Err fault) → s ≡ status_of fault → s ≤ 7
+scene_below number old mid fault s is e = step (scene_fault number old mid fault is)
+  where
+    step : ((fault ≡ Unsaid) × SaysSummaryPart number old mid) ⊎ ((fault ≡ OutOfMemory) × KeepsSaid old mid) → s ≤ 7
+    step (inl part) = let six : s ≡ 6 = e ∙ ap status_of part.0 in omega arith
+    step (inr none) = let seven : s ≡ 7 = e ∙ ap status_of none.0 in omega arith
+
+pub track_clause : (command : Option CommandValue) (old mid : Outside) (fault : Fault) (s : ℕ) → CommandAnswers command old mid (Err fault)
+    → s ≡ status_of fault → s ≡ 9 → WhereTold old.files (λ files. HasBadTrack (of_command command files))
+track_clause None old mid fault s is e nine = absurd (let two : s ≡ 2 = usage_status old mid fault s is e in omega arith)
+track_clause (Some (Run order)) old mid fault s is e nine = order_track order old mid fault s is e nine
+track_clause (Some (Gen scene)) old mid fault s is e nine =
+    absurd (let less : s ≤ 7 = scene_below scene.number old mid fault s is.0 e in omega arith)
+
+not_early : (s n : ℕ) → s ≡ n → 6 ≤ n → n ≤ 8 → IsEarly s → ⊥
+not_early s n e big small (inl two) = omega arith
+not_early s n e big small (inr (inl three)) = omega arith
+not_early s n e big small (inr (inr (inl four))) = omega arith
+not_early s n e big small (inr (inr (inr (inl five)))) = omega arith
+not_early s n e big small (inr (inr (inr (inr nine)))) = omega arith
 
 order_kept : (order : OrderValue) (old mid new : Outside) (fault : Fault) (s : ℕ) → OrderAnswers order old mid (Err fault) → s ≡ status_of fault
     → OnlySays mid new → IsEarly s → new.files ≡ old.files
+order_kept order old mid new BadTrack s is e says early = says.files ∙ is.1
+order_kept order old mid new (Unread Track) s is e says early = says.files ∙ is.1
 order_kept order old mid new Usage s is e says early = absurd is
 order_kept order old mid new BadImage s is e says early = says.files ∙ is.1
 order_kept order old mid new (BadScript line kind) s is e says early = says.files ∙ is.1
 order_kept order old mid new (Unread Image) s is e says early = says.files ∙ is.1
 order_kept order old mid new (Unread Script) s is e says early = says.files ∙ is.1
-order_kept order old mid new (Unwritten file) s is e says early = absurd (not_early s 6 e (omega arith) early)
+order_kept order old mid new (Unwritten output) s is e says early = absurd (not_early s 6 e (omega arith) (omega arith) early)
 order_kept order old mid new Unsaid s is e says early = absurd is
-order_kept order old mid new OutOfMemory s is e says early = absurd (not_early s 7 e (omega arith) early)
+order_kept order old mid new OutOfMemory s is e says early = absurd (not_early s 7 e (omega arith) (omega arith) early)
 
 pub kept_clause : (command : Option CommandValue) (old mid new : Outside) (fault : Fault) (s : ℕ) → CommandAnswers command old mid (Err fault)
     → s ≡ status_of fault → OnlySays mid new → IsEarly s → new.files ≡ old.files
@@ -100,44 +132,13 @@ apart_clause None old mid new fault is says scene = absurd scene
 apart_clause (Some (Run order)) old mid new fault is says scene = absurd scene
 apart_clause (Some (Gen order)) old mid new fault is says scene = says.files ∙ is.1
 
--- the words of a run are no usage and no scene
-abbrev pub IsOfRun : Verdict → Type 0
-IsOfRun UsageVerdict = ⊥
-IsOfRun (Absent name) = Unit {0}
-IsOfRun BadImageVerdict = Unit {0}
-IsOfRun (BadScriptVerdict line kind) = Unit {0}
-IsOfRun (Good image script order) = Unit {0}
-IsOfRun (Scene number band workers) = ⊥
-
-script_of_run : (o : OrderValue) (image : List ℕ) (v : ScriptVerdict) → IsOfRun (of_script o image v)
-script_of_run o image (GoodScript script) = step (fits_chip script.chip image)
-  where
-    step : (b : Bool) → IsOfRun (if b then Good image script o else BadImageVerdict)
-    step true = tt
-    step false = tt
-script_of_run o image (BadLine line kind) = tt
-
-text_of_run : (o : OrderValue) (image : List ℕ) (text : Option (List ℕ)) → IsOfRun (of_text o image text)
-text_of_run o image None = tt
-text_of_run o image (Some text) = script_of_run o image (script_of text)
-
-image_of_run : (o : OrderValue) (files : Files) (image : Option (List ℕ)) → IsOfRun (of_image o files image)
-image_of_run o files None = tt
-image_of_run o files (Some image) = step (is_image image)
-  where
-    step : (b : Bool) → IsOfRun (if b then of_text o image (file files o.script) else BadImageVerdict)
-    step true = text_of_run o image (file files o.script)
-    step false = tt
-
-of_run : (o : OrderValue) (files : Files) → IsOfRun (of_order o files)
-of_run o files = image_of_run o files (file files o.image)
-
 unread : (v : Verdict) (old new : Outside) (s : ℕ) → IsOfRun v → s ≡ 5 → Rose old.read_faults new.read_faults → Completed v old new s
 unread UsageVerdict old new s run e rose = absurd run
 unread (Absent name) old new s run e rose = inl e
 unread BadImageVerdict old new s run e rose = inl rose
 unread (BadScriptVerdict line kind) old new s run e rose = inl rose
-unread (Good image script order) old new s run e rose = inl (inl rose)
+unread BadTrackVerdict old new s run e rose = inl rose
+unread (Good image script order side) old new s run e rose = inl (inl rose)
 unread (Scene number band workers) old new s run e rose = absurd run
 
 unwritten : (v : Verdict) (files : Files) (after : Option Files) (old new : Outside) (s : ℕ) → IsOfRun v → IsUnwritten v files after
@@ -146,7 +147,8 @@ unwritten UsageVerdict files after old new s run is rose = absurd run
 unwritten (Absent name) files after old new s run is rose = absurd is
 unwritten BadImageVerdict files after old new s run is rose = absurd is
 unwritten (BadScriptVerdict line kind) files after old new s run is rose = absurd is
-unwritten (Good image script order) files after old new s run is rose = inl (inr rose)
+unwritten BadTrackVerdict files after old new s run is rose = absurd is
+unwritten (Good image script order side) files after old new s run is rose = inl (inr rose)
 unwritten (Scene number band workers) files after old new s run is rose = absurd run
 
 wanting : (v : Verdict) (files : Files) (after : Option Files) (old new : Outside) (s : ℕ) → IsWanting v files after → s ≡ 7 → Completed v old new s
@@ -154,7 +156,8 @@ wanting UsageVerdict files after old new s is e = absurd is
 wanting (Absent name) files after old new s is e = inr e
 wanting BadImageVerdict files after old new s is e = inr (inr e)
 wanting (BadScriptVerdict line kind) files after old new s is e = inr (inr e)
-wanting (Good image script order) files after old new s is e = inr (inr e)
+wanting BadTrackVerdict files after old new s is e = inr (inr e)
+wanting (Good image script order side) files after old new s is e = inr (inr e)
 wanting (Scene number band workers) files after old new s is e = inr (inr e)
 
 rose_read : (old mid new : Outside) → OnlySays mid new → Rose old.read_faults mid.read_faults → Rose old.read_faults new.read_faults
@@ -174,11 +177,15 @@ order_complete order old mid new BadImage s is e says =
     told_more old.files _ (λ f. Completed (of_order order f) old new s) (λ f v. subst (λ w. Completed w old new s) (sym v) (inr (inl e))) is.0
 order_complete order old mid new (BadScript line kind) s is e says =
     told_more old.files _ (λ f. Completed (of_order order f) old new s) (λ f v. subst (λ w. Completed w old new s) (sym v) (inr (inl e))) is.0
+order_complete order old mid new BadTrack s is e says =
+    told_more old.files _ (λ f. Completed (of_order order f) old new s) (λ f v. subst (λ w. Completed w old new s) (sym v) (inr (inl e))) is.0
+order_complete order old mid new (Unread Track) s is e says =
+    always old.files (λ f. Completed (of_order order f) old new s) (λ f. unread _ old new s (of_run order f) e (rose_read old mid new says is.0))
 order_complete order old mid new (Unread Image) s is e says =
     always old.files (λ f. Completed (of_order order f) old new s) (λ f. unread _ old new s (of_run order f) e (rose_read old mid new says is.0))
 order_complete order old mid new (Unread Script) s is e says =
     always old.files (λ f. Completed (of_order order f) old new s) (λ f. unread _ old new s (of_run order f) e (rose_read old mid new says is.0))
-order_complete order old mid new (Unwritten file) s is e says =
+order_complete order old mid new (Unwritten output) s is e says =
     told_more old.files (λ f. IsUnwritten (of_order order f) f mid.files) (λ f. Completed (of_order order f) old new s)
     (λ f w. unwritten _ f mid.files old new s (of_run order f) w (rose_write old mid new says is.0)) is.1
 order_complete order old mid new Unsaid s is e says = absurd is
@@ -217,8 +224,9 @@ order_refused : (order : OrderValue) (old mid new : Outside) (fault : Fault) (s 
 order_refused order old mid new Usage s is e says six = absurd is
 order_refused order old mid new BadImage s is e says six = absurd (omega arith)
 order_refused order old mid new (BadScript line kind) s is e says six = absurd (omega arith)
+order_refused order old mid new BadTrack s is e says six = absurd (omega arith)
 order_refused order old mid new (Unread input) s is e says six = absurd (omega arith)
-order_refused order old mid new (Unwritten file) s is e says six = rose_write old mid new says is.0
+order_refused order old mid new (Unwritten output) s is e says six = rose_write old mid new says is.0
 order_refused order old mid new Unsaid s is e says six = absurd is
 order_refused order old mid new OutOfMemory s is e says six = absurd (omega arith)
 
@@ -241,9 +249,11 @@ order_unread : (order : OrderValue) (old mid new : Outside) (fault : Fault) (s :
 order_unread order old mid new Usage s is e says five = absurd is
 order_unread order old mid new BadImage s is e says five = absurd (omega arith)
 order_unread order old mid new (BadScript line kind) s is e says five = absurd (omega arith)
+order_unread order old mid new BadTrack s is e says five = absurd (omega arith)
 order_unread order old mid new (Unread Image) s is e says five = rose_read old mid new says is.0
 order_unread order old mid new (Unread Script) s is e says five = rose_read old mid new says is.0
-order_unread order old mid new (Unwritten file) s is e says five = absurd (omega arith)
+order_unread order old mid new (Unread Track) s is e says five = rose_read old mid new says is.0
+order_unread order old mid new (Unwritten output) s is e says five = absurd (omega arith)
 order_unread order old mid new Unsaid s is e says five = absurd is
 order_unread order old mid new OutOfMemory s is e says five = absurd (omega arith)
 
@@ -260,8 +270,9 @@ order_unwritten : (order : OrderValue) (old mid new : Outside) (fault : Fault) (
 order_unwritten order old mid new Usage s is e says six = absurd is
 order_unwritten order old mid new BadImage s is e says six = absurd (omega arith)
 order_unwritten order old mid new (BadScript line kind) s is e says six = absurd (omega arith)
+order_unwritten order old mid new BadTrack s is e says six = absurd (omega arith)
 order_unwritten order old mid new (Unread input) s is e says six = absurd (omega arith)
-order_unwritten order old mid new (Unwritten file) s is e says six =
+order_unwritten order old mid new (Unwritten output) s is e says six =
     subst (λ after. WhereTold old.files (λ files. IsUnwritten (of_order order files) files after)) (sym says.files) is.1
 order_unwritten order old mid new Unsaid s is e says six = absurd is
 order_unwritten order old mid new OutOfMemory s is e says six = absurd (omega arith)
@@ -283,9 +294,11 @@ told : (order : OrderValue) (old mid : Outside) (fault : Fault) → OrderAnswers
 told order old mid Usage is = absurd is
 told order old mid BadImage is = tt
 told order old mid (BadScript line kind) is = is.0
+told order old mid BadTrack is = is.2
 told order old mid (Unread Image) is = tt
 told order old mid (Unread Script) is = is.2
-told order old mid (Unwritten file) is = tt
+told order old mid (Unread Track) is = (is.2, is.3)
+told order old mid (Unwritten output) is = is.2
 told order old mid Unsaid is = absurd is
 told order old mid OutOfMemory is = tt
 
@@ -301,8 +314,9 @@ order_no_usage : (order : OrderValue) (old mid : Outside) (fault : Fault) (s : �
 order_no_usage order old mid Usage s is e two = is
 order_no_usage order old mid BadImage s is e two = omega arith
 order_no_usage order old mid (BadScript line kind) s is e two = omega arith
+order_no_usage order old mid BadTrack s is e two = omega arith
 order_no_usage order old mid (Unread input) s is e two = omega arith
-order_no_usage order old mid (Unwritten file) s is e two = omega arith
+order_no_usage order old mid (Unwritten output) s is e two = omega arith
 order_no_usage order old mid Unsaid s is e two = is
 order_no_usage order old mid OutOfMemory s is e two = omega arith
 
@@ -403,3 +417,76 @@ said_done (Some (Gen scene)) old new done answers kept = inl (refl, answers.0)
 pub said_done_clause : (words : List (List ℕ)) (old new : Outside) (done : Unit {0}) → CommandAnswers (command_of words) old new (Ok done)
     → SaysNothingElse (command_of words) old new → SaysStatus words old new 0
 said_done_clause words old new done answers kept = inl (said_done (command_of words) old new done answers kept)
+
+-- ---- the other clauses
+
+done_by : (command : Option CommandValue) (old new : Outside) (done : Unit {0}) → CommandAnswers command old new (Ok done)
+    → WhereTold old.files (λ files. IsDone (of_command command files) files new.files)
+done_by None old new done answers = absurd answers
+done_by (Some (Run order)) old new done answers = answers
+done_by (Some (Gen scene)) old new done answers = kept_where_told old.files new.files answers.1
+
+pub done_clause : (command : Option CommandValue) (old new : Outside) (done : Unit {0}) → CommandAnswers command old new (Ok done)
+    → WhereTold old.files (λ files. IsDone (of_command command files) files new.files)
+done_clause command old new done answers = done_by command old new done answers
+
+done_complete : (v : Verdict) (files : Files) (after : Option Files) (old new : Outside) → IsDone v files after → Completed v old new 0
+done_complete UsageVerdict files after old new is = absurd is
+done_complete (Absent name) files after old new is = absurd is
+done_complete BadImageVerdict files after old new is = absurd is
+done_complete (BadScriptVerdict line kind) files after old new is = absurd is
+done_complete BadTrackVerdict files after old new is = absurd is
+done_complete (Good image script order side) files after old new is = inr (inl refl)
+done_complete (Scene number band workers) files after old new is = inr (inl refl)
+
+pub complete_done_clause : (command : Option CommandValue) (old new : Outside) (done : Unit {0}) → CommandAnswers command old new (Ok done)
+    → WhereTold old.files (λ files. Completed (of_command command files) old new 0)
+complete_done_clause command old new done answers =
+    told_more old.files (λ f. IsDone (of_command command f) f new.files) (λ f. Completed (of_command command f) old new 0)
+    (λ f is. done_complete (of_command command f) f new.files old new is) (done_by command old new done answers)
+
+some_is_none : {A : Type 0} (x : A) → Some x ≡ None → ⊥
+some_is_none x e = cc
+
+pub usage_iff_clause : (command : Option CommandValue) (old mid : Outside) (fault : Fault) (s : ℕ) → CommandAnswers command old mid (Err fault)
+    → s ≡ status_of fault → (s ≡ 2) ↔ (command ≡ None)
+usage_iff_clause None old mid fault s is e = (λ two. refl, λ none. usage_status old mid fault s is e)
+usage_iff_clause (Some command) old mid fault s is e =
+    (λ two. (usage_of (Some command) old mid fault s is e two).0, λ none. absurd (some_is_none command none))
+
+order_image : (order : OrderValue) (old mid : Outside) (fault : Fault) (s : ℕ) → OrderAnswers order old mid (Err fault) → s ≡ status_of fault
+    → s ≡ 3 → WhereTold old.files (λ files. HasBadImage (of_order order files))
+order_image order old mid Usage s is e three = absurd is
+order_image order old mid BadImage s is e three = is.0
+order_image order old mid (BadScript line kind) s is e three = absurd (omega arith)
+order_image order old mid BadTrack s is e three = absurd (omega arith)
+order_image order old mid (Unread input) s is e three = absurd (omega arith)
+order_image order old mid (Unwritten output) s is e three = absurd (omega arith)
+order_image order old mid Unsaid s is e three = absurd is
+order_image order old mid OutOfMemory s is e three = absurd (omega arith)
+
+pub image_clause : (command : Option CommandValue) (old mid : Outside) (fault : Fault) (s : ℕ) → CommandAnswers command old mid (Err fault)
+    → s ≡ status_of fault → s ≡ 3 → WhereTold old.files (λ files. HasBadImage (of_command command files))
+image_clause None old mid fault s is e three = absurd (let two : s ≡ 2 = usage_status old mid fault s is e in omega arith)
+image_clause (Some (Run order)) old mid fault s is e three = order_image order old mid fault s is e three
+image_clause (Some (Gen scene)) old mid fault s is e three =
+    absurd (let more : 6 ≤ s = scene_status scene.number old mid fault s is.0 e in omega arith)
+
+order_wanting : (order : OrderValue) (old mid new : Outside) (fault : Fault) (s : ℕ) → OrderAnswers order old mid (Err fault) → s ≡ status_of fault
+    → OnlySays mid new → s ≡ 7 → WhereTold old.files (λ files. IsWanting (of_order order files) files new.files)
+order_wanting order old mid new Usage s is e says seven = absurd is
+order_wanting order old mid new BadImage s is e says seven = absurd (omega arith)
+order_wanting order old mid new (BadScript line kind) s is e says seven = absurd (omega arith)
+order_wanting order old mid new BadTrack s is e says seven = absurd (omega arith)
+order_wanting order old mid new (Unread input) s is e says seven = absurd (omega arith)
+order_wanting order old mid new (Unwritten output) s is e says seven = absurd (omega arith)
+order_wanting order old mid new Unsaid s is e says seven = absurd is
+order_wanting order old mid new OutOfMemory s is e says seven =
+    subst (λ after. WhereTold old.files (λ files. IsWanting (of_order order files) files after)) (sym says.files) is
+
+pub wanting_clause : (command : Option CommandValue) (old mid new : Outside) (fault : Fault) (s : ℕ) → CommandAnswers command old mid (Err fault)
+    → s ≡ status_of fault → OnlySays mid new → s ≡ 7
+    → WhereTold old.files (λ files. IsWanting (of_command command files) files new.files)
+wanting_clause None old mid new fault s is e says seven = absurd (let two : s ≡ 2 = usage_status old mid fault s is e in omega arith)
+wanting_clause (Some (Run order)) old mid new fault s is e says seven = order_wanting order old mid new fault s is e says seven
+wanting_clause (Some (Gen scene)) old mid new fault s is e says seven = kept_where_told old.files new.files (says.files ∙ is.1)

@@ -1,12 +1,25 @@
 -- What a reader of the command line answers.
-use Rattle.std.specs.Prelude.{◌≡◌, ◌≤◌, ℕ, ◌≢◌, Option, Some, None}
-use Rattle.ocs_run.specs.Order.{OrderValue, RunWordsValue}
+use Rattle.std.specs.Prelude.{◌≡◌, ◌≤◌, ℕ, ◌≢◌, List, Option, Some, None}
+use Rattle.ocs_run.specs.Audio.{IsFourthName}
+use Rattle.ocs_run.specs.Order.{OrderValue, RunWordsValue, ExtraValue, NoFile, AudioFile, TrackFile, audio_of}
 use Rattle.ocs_run.specs.Words.{SceneOrderValue, CommandValue, Run as RunValue, Gen as GenValue}
+use Rattle.ocs_run.specs.declared.order.Extra.{Extra}
+use Rattle.ocs_run.specs.declared.order.Extra.TheVariants.{None as Neither, Audio, Track}
 use Rattle.ocs_run.specs.declared.order.Order.{Order}
 use Rattle.ocs_run.specs.declared.order.RunWords.{RunWords}
 use Rattle.ocs_run.specs.declared.words.Command.{Command}
 use Rattle.ocs_run.specs.declared.words.Command.TheVariants.{Run, Gen}
 use Rattle.ocs_run.specs.declared.words.SceneOrder.{SceneOrder}
+
+-- the file that a run has besides, as a value
+abbrev pub extra_value : Extra → ExtraValue
+extra_value Neither = NoFile
+extra_value (Audio name) = AudioFile name.now
+extra_value (Track name) = TrackFile name.now
+
+abbrev pub IsExtra : Option ExtraValue → Option Extra → Type 0
+IsExtra extra None = extra ≡ None
+IsExtra extra (Some e) = extra ≡ Some (extra_value e)
 
 -- the order as a value
 abbrev pub value_of : Order → OrderValue
@@ -16,6 +29,7 @@ value_of o = record {
   frames = o.frames.now;
   trace = o.trace.now;
   memory = o.memory.now;
+  extra = extra_value o.extra;
   band = o.band;
   workers = o.workers;
 }
@@ -31,6 +45,7 @@ words_value w = record {
   frames = w.frames.now;
   trace = w.trace.now;
   memory = w.memory.now;
+  extra = extra_value w.extra;
   band = w.band.now;
   workers = w.workers.now;
 }
@@ -39,11 +54,12 @@ abbrev pub AreRunWords : Option RunWordsValue → Option RunWords → Type 0
 AreRunWords words None = words ≡ None
 AreRunWords words (Some w) = words ≡ Some (words_value w)
 
--- the names of the files that are written are three
+-- the names of the files that are written are three, or four
 pub record AreApart (o : Order) : Type 0 where
   pub frames_trace : o.frames.now ≢ o.trace.now
   pub frames_memory : o.frames.now ≢ o.memory.now
   pub trace_memory : o.trace.now ≢ o.memory.now
+  pub audio : IsFourthName (record { frames = o.frames.now; trace = o.trace.now; memory = o.memory.now }) (audio_of (extra_value o.extra))
 
 -- what the words of `gen` ask for, as a value
 abbrev pub scene_value : SceneOrder → SceneOrderValue
@@ -62,7 +78,7 @@ abbrev pub IsCommand : Option CommandValue → Option Command → Type 0
 IsCommand command None = command ≡ None
 IsCommand command (Some c) = command ≡ Some (command_value c)
 
--- the names of the files that a command writes are three
+-- no two names of the files that a command writes are one
 abbrev pub WritesApart : Command → Type 0
 WritesApart (Run order) = AreApart order
 WritesApart (Gen scene) = Unit {0}

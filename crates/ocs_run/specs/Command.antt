@@ -6,13 +6,16 @@ use Rattle.ocs_io.specs.Answers.{WhereTold}
 use Rattle.ocs_io.specs.Place.{Files, Outside, Rose}
 use Rattle.out_files.specs.OutFiles.{OutNames, OutFilesValue}
 use Rattle.ocs_run.specs.declared.fault.Fault.{Fault}
-use Rattle.ocs_run.specs.declared.fault.Fault.TheVariants.{Usage, BadImage, BadScript, Unread, Unwritten, Unsaid, OutOfMemory}
-use Rattle.ocs_run.specs.declared.fault.Input.TheVariants.{Image, Script}
-use Rattle.ocs_run.specs.Inputs.{HoldsImage}
-use Rattle.ocs_run.specs.Order.{OrderValue}
-use Rattle.ocs_run.specs.Run.{HasFiles}
-use Rattle.ocs_run.specs.Prefix.{LeavesPrefixes}
-use Rattle.ocs_run.specs.Verdict.{Verdict, Usage as UsageVerdict, Absent, BadImage as BadImageVerdict, BadScript as BadScriptVerdict, Good, Scene, of_order}
+use Rattle.ocs_run.specs.declared.fault.Fault.TheVariants.{Usage, BadImage, BadScript, BadTrack, Unread, Unwritten, Unsaid, OutOfMemory}
+use Rattle.ocs_run.specs.declared.fault.Input.TheVariants.{Image, Script, Track}
+use Rattle.ocs_run.specs.Fault.{IsOutputOf, IsRunFault}
+use Rattle.ocs_run.specs.Inputs.{HoldsImage, HoldsRun}
+use Rattle.ocs_run.specs.Order.{OrderValue, HasTrack, audio_of}
+use Rattle.ocs_run.specs.Run.{HasAllFiles}
+use Rattle.ocs_run.specs.Prefix.{LeavesFiles}
+use Rattle.ocs_run.specs.Verdict.{Verdict, Usage as UsageVerdict, Absent, BadImage as BadImageVerdict, BadScript as BadScriptVerdict}
+use Rattle.ocs_run.specs.Verdict.{BadTrack as BadTrackVerdict, Good, Scene, of_order}
+use Rattle.serial_model.specs.Side.{SideValue}
 
 -- the names of the files that a run writes
 abbrev pub out_names : OrderValue → OutNames
@@ -31,48 +34,52 @@ pub record KeepsSaid (old new : Outside) : Type 0 where
   pub said : new.said ≡ old.said
   pub faults : new.say_faults ≡ old.say_faults
 
--- what stands after a run of good inputs
-abbrev pub RunAnswers : OrderValue → List ℕ → ScriptValue → Outside → Outside → Result (Unit {0}) Fault → Type 0
-RunAnswers order image script old new (Ok done) = HasFiles image script (out_names order) old.files new.files
-RunAnswers order image script old new (Err Usage) = ⊥
-RunAnswers order image script old new (Err BadImage) = ⊥
-RunAnswers order image script old new (Err (BadScript line kind)) = ⊥
-RunAnswers order image script old new (Err (Unread input)) = ⊥
-RunAnswers order image script old new (Err (Unwritten file)) =
-    Rose old.write_faults new.write_faults × LeavesPrefixes image script (out_names order) old.files new.files
-RunAnswers order image script old new (Err Unsaid) = ⊥
-RunAnswers order image script old new (Err OutOfMemory) = LeavesPrefixes image script (out_names order) old.files new.files
+-- the files of a run that came to its end, or was stopped
+abbrev pub HasOrdered : OrderValue → List ℕ → ScriptValue → SideValue → Option Files → Option Files → Type 0
+HasOrdered order image script side old new = HasAllFiles (audio_of order.extra) side image script (out_names order) old new
 
--- done: the three files of a run are its texts, whole, and every other file is as before; a scene leaves all files as before
+abbrev pub LeavesOrdered : OrderValue → List ℕ → ScriptValue → SideValue → Option Files → Option Files → Type 0
+LeavesOrdered order image script side old new = LeavesFiles (audio_of order.extra) side image script (out_names order) old new
+
+-- what stands after a run of good inputs
+abbrev pub RunAnswers : OrderValue → List ℕ → ScriptValue → SideValue → Outside → Outside → Result (Unit {0}) Fault → Type 0
+RunAnswers order image script side old new (Ok done) = HasOrdered order image script side old.files new.files
+RunAnswers order image script side old new (Err fault) =
+    IsRunFault (audio_of order.extra) old new fault × LeavesOrdered order image script side old.files new.files
+
+-- done: the files of a run are its texts, whole, and every other file is as before; a scene leaves all files as before
 abbrev pub IsDone : Verdict → Files → Option Files → Type 0
-IsDone (Good image script order) files new = HasFiles image script (out_names order) (Some files) new
+IsDone (Good image script order side) files new = HasOrdered order image script side (Some files) new
 IsDone (Scene number band workers) files new = new ≡ Some files
 IsDone UsageVerdict files new = ⊥
 IsDone (Absent name) files new = ⊥
 IsDone BadImageVerdict files new = ⊥
 IsDone (BadScriptVerdict line kind) files new = ⊥
+IsDone BadTrackVerdict files new = ⊥
 
 -- stopped by a file that could not be written, which only a good verdict comes to; or by a summary that could not be said, and
 -- then all files are as before
 abbrev pub IsUnwritten : Verdict → Files → Option Files → Type 0
-IsUnwritten (Good image script order) files new = LeavesPrefixes image script (out_names order) (Some files) new
+IsUnwritten (Good image script order side) files new = LeavesOrdered order image script side (Some files) new
 IsUnwritten (Scene number band workers) files new = new ≡ Some files
 IsUnwritten UsageVerdict files new = ⊥
 IsUnwritten (Absent name) files new = ⊥
 IsUnwritten BadImageVerdict files new = ⊥
 IsUnwritten (BadScriptVerdict line kind) files new = ⊥
+IsUnwritten BadTrackVerdict files new = ⊥
 
 -- stopped for want of memory: where the verdict is good the files may have parts, else they are as before
 abbrev pub IsWanting : Verdict → Files → Option Files → Type 0
-IsWanting (Good image script order) files new = LeavesPrefixes image script (out_names order) (Some files) new
+IsWanting (Good image script order side) files new = LeavesOrdered order image script side (Some files) new
 IsWanting (Scene number band workers) files new = new ≡ Some files
 IsWanting UsageVerdict files new = ⊥
 IsWanting (Absent name) files new = new ≡ Some files
 IsWanting BadImageVerdict files new = new ≡ Some files
 IsWanting (BadScriptVerdict line kind) files new = new ≡ Some files
+IsWanting BadTrackVerdict files new = new ≡ Some files
 
 -- What stands after an answer to the words, where they are those of an order. The script is read only where the image has the form
--- of one; that it fits the script's chip memory is seen later.
+-- of one; that it fits the script's chip memory is seen later, and the track is read only where it does.
 abbrev pub OrderAnswers : OrderValue → Outside → Outside → Result (Unit {0}) Fault → Type 0
 OrderAnswers order old new (Ok done) = WhereTold old.files (λ files. IsDone (of_order order files) files new.files)
 OrderAnswers order old new (Err Usage) = ⊥
@@ -80,11 +87,17 @@ OrderAnswers order old new (Err BadImage) =
     WhereTold old.files (λ files. of_order order files ≡ BadImageVerdict) × (new.files ≡ old.files)
 OrderAnswers order old new (Err (BadScript line kind)) =
     WhereTold old.files (λ files. of_order order files ≡ BadScriptVerdict line kind) × (new.files ≡ old.files)
+OrderAnswers order old new (Err BadTrack) =
+    WhereTold old.files (λ files. of_order order files ≡ BadTrackVerdict) × (new.files ≡ old.files) × HasTrack order.extra
 OrderAnswers order old new (Err (Unread Image)) = Rose old.read_faults new.read_faults × (new.files ≡ old.files)
 OrderAnswers order old new (Err (Unread Script)) =
     Rose old.read_faults new.read_faults × (new.files ≡ old.files)
     × WhereTold old.files (HoldsImage order.image)
-OrderAnswers order old new (Err (Unwritten file)) =
+OrderAnswers order old new (Err (Unread Track)) =
+    Rose old.read_faults new.read_faults × (new.files ≡ old.files)
+    × WhereTold old.files (HoldsRun order.image order.script) × HasTrack order.extra
+OrderAnswers order old new (Err (Unwritten output)) =
     Rose old.write_faults new.write_faults × WhereTold old.files (λ files. IsUnwritten (of_order order files) files new.files)
+    × IsOutputOf (audio_of order.extra) output
 OrderAnswers order old new (Err Unsaid) = ⊥
 OrderAnswers order old new (Err OutOfMemory) = WhereTold old.files (λ files. IsWanting (of_order order files) files new.files)

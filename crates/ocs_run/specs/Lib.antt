@@ -1,4 +1,5 @@
 pub mod Asked
+pub mod Audio
 pub mod Command
 pub mod Fault
 pub mod Inputs

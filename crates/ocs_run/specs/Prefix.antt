@@ -8,6 +8,7 @@ use Rattle.serial_model.specs.Outputs.{frames_text}
 use Rattle.serial_model.specs.Serial.{state_over, IsEndOver}
 use Rattle.serial_model.specs.Side.{SideValue, no_side}
 use Rattle.serial_model.specs.TraceText.{trace_text}
+use Rattle.ocs_run.specs.Audio.{audio_text}
 
 -- the file of the name holds these bytes, or is as before
 abbrev pub with_part : Option Files → List ℕ → Option (List ℕ) → Option Files
@@ -33,3 +34,14 @@ pub record LeavesPrefixesOver (side : SideValue) (image : List ℕ) (script : Sc
 -- the same of the machine without a side
 abbrev pub LeavesPrefixes : List ℕ → ScriptValue → OutNames → Option Files → Option Files → Type 0
 LeavesPrefixes image script names base new = LeavesPrefixesOver no_side image script names base new
+
+-- the audio file too is as before or holds a part of its text, from the first byte on, beside which each of the three is so
+pub record LeavesSounded (side : SideValue) (image : List ℕ) (script : ScriptValue) (names : OutNames) (name : List ℕ) (base new : Option Files) : Type 0 where
+  pub audio : Option (List ℕ)
+  pub others : LeavesPrefixesOver side image script names (with_part base name audio) new
+  pub audio_part : (end : ℕ) → IsEndOver side image script end → IsPartOf (audio_text side image script end) audio
+
+-- what the files of a run hold that was stopped, by the name of its audio file where it has one
+abbrev pub LeavesFiles : Option (List ℕ) → SideValue → List ℕ → ScriptValue → OutNames → Option Files → Option Files → Type 0
+LeavesFiles None side image script names base new = LeavesPrefixesOver side image script names base new
+LeavesFiles (Some name) side image script names base new = LeavesSounded side image script names name base new

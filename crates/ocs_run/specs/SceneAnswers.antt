@@ -8,7 +8,7 @@ use Rattle.ocs_run.specs.Command.{KeepsSaid}
 use Rattle.ocs_run.specs.Run.{HasFiles}
 use Rattle.ocs_run.specs.SceneSummary.{IsSummary}
 use Rattle.ocs_run.specs.declared.fault.Fault.{Fault}
-use Rattle.ocs_run.specs.declared.fault.Fault.TheVariants.{Usage, BadImage, BadScript, Unread, Unwritten, Unsaid, OutOfMemory}
+use Rattle.ocs_run.specs.declared.fault.Fault.TheVariants.{Usage, BadImage, BadScript, BadTrack, Unread, Unwritten, Unsaid, OutOfMemory}
 
 -- the summary was said, whole
 pub record SaysSummary (number : ℕ) (old new : Outside) : Type 0 where
@@ -30,8 +30,9 @@ SceneAnswers number old new (Ok done) = SaysSummary number old new
 SceneAnswers number old new (Err Usage) = ⊥
 SceneAnswers number old new (Err BadImage) = ⊥
 SceneAnswers number old new (Err (BadScript line kind)) = ⊥
+SceneAnswers number old new (Err BadTrack) = ⊥
 SceneAnswers number old new (Err (Unread input)) = ⊥
-SceneAnswers number old new (Err (Unwritten file)) = ⊥
+SceneAnswers number old new (Err (Unwritten output)) = ⊥
 SceneAnswers number old new (Err Unsaid) = SaysSummaryPart number old new
 SceneAnswers number old new (Err OutOfMemory) = KeepsSaid old new
 

@@ -1,44 +1,50 @@
 -- What each status says.
-use Rattle.std.specs.Prelude.{◌≡◌, ℕ, if◌then◌else◌, List, [], ◌++◌, ◌⊎◌, take, codes, decimal, Option, Some, None}
+use Rattle.std.specs.Prelude.{◌≡◌, ℕ, if◌then◌else◌, List, [], ◌++◌, ◌⊎◌, take, codes, decimal, Option, Some, None, unwrap_or}
 use Rattle.ocs_io.specs.Place.{Outside, Rose, said_more}
-use Rattle.out_files.specs.declared.fault.OutFile.{OutFile}
-use Rattle.out_files.specs.declared.fault.OutFile.TheVariants.{Frames, Trace, Memory}
+use Rattle.out_files.specs.declared.fault.OutFile.TheVariants.{Frames, Trace as TraceOut, Memory}
 use Rattle.script_read.specs.KindName.{kind_name}
 use Rattle.ocs_run.specs.declared.fault.Fault.{Fault}
-use Rattle.ocs_run.specs.declared.fault.Fault.TheVariants.{Usage, BadImage, BadScript, Unread, Unwritten, Unsaid, OutOfMemory}
+use Rattle.ocs_run.specs.declared.fault.Fault.TheVariants.{Usage, BadImage, BadScript, BadTrack, Unread, Unwritten, Unsaid, OutOfMemory}
 use Rattle.ocs_run.specs.declared.fault.Input.{Input}
-use Rattle.ocs_run.specs.declared.fault.Input.TheVariants.{Image, Script}
-use Rattle.ocs_run.specs.Order.{OrderValue, order_of}
-use Rattle.ocs_run.specs.Words.{is_gen}
+use Rattle.ocs_run.specs.declared.fault.Input.TheVariants.{Image, Script, Track}
+use Rattle.ocs_run.specs.declared.fault.Output.{Output}
+use Rattle.ocs_run.specs.declared.fault.Output.TheVariants.{File, Audio}
+use Rattle.ocs_run.specs.Order.{OrderValue, NoFile, audio_of, track_of, order_of}
+use Rattle.ocs_run.specs.Words.{begins_with}
 
 abbrev pub input_name : OrderValue → Input → List ℕ
 input_name order Image = order.image
 input_name order Script = order.script
+input_name order Track = unwrap_or (track_of order.extra) []
 
-abbrev pub file_name : OrderValue → OutFile → List ℕ
-file_name order Frames = order.frames
-file_name order Trace = order.trace
-file_name order Memory = order.memory
+abbrev pub output_name : OrderValue → Output → List ℕ
+output_name order (File Frames) = order.frames
+output_name order (File TraceOut) = order.trace
+output_name order (File Memory) = order.memory
+output_name order Audio = unwrap_or (audio_of order.extra) []
 
 -- the form of the words, by the first of them
 unfoldable pub usage_text : List (List ℕ) → List ℕ
 usage_text words =
-    if is_gen words then codes "usage: ocs gen N BAND WORKERS\n"
-    else codes "usage: ocs run IMAGE SCRIPT FRAMES TRACE MEMORY BAND WORKERS\n"
+    if begins_with (codes "gen") words then codes "usage: ocs gen N BAND WORKERS\n"
+    else (if begins_with (codes "sound") words then codes "usage: ocs sound IMAGE SCRIPT FRAMES TRACE MEMORY AUDIO BAND WORKERS\n"
+    else (if begins_with (codes "disk") words then codes "usage: ocs disk IMAGE SCRIPT FRAMES TRACE MEMORY TRACK BAND WORKERS\n"
+    else codes "usage: ocs run IMAGE SCRIPT FRAMES TRACE MEMORY BAND WORKERS\n"))
 
 -- the text of a fault of a command with this text of its form and this order; a summary that could not be said has none
 unfoldable pub fault_text : List ℕ → OrderValue → Fault → List ℕ
 fault_text usage order Usage = usage
 fault_text usage order BadImage = codes "bad image\n"
 fault_text usage order (BadScript line kind) = codes "bad script: line " ++ decimal line ++ codes ": " ++ kind_name kind ++ codes "\n"
+fault_text usage order BadTrack = codes "bad track\n"
 fault_text usage order (Unread input) = codes "cannot read " ++ input_name order input ++ codes "\n"
-fault_text usage order (Unwritten file) = codes "cannot write " ++ file_name order file ++ codes "\n"
+fault_text usage order (Unwritten output) = codes "cannot write " ++ output_name order output ++ codes "\n"
 fault_text usage order Unsaid = []
 fault_text usage order OutOfMemory = codes "out of memory\n"
 
 -- an order without names, which the texts of other faults than those of files do not look at
 abbrev pub no_order : OrderValue
-no_order = record { image = []; script = []; frames = []; trace = []; memory = []; band = 0; workers = 0 }
+no_order = record { image = []; script = []; frames = []; trace = []; memory = []; extra = NoFile; band = 0; workers = 0 }
 
 abbrev pub order_or_none : Option OrderValue → OrderValue
 order_or_none None = no_order

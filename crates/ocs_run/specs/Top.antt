@@ -4,24 +4,35 @@ use Rattle.ocs_io.specs.Answers.{WhereTold}
 use Rattle.ocs_io.specs.Place.{Outside, Rose}
 use Rattle.scene_gen.specs.Scene.{scene_image, scene_script}
 use Rattle.script_read.specs.declared.fault.BadKind.{BadKind}
-use Rattle.serial_model.specs.Serial.{IsEnd}
+use Rattle.serial_model.specs.Serial.{IsEnd, IsEndOver}
 use Rattle.ocs_run.specs.Command.{OrderAnswers, KeepsSaid}
-use Rattle.ocs_run.specs.Fault.{status_of}
-use Rattle.ocs_run.specs.Inputs.{HoldsImage}
-use Rattle.ocs_run.specs.Order.{OrderValue}
+use Rattle.ocs_run.specs.Fault.{IsOutputOf, status_of}
+use Rattle.ocs_run.specs.Inputs.{HoldsImage, HoldsRun, ReadableTrack}
+use Rattle.ocs_run.specs.Order.{OrderValue, HasTrack, audio_of}
 use Rattle.ocs_run.specs.SceneAnswers.{SceneAnswers, SaysSummary, SaysSummaryPart}
 use Rattle.ocs_run.specs.Texts.{text_of, Says}
-use Rattle.ocs_run.specs.Verdict.{Verdict, Usage as UsageVerdict, Absent, BadImage as BadImageVerdict, BadScript as BadScriptVerdict, Good, Scene, of_order}
+use Rattle.ocs_run.specs.Verdict.{Verdict, Usage as UsageVerdict, Absent, BadImage as BadImageVerdict, BadScript as BadScriptVerdict}
+use Rattle.ocs_run.specs.Verdict.{BadTrack as BadTrackVerdict, Good, Scene, of_order}
 use Rattle.ocs_run.specs.Words.{CommandValue, Run, Gen, command_of}
 use Rattle.ocs_run.specs.declared.fault.Fault.{Fault}
-use Rattle.ocs_run.specs.declared.fault.Fault.TheVariants.{Usage, BadImage, BadScript, Unread, Unwritten, Unsaid, OutOfMemory}
-use Rattle.ocs_run.specs.declared.fault.Input.TheVariants.{Image, Script}
+use Rattle.ocs_run.specs.declared.fault.Fault.TheVariants.{Usage, BadImage, BadScript, BadTrack, Unread, Unwritten, Unsaid, OutOfMemory}
+use Rattle.ocs_run.specs.declared.fault.Input.TheVariants.{Image, Script, Track}
 
--- the place lets the input files named in the words be read
+-- the place lets the input files of an order be read
+pub record ReadableOrder (readable : List ℕ → Type 0) (order : OrderValue) : Type 0 where
+  pub image : readable order.image
+  pub script : readable order.script
+  pub track : ReadableTrack readable order.extra
+
+-- and those named in the words
 abbrev pub ReadableInputs : (List ℕ → Type 0) → Option CommandValue → Type 0
-ReadableInputs readable None = Unit {0}
-ReadableInputs readable (Some (Run order)) = readable order.image × readable order.script
-ReadableInputs readable (Some (Gen scene)) = Unit {0}
+ReadableInputs readable command = (order : OrderValue) → command ≡ Some (Run order) → ReadableOrder readable order
+
+-- the same, by the command
+abbrev pub ReadableCommand : (List ℕ → Type 0) → Option CommandValue → Type 0
+ReadableCommand readable None = Unit {0}
+ReadableCommand readable (Some (Run order)) = readable order.image × readable order.script × ReadableTrack readable order.extra
+ReadableCommand readable (Some (Gen scene)) = Unit {0}
 
 -- what stands after words of no command
 abbrev pub UsageAnswers : Outside → Outside → Result (Unit {0}) Fault → Type 0
@@ -29,8 +40,9 @@ UsageAnswers old new (Ok done) = ⊥
 UsageAnswers old new (Err Usage) = new.files ≡ old.files
 UsageAnswers old new (Err BadImage) = ⊥
 UsageAnswers old new (Err (BadScript line kind)) = ⊥
+UsageAnswers old new (Err BadTrack) = ⊥
 UsageAnswers old new (Err (Unread input)) = ⊥
-UsageAnswers old new (Err (Unwritten file)) = ⊥
+UsageAnswers old new (Err (Unwritten output)) = ⊥
 UsageAnswers old new (Err Unsaid) = ⊥
 UsageAnswers old new (Err OutOfMemory) = ⊥
 
@@ -48,7 +60,7 @@ SaysNothingElse (Some (Gen scene)) old new = Unit {0}
 
 -- the answers before the first create
 abbrev pub IsEarly : ℕ → Type 0
-IsEarly status = (status ≡ 2) ⊎ ((status ≡ 3) ⊎ ((status ≡ 4) ⊎ (status ≡ 5)))
+IsEarly status = (status ≡ 2) ⊎ ((status ≡ 3) ⊎ ((status ≡ 4) ⊎ ((status ≡ 5) ⊎ (status ≡ 9))))
 
 abbrev pub IsScene : Option CommandValue → Type 0
 IsScene None = ⊥
@@ -67,13 +79,17 @@ HasBadImage verdict = verdict ≡ BadImageVerdict
 abbrev pub HasBadScript : Verdict → Type 0
 HasBadScript verdict = (line : ℕ) × (kind : BadKind) × (verdict ≡ BadScriptVerdict line kind)
 
+abbrev pub HasBadTrack : Verdict → Type 0
+HasBadTrack verdict = verdict ≡ BadTrackVerdict
+
 -- a run of good inputs comes to an end, and so does a scene's
 abbrev pub HasRunEnd : Verdict → Type 0
 HasRunEnd UsageVerdict = Unit {0}
 HasRunEnd (Absent name) = Unit {0}
 HasRunEnd BadImageVerdict = Unit {0}
 HasRunEnd (BadScriptVerdict line kind) = Unit {0}
-HasRunEnd (Good image script order) = (end : ℕ) × IsEnd image script end
+HasRunEnd BadTrackVerdict = Unit {0}
+HasRunEnd (Good image script order side) = (end : ℕ) × IsEndOver side image script end
 HasRunEnd (Scene number band workers) = (end : ℕ) × IsEnd (scene_image number) (scene_script number) end
 
 -- the status of a verdict where no fault of the outside came, but for want of memory
@@ -82,20 +98,23 @@ Completed UsageVerdict old new status = status ≡ 2
 Completed (Absent name) old new status = (status ≡ 5) ⊎ (status ≡ 7)
 Completed BadImageVerdict old new status = Rose old.read_faults new.read_faults ⊎ ((status ≡ 3) ⊎ (status ≡ 7))
 Completed (BadScriptVerdict line kind) old new status = Rose old.read_faults new.read_faults ⊎ ((status ≡ 4) ⊎ (status ≡ 7))
-Completed (Good image script order) old new status =
+Completed BadTrackVerdict old new status = Rose old.read_faults new.read_faults ⊎ ((status ≡ 9) ⊎ (status ≡ 7))
+Completed (Good image script order side) old new status =
     (Rose old.read_faults new.read_faults ⊎ Rose old.write_faults new.write_faults)
     ⊎ ((status ≡ 0) ⊎ (status ≡ 7))
 Completed (Scene number band workers) old new status = Rose old.say_faults new.say_faults ⊎ ((status ≡ 0) ⊎ (status ≡ 7))
 
 -- the fault is one of a run, and what its text tells is so: the bad line of the script; and the script is named only where the
--- image has the form of one
+-- image has the form of one, the track, of a command that reads one, only where the image fits the good script's chip memory
 abbrev pub IsToldOfRun : OrderValue → Outside → Fault → Type 0
 IsToldOfRun order old Usage = ⊥
 IsToldOfRun order old BadImage = Unit {0}
 IsToldOfRun order old (BadScript line kind) = WhereTold old.files (λ files. of_order order files ≡ BadScriptVerdict line kind)
+IsToldOfRun order old BadTrack = HasTrack order.extra
 IsToldOfRun order old (Unread Image) = Unit {0}
 IsToldOfRun order old (Unread Script) = WhereTold old.files (HoldsImage order.image)
-IsToldOfRun order old (Unwritten file) = Unit {0}
+IsToldOfRun order old (Unread Track) = WhereTold old.files (HoldsRun order.image order.script) × HasTrack order.extra
+IsToldOfRun order old (Unwritten output) = IsOutputOf (audio_of order.extra) output
 IsToldOfRun order old Unsaid = ⊥
 IsToldOfRun order old OutOfMemory = Unit {0}
 

@@ -5,20 +5,20 @@ use Rattle.ocs_io.specs.Place.{Files}
 use Rattle.out_files.specs.OutFiles.{OutFilesValue}
 use Rattle.out_files.specs.Together.{AreTogether}
 use Rattle.band_log.specs.Raster.{RasterValue, Takes}
-use Rattle.serial_model.specs.declared.side.NoSide.{NoSide}
-use Rattle.serial_model.specs.Side.{no_side}
+use Rattle.crew.specs.Crew.{side_seen}
+use Rattle.run_side.specs.declared.side.RunSide.{RunSide}
 use Rattle.serial_bands.specs.Run.{RunOf, RunValue, run_over, state_of, IsEndOf}
 use Rattle.serial_bands.specs.BandShown.{bytes_from}
 use Rattle.foreground.specs.Fore.{ForeOf, ForeValue, over, IsUnderway as IsForeUnderway}
 use Rattle.ocs_run.specs.Prefix.{LeavesPrefixesOver}
 use Rattle.ocs_run.specs.Run.{HasParts}
 
--- a run without a side, and the foreground of one
-abbrev pub run_of : RunOf NoSide → RunValue
-run_of run = run_over (λ side. no_side) run
+-- a run over a side of the program, and the foreground of one
+abbrev pub run_of : RunOf RunSide → RunValue
+run_of run = run_over side_seen run
 
-abbrev pub fore_of : ForeOf NoSide → ForeValue
-fore_of fore = over (λ side. no_side) fore
+abbrev pub fore_of : ForeOf RunSide → ForeValue
+fore_of fore = over side_seen fore
 
 -- The foreground stands for the state after as many clocks as it counts, over a raster without a tint; of the files `base` the three were created,
 -- and they and what is pending for them are together the pixels of the bands that were gathered, and all lines of the trace.

@@ -1,11 +1,15 @@
 -- What the words of the command line and the files come to.
 use Rattle.std.specs.Prelude.{ℕ, if◌then◌else◌, List, Option, Some, None}
+use Rattle.disk_dma.specs.Disk.{disk_side, new_disk}
+use Rattle.disk_dma.specs.Track.{is_track}
 use Rattle.ocs_base.specs.Image.{is_image, fits_chip}
 use Rattle.ocs_base.specs.Script.{ScriptValue}
 use Rattle.ocs_io.specs.Place.{Files, file}
+use Rattle.paula_audio.specs.Paula.{paula_side, reset_paula}
 use Rattle.script_read.specs.Grammar.{script_of, Good as GoodScript, Bad as BadLine, Verdict as ScriptVerdict}
 use Rattle.script_read.specs.declared.fault.BadKind.{BadKind}
-use Rattle.ocs_run.specs.Order.{OrderValue}
+use Rattle.serial_model.specs.Side.{SideValue, no_side}
+use Rattle.ocs_run.specs.Order.{OrderValue, ExtraValue, NoFile, AudioFile, TrackFile}
 use Rattle.ocs_run.specs.Words.{CommandValue, Run, Gen}
 
 -- the first of these that applies, in the order in which the command does its work
@@ -19,22 +23,37 @@ pub data Verdict : Type 0 where
   BadImage : Verdict
   -- the script is bad at a line
   BadScript : ℕ → BadKind → Verdict
-  -- an image and a script whose chip memory it fits, and what is asked
-  Good : List ℕ → ScriptValue → OrderValue → Verdict
+  -- the track is odd, shorter than 2 bytes or longer than 32,768
+  BadTrack : Verdict
+  -- an image and a script whose chip memory it fits, what is asked, and what stands beside the chips as the run begins
+  Good : List ℕ → ScriptValue → OrderValue → SideValue → Verdict
   -- a scene: its number, how many lines a band has, and how many workers
   Scene : ℕ → ℕ → ℕ → Verdict
 
-abbrev pub of_script : OrderValue → List ℕ → ScriptVerdict → Verdict
-of_script order image (GoodScript script) = if fits_chip script.chip image then Good image script order else BadImage
-of_script order image (BadLine line kind) = BadScript line kind
+-- the disk has the track
+abbrev pub of_track : OrderValue → List ℕ → ScriptValue → List ℕ → Option (List ℕ) → Verdict
+of_track order image script name None = Absent name
+of_track order image script name (Some track) =
+    if is_track track then Good image script order (disk_side (new_disk track script.chip)) else BadTrack
 
-abbrev pub of_text : OrderValue → List ℕ → Option (List ℕ) → Verdict
-of_text order image None = Absent order.script
-of_text order image (Some text) = of_script order image (script_of text)
+-- by the file that the run has besides: nothing stands beside the chips, or the four channels of sound, or the disk
+abbrev pub of_extra : OrderValue → Files → List ℕ → ScriptValue → ExtraValue → Verdict
+of_extra order files image script NoFile = Good image script order no_side
+of_extra order files image script (AudioFile name) = Good image script order (paula_side (reset_paula script.chip))
+of_extra order files image script (TrackFile name) = of_track order image script name (file files name)
+
+abbrev pub of_script : OrderValue → Files → List ℕ → ScriptVerdict → Verdict
+of_script order files image (GoodScript script) =
+    if fits_chip script.chip image then of_extra order files image script order.extra else BadImage
+of_script order files image (BadLine line kind) = BadScript line kind
+
+abbrev pub of_text : OrderValue → Files → List ℕ → Option (List ℕ) → Verdict
+of_text order files image None = Absent order.script
+of_text order files image (Some text) = of_script order files image (script_of text)
 
 abbrev pub of_image : OrderValue → Files → Option (List ℕ) → Verdict
 of_image order files None = Absent order.image
-of_image order files (Some image) = if is_image image then of_text order image (file files order.script) else BadImage
+of_image order files (Some image) = if is_image image then of_text order files image (file files order.script) else BadImage
 
 abbrev pub of_order : OrderValue → Files → Verdict
 of_order order files = of_image order files (file files order.image)

@@ -10,7 +10,7 @@ pub record SceneOrderValue : Type 0 where
   pub workers : ℕ
 
 pub data CommandValue : Type 0 where
-  -- a run of two input files
+  -- a run of input files
   Run : OrderValue → CommandValue
   -- a scene and the summary of its run
   Gen : SceneOrderValue → CommandValue
@@ -30,11 +30,12 @@ abbrev pub scene_order_of : List (List ℕ) → Option SceneOrderValue
 scene_order_of (command ∷ number ∷ band ∷ workers ∷ []) = scene_with (number_of number) (band_of band) (workers_of workers)
 scene_order_of words = None
 
--- the first word is `gen`
-abbrev pub is_gen : List (List ℕ) → Bool
-is_gen [] = false
-is_gen (command ∷ words) = bytes_eq command (codes "gen")
+-- the first word is this one
+abbrev pub begins_with : List ℕ → List (List ℕ) → Bool
+begins_with name [] = false
+begins_with name (command ∷ words) = bytes_eq command name
 
 -- the command, by the first word; words of no command are None
 abbrev pub command_of : List (List ℕ) → Option CommandValue
-command_of words = if is_gen words then option_map Gen (scene_order_of words) else option_map Run (order_of words)
+command_of words =
+    if begins_with (codes "gen") words then option_map Gen (scene_order_of words) else option_map Run (order_of words)

@@ -1,15 +1,20 @@
-//! The command `run`: the inputs read and tested, and the run.
+//! The commands `run`, `sound` and `disk`: the inputs read and tested, and the run.
 
 ghost use Rattle.std.specs.Prelude.{◌≡◌, ◌≤◌, true, string_bytes, IfOk, IfErr};
+ghost use Rattle.crew.specs.Crew.{side_seen};
 ghost use Rattle.ocs_base.specs.Image.{is_image, fits_chip};
 ghost use Rattle.ocs_base.specs.Limits.{IsRunnable};
-ghost use Rattle.ocs_run.specs.Asked.{value_of, AreApart, IsHeight};
+ghost use Rattle.ocs_base.specs.Sizes.{bytes_of};
+ghost use Rattle.ocs_run.specs.Asked.{value_of, extra_value, AreApart, IsHeight};
 ghost use Rattle.ocs_run.specs.Command.{OrderAnswers, out_names, IsOutOf, RunAnswers, KeepsSaid};
+ghost use Rattle.ocs_run.specs.Inputs.{ReadableTrack};
+ghost use Rattle.serial_model.specs.Side.{FitsSide};
 
 use crate::fault::Fault;
 use crate::inputs::{read_image, read_script_file};
 use crate::order::Order;
 use crate::run::{Drawing, run_files};
+use crate::sides::{Sides, read_sides};
 use band_log::Run;
 use crew::Gate;
 use ocs_base::{Script, System};
@@ -20,7 +25,7 @@ use std::sync::Wait;
 use std::thread::Threads;
 
 /// Does what an order asks for: the image is read and its form tested, then the script, and then whether
-/// the image fits the script's chip memory; and then it is run.
+/// the image fits the script's chip memory, and of a run that has a disk the track; and then it is run.
 #[tactic(auto, using(crate::proofs::PrefixLaws::prefixes_kept))]
 pub fn run_order<
     R: Threads + Wait + Clone + Drop + Send + Sync + 'static,
@@ -29,6 +34,7 @@ pub fn run_order<
 >(rt: &R, alloc: Global, order: &Order<'_>, gate: G, place: &mut P) -> Result<(), Fault>
     requires image { P.readable place.old order.now.image.now }
     requires script { P.readable place.old order.now.script.now }
+    requires track { ReadableTrack (P.readable place.old) (extra_value order.now.extra) }
     requires apart { AreApart order.now }
     requires height { IsHeight order.now.band }
     requires few { order.now.workers ≤ 32 }
@@ -41,7 +47,8 @@ pub fn run_order<
     if !fits(&image, &script) {
         return Err(Fault::BadImage);
     }
-    run_inputs(rt, alloc, order, gate, image, script, place)
+    let sides = read_sides(alloc, order.extra, script.chip_size(), place)?;
+    run_inputs(rt, alloc, order, gate, image, script, sides, place)
 }
 
 /// Whether an image is not longer than a script's chip memory.
@@ -51,7 +58,7 @@ fn fits(image: &[u8], script: &Script) -> bool
     image.len() <= script.chip() as usize
 }
 
-/// Runs a good script over a good image that fits its chip memory.
+/// Runs a good script over a good image that fits its chip memory, with a side that does so too.
 #[tactic(auto, using(crate::proofs::PrefixLaws::prefixes_kept))]
 fn run_inputs<
     R: Threads + Wait + Clone + Drop + Send + Sync + 'static,
@@ -64,26 +71,38 @@ fn run_inputs<
     gate: G,
     image: Vec<u8>,
     script: Script,
+    sides: Sides,
     place: &mut P,
 ) -> Result<(), Fault>
     requires image { is_image image.items ≡ true }
     requires fits { fits_chip script.chip image.items ≡ true }
     requires script { IsRunnable script }
+    requires side { FitsSide (bytes_of script.chip) (side_seen sides.first) }
+    requires same { side_seen sides.second ≡ side_seen sides.first }
     requires apart { AreApart order.now }
     requires height { IsHeight order.now.band }
     requires few { order.now.workers ≤ 32 }
-    ensures answer { RunAnswers (value_of order.now) image.items script (P.outside place.old)
-        (P.outside place.new) result }
+    ensures answer { RunAnswers (value_of order.now) image.items script (side_seen sides.first)
+        (P.outside place.old) (P.outside place.new) result }
     ensures said { KeepsSaid (P.outside place.old) (P.outside place.new) }
 {
     let out = out_files(alloc, order, script.system())?;
-    let run = Run::new(image, script, order.band as u16);
+    let Sides { first, second } = sides;
+    let run = Run::over(image, script, order.band as u16, first);
     let drawing = Drawing {
         workers: order.workers as u8,
         gate,
     };
-    run_files(rt, alloc, drawing, run, out, place)?;
-    Ok(())
+    run_files(
+        rt,
+        alloc,
+        drawing,
+        run,
+        second,
+        out,
+        order.extra.audio(),
+        place,
+    )
 }
 
 /// Output files of the order's names, of a machine of this system.

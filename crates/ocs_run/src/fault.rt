@@ -4,23 +4,32 @@ use ocs_base::OutOfMemory;
 use out_files::{OutFile, WriteFault};
 use script_read::BadKind;
 
-/// One of the two files that a run reads.
+/// One of the files that a run reads: the image of chip memory, the script, and the track of a disk.
 #[derive(Clone, Copy, PartialEq, Eq, Debug)]
 pub enum Input {
     Image,
     Script,
+    Track,
+}
+
+/// One of the files that a run writes: those of every run, and what it sounds.
+#[derive(Clone, Copy, PartialEq, Eq, Debug)]
+pub enum Output {
+    File(OutFile),
+    Audio,
 }
 
 /// Why a command did not do what it was asked: the words are not of the form, an input file could not
-/// be read, the image or the script is bad, a file could not be written, the summary of a scene could not
-/// be said, or memory was wanting.
+/// be read, the image, the script or the track is bad, a file could not be written, the summary of a scene
+/// could not be said, or memory was wanting.
 #[derive(Clone, Copy, Debug)]
 pub enum Fault {
     Usage,
     BadImage,
     BadScript { line: u32, kind: BadKind },
+    BadTrack,
     Unread { input: Input },
-    Unwritten { file: OutFile },
+    Unwritten { output: Output },
     Unsaid,
     OutOfMemory,
 }
@@ -44,7 +53,9 @@ impl From<WriteFault> for Fault {
 
     fn from(fault: WriteFault) -> Fault {
         match fault {
-            WriteFault::Failed { file } => Fault::Unwritten { file },
+            WriteFault::Failed { file } => Fault::Unwritten {
+                output: Output::File(file),
+            },
             WriteFault::OutOfMemory => Fault::OutOfMemory,
         }
     }
@@ -65,6 +76,7 @@ impl Fault {
             Fault::Unread { .. } => 5,
             Fault::Unwritten { .. } | Fault::Unsaid => 6,
             Fault::OutOfMemory => 7,
+            Fault::BadTrack => 9,
         }
     }
 }

@@ -1,4 +1,4 @@
-//! The two input files: the image of chip memory and the script.
+//! The input files: the image of chip memory, the script, and the track of a disk.
 
 ghost use Rattle.std.specs.Prelude.{◌≡◌, true, IfOk, IfErr};
 ghost use Rattle.ocs_io.specs.Place.{OnlyReads, KeepsNames};
@@ -6,6 +6,8 @@ ghost use Rattle.ocs_run.specs.Inputs.{IsImageOf, IsImageFault, IsScriptOf, IsSc
 ghost use Rattle.ocs_base.specs.Limits.{IsRunnable};
 ghost use Rattle.script_read.specs.Grammar.{script_of, Good};
 ghost use Rattle.ocs_base.specs.Image.{is_image as good_image};
+ghost use Rattle.disk_dma.specs.Track.{is_track as good_track};
+ghost use Rattle.ocs_run.specs.Inputs.{IsTrackOf, IsTrackFault};
 
 use crate::fault::{Fault, Input};
 use ocs_base::Script;
@@ -18,6 +20,9 @@ const IMAGE_BYTES: usize = 1_048_576;
 
 /// The most bytes of a script.
 const SCRIPT_BYTES: usize = 4_194_304;
+
+/// The most bytes of a track.
+const TRACK_BYTES: usize = 32_768;
 
 /// Reads the image: an even number of 8 to 1,048,576 bytes. Whether they fit the machine's chip memory
 /// the script says, which is read later.
@@ -83,4 +88,32 @@ fn parse(alloc: Global, text: &[u8]) -> Result<Script, Fault>
         Err(ScriptFault::Bad { line, kind }) => Err(Fault::BadScript { line, kind }),
         Err(ScriptFault::OutOfMemory) => Err(Fault::OutOfMemory),
     }
+}
+
+/// Reads the track: an even number of 2 to 32,768 bytes.
+pub fn read_track<P: Place>(alloc: Global, name: &str, place: &mut P) -> Result<Vec<u8>, Fault>
+    requires { P.readable place.old name.now }
+    ensures good { IfOk result (λ track. IsTrackOf (P.outside place.old) name.now track.items) }
+    ensures fault { IfErr result (IsTrackFault (P.outside place.old)
+        (P.outside place.new) name.now) }
+    ensures kept { OnlyReads (P.outside place.old) (P.outside place.new) }
+    ensures names { KeepsNames (P.readable place.old) (P.growable place.old) (P.readable place.new)
+        (P.growable place.new) }
+{
+    let mut track = Vec::new(alloc);
+    match place.read(name, TRACK_BYTES, &mut track) {
+        Ok(()) if is_track(&track) => Ok(track),
+        Ok(()) | Err(ReadRefusal::TooLong) => Err(Fault::BadTrack),
+        Err(ReadRefusal::Failed) => Err(Fault::Unread {
+            input: Input::Track,
+        }),
+        Err(ReadRefusal::OutOfMemory) => Err(Fault::OutOfMemory),
+    }
+}
+
+/// Whether bytes have the form of a track.
+fn is_track(track: &[u8]) -> bool
+    ensures { result ≡ good_track track.now }
+{
+    track.len() % 2 == 0 && 2 <= track.len() && track.len() <= TRACK_BYTES
 }

@@ -1,12 +1,14 @@
 //! The top call: a run from the words of the command line to the output files.
 #![tactic(auto)]
 
+mod audio;
 mod command;
 mod fault;
 mod inputs;
 mod order;
 mod run;
 mod scene;
+mod sides;
 mod texts;
 mod top;
 mod words;

@@ -1,13 +1,52 @@
 //! The words of the command line.
 
-ghost use Rattle.std.specs.Prelude.{◌≡◌, ◌<◌, ◌≤◌, map, length, string_bytes, IfSome};
+ghost use Rattle.std.specs.Prelude.{◌≡◌, ◌<◌, ◌≤◌, ◌∷◌, map, length, string_bytes, IfSome};
 ghost use Rattle.ocs_run.specs.Order.{order_of, order_from, run_words_of, is_new as new_name, are_names as names_of, band_of, workers_of};
-ghost use Rattle.ocs_run.specs.Asked.{AreApart, IsHeight, IsOrder, AreRunWords, words_value};
+ghost use Rattle.ocs_run.specs.Order.{extra_of, extra_names};
+ghost use Rattle.ocs_run.specs.Asked.{AreApart, IsHeight, IsOrder, AreRunWords, words_value, IsExtra, extra_value};
 
 use ocs_io::dec;
 
-/// What the words `run IMAGE SCRIPT FRAMES TRACE MEMORY BAND WORKERS` ask for. The names differ and
-/// are not empty, `band` is 1 to 313 lines, and `workers` at most 32.
+/// The file that a run has besides those of every run: none, the name of the file to which what it
+/// sounds is written, or the name of the file from which its disk is read.
+#[derive(Clone, Copy)]
+pub enum Extra<'a> {
+    None,
+    Audio(&'a str),
+    Track(&'a str),
+}
+
+impl<'a> Extra<'a> {
+    ghost use Rattle.std.specs.Prelude.{◌≡◌, option_map};
+    ghost use Rattle.ocs_run.specs.Order.{audio_of, track_of};
+    ghost use Rattle.ocs_run.specs.Asked.{extra_value};
+
+    /// The name of the audio file, where there is one.
+    pub fn audio(self) -> Option<&'a str>
+        ensures { option_map (λ name. name.now) result ≡ audio_of (extra_value self.entry) }
+    {
+        match self {
+            Extra::None => None,
+            Extra::Audio(name) => Some(name),
+            Extra::Track(_) => None,
+        }
+    }
+
+    /// The name of the track, where there is one.
+    pub fn track(self) -> Option<&'a str>
+        ensures { option_map (λ name. name.now) result ≡ track_of (extra_value self.entry) }
+    {
+        match self {
+            Extra::None => None,
+            Extra::Audio(_) => None,
+            Extra::Track(name) => Some(name),
+        }
+    }
+}
+
+/// What the words of a run ask for: `run IMAGE SCRIPT FRAMES TRACE MEMORY BAND WORKERS`, and with a sixth
+/// name behind MEMORY `sound` or `disk`. The names differ and are not empty, `band` is 1 to 313 lines,
+/// and `workers` at most 32.
 #[derive(Clone, Copy)]
 pub struct Order<'a> {
     pub image: &'a str,
@@ -15,11 +54,12 @@ pub struct Order<'a> {
     pub frames: &'a str,
     pub trace: &'a str,
     pub memory: &'a str,
+    pub extra: Extra<'a>,
     pub band: u64,
     pub workers: u64,
 }
 
-/// The seven words behind `run`.
+/// The words of a run behind the first.
 #[derive(Clone, Copy)]
 struct RunWords<'a> {
     image: &'a str,
@@ -27,6 +67,7 @@ struct RunWords<'a> {
     frames: &'a str,
     trace: &'a str,
     memory: &'a str,
+    extra: Extra<'a>,
     band: &'a str,
     workers: &'a str,
 }
@@ -44,25 +85,66 @@ pub fn read_order(words: &[String]) -> Option<Order<'_>>
     }
 }
 
-/// The words behind `run`, where they are seven.
+/// The words of a run, where they are eight, or nine with a sixth name.
 fn run_words(words: &[String]) -> Option<RunWords<'_>>
     ensures { AreRunWords (run_words_of (map string_bytes words.now)) result }
 {
-    let [command, image, script, frames, trace, memory, band, workers] = words else {
-        return None;
-    };
-    if command.as_str() != "run" {
-        return None;
+    match words {
+        [command, image, script, frames, trace, memory, band, workers] => {
+            if command.as_str() != "run" {
+                return None;
+            }
+            Some(RunWords {
+                image: image.as_str(),
+                script: script.as_str(),
+                frames: frames.as_str(),
+                trace: trace.as_str(),
+                memory: memory.as_str(),
+                extra: Extra::None,
+                band: band.as_str(),
+                workers: workers.as_str(),
+            })
+        }
+        [
+            command,
+            image,
+            script,
+            frames,
+            trace,
+            memory,
+            extra,
+            band,
+            workers,
+        ] => {
+            let Some(extra) = read_extra(command.as_str(), extra.as_str()) else {
+                return None;
+            };
+            Some(RunWords {
+                image: image.as_str(),
+                script: script.as_str(),
+                frames: frames.as_str(),
+                trace: trace.as_str(),
+                memory: memory.as_str(),
+                extra,
+                band: band.as_str(),
+                workers: workers.as_str(),
+            })
+        }
+        _ => None,
     }
-    Some(RunWords {
-        image: image.as_str(),
-        script: script.as_str(),
-        frames: frames.as_str(),
-        trace: trace.as_str(),
-        memory: memory.as_str(),
-        band: band.as_str(),
-        workers: workers.as_str(),
-    })
+}
+
+/// What the sixth name is of, by the first word.
+fn read_extra<'a>(command: &str, name: &'a str) -> Option<Extra<'a>>
+    ensures { IsExtra (extra_of command.now name.now) result }
+{
+    if command == "sound" {
+        Some(Extra::Audio(name))
+    } else if command == "disk" {
+        Some(Extra::Track(name))
+    } else {
+        None
+    }
 }
 
 /// What the words ask for.
@@ -78,10 +160,11 @@ fn order_in(words: RunWords<'_>) -> Option<Order<'_>>
         frames,
         trace,
         memory,
+        extra,
         band,
         workers,
     } = words;
-    if !are_names(&[image, script, frames, trace, memory]) {
+    if !have_names(&words) {
         return None;
     }
     let Some(band) = read_band(band) else {
@@ -96,21 +179,41 @@ fn order_in(words: RunWords<'_>) -> Option<Order<'_>>
         frames,
         trace,
         memory,
+        extra,
         band,
         workers,
     })
 }
 
-/// Whether the names are not empty, and no two of them one.
-fn are_names(names: &[&str; 5]) -> bool
-    ensures value { result ≡ names_of (map (λ name. name.now) names.now) }
+/// Whether the names of the files are not empty, and no two of them one.
+fn have_names(words: &RunWords<'_>) -> bool
+    ensures { result ≡ names_of (words.now.image.now ∷ words.now.script.now
+        ∷ words.now.frames.now ∷ words.now.trace.now ∷ words.now.memory.now
+        ∷ extra_names (extra_value words.now.extra)) }
 {
-    let [image, script, frames, trace, memory] = *names;
-    is_new(image, &[script, frames, trace, memory])
-        && is_new(script, &[frames, trace, memory])
-        && is_new(frames, &[trace, memory])
-        && is_new(trace, &[memory])
-        && is_new(memory, &[])
+    let RunWords {
+        image,
+        script,
+        frames,
+        trace,
+        memory,
+        ..
+    } = *words;
+    match words.extra {
+        Extra::None => are_names(&[image, script, frames, trace, memory]),
+        Extra::Audio(name) => are_names(&[image, script, frames, trace, memory, name]),
+        Extra::Track(name) => are_names(&[image, script, frames, trace, memory, name]),
+    }
+}
+
+/// Whether names are not empty, and no two of them one.
+fn are_names(names: &[&str]) -> bool
+    ensures { result ≡ names_of (map (λ name. name.now) names.now) }
+{
+    match names {
+        [] => true,
+        [name, rest @ ..] => is_new(name, rest) && are_names(rest),
+    }
 }
 
 /// Whether the name is not empty, and none of the others.

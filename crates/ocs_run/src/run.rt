@@ -1,6 +1,6 @@
 //! A run: the clocks from reset to the last of the script's frames, and the files.
 
-ghost use Rattle.std.specs.Prelude.{◌≡◌, ◌≤◌, ◌%◌, [], true, OnOk, OnErr, IfOk, IfErr};
+ghost use Rattle.std.specs.Prelude.{◌≡◌, ◌≤◌, ◌<◌, ◌%◌, ◌+◌, ◌^◌, [], true, false, option_map, OnOk, OnErr, IfOk, IfErr};
 ghost use Rattle.std.specs.Arc.{arc_value};
 ghost use Rattle.out_files.specs.declared.fault.WriteFault.TheVariants as WriteFault;
 ghost use Rattle.ocs_io.specs.Place.{Rose, OnlyWrites, KeepsNames};
@@ -10,17 +10,22 @@ ghost use Rattle.out_files.specs.Together.{Completes, LeavesParts, StayTogether}
 ghost use Rattle.serial_model.specs.MemoryText.{memory_text};
 ghost use Rattle.crew.specs.Crew.{crew_seen};
 ghost use Rattle.foreground.specs.Fore.{is_done, IsNew};
-ghost use Rattle.ocs_run.specs.Prefix.{LeavesPrefixes};
-ghost use Rattle.ocs_run.specs.Run.{HasFiles};
+ghost use Rattle.foreground.specs.RunTo.{RunsOn};
+ghost use Rattle.crew.specs.Crew.{side_seen};
+ghost use Rattle.ocs_run.specs.Audio.{IsHeard, IsFourthName};
+ghost use Rattle.ocs_run.specs.Fault.{IsRunFault};
+ghost use Rattle.ocs_run.specs.Prefix.{LeavesFiles};
+ghost use Rattle.ocs_run.specs.Run.{HasAllFiles};
 ghost use Rattle.ocs_run.specs.Underway.{fore_of, run_of, CanRun, Runs, IsStopped, IsFresh, Ends, IsCut, EndsFromStart, IsCutFromStart};
 
+use crate::audio::{Recording, create_audio, listen, write_audio};
+use crate::fault::Fault;
 use band_log::{Raster, Run};
-use crew::{Crew, Gate, with_crew};
+use crew::{Crew, CrewSide, Gate, with_crew};
 use foreground::Fore;
-use ocs_base::{Beam, Script};
+use ocs_base::{Beam, OutOfMemory, Script};
 use ocs_io::Place;
 use out_files::{OutFiles, WriteFault};
-use serial_model::NoSide;
 use std::alloc::Global;
 use std::sync::{Arc, Wait};
 use std::thread::Threads;
@@ -33,8 +38,9 @@ pub struct Drawing<G> {
 }
 
 /// Runs the script over the image, in bands of `height` lines that so many workers draw, and writes
-/// the three files, which it creates once the machine is made. Without a fault they are the texts of
-/// the run, whole; after one each of them is as before or has a part of its text. The gate is called
+/// the three files, and the audio file where a name is given for it. They are created once the machine
+/// is made, the audio file last. Without a fault they are the texts of the run, whole; after one each of
+/// them is as before or has a part of its text. `side` does what the run's own does. The gate is called
 /// before each band is drawn. It may wait.
 pub fn run_files<
     R: Threads + Wait + Clone + Drop + Send + Sync + 'static,
@@ -44,28 +50,41 @@ pub fn run_files<
     rt: &R,
     alloc: Global,
     drawing: Drawing<G>,
-    run: Run<NoSide>,
+    run: Run<CrewSide>,
+    side: CrewSide,
     out: OutFiles,
+    audio: Option<&str>,
     place: &mut P,
-) -> Result<(), WriteFault>
+) -> Result<(), Fault>
     requires workers { drawing.workers ≤ 32 }
     requires fresh { IsFresh run.script.system out }
-    ensures done { OnOk result (HasFiles run.image run.script out.names (P.outside place.old).files
-        (P.outside place.new).files) }
-    ensures stopped { OnErr result (LeavesPrefixes run.image run.script out.names
+    requires side { side_seen side ≡ side_seen run.side }
+    requires apart { IsFourthName out.names (option_map (λ n. n.now) audio) }
+    ensures done { OnOk result (HasAllFiles (option_map (λ n. n.now) audio.entry)
+        (side_seen run.side) run.image run.script out.names
+        (P.outside place.old).files (P.outside place.new).files) }
+    ensures stopped { OnErr result (LeavesFiles (option_map (λ n. n.now) audio.entry)
+        (side_seen run.side) run.image run.script out.names
         (P.outside place.old).files (P.outside place.new).files) }
     ensures kept { OnlyWrites (P.outside place.old) (P.outside place.new) }
-    ensures cause { IfErr result (λ fault. NamesFile fault
-        → Rose (P.outside place.old).write_faults (P.outside place.new).write_faults) }
+    ensures cause { IfErr result (IsRunFault (option_map (λ n. n.now) audio.entry)
+        (P.outside place.old) (P.outside place.new)) }
 {
     let _good = run.script();
     let run = share(alloc, run)?;
-    let mut fore = Fore::new(alloc, shared(&run)?)?;
+    let mut fore = Fore::with_side(alloc, shared(&run)?, side)?;
     let mut out = out;
+    let mut heard = Recording {
+        on: audio.is_some(),
+        bytes: Vec::new(alloc),
+    };
     out.create(place)?;
-    draw_with_crew(rt, alloc, drawing, run, &mut fore, &mut out, place)?;
+    create_audio(audio, place)?;
+    draw_with_crew(
+        rt, alloc, drawing, run, &mut fore, &mut out, &mut heard, place,
+    )?;
     write_memory(fore, &mut out, place)?;
-    Ok(())
+    write_audio(audio, &heard, place)
 }
 
 /// Runs all clocks of a foreground at reset, whose bands a crew draws.
@@ -77,14 +96,16 @@ fn draw_with_crew<
     rt: &R,
     alloc: Global,
     drawing: Drawing<G>,
-    run: Arc<Run<NoSide>>,
-    fore: &mut Fore<NoSide>,
+    run: Arc<Run<CrewSide>>,
+    fore: &mut Fore<CrewSide>,
     out: &mut OutFiles,
+    audio: &mut Recording,
     place: &mut P,
 ) -> Result<(), WriteFault>
     requires workers { drawing.workers ≤ 32 }
     requires growable { AreGrowable (P.growable place.old) out.old.names }
     requires new { IsNew (run_of (arc_value run)) (fore_of fore.old) }
+    requires silent { audio.old.bytes.items ≡ [] }
     ensures done { OnOk result (EndsFromStart (run_of (arc_value run)) (fore_of fore.old)
         (fore_of fore.new) out.old out.new
         (P.outside place.old).files (P.outside place.new).files) }
@@ -98,11 +119,14 @@ fn draw_with_crew<
         → Rose (P.outside place.old).write_faults (P.outside place.new).write_faults) }
     ensures names { KeepsNames (P.readable place.old) (P.growable place.old) (P.readable place.new)
         (P.growable place.new) }
+    ensures heard { OnOk result (IsHeard audio.new (fore_of fore.new)) }
+    ensures on { OnOk result (audio.new.on ≡ audio.old.on) }
 {
     let Drawing { workers, gate } = drawing;
     let mut body = |crew: &mut Crew<R, G>| -> Result<(), WriteFault>
         requires growable { AreGrowable (P.growable place.now) out.now.names }
         requires able { CanRun (fore_of fore.now) (crew_seen crew.old) }
+        requires heard { IsHeard audio.now (fore_of fore.now) }
         ensures done { OnOk result (Ends (fore_of fore.entry.now) (fore_of fore.exit.now)
             (crew_seen crew.old)
             out.entry.now out.exit.now (P.outside place.entry.now).files
@@ -119,13 +143,15 @@ fn draw_with_crew<
             (P.outside place.exit.now).write_faults) }
         ensures names { KeepsNames (P.readable place.entry.now) (P.growable place.entry.now)
             (P.readable place.exit.now) (P.growable place.exit.now) }
-    { run_whole(fore, crew, out, place) };
+        ensures heard { OnOk result (IsHeard audio.exit.now (fore_of fore.exit.now)) }
+        ensures on { OnOk result (audio.exit.now.on ≡ audio.entry.now.on) }
+    { run_whole(fore, crew, out, audio, place) };
     let (answer, _totals) = with_crew(rt, alloc, run, workers, gate, &mut body)?;
     answer
 }
 
 /// The run in an `Arc`, which its jobs share.
-fn share(alloc: Global, run: Run<NoSide>) -> Result<Arc<Run<NoSide>>, WriteFault>
+fn share(alloc: Global, run: Run<CrewSide>) -> Result<Arc<Run<CrewSide>>, WriteFault>
     ensures run { IfOk result (λ shared. arc_value shared ≡ run) }
     ensures memory { IfErr result (λ fault. fault ≡ WriteFault.OutOfMemory) }
 {
@@ -136,7 +162,7 @@ fn share(alloc: Global, run: Run<NoSide>) -> Result<Arc<Run<NoSide>>, WriteFault
 }
 
 /// One share more of the run.
-fn shared(run: &Arc<Run<NoSide>>) -> Result<Arc<Run<NoSide>>, WriteFault>
+fn shared(run: &Arc<Run<CrewSide>>) -> Result<Arc<Run<CrewSide>>, WriteFault>
     ensures run { IfOk result (λ shared. arc_value shared ≡ arc_value run.now) }
     ensures memory { IfErr result (λ fault. fault ≡ WriteFault.OutOfMemory) }
 {
@@ -147,14 +173,16 @@ fn shared(run: &Arc<Run<NoSide>>) -> Result<Arc<Run<NoSide>>, WriteFault>
 }
 
 /// Runs all clocks of a foreground over a raster, and appends what is pending.
-pub fn run_whole<P: Place, Q: Raster<NoSide>>(
-    fore: &mut Fore<NoSide>,
+pub fn run_whole<P: Place, Q: Raster<CrewSide>>(
+    fore: &mut Fore<CrewSide>,
     raster: &mut Q,
     out: &mut OutFiles,
+    audio: &mut Recording,
     place: &mut P,
 ) -> Result<(), WriteFault>
     requires growable { AreGrowable (P.growable place.old) out.old.names }
     requires able { CanRun (fore_of fore.old) (Q.seen raster.old) }
+    requires heard { IsHeard audio.old (fore_of fore.old) }
     ensures done { OnOk result (Ends (fore_of fore.old) (fore_of fore.new) (Q.seen raster.old)
         out.old out.new
         (P.outside place.old).files (P.outside place.new).files) }
@@ -168,22 +196,26 @@ pub fn run_whole<P: Place, Q: Raster<NoSide>>(
         → Rose (P.outside place.old).write_faults (P.outside place.new).write_faults) }
     ensures names { KeepsNames (P.readable place.old) (P.growable place.old) (P.readable place.new)
         (P.growable place.new) }
+    ensures heard { OnOk result (IsHeard audio.new (fore_of fore.new)) }
+    ensures on { audio.new.on ≡ audio.old.on }
 {
-    run_clocks(fore, raster, out, place)?;
+    run_clocks(fore, raster, out, audio, place)?;
     fore.settle(raster, out)?;
     out.flush(place)?;
     Ok(())
 }
 
 /// Runs the clocks up to the first state whose frame is the script's number of frames.
-fn run_clocks<P: Place, Q: Raster<NoSide>>(
-    fore: &mut Fore<NoSide>,
+fn run_clocks<P: Place, Q: Raster<CrewSide>>(
+    fore: &mut Fore<CrewSide>,
     raster: &mut Q,
     out: &mut OutFiles,
+    audio: &mut Recording,
     place: &mut P,
 ) -> Result<(), WriteFault>
     requires growable { AreGrowable (P.growable place.old) out.old.names }
     requires able { CanRun (fore_of fore.old) (Q.seen raster.old) }
+    requires heard { IsHeard audio.old (fore_of fore.old) }
     ensures runs { OnOk result (Runs (fore_of fore.old) (fore_of fore.new) (Q.seen raster.old)
         (Q.seen raster.new)
         out.old out.new (P.outside place.old).files (P.outside place.new).files) }
@@ -199,13 +231,53 @@ fn run_clocks<P: Place, Q: Raster<NoSide>>(
         → Rose (P.outside place.old).write_faults (P.outside place.new).write_faults) }
     ensures names { KeepsNames (P.readable place.old) (P.growable place.old) (P.readable place.new)
         (P.growable place.new) }
+    ensures heard { OnOk result (IsHeard audio.new (fore_of fore.new)) }
+    ensures on { audio.new.on ≡ audio.old.on }
 {
     while !fore.done() {
-        let limit = fore.next_line();
-        fore.run_to(limit, raster, out)?;
+        run_some(fore, raster, out, audio)?;
         flush_lines(&fore.beam(), out, place)?;
     }
     Ok(())
+}
+
+/// The clock up to which a run goes on in one turn: the next one where it is taken what the run sounds,
+/// else the first of the next line.
+fn next_limit(fore: &Fore<CrewSide>, on: bool) -> u64
+    requires room { fore.now.machine.t + 228 < 2 ^ 64 }
+    ensures later { fore.now.machine.t < result }
+    ensures one { on ≡ true → result ≡ fore.now.machine.t + 1 }
+{
+    if on {
+        fore.clocks() + 1
+    } else {
+        fore.next_line()
+    }
+}
+
+/// Runs the clocks up to the next line, or one where it is taken what the run sounds.
+fn run_some<Q: Raster<CrewSide>>(
+    fore: &mut Fore<CrewSide>,
+    raster: &mut Q,
+    out: &mut OutFiles,
+    audio: &mut Recording,
+) -> Result<(), OutOfMemory>
+    requires able { CanRun (fore_of fore.old) (Q.seen raster.old) }
+    requires running { is_done (fore_of fore.old) ≡ false }
+    requires heard { IsHeard audio.old (fore_of fore.old) }
+    ensures clocks { OnOk result (RunsOn (fore_of fore.old) (fore_of fore.new)
+        (Q.seen raster.old) (Q.seen raster.new) out.old out.new) }
+    ensures later { OnOk result (fore.old.machine.t < fore.new.machine.t) }
+    ensures run { (fore_of fore.new).run ≡ (fore_of fore.old).run }
+    ensures fresh { OnOk result (fore.new.spent ≡ false) }
+    ensures mark { (Q.seen raster.new).mark ≡ (Q.seen raster.old).mark }
+    ensures heard { OnOk result (IsHeard audio.new (fore_of fore.new)) }
+    ensures on { audio.new.on ≡ audio.old.on }
+{
+    let beam = fore.beam();
+    let limit = next_limit(fore, audio.on);
+    fore.run_to(limit, raster, out)?;
+    listen(&beam, fore.side(), audio)
 }
 
 /// Appends what is pending at the first clock of every 32nd line.
@@ -232,7 +304,7 @@ fn flush_lines<P: Place>(beam: &Beam, out: &mut OutFiles, place: &mut P) -> Resu
 
 /// Appends the words of chip memory to the memory file.
 fn write_memory<P: Place>(
-    fore: Fore<NoSide>,
+    fore: Fore<CrewSide>,
     out: &mut OutFiles,
     place: &mut P,
 ) -> Result<(), WriteFault>
@@ -244,6 +316,8 @@ fn write_memory<P: Place>(
     ensures kept { OnlyWrites (P.outside place.old) (P.outside place.new) }
     ensures cause { IfErr result (λ fault. NamesFile fault
         → Rose (P.outside place.old).write_faults (P.outside place.new).write_faults) }
+    ensures names { KeepsNames (P.readable place.old) (P.growable place.old)
+        (P.readable place.new) (P.growable place.new) }
 {
     let mut chip = fore.finish();
     out.memory(&mut chip, place)

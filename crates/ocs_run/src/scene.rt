@@ -14,7 +14,7 @@ use crate::fault::Fault;
 use crate::run::{Drawing, run_files};
 use crate::words::SceneOrder;
 use band_log::Run;
-use crew::Gate;
+use crew::{CrewSide, Gate};
 use ocs_base::{OutOfMemory, System};
 use ocs_io::{Place, SureShelf, WriteRefusal, put_dec};
 use out_files::OutFiles;
@@ -76,12 +76,21 @@ fn run_on_shelf<
     let (image, script) = scene(alloc, order.number)?;
     let out = out_files(alloc, script.system())?;
     let mut shelf = SureShelf::new(alloc);
-    let run = Run::new(image, script, order.band as u16);
+    let run = Run::over(image, script, order.band as u16, CrewSide::Nothing);
     let drawing = Drawing {
         workers: order.workers as u8,
         gate,
     };
-    run_files(rt, alloc, drawing, run, out, &mut shelf)?;
+    run_files(
+        rt,
+        alloc,
+        drawing,
+        run,
+        CrewSide::Nothing,
+        out,
+        None,
+        &mut shelf,
+    )?;
     Ok(shelf)
 }
 

@@ -1,14 +1,14 @@
 //! What each status says.
 
-ghost use Rattle.std.specs.Prelude.{◌≡◌, ◌++◌, map, string_bytes, OnOk, codes, decimal};
+ghost use Rattle.std.specs.Prelude.{◌≡◌, ◌++◌, [], map, option_map, unwrap_or, string_bytes, OnOk, codes, decimal};
 ghost use Rattle.ocs_io.specs.Place.{OnlySays};
 ghost use Rattle.ocs_run.specs.Order.{order_of};
-ghost use Rattle.ocs_run.specs.Texts.{text_of, Says, SaysSurely, usage_text, order_or_none, input_name as name_of_input, file_name as name_of_file};
+ghost use Rattle.ocs_run.specs.Texts.{text_of, Says, SaysSurely, usage_text, order_or_none, input_name as name_of_input, output_name as name_of_output};
 ghost use Rattle.script_read.specs.KindName.{kind_name};
 
-use crate::fault::{Fault, Input};
+use crate::fault::{Fault, Input, Output};
 use crate::order::read_order;
-use crate::words::is_gen;
+use crate::words::begins_with;
 use ocs_base::OutOfMemory;
 use ocs_io::{Place, put_dec};
 use out_files::OutFile;
@@ -31,6 +31,7 @@ pub fn say_fault<P: Place>(alloc: Global, words: &[String], fault: Fault, place:
     match fault {
         Fault::Usage => say(usage(words), place),
         Fault::BadImage => say("bad image\n", place),
+        Fault::BadTrack => say("bad track\n", place),
         Fault::Unsaid => {}
         Fault::OutOfMemory => say("out of memory\n", place),
         Fault::BadScript { .. } | Fault::Unread { .. } | Fault::Unwritten { .. } => {
@@ -70,9 +71,12 @@ fn put_text(words: &[String], fault: Fault, text: &mut Vec<u8>) -> Result<(), Ou
     match fault {
         Fault::Usage => put(text, usage(words)),
         Fault::BadImage => put(text, "bad image\n"),
+        Fault::BadTrack => put(text, "bad track\n"),
         Fault::BadScript { line, kind } => put_bad_line(text, line, kind),
         Fault::Unread { input } => put_named(text, "cannot read ", input_name(words, input)),
-        Fault::Unwritten { file } => put_named(text, "cannot write ", file_name(words, file)),
+        Fault::Unwritten { output } => {
+            put_named(text, "cannot write ", output_name(words, output))
+        }
         Fault::Unsaid => Ok(()),
         Fault::OutOfMemory => put(text, "out of memory\n"),
     }
@@ -83,14 +87,18 @@ fn put_text(words: &[String], fault: Fault, text: &mut Vec<u8>) -> Result<(), Ou
 fn usage(words: &[String]) -> &'static str
     ensures { result.now ≡ usage_text (map string_bytes words.now) }
 {
-    if is_gen(words) {
+    if begins_with(words, "gen") {
         "usage: ocs gen N BAND WORKERS\n"
+    } else if begins_with(words, "sound") {
+        "usage: ocs sound IMAGE SCRIPT FRAMES TRACE MEMORY AUDIO BAND WORKERS\n"
+    } else if begins_with(words, "disk") {
+        "usage: ocs disk IMAGE SCRIPT FRAMES TRACE MEMORY TRACK BAND WORKERS\n"
     } else {
         "usage: ocs run IMAGE SCRIPT FRAMES TRACE MEMORY BAND WORKERS\n"
     }
 }
 
-/// The name of an input, empty where the words are not those of a run.
+/// The name of an input, empty where the words are not those of a run that has it.
 fn input_name(words: &[String], input: Input) -> &str
     ensures { result.now ≡ name_of_input
         (order_or_none (order_of (map string_bytes words.now))) input }
@@ -98,20 +106,32 @@ fn input_name(words: &[String], input: Input) -> &str
     match (read_order(words), input) {
         (Some(order), Input::Image) => order.image,
         (Some(order), Input::Script) => order.script,
+        (Some(order), Input::Track) => or_empty(order.extra.track()),
         (None, _) => "",
     }
 }
 
-/// The name of an output, empty where the words are not those of a run.
-fn file_name(words: &[String], file: OutFile) -> &str
-    ensures { result.now ≡ name_of_file
-        (order_or_none (order_of (map string_bytes words.now))) file }
+/// The name of an output, empty where the words are not those of a run that has it.
+fn output_name(words: &[String], output: Output) -> &str
+    ensures { result.now ≡ name_of_output
+        (order_or_none (order_of (map string_bytes words.now))) output }
 {
-    match (read_order(words), file) {
-        (Some(order), OutFile::Frames) => order.frames,
-        (Some(order), OutFile::Trace) => order.trace,
-        (Some(order), OutFile::Memory) => order.memory,
+    match (read_order(words), output) {
+        (Some(order), Output::File(OutFile::Frames)) => order.frames,
+        (Some(order), Output::File(OutFile::Trace)) => order.trace,
+        (Some(order), Output::File(OutFile::Memory)) => order.memory,
+        (Some(order), Output::Audio) => or_empty(order.extra.audio()),
         (None, _) => "",
+    }
+}
+
+/// The name, empty where there is none.
+fn or_empty(name: Option<&str>) -> &str
+    ensures { result.now ≡ unwrap_or (option_map (λ n. n.now) name.entry) [] }
+{
+    match name {
+        Some(name) => name,
+        None => "",
     }
 }
 

@@ -6,8 +6,8 @@ ghost use Rattle.ocs_io.specs.Place.{Rose};
 ghost use Rattle.ocs_run.specs.Words.{command_of};
 ghost use Rattle.ocs_run.specs.Verdict.{of_command};
 ghost use Rattle.ocs_run.specs.Command.{IsDone, IsUnwritten, IsWanting};
-ghost use Rattle.ocs_run.specs.Top.{ReadableInputs, CommandAnswers, SaysNothingElse, SaysStatus, IsEarly};
-ghost use Rattle.ocs_run.specs.Top.{IsScene, IsRefused, HasBadImage, HasBadScript, Completed, HasRunEnd};
+ghost use Rattle.ocs_run.specs.Top.{ReadableInputs, ReadableCommand, CommandAnswers, SaysNothingElse, SaysStatus, IsEarly};
+ghost use Rattle.ocs_run.specs.Top.{IsScene, IsRefused, HasBadImage, HasBadScript, HasBadTrack, Completed, HasRunEnd};
 ghost use Rattle.ocs_run.specs.Texts.{SaysSurely, usage_text};
 
 use crate::command::run_order;
@@ -29,6 +29,14 @@ use std::thread::Threads;
 /// its text. The image is bad where it is not an even number of 8 to 1,048,576 bytes, which is seen before
 /// the script is read, and where the script is good and says less chip memory than the image has bytes.
 ///
+/// `sound IMAGE SCRIPT FRAMES TRACE MEMORY AUDIO BAND WORKERS` is `run` with Paula's four audio channels,
+/// and writes what they sound: two bytes, left and right, for clock 0 and for clock 114 of each line.
+/// Its statuses are those of `run`.
+///
+/// `disk IMAGE SCRIPT FRAMES TRACE MEMORY TRACK BAND WORKERS` is `run` with a disk that has this track.
+/// Its statuses are those of `run`, and 9 where image and script are good, the image fits, and the track
+/// is not an even number of 2 to 32,768 bytes.
+///
 /// `gen N BAND WORKERS` runs the scene of the number N on files of its own, and says four lines in one
 /// piece: the number of frames, the sum of the frames file's bytes, the number of lines of the trace, and
 /// the sum of the memory file's bytes. 0 done; 2 the words are not of this form; 6 the lines could not be
@@ -44,8 +52,7 @@ pub fn ocs_main<
 >(rt: &R, alloc: Global, words: &[String], place: &mut P, gate: G) -> u8
     requires { ReadableInputs (P.readable place.old) (command_of (map string_bytes words.now)) }
 
-    // Done: the three files of a run are the texts of the serial run, whole, and every other file is as
-    // before.
+    // Done: the files of a run are the texts of the serial run, whole, and every other file is as before.
     ensures done { result ≡ 0 → WhereTold (P.outside place.old).files
         (λ files. IsDone (of_command (command_of (map string_bytes words.now)) files) files
         (P.outside place.new).files) }
@@ -56,6 +63,8 @@ pub fn ocs_main<
         (λ files. HasBadImage (of_command (command_of (map string_bytes words.now)) files)) }
     ensures script { result ≡ 4 → WhereTold (P.outside place.old).files
         (λ files. HasBadScript (of_command (command_of (map string_bytes words.now)) files)) }
+    ensures track { result ≡ 9 → WhereTold (P.outside place.old).files
+        (λ files. HasBadTrack (of_command (command_of (map string_bytes words.now)) files)) }
     ensures unread { result ≡ 5 → Rose (P.outside place.old).read_faults
         (P.outside place.new).read_faults }
     ensures refused { result ≡ 6 → IsRefused (command_of (map string_bytes words.now))
@@ -109,7 +118,8 @@ fn run_words<
     P: Place,
     G: Gate + Drop + Send + Sync + 'static,
 >(rt: &R, alloc: Global, words: &[String], gate: G, place: &mut P) -> Result<(), Fault>
-    requires { ReadableInputs (P.readable place.old) (command_of (map string_bytes words.now)) }
+    requires readable { ReadableCommand (P.readable place.old)
+        (command_of (map string_bytes words.now)) }
     ensures answer { CommandAnswers (command_of (map string_bytes words.now)) (P.outside place.old)
         (P.outside place.new) result }
     ensures said { SaysNothingElse (command_of (map string_bytes words.now))

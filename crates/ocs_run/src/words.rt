@@ -1,7 +1,7 @@
 //! The commands of the command line, by its first word.
 
 ghost use Rattle.std.specs.Prelude.{◌≡◌, ◌≤◌, map, string_bytes, IfSome};
-ghost use Rattle.ocs_run.specs.Words.{command_of, scene_order_of, number_of, is_gen as has_gen};
+ghost use Rattle.ocs_run.specs.Words.{command_of, scene_order_of, number_of, begins_with as first_is};
 ghost use Rattle.ocs_run.specs.Asked.{IsCommand, IsSceneOrder, WritesApart, IsHeight, HasHeight, HasFewWorkers};
 
 use crate::order::{Order, read_band, read_order, read_workers};
@@ -30,7 +30,7 @@ pub fn read_command(words: &[String]) -> Option<Command<'_>>
     ensures height { IfSome result HasHeight }
     ensures few { IfSome result HasFewWorkers }
 {
-    if is_gen(words) {
+    if begins_with(words, "gen") {
         match read_scene_order(words) {
             Some(scene) => Some(Command::Gen(scene)),
             None => None,
@@ -43,12 +43,12 @@ pub fn read_command(words: &[String]) -> Option<Command<'_>>
     }
 }
 
-/// Whether the first word is `gen`.
-pub fn is_gen(words: &[String]) -> bool
-    ensures { result ≡ has_gen (map string_bytes words.now) }
+/// Whether the first word is this one.
+pub fn begins_with(words: &[String], name: &str) -> bool
+    ensures { result ≡ first_is name.now (map string_bytes words.now) }
 {
     match words {
-        [command, ..] => command.as_str() == "gen",
+        [command, ..] => command.as_str() == name,
         [] => false,
     }
 }

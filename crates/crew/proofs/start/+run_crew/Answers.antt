@@ -1,6 +1,6 @@
 use Rattle.std.proofs.Common.{length, sym, ap, ◌∙◌, arith}
 use Rattle.band_board.specs.declared.view.View.{View}
-use Rattle.serial_model.specs.declared.side.NoSide.{NoSide}
+use Rattle.run_side.specs.declared.side.RunSide.{RunSide}
 use Rattle.serial_bands.specs.Run.{RunOf}
 use Rattle.band_board.specs.Answers.{front_view, hand_view}
 use Rattle.crew.proofs.Marks.{same_table}
@@ -20,7 +20,7 @@ returns-in_default g t c =
       front = closes (front_view left.front) _ c.close.ensures.front;
       hand = c.close.ensures.hand;
       joined =
-          ap (λ (v : View (RunOf NoSide)). length v.joined) c.close.ensures.front ∙ ap length left.is_crew.joined
+          ap (λ (v : View (RunOf RunSide)). length v.joined) c.close.ensures.front ∙ ap length left.is_crew.joined
           ∙ sym c.in_default.ensures.cases.0 ∙ c.args.workers.ok.0;
     }
 

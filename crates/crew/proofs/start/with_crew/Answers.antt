@@ -1,7 +1,7 @@
 use Rattle.std.proofs.Common.{◌≤◌, length, ap, ◌∙◌, arith}
 use Rattle.std.specs.Arc.{arc_value}
 use Rattle.band_board.specs.Answers.{front_view, hand_view}
-use Rattle.serial_model.specs.declared.side.NoSide.{NoSide}
+use Rattle.run_side.specs.declared.side.RunSide.{RunSide}
 use Rattle.serial_bands.specs.Run.{RunOf}
 use Rattle.band_board.specs.declared.view.View.{View}
 use Rattle.crew.proofs.Marks.{same_table}
@@ -36,7 +36,7 @@ returns-clause-ran g c =
       joined = (front_view closed.front).joined;
       all_joined = workers;
       by_hands = totals.workers;
-      by_front = totals.crew ∙ ap (λ (w : View (RunOf NoSide)). length w.done) ran.hand;
+      by_front = totals.crew ∙ ap (λ (w : View (RunOf RunSide)). length w.done) ran.hand;
       once = drawn.0;
       sum = drawn.1;
     }

@@ -3,12 +3,19 @@ use Rattle.std.specs.Arc.{arc_value}
 use Rattle.crew.specs.Crew.{crew_seen}
 use Rattle.ocs_run.specs.Underway.{run_of, fore_of, IsCutFromStart}
 use Rattle.ocs_run.proofs.RunLaws.{on_err, CanRun-start, IsCutFromStart-now}
+use Rattle.ocs_run.proofs.AudioLaws.{IsHeard-start, IsHeard-left}
 use Rattle.ocs_run.proofs.CrewLaws.{IsEmpty-lent, mark_left, EndsFromStart-left, IsCutFromStart-left}
 use Rattle.ocs_run.proofs.run.draw_with_crew.Goals as goal
 
 pub with_crew-requires-clause-body : goal.with_crew-requires-clause-body
 with_crew-requires-clause-body g c κs within = λ crew new. record {
-  takes = λ lent is. (c.requires.growable, CanRun-start _ _ _ c.requires.new (IsEmpty-lent _ crew lent.now is new));
+  takes = λ lent is. (
+    c.requires.growable,
+    (
+      CanRun-start _ _ _ c.requires.new (IsEmpty-lent _ crew lent.now is new),
+      IsHeard-start c.args.audio.now _ (fore_of c.args.fore.now) c.requires.new c.requires.silent,
+    ),
+  );
   keeps = λ answer after left called.
       mark_left crew called.shown.now called.left.now left called.shows called.leaves called.called.met.1.1.1.1.1.0;
 }
@@ -32,3 +39,8 @@ returns-clause-stopped g c =
     let lent = ran.called.shown.now in
     IsCutFromStart-left g.P.Place.outside _ _ (crew_seen lent) _ _ _ _ _ c.requires.new (IsEmpty-lent _ ran.crew lent ran.called.shows ran.starts)
     (search rules) ran.called.called.met.1.1.0
+
+pub returns-clause-heard : goal.returns-clause-heard
+returns-clause-heard g c =
+    let ran = c.in_ok-answer.ensures.ran in
+    IsHeard-left _ _ _ _ _ (search rules) (search rules) ran.called.called.met.1.1.1.1.1.1.1.1.1.0

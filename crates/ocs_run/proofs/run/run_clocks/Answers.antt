@@ -1,52 +1,51 @@
-use Rattle.std.proofs.Common.{◌≡◌, ◌∙◌}
+use Rattle.std.proofs.Common.{◌≡◌, ◌∙◌, sym}
 use Rattle.ocs_run.specs.Underway.{fore_of}
 use Rattle.ocs_run.proofs.KeptLaws.{OnlyWrites-more, KeepsNames-more, AreGrowable-kept}
-use Rattle.ocs_run.proofs.RunLaws.{on_err, cause_err, fewer_clocks, room_for_clocks, line_is_later, stop-advance}
+use Rattle.ocs_run.proofs.RunLaws.{on_err, cause_err, fewer_left, stop-advance}
 use Rattle.ocs_run.proofs.RunLaws.{stop-flush, IsUnderway-ran, IsUnderway-flushed, CanRun-ran, mark_ran, names_ran}
 use Rattle.ocs_run.proofs.run.run_clocks.Goals as goal
 
-pub returns-in_err-run_to-clause-stopped : goal.returns-in_err-run_to-clause-stopped
-returns-in_err-run_to-clause-stopped g c =
+pub returns-in_err-run_some-clause-stopped : goal.returns-in_err-run_some-clause-stopped
+returns-in_err-run_some-clause-stopped g c =
     on_err _ _ (stop-advance _ _ (fore_of c.args.fore.now) (fore_of c.loop-fore.fore) _ _ _ c.loop-fore.out c.loop-fore.invariant.run c.loop-fore.invariant.out
     c.loop-fore.invariant.runs)
 
 pub loop-fore-smaller : goal.loop-fore-smaller
 loop-fore-smaller g c =
-    fewer_clocks (fore_of c.loop-fore.fore) (fore_of c.run_to.new.self) _ _ _ _ _ _ c.loop-fore.invariant.able c.done.ensures c.loop-fore-test.true
-    c.in_ok-run_to.ensures.clocks c.in_ok-run_to.ensures.come
-    (line_is_later (fore_of c.loop-fore.fore) _ _ c.next_line-limit.ensures) c.run_to.ensures.run
+    fewer_left (fore_of c.loop-fore.fore) (fore_of c.run_some.new.fore) _ _ c.loop-fore.invariant.able c.done.ensures c.loop-fore-test.true
+    c.in_ok-run_some.ensures.later c.run_some.ensures.run
 
-pub next_line-limit-requires : goal.next_line-limit-requires
-next_line-limit-requires g c = record {
-  room = room_for_clocks (fore_of c.loop-fore.fore) _ _ c.loop-fore.invariant.able c.done.ensures c.loop-fore-test.true;
-}
+pub run_some-requires-clause-running : goal.run_some-requires-clause-running
+run_some-requires-clause-running g c = sym c.done.ensures ∙ c.loop-fore-test.true
 
 pub loop-fore-preserved : goal.loop-fore-preserved
 loop-fore-preserved g c =
-    let names : c.run_to.new.out.names ≡ c.loop-fore.out.names =
-    names_ran _ _ _ _ _ _ c.in_ok-run_to.ensures.clocks c.loop-fore.invariant.able in
+    let names : c.run_some.new.out.names ≡ c.loop-fore.out.names =
+    names_ran _ _ _ _ _ _ c.in_ok-run_some.ensures.clocks c.loop-fore.invariant.able in
     record {
       growable = AreGrowable-kept _ _ _ _ c.loop-fore.invariant.growable c.in_ok-flush_lines.ensures.names.grow
           (c.in_ok-flush_lines.ensures.out ∙ names);
-      able = CanRun-ran _ _ _ _ _ _ c.in_ok-run_to.ensures.clocks c.in_ok-run_to.ensures.fresh c.loop-fore.invariant.able;
+      able = CanRun-ran _ _ _ _ _ _ c.in_ok-run_some.ensures.clocks c.in_ok-run_some.ensures.fresh c.loop-fore.invariant.able;
       runs = λ base is. IsUnderway-flushed base _ _ _ _ _ _ c.in_ok-flush_lines.ensures.together
-          (IsUnderway-ran base _ _ _ _ _ _ _ c.in_ok-run_to.ensures.clocks c.run_to.ensures.run c.in_ok-run_to.ensures.fresh
+          (IsUnderway-ran base _ _ _ _ _ _ _ c.in_ok-run_some.ensures.clocks c.run_some.ensures.run c.in_ok-run_some.ensures.fresh
           (c.loop-fore.invariant.runs base is));
-      run = c.run_to.ensures.run ∙ c.loop-fore.invariant.run;
+      run = c.run_some.ensures.run ∙ c.loop-fore.invariant.run;
       out = c.in_ok-flush_lines.ensures.out ∙ (names ∙ c.loop-fore.invariant.out);
-      mark = mark_ran _ _ _ _ _ _ c.in_ok-run_to.ensures.clocks c.loop-fore.invariant.able ∙ c.loop-fore.invariant.mark;
+      mark = mark_ran _ _ _ _ _ _ c.in_ok-run_some.ensures.clocks c.loop-fore.invariant.able ∙ c.loop-fore.invariant.mark;
       kept = OnlyWrites-more _ _ _ c.loop-fore.invariant.kept c.flush_lines.ensures.kept;
       names = KeepsNames-more _ _ _ _ _ _ c.loop-fore.invariant.names c.flush_lines.ensures.names;
+      heard = c.in_ok-run_some.ensures.heard;
+      on = c.run_some.ensures.on ∙ c.loop-fore.invariant.on;
     }
 
 pub returns-in_err-flush_lines-clause-stopped : goal.returns-in_err-flush_lines-clause-stopped
 returns-in_err-flush_lines-clause-stopped g c =
-    let names : c.run_to.new.out.names ≡ c.loop-fore.out.names =
-    names_ran _ _ _ _ _ _ c.in_ok-run_to.ensures.clocks c.loop-fore.invariant.able in
-    on_err _ _ (stop-flush _ _ _ (fore_of c.args.fore.now) (fore_of c.run_to.new.self) _ _ _ c.run_to.new.out
-    (c.run_to.ensures.run ∙ c.loop-fore.invariant.run)
+    let names : c.run_some.new.out.names ≡ c.loop-fore.out.names =
+    names_ran _ _ _ _ _ _ c.in_ok-run_some.ensures.clocks c.loop-fore.invariant.able in
+    on_err _ _ (stop-flush _ _ _ (fore_of c.args.fore.now) (fore_of c.run_some.new.fore) _ _ _ c.run_some.new.out
+    (c.run_some.ensures.run ∙ c.loop-fore.invariant.run)
     (names ∙ c.loop-fore.invariant.out)
-    (λ base is. IsUnderway-ran base _ _ _ _ _ _ _ c.in_ok-run_to.ensures.clocks c.run_to.ensures.run c.in_ok-run_to.ensures.fresh
+    (λ base is. IsUnderway-ran base _ _ _ _ _ _ _ c.in_ok-run_some.ensures.clocks c.run_some.ensures.run c.in_ok-run_some.ensures.fresh
     (c.loop-fore.invariant.runs base is))
     c.in_err-flush_lines.ensures.parts)
 

@@ -1,6 +1,7 @@
 use Rattle.std.proofs.Common.{◌≡◌, ◌-◌, ◌*◌}
 use Rattle.ocs_io.specs.Place.{OnlyWrites, KeepsNames}
 use Rattle.out_files.specs.Answers.{AreGrowable}
+use Rattle.ocs_run.specs.Audio.{IsHeard}
 use Rattle.ocs_run.specs.Underway.{fore_of, CanRun, Runs}
 use Rattle.ocs_run.proofs.run.run_clocks.Given as goal
 
@@ -18,6 +19,8 @@ invariant-loop-fore g l =
       mark : (seen l.raster).mark ≡ (seen l.initial.raster).mark;
       kept : OnlyWrites (outside l.initial.place) (outside l.place);
       names : KeepsNames (g.P.Place.readable l.initial.place) (g.P.Place.growable l.initial.place) (g.P.Place.readable l.place) (g.P.Place.growable l.place);
+      heard : IsHeard l.audio (fore_of l.fore);
+      on : l.audio.on ≡ l.initial.audio.on;
     }
 
 abbrev pub decreases-loop-fore : goal.decreases-loop-fore

@@ -1,8 +1,9 @@
 use Rattle.std.proofs.Common.{◌≡◌, ◌∙◌, ap}
 use Rattle.ocs_run.specs.Underway.{fore_of}
+use Rattle.ocs_run.proofs.AudioLaws.{IsHeard-same}
 use Rattle.ocs_run.proofs.KeptLaws.{OnlyWrites-more, KeepsNames-more, AreGrowable-kept}
 use Rattle.ocs_run.proofs.RunLaws.{on_err, cause_err, IsCut-clocks, IsCut-settle, IsCut-flush}
-use Rattle.ocs_run.proofs.RunLaws.{IsSettling-settled, Ends-flushed, mark_part, mark_settled, names_settled}
+use Rattle.ocs_run.proofs.RunLaws.{IsSettling-settled, Ends-flushed, mark_part, mark_settled, names_settled, clock_settled}
 use Rattle.ocs_run.proofs.run.run_whole.Goals as goal
 
 pub returns-in_err-run_clocks-clause-stopped : goal.returns-in_err-run_clocks-clause-stopped
@@ -66,6 +67,11 @@ returns-clause-out g c =
     let names : c.settle.new.out.names ≡ c.run_clocks.new.out.names =
     names_settled _ _ _ _ _ _ c.in_ok-settle.ensures.settled c.in_ok-run_clocks.ensures.able in
     ap (λ o. o.names) c.in_ok-flush.ensures.answer.kept ∙ (names ∙ c.in_ok-run_clocks.ensures.out)
+
+pub returns-clause-heard : goal.returns-clause-heard
+returns-clause-heard g c =
+    IsHeard-same c.run_clocks.new.audio (fore_of c.run_clocks.new.fore) (fore_of c.settle.new.self) c.settle.ensures.run
+    (clock_settled _ _ _ _ _ _ c.in_ok-settle.ensures.settled c.in_ok-run_clocks.ensures.able) c.in_ok-run_clocks.ensures.heard
 
 pub returns-clause-mark : goal.returns-clause-mark
 returns-clause-mark g c =

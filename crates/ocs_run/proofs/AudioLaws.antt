@@ -1,0 +1,294 @@
+-- What a run sounds, clock by clock, and its file beside the three.
+use Rattle.std.proofs.Common.{◌≡◌, ◌≢◌, ℕ, zero, suc, ◌+◌, ◌<◌, Bool, true, false, List, [], ◌∷◌, ◌++◌, take, drop, Option, Some, None}
+use Rattle.std.proofs.Common.{refl, sym, ap, ◌∙◌, subst, arith, inl, inr, ◌⊎◌, ◌≤◌, Result, Ok, Err, OnOk, OnErr, add-one}
+use Rattle.std.specs.Prelude.{option_map}
+use Rattle.std.specs.Prelude.{is_some}
+use Rattle.std.proofs.lemmas.List.{take-append-drop}
+use Rattle.std.specs.FinMap.{insert}
+use Rattle.ocs_base.specs.Script.{ScriptValue}
+use Rattle.ocs_base.specs.declared.beam.Beam.{Beam}
+use Rattle.ocs_io.specs.Place.{Files, with_file, grown}
+use Rattle.ocs_io.proofs.MapLaws.{same_name, same_text, insert_other}
+use Rattle.out_files.specs.Answers.{with_empty, in_order}
+use Rattle.out_files.specs.OutFiles.{OutNames, OutFilesValue}
+use Rattle.out_files.specs.Together.{three_files, AreTogether, Begins, Completes}
+use Rattle.out_files.proofs.FilesLaws.{grown-with_file, grown-other}
+use Rattle.serial_model.specs.Serial.{state_over, IsEndOver}
+use Rattle.serial_model.specs.Side.{SideValue}
+use Rattle.serial_model.specs.State.{State}
+use Rattle.serial_model.specs.MemoryText.{memory_text}
+use Rattle.serial_model.specs.Outputs.{frames_text}
+use Rattle.serial_model.specs.TraceText.{trace_text}
+use Rattle.serial_bands.specs.Run.{RunValue, state_of, IsEndOf}
+use Rattle.band_log.specs.Raster.{RasterValue}
+use Rattle.foreground.specs.Fore.{ForeValue, IsNew}
+use Rattle.foreground.specs.RunTo.{HasRunOn, RunsOn, HasCome}
+use Rattle.ocs_run.specs.Audio.{audio_text, sampled, IsHeard, with_audio, grown_audio, MayHaveMade, MayHaveGrown, IsFourth, IsFourthName}
+use Rattle.ocs_run.specs.Prefix.{IsPartOf, LeavesPrefixesOver, LeavesFiles}
+use Rattle.ocs_run.specs.Run.{HasFilesOver, HasAllFiles}
+use Rattle.ocs_run.specs.Underway.{CanRun, IsFresh, IsWritten, EndsFromStart}
+use Rattle.ocs_run.specs.declared.audio.Recording.{Recording}
+use Rattle.ocs_run.proofs.RunLaws.{HasFiles-run, begins_created}
+use Rattle.ocs_run.proofs.PrefixLaws.{LeavesPrefixes-all, LeavesPrefixes-whole, one_end}
+
+-- ---- what is taken
+
+abbrev taken : RunValue → ℕ → List ℕ
+taken run clocks = audio_text run.side run.image run.script clocks
+
+taken_next : (run : RunValue) (n : ℕ)
+    → taken run (n + 1) ≡ taken run n ++ sampled (state_of run n).beam (state_of run (n + 1)).side
+unfolding audio_text
+taken_next run n = rw (add-one n) refl
+
+nothing_taken_yet : (run : RunValue) → taken run 0 ≡ []
+unfolding audio_text
+nothing_taken_yet run = refl
+
+-- one clock more
+heard_next : (old new : ForeValue) (seen after : RasterValue) (out given : OutFilesValue) (bytes : List ℕ) → CanRun old seen
+    → RunsOn old new seen after out given → new.run ≡ old.run → new.machine.t ≡ old.machine.t + 1 → bytes ≡ taken old.run old.machine.t
+    → bytes ++ sampled old.machine.beam new.machine.side ≡ taken new.run new.machine.t
+heard_next old new seen after out given bytes can runs run clock heard =
+    let so : HasRunOn old new can.first seen after out given = runs can.first can.stands in
+    let beam : (state_of old.run old.machine.t).beam ≡ old.machine.beam = can.stands.at.machine.beam in
+    let side : (state_of new.run new.machine.t).side ≡ new.machine.side = so.stands.at.machine.side in
+    let later : (state_of old.run (old.machine.t + 1)).side ≡ new.machine.side =
+    ap (λ n. (state_of old.run n).side) (sym clock) ∙ ap (λ r. (state_of r new.machine.t).side) (sym run) ∙ side in
+    ap (λ text. text ++ sampled old.machine.beam new.machine.side) heard
+    ∙ ap (λ b. taken old.run old.machine.t ++ sampled b new.machine.side) (sym beam)
+    ∙ ap (λ s. taken old.run old.machine.t ++ sampled (state_of old.run old.machine.t).beam s) (sym later)
+    ∙ sym (taken_next old.run old.machine.t)
+    ∙ ap (λ n. taken old.run n) (sym clock)
+    ∙ ap (λ r. taken r new.machine.t) (sym run)
+
+one_clock : (old new : ForeValue) (limit : ℕ) → HasCome limit old new → limit ≡ old.machine.t + 1 → old.machine.t < new.machine.t
+    → new.machine.t ≡ old.machine.t + 1
+one_clock old new limit come is later = omega (arith, come.most, is, later)
+
+pub IsHeard-next : (was now : Recording) (old new : ForeValue) (seen after : RasterValue) (out given : OutFilesValue) (limit : ℕ) → CanRun old seen
+    → RunsOn old new seen after out given → new.run ≡ old.run → HasCome limit old new → old.machine.t < new.machine.t
+    → (was.on ≡ true → limit ≡ old.machine.t + 1)
+    → (was.on ≡ true → now.bytes.items ≡ was.bytes.items ++ sampled old.machine.beam new.machine.side) → now.on ≡ was.on
+    → IsHeard was old → IsHeard now new
+IsHeard-next was now old new seen after out given limit can runs run come later one added same heard = record {
+  taken = λ on. let was_on : was.on ≡ true = sym same ∙ on in
+      added was_on
+      ∙ heard_next old new seen after out given was.bytes.items can runs run (one_clock old new limit come (one was_on) later)
+      (heard.taken was_on);
+}
+
+pub IsHeard-start : (audio : Recording) (run : RunValue) (fore : ForeValue) → IsNew run fore → audio.bytes.items ≡ []
+    → IsHeard audio fore
+IsHeard-start audio run fore new empty =
+    record { taken = λ on. empty ∙ sym (nothing_taken_yet fore.run) ∙ ap (λ n. taken fore.run n) (sym new.clock) }
+
+pub IsHeard-same : (audio : Recording) (old new : ForeValue) → new.run ≡ old.run → new.machine.t ≡ old.machine.t → IsHeard audio old → IsHeard audio new
+IsHeard-same audio old new run clock heard = record {
+  taken = λ on. heard.taken on ∙ ap (λ n. taken old.run n) (sym clock) ∙ ap (λ r. taken r new.machine.t) (sym run);
+}
+
+-- where the borrows ended with what a run left
+pub IsHeard-left : {T E : Type 0} (answer : Result T E) (given kept : Recording) (new left : ForeValue) → given ≡ kept → new ≡ left
+    → OnOk answer (IsHeard kept left) → OnOk answer (IsHeard given new)
+IsHeard-left (Ok done) given kept new left audio fore heard =
+    subst (λ a. IsHeard a new) (sym audio) (subst (λ f. IsHeard kept f) (sym fore) heard)
+IsHeard-left (Err fault) given kept new left audio fore heard = tt
+
+-- ---- the file
+
+apart : (a b : List ℕ) → a ≢ b → same_name a b ≡ false
+apart a b differ = by_test (same_name a b) refl
+  where
+    by_test : (test : Bool) → same_name a b ≡ test → test ≡ false
+    by_test true same = absurd (differ (same_text a b same))
+    by_test false other = refl
+
+-- two files of other names, in one order or the other
+with_other : (files : Option Files) (name other v w : List ℕ) → name ≢ other
+    → with_file (with_file files name v) other w ≡ with_file (with_file files other w) name v
+unfolding with_file
+with_other None name other v w differ = refl
+with_other (Some f) name other v w differ = ap (λ (g : Files). Some g) (insert_other f name other v w (apart name other differ))
+
+fourth_set : (names : OutNames) (base : Option Files) (name frames trace memory text : List ℕ) → IsFourth names name
+    → with_file (three_files names base frames trace memory) name text ≡ three_files names (with_file base name text) frames trace memory
+fourth_set names base name frames trace memory text fourth =
+    with_other (with_file (with_file base names.frames frames) names.trace trace) names.memory name memory text fourth.memory
+    ∙ ap (λ (files : Option Files). with_file files names.memory memory)
+    (with_other (with_file base names.frames frames) names.trace name trace text fourth.trace
+    ∙ ap (λ (files : Option Files). with_file files names.trace trace) (with_other base names.frames name frames text fourth.frames))
+
+fourth_grown : (names : OutNames) (base : Option Files) (name frames trace memory text piece : List ℕ) → IsFourth names name
+    → grown (three_files names (with_file base name text) frames trace memory) name piece
+    ≡ three_files names (with_file base name (text ++ piece)) frames trace memory
+fourth_grown names base name frames trace memory text piece fourth =
+    grown-other (with_file (with_file (with_file base name text) names.frames frames) names.trace trace) name names.memory memory piece
+    (λ same. fourth.memory (sym same))
+    ∙ ap (λ (files : Option Files). with_file files names.memory memory)
+    (grown-other (with_file (with_file base name text) names.frames frames) name names.trace trace piece (λ same. fourth.trace (sym same))
+    ∙ ap (λ (files : Option Files). with_file files names.trace trace)
+    (grown-other (with_file base name text) name names.frames frames piece (λ same. fourth.frames (sym same))
+    ∙ ap (λ (files : Option Files). with_file files names.frames frames) (grown-with_file base name text piece)))
+
+audio_set : (audio : Option (List ℕ)) (names : OutNames) (base : Option Files) (frames trace memory text : List ℕ) → IsFourthName names audio
+    → with_audio audio (three_files names base frames trace memory) text ≡ three_files names (with_audio audio base text) frames trace memory
+audio_set None names base frames trace memory text fourth = refl
+audio_set (Some name) names base frames trace memory text fourth = fourth_set names base name frames trace memory text fourth
+
+audio_grown : (audio : Option (List ℕ)) (names : OutNames) (base : Option Files) (frames trace memory text piece : List ℕ) → IsFourthName names audio
+    → grown_audio audio (three_files names (with_audio audio base text) frames trace memory) piece
+    ≡ three_files names (with_audio audio base (text ++ piece)) frames trace memory
+audio_grown None names base frames trace memory text piece fourth = refl
+audio_grown (Some name) names base frames trace memory text piece fourth = fourth_grown names base name frames trace memory text piece fourth
+
+-- all are created
+pub Begins-audio : (audio : Option (List ℕ)) (out : OutFilesValue) (base mid after : Option Files) → IsFourthName out.names audio
+    → Begins out base mid → after ≡ with_audio audio mid [] → Begins out (with_audio audio base []) after
+unfolding Begins
+Begins-audio audio out base mid after fourth begins made frames trace given =
+    let was : AreTogether out.system out base mid [] [] = begins frames trace given in
+    record {
+      kind = was.kind;
+      frames = was.frames;
+      trace = was.trace;
+      held = made ∙ ap (λ (files : Option Files). with_audio audio files []) was.held
+          ∙ audio_set audio out.names base was.frames was.trace [] [] fourth;
+      pixels_given = was.pixels_given;
+      lines_given = was.lines_given;
+      place = was.place;
+    }
+
+-- ---- what is left of a run that was stopped
+
+-- what was taken of so many clocks, where it is taken
+abbrev pub IsTaken : SideValue → List ℕ → ScriptValue → Option (List ℕ) → ℕ → List ℕ → Type 0
+IsTaken side image script None clocks bytes = Unit {0}
+IsTaken side image script (Some name) clocks bytes = bytes ≡ audio_text side image script clocks
+
+module _ (side : SideValue) (image : List ℕ) (script : ScriptValue) (names : OutNames) where
+  -- the audio file is as before
+  pub LeavesFiles-none : (audio : Option (List ℕ)) (base new : Option Files) → LeavesPrefixesOver side image script names base new
+      → LeavesFiles audio side image script names base new
+  LeavesFiles-none None base new leaves = leaves
+  LeavesFiles-none (Some name) base new leaves = record { audio = None; others = leaves; audio_part = λ end is. tt }
+
+  -- it holds a part
+  pub LeavesFiles-some : (audio : Option (List ℕ)) (base new : Option Files) (part : List ℕ)
+      → ((end : ℕ) → IsEndOver side image script end → IsPartOf (audio_text side image script end) (Some part))
+      → LeavesPrefixesOver side image script names (with_audio audio base part) new → LeavesFiles audio side image script names base new
+  LeavesFiles-some None base new part is leaves = leaves
+  LeavesFiles-some (Some name) base new part is leaves = record { audio = Some part; others = leaves; audio_part = is }
+
+  -- it is empty
+  pub LeavesFiles-empty : (audio : Option (List ℕ)) (base new : Option Files)
+      → LeavesPrefixesOver side image script names (with_audio audio base []) new → LeavesFiles audio side image script names base new
+  LeavesFiles-empty audio base new leaves = LeavesFiles-some audio base new [] (λ end is. (audio_text side image script end, refl)) leaves
+
+  created_all : (base new : Option Files) → new ≡ with_empty (in_order names) base → LeavesPrefixesOver side image script names base new
+  created_all base new is = LeavesPrefixes-all side image script names base new (inl (3, is))
+
+  -- it could not be created
+  pub LeavesFiles-made : (audio : Option (List ℕ)) (base mid new : Option Files) → IsFourthName names audio
+      → mid ≡ with_empty (in_order names) base → MayHaveMade audio mid new → LeavesFiles audio side image script names base new
+  LeavesFiles-made audio base mid new fourth made (inl same) = LeavesFiles-none audio base new (created_all base new (same ∙ made))
+  LeavesFiles-made audio base mid new fourth made (inr set) =
+      LeavesFiles-empty audio base new (created_all (with_audio audio base []) new
+      (set ∙ ap (λ (files : Option Files). with_audio audio files []) made ∙ audio_set audio names base [] [] [] [] fourth))
+
+  -- a piece was appended
+  HasFiles-grown : (audio : Option (List ℕ)) (base mid new : Option Files) (text piece : List ℕ) → IsFourthName names audio
+      → HasFilesOver side image script names (with_audio audio base text) mid → new ≡ grown_audio audio mid piece
+      → HasFilesOver side image script names (with_audio audio base (text ++ piece)) new
+  HasFiles-grown audio base mid new text piece fourth has is =
+      let s : State = state_over side image script has.clocks in
+      record {
+        clocks = has.clocks;
+        end = has.end;
+        run = has.run;
+        shown = has.shown;
+        files = is ∙ ap (λ (files : Option Files). grown_audio audio files piece) has.files
+            ∙ audio_grown audio names base (frames_text script.system s.shown) (trace_text s.trace) (memory_text s.memory) text piece fourth;
+      }
+
+  part_of_end : (clocks end count : ℕ) (bytes : List ℕ) → IsEndOver side image script clocks → IsEndOver side image script end
+      → bytes ≡ audio_text side image script clocks → IsPartOf (audio_text side image script end) (Some (take count bytes))
+  part_of_end clocks end count bytes first second is =
+      (drop count bytes, take-append-drop count bytes ∙ is ∙ ap (λ n. audio_text side image script n) (one_end side image script clocks end first second))
+
+  -- it could not be written
+  pub LeavesFiles-grown : (audio : Option (List ℕ)) (base mid new : Option Files) (clocks : ℕ) (bytes : List ℕ) → IsFourthName names audio
+      → IsEndOver side image script clocks → IsTaken side image script audio clocks bytes
+      → HasFilesOver side image script names (with_audio audio base []) mid → MayHaveGrown audio bytes mid new
+      → LeavesFiles audio side image script names base new
+  LeavesFiles-grown audio base mid new clocks bytes fourth end is has (inl same) =
+      LeavesFiles-empty audio base new (subst (λ (files : Option Files). LeavesPrefixesOver side image script names (with_audio audio base []) files)
+      (sym same) (LeavesPrefixes-whole side image script names (with_audio audio base []) mid has))
+  LeavesFiles-grown None base mid new clocks bytes fourth end is has (inr part) =
+      LeavesPrefixes-whole side image script names base new (HasFiles-grown None base mid new [] (take part.0 bytes) fourth has part.1)
+  LeavesFiles-grown (Some name) base mid new clocks bytes fourth end is has (inr part) =
+      LeavesFiles-some (Some name) base new (take part.0 bytes) (λ last ends. part_of_end clocks last part.0 bytes end ends is)
+      (LeavesPrefixes-whole side image script names (with_file base name (take part.0 bytes)) new
+      (HasFiles-grown (Some name) base mid new [] (take part.0 bytes) fourth has part.1))
+
+  -- all is written
+  pub HasAllFiles-grown : (audio : Option (List ℕ)) (base mid new : Option Files) (clocks : ℕ) (bytes : List ℕ) → IsFourthName names audio
+      → IsEndOver side image script clocks → IsTaken side image script audio clocks bytes
+      → HasFilesOver side image script names (with_audio audio base []) mid → new ≡ grown_audio audio mid bytes
+      → HasAllFiles audio side image script names base new
+  HasAllFiles-grown None base mid new clocks bytes fourth end is has grew = HasFiles-grown None base mid new [] bytes fourth has grew
+  HasAllFiles-grown (Some name) base mid new clocks bytes fourth end is has grew = record {
+    clocks = clocks;
+    end = end;
+    others = subst (λ text. HasFilesOver side image script names (with_file base name text) new) is
+        (HasFiles-grown (Some name) base mid new [] bytes fourth has grew);
+  }
+
+-- the recording is on where there is a name for it
+pub IsTaken-heard : {A : Type 0} (of : A → List ℕ) (audio : Option A) (kept : Recording) (fore : ForeValue) → kept.on ≡ is_some audio
+    → IsHeard kept fore → IsTaken fore.run.side fore.run.image fore.run.script (option_map of audio) fore.machine.t kept.bytes.items
+IsTaken-heard of None kept fore on heard = tt
+IsTaken-heard of (Some name) kept fore on heard = heard.taken on
+
+-- ---- the whole run
+
+-- what stands where all but the audio file is written
+pub record IsAllButAudio (audio : Option (List ℕ)) (base after : Option Files) (run : RunValue) (names : OutNames) (clocks : ℕ) (bytes : List ℕ) : Type 0 where
+  pub has : HasFilesOver run.side run.image run.script names (with_audio audio base []) after
+  pub end : IsEndOver run.side run.image run.script clocks
+  pub taken : IsTaken run.side run.image run.script audio clocks bytes
+  pub fourth : IsFourthName names audio
+
+pub IsAllButAudio-run : {A : Type 0} (of : A → List ℕ) (name : Option A) (base mid now after : Option Files) (run : RunValue) (fore last : ForeValue)
+    (out created given : OutFilesValue) (kept : Recording) → IsFourthName out.names (option_map of name) → IsFresh run.script.system out
+    → created ≡ out → Begins created (with_audio (option_map of name) base []) mid → IsNew run fore → 1 ≤ run.script.frames
+    → EndsFromStart run fore last created given mid now → last.run ≡ fore.run → given.names ≡ created.names
+    → Completes given now after (memory_text last.machine.chip.words) → kept.on ≡ is_some name → IsHeard kept last
+    → IsAllButAudio (option_map of name) base after run out.names last.machine.t kept.bytes.items
+IsAllButAudio-run of name base mid now after run fore last out created given kept fourth fresh same begins new some ends ran names completes on heard =
+    let is : last.run ≡ run = ran ∙ new.run_of in
+    let written : IsWritten (with_audio (option_map of name) base []) now last given =
+    ends (with_audio (option_map of name) base [])
+    (begins_created (with_audio (option_map of name) base []) mid run fore out created fresh same begins new) in
+    record {
+      has = HasFiles-run (with_audio (option_map of name) base []) mid now after run fore last out created given fresh same begins new some ends ran
+          names completes;
+      end = subst (λ r. IsEndOf r last.machine.t) is written.settled.end;
+      taken = subst (λ (r : RunValue). IsTaken r.side r.image r.script (option_map of name) last.machine.t kept.bytes.items) is
+          (IsTaken-heard of name kept last on heard);
+      fourth = fourth;
+    }
+
+pub HasAllFiles-run : {T E : Type 0} (answer : Result T E) (audio : Option (List ℕ)) (base after last : Option Files) (run : RunValue) (names : OutNames)
+    (clocks : ℕ) (bytes : List ℕ) → IsAllButAudio audio base after run names clocks bytes → OnOk answer (last ≡ grown_audio audio after bytes)
+    → OnOk answer (HasAllFiles audio run.side run.image run.script names base last)
+HasAllFiles-run (Ok done) audio base after last run names clocks bytes is grew =
+    HasAllFiles-grown run.side run.image run.script names audio base after last clocks bytes is.fourth is.end is.taken is.has grew
+HasAllFiles-run (Err fault) audio base after last run names clocks bytes is grew = tt
+
+pub LeavesFiles-run : {T E : Type 0} (answer : Result T E) (audio : Option (List ℕ)) (base after last : Option Files) (run : RunValue) (names : OutNames)
+    (clocks : ℕ) (bytes : List ℕ) → IsAllButAudio audio base after run names clocks bytes → OnErr answer (MayHaveGrown audio bytes after last)
+    → OnErr answer (LeavesFiles audio run.side run.image run.script names base last)
+LeavesFiles-run (Ok done) audio base after last run names clocks bytes is part = tt
+LeavesFiles-run (Err fault) audio base after last run names clocks bytes is part =
+    LeavesFiles-grown run.side run.image run.script names audio base after last clocks bytes is.fourth is.end is.taken is.has part

@@ -1,0 +1,342 @@
+-- The answers to an order, from what its inputs were read to be and from how its run ended.
+use Rattle.std.proofs.Common.{◌≡◌, ℕ, ◌≤◌, ◌⊎◌, Bool, true, false, if◌then◌else◌, List, Option, Some, None, Result, Ok, Err, OnOk, OnErr, IfErr, IsErrAnd}
+use Rattle.std.proofs.Common.{refl, sym, ap, subst, ◌∙◌, arith}
+use Rattle.disk_dma.specs.Disk.{disk_side, new_disk}
+use Rattle.disk_dma.specs.Track.{is_track}
+use Rattle.ocs_base.specs.Image.{is_image, fits_chip}
+use Rattle.ocs_base.specs.Script.{ScriptValue}
+use Rattle.ocs_io.specs.Answers.{WhereTold}
+use Rattle.ocs_io.specs.Place.{Files, Outside, Rose, OnlyReads, file}
+use Rattle.paula_audio.specs.Paula.{paula_side, reset_paula}
+use Rattle.script_read.specs.Grammar.{script_of, Good as GoodScript, Bad as BadLine, Verdict as ScriptVerdict}
+use Rattle.script_read.specs.declared.fault.BadKind.{BadKind}
+use Rattle.serial_model.specs.Side.{SideValue, no_side}
+use Rattle.ocs_run.specs.Command.{OrderAnswers, RunAnswers, IsDone, IsUnwritten, IsWanting, HasOrdered, LeavesOrdered, out_names}
+use Rattle.ocs_run.specs.Fault.{IsOutputOf, IsRunFault}
+use Rattle.ocs_run.specs.Inputs.{Holds, HoldsImage, HoldsNoImage, HoldsScript, HoldsBadScript, HoldsRun, HoldsNoTrack}
+use Rattle.ocs_run.specs.Inputs.{IsImageOf, IsImageFault, IsScriptOf, IsScriptFault, IsTrackOf, IsTrackFault, IsSideOf, IsSideFault}
+use Rattle.ocs_run.specs.Order.{OrderValue, ExtraValue, NoFile, AudioFile, TrackFile, HasTrack, audio_of}
+use Rattle.out_files.specs.OutFiles.{OutNames}
+use Rattle.ocs_run.specs.Run.{HasAllFiles}
+use Rattle.ocs_run.specs.Prefix.{LeavesFiles}
+use Rattle.ocs_run.specs.Verdict.{Verdict, Usage as UsageVerdict, Absent, BadImage as BadImageVerdict, BadScript as BadScriptVerdict}
+use Rattle.ocs_run.specs.Verdict.{BadTrack as BadTrackVerdict, Good, Scene, of_order, of_image, of_text, of_script, of_extra, of_track}
+use Rattle.ocs_run.specs.declared.fault.Fault.{Fault}
+use Rattle.ocs_run.specs.declared.fault.Fault.TheVariants.{Usage, BadImage, BadScript, BadTrack, Unread, Unwritten, Unsaid, OutOfMemory}
+use Rattle.ocs_run.specs.declared.fault.Input.TheVariants.{Image, Script, Track}
+use Rattle.ocs_run.proofs.AudioLaws.{LeavesFiles-none}
+use Rattle.ocs_run.proofs.PrefixLaws.{prefixes_kept}
+
+-- ---- the verdict of an order is no usage and no scene
+
+abbrev pub IsOfRun : Verdict → Type 0
+IsOfRun UsageVerdict = ⊥
+IsOfRun (Absent name) = Unit {0}
+IsOfRun BadImageVerdict = Unit {0}
+IsOfRun (BadScriptVerdict line kind) = Unit {0}
+IsOfRun BadTrackVerdict = Unit {0}
+IsOfRun (Good image script order side) = Unit {0}
+IsOfRun (Scene number band workers) = ⊥
+
+if_of_run : (good : Bool) (v w : Verdict) → IsOfRun v → IsOfRun w → IsOfRun (if good then v else w)
+if_of_run true v w first second = first
+if_of_run false v w first second = second
+
+track_of_run : (o : OrderValue) (image : List ℕ) (script : ScriptValue) (name : List ℕ) (track : Option (List ℕ))
+    → IsOfRun (of_track o image script name track)
+track_of_run o image script name None = tt
+track_of_run o image script name (Some track) = if_of_run (is_track track) _ _ tt tt
+
+extra_of_run : (o : OrderValue) (files : Files) (image : List ℕ) (script : ScriptValue) (extra : ExtraValue)
+    → IsOfRun (of_extra o files image script extra)
+extra_of_run o files image script NoFile = tt
+extra_of_run o files image script (AudioFile name) = tt
+extra_of_run o files image script (TrackFile name) = track_of_run o image script name (file files name)
+
+script_of_run : (o : OrderValue) (files : Files) (image : List ℕ) (v : ScriptVerdict) → IsOfRun (of_script o files image v)
+script_of_run o files image (GoodScript script) =
+    if_of_run (fits_chip script.chip image) _ _ (extra_of_run o files image script o.extra) tt
+script_of_run o files image (BadLine line kind) = tt
+
+text_of_run : (o : OrderValue) (files : Files) (image : List ℕ) (text : Option (List ℕ)) → IsOfRun (of_text o files image text)
+text_of_run o files image None = tt
+text_of_run o files image (Some text) = script_of_run o files image (script_of text)
+
+image_of_run : (o : OrderValue) (files : Files) (image : Option (List ℕ)) → IsOfRun (of_image o files image)
+image_of_run o files None = tt
+image_of_run o files (Some image) = if_of_run (is_image image) _ _ (text_of_run o files image (file files o.script)) tt
+
+pub of_run : (o : OrderValue) (files : Files) → IsOfRun (of_order o files)
+of_run o files = image_of_run o files (file files o.image)
+
+-- ---- where the place tells its files
+
+told_all : (files : Option Files) (Q : Files → Type 0) → ((f : Files) → files ≡ Some f → Q f) → WhereTold files Q
+told_all None Q is = tt
+told_all (Some f) Q is = is f refl
+
+at_told : (files : Option Files) (P : Files → Type 0) (f : Files) → files ≡ Some f → WhereTold files P → P f
+at_told files P f is told = subst (λ fs. WhereTold fs P) is told
+
+-- ---- the verdict, step by step
+
+image_read : (o : OrderValue) (f : Files) (image : List ℕ) → Holds o.image image f → is_image image ≡ true
+    → of_order o f ≡ of_text o f image (file f o.script)
+image_read o f image there good =
+    ap (λ found. of_image o f found) there ∙ ap (λ b. if b then of_text o f image (file f o.script) else BadImageVerdict) good
+
+bad_image : (o : OrderValue) (f : Files) → HoldsNoImage o.image f → of_order o f ≡ BadImageVerdict
+bad_image o f holds =
+    ap (λ found. of_image o f found) holds.there
+    ∙ ap (λ b. if b then of_text o f holds.bytes (file f o.script) else BadImageVerdict) holds.bad
+
+bad_script : (o : OrderValue) (f : Files) (image : List ℕ) (line : ℕ) (kind : BadKind) → Holds o.image image f → is_image image ≡ true
+    → HoldsBadScript o.script line kind f → of_order o f ≡ BadScriptVerdict line kind
+bad_script o f image line kind there good script =
+    image_read o f image there good ∙ ap (λ found. of_text o f image found) script.there ∙ ap (λ v. of_script o f image v) script.bad
+
+script_is_read : (o : OrderValue) (f : Files) (image : List ℕ) (script : ScriptValue) (fits : Bool) → Holds o.image image f → is_image image ≡ true
+    → HoldsScript o.script script f → fits_chip script.chip image ≡ fits
+    → of_order o f ≡ (if fits then of_extra o f image script o.extra else BadImageVerdict)
+script_is_read o f image script fits there good holds is =
+    image_read o f image there good ∙ ap (λ found. of_text o f image found) holds.there ∙ ap (λ v. of_script o f image v) holds.good
+    ∙ ap (λ b. if b then of_extra o f image script o.extra else BadImageVerdict) is
+
+-- ---- what the inputs were read to be, one after another
+
+pub record IsRead (old : Outside) (o : OrderValue) (image : List ℕ) (script : ScriptValue) (fits : Bool) : Type 0 where
+  pub image_of : IsImageOf old o.image image
+  pub script_of : WhereTold old.files (HoldsScript o.script script)
+  pub fits_is : fits_chip script.chip image ≡ fits
+
+read_verdict : (old : Outside) (o : OrderValue) (image : List ℕ) (script : ScriptValue) (fits : Bool) (f : Files) → old.files ≡ Some f
+    → IsRead old o image script fits → of_order o f ≡ (if fits then of_extra o f image script o.extra else BadImageVerdict)
+read_verdict old o image script fits f is read =
+    script_is_read o f image script fits (at_told old.files _ f is read.image_of.holds) read.image_of.good (at_told old.files _ f is read.script_of)
+    read.fits_is
+
+-- and the side that was made of them
+side_is : (old : Outside) (o : OrderValue) (image : List ℕ) (script : ScriptValue) (f : Files) (extra : ExtraValue) (side : SideValue)
+    → old.files ≡ Some f → IsSideOf old script.chip extra side → of_extra o f image script extra ≡ Good image script o side
+side_is old o image script f NoFile side is made = ap (λ s. Good image script o s) (sym made)
+side_is old o image script f (AudioFile name) side is made = ap (λ s. Good image script o s) (sym made)
+side_is old o image script f (TrackFile name) side is made =
+    ap (λ found. of_track o image script name found) (at_told old.files _ f is made.1.holds)
+    ∙ ap (λ b. if b then Good image script o (disk_side (new_disk made.0 script.chip)) else BadTrackVerdict) made.1.good
+    ∙ ap (λ s. Good image script o s) (sym made.2)
+
+good_verdict : (old : Outside) (o : OrderValue) (image : List ℕ) (script : ScriptValue) (side : SideValue) (f : Files) → old.files ≡ Some f
+    → IsRead old o image script true → IsSideOf old script.chip o.extra side → of_order o f ≡ Good image script o side
+good_verdict old o image script side f is read made =
+    read_verdict old o image script true f is read ∙ side_is old o image script f o.extra side is made
+
+-- ---- all files are as before
+
+LeavesOrdered-kept : (o : OrderValue) (image : List ℕ) (script : ScriptValue) (side : SideValue) (old new : Option Files) → new ≡ old
+    → LeavesOrdered o image script side old new
+LeavesOrdered-kept o image script side old new same =
+    LeavesFiles-none side image script (out_names o) (audio_of o.extra) old new (prefixes_kept side image script (out_names o) old new same)
+
+wanting_kept : (v : Verdict) (f : Files) (new : Option Files) → IsOfRun v → new ≡ Some f → IsWanting v f new
+wanting_kept UsageVerdict f new run same = absurd run
+wanting_kept (Absent name) f new run same = same
+wanting_kept BadImageVerdict f new run same = same
+wanting_kept (BadScriptVerdict line kind) f new run same = same
+wanting_kept BadTrackVerdict f new run same = same
+wanting_kept (Good image script order side) f new run same = LeavesOrdered-kept order image script side (Some f) new same
+wanting_kept (Scene number band workers) f new run same = absurd run
+
+wants : (o : OrderValue) (old new : Outside) → new.files ≡ old.files → OrderAnswers o old new (Err OutOfMemory)
+wants o old new same =
+    told_all old.files (λ f. IsWanting (of_order o f) f new.files) (λ f is. wanting_kept (of_order o f) f new.files (of_run o f) (same ∙ is))
+
+-- ---- the faults of the inputs
+
+pub image_fault : (o : OrderValue) (old new : Outside) (fault : Fault) → IsImageFault old new o.image fault → new.files ≡ old.files
+    → OrderAnswers o old new (Err fault)
+image_fault o old new Usage is same = absurd is
+image_fault o old new BadImage is same =
+    (told_all old.files (λ f. of_order o f ≡ BadImageVerdict) (λ f e. bad_image o f (at_told old.files _ f e is)), same)
+image_fault o old new (BadScript line kind) is same = absurd is
+image_fault o old new BadTrack is same = absurd is
+image_fault o old new (Unread Image) is same = (is, same)
+image_fault o old new (Unread Script) is same = absurd is
+image_fault o old new (Unread Track) is same = absurd is
+image_fault o old new (Unwritten output) is same = absurd is
+image_fault o old new Unsaid is same = absurd is
+image_fault o old new OutOfMemory is same = wants o old new same
+
+rose_since : (a b c : ℕ) → a ≤ b → Rose b c → Rose a c
+rose_since a b c le rose = omega (arith, le, rose)
+
+pub script_fault : (o : OrderValue) (old mid new : Outside) (image : List ℕ) (fault : Fault) → IsImageOf old o.image image → OnlyReads old mid
+    → IsScriptFault mid new o.script fault → new.files ≡ mid.files → OrderAnswers o old new (Err fault)
+script_fault o old mid new image Usage read kept is same = absurd is
+script_fault o old mid new image BadImage read kept is same = absurd is
+script_fault o old mid new image (BadScript line kind) read kept is same = (
+  told_all old.files (λ f. of_order o f ≡ BadScriptVerdict line kind)
+      (λ f e. bad_script o f image line kind (at_told old.files _ f e read.holds) read.good (at_told mid.files _ f (kept.files ∙ e) is)),
+  same ∙ kept.files,
+)
+script_fault o old mid new image BadTrack read kept is same = absurd is
+script_fault o old mid new image (Unread Image) read kept is same = absurd is
+script_fault o old mid new image (Unread Script) read kept is same = (
+  rose_since old.read_faults mid.read_faults new.read_faults kept.read_faults is,
+  same ∙ kept.files,
+  told_all old.files (HoldsImage o.image) (λ f e. record { bytes = image; there = at_told old.files _ f e read.holds; good = read.good }),
+)
+script_fault o old mid new image (Unread Track) read kept is same = absurd is
+script_fault o old mid new image (Unwritten output) read kept is same = absurd is
+script_fault o old mid new image Unsaid read kept is same = absurd is
+script_fault o old mid new image OutOfMemory read kept is same = wants o old new (same ∙ kept.files)
+
+pub fit_fault : (o : OrderValue) (old new : Outside) (image : List ℕ) (script : ScriptValue) → IsRead old o image script false
+    → new.files ≡ old.files → OrderAnswers o old new (Err BadImage)
+fit_fault o old new image script read same =
+    (told_all old.files (λ f. of_order o f ≡ BadImageVerdict) (λ f e. read_verdict old o image script false f e read), same)
+
+-- a track that was read and is none
+bad_track : (old : Outside) (o : OrderValue) (image : List ℕ) (script : ScriptValue) (f : Files) (name : List ℕ) (extra : ExtraValue) → old.files ≡ Some f
+    → extra ≡ TrackFile name → HoldsNoTrack name f → of_extra o f image script extra ≡ BadTrackVerdict
+bad_track old o image script f name extra e is holds =
+    ap (λ x. of_extra o f image script x) is
+    ∙ ap (λ found. of_track o image script name found) holds.there
+    ∙ ap (λ b. if b then Good image script o (disk_side (new_disk holds.bytes script.chip)) else BadTrackVerdict) holds.bad
+
+module _ (o : OrderValue) (old mid new : Outside) (image : List ℕ) (script : ScriptValue) where
+  track_fault : (name : List ℕ) (fault : Fault) → o.extra ≡ TrackFile name → IsRead old o image script true → mid.files ≡ old.files
+      → old.read_faults ≤ mid.read_faults → IsTrackFault mid new name fault → new.files ≡ mid.files → OrderAnswers o old new (Err fault)
+  track_fault name Usage extra read kept count is same = absurd is
+  track_fault name BadImage extra read kept count is same = absurd is
+  track_fault name (BadScript line kind) extra read kept count is same = absurd is
+  track_fault name BadTrack extra read kept count is same = (
+    told_all old.files (λ f. of_order o f ≡ BadTrackVerdict)
+        (λ f e. read_verdict old o image script true f e read
+        ∙ bad_track old o image script f name o.extra e extra (at_told mid.files _ f (kept ∙ e) is)),
+    same ∙ kept,
+    subst HasTrack (sym extra) tt,
+  )
+  track_fault name (Unread Image) extra read kept count is same = absurd is
+  track_fault name (Unread Script) extra read kept count is same = absurd is
+  track_fault name (Unread Track) extra read kept count is same = (
+    rose_since old.read_faults mid.read_faults new.read_faults count is,
+    same ∙ kept,
+    told_all old.files (HoldsRun o.image o.script) (λ f e. record {
+      image = image;
+      script = script;
+      image_there = at_told old.files _ f e read.image_of.holds;
+      image_good = read.image_of.good;
+      script_good = at_told old.files _ f e read.script_of;
+      fits = read.fits_is;
+    }),
+    subst HasTrack (sym extra) tt,
+  )
+  track_fault name (Unwritten output) extra read kept count is same = absurd is
+  track_fault name Unsaid extra read kept count is same = absurd is
+  track_fault name OutOfMemory extra read kept count is same = wants o old new (same ∙ kept)
+
+  side_fault_by : (extra : ExtraValue) (fault : Fault) → o.extra ≡ extra → IsRead old o image script true → mid.files ≡ old.files
+      → old.read_faults ≤ mid.read_faults → IsSideFault mid new extra fault → new.files ≡ mid.files → OrderAnswers o old new (Err fault)
+  side_fault_by NoFile fault is read kept count why same = absurd why
+  side_fault_by (AudioFile name) fault is read kept count why same = absurd why
+  side_fault_by (TrackFile name) fault is read kept count why same = track_fault name fault is read kept count why same
+
+  pub side_fault : (fault : Fault) → IsRead old o image script true → mid.files ≡ old.files → old.read_faults ≤ mid.read_faults
+      → IsSideFault mid new o.extra fault → new.files ≡ mid.files → OrderAnswers o old new (Err fault)
+  side_fault fault read kept count why same = side_fault_by o.extra fault refl read kept count why same
+
+-- ---- the run
+
+-- a script, or a side, that was read where the files were as before
+pub IsRead-later : (old mid : Outside) (o : OrderValue) (image : List ℕ) (script : ScriptValue) (fits : Bool) → IsImageOf old o.image image
+    → mid.files ≡ old.files → IsScriptOf mid o.script script → fits_chip script.chip image ≡ fits → IsRead old o image script fits
+IsRead-later old mid o image script fits read kept written is = record {
+  image_of = read;
+  script_of = subst (λ files. WhereTold files (HoldsScript o.script script)) kept written.holds;
+  fits_is = is;
+}
+
+side_by : (old mid : Outside) (o : OrderValue) (script : ScriptValue) (extra : ExtraValue) (side : SideValue) → mid.files ≡ old.files
+    → IsSideOf mid script.chip extra side → IsSideOf old script.chip extra side
+side_by old mid o script NoFile side kept made = made
+side_by old mid o script (AudioFile name) side kept made = made
+side_by old mid o script (TrackFile name) side kept made = (
+  made.0,
+  record { holds = subst (λ files. WhereTold files (Holds name made.0)) kept made.1.holds; good = made.1.good },
+  made.2,
+)
+
+abbrev IsReady : Outside → OrderValue → List ℕ → ScriptValue → SideValue → Type 0
+IsReady old o image script side = (f : Files) → old.files ≡ Some f → of_order o f ≡ Good image script o side
+
+run_fault : (o : OrderValue) (old mid new : Outside) (image : List ℕ) (script : ScriptValue) (side : SideValue) (fault : Fault)
+    → IsReady old o image script side → mid.files ≡ old.files → old.write_faults ≤ mid.write_faults
+    → IsRunFault (audio_of o.extra) mid new fault → LeavesOrdered o image script side mid.files new.files → OrderAnswers o old new (Err fault)
+run_fault o old mid new image script side Usage ready kept count is leaves = absurd is
+run_fault o old mid new image script side BadImage ready kept count is leaves = absurd is
+run_fault o old mid new image script side (BadScript line kind) ready kept count is leaves = absurd is
+run_fault o old mid new image script side BadTrack ready kept count is leaves = absurd is
+run_fault o old mid new image script side (Unread input) ready kept count is leaves = absurd is
+run_fault o old mid new image script side (Unwritten output) ready kept count is leaves = (
+  rose_since old.write_faults mid.write_faults new.write_faults count is.0,
+  told_all old.files (λ f. IsUnwritten (of_order o f) f new.files) (λ f e. subst (λ v. IsUnwritten v f new.files) (sym (ready f e))
+      (subst (λ files. LeavesOrdered o image script side files new.files) (kept ∙ e) leaves)),
+  is.1,
+)
+run_fault o old mid new image script side Unsaid ready kept count is leaves = absurd is
+run_fault o old mid new image script side OutOfMemory ready kept count is leaves =
+    told_all old.files (λ f. IsWanting (of_order o f) f new.files) (λ f e. subst (λ v. IsWanting v f new.files) (sym (ready f e))
+    (subst (λ files. LeavesOrdered o image script side files new.files) (kept ∙ e) leaves))
+
+run_ended : (o : OrderValue) (old mid new : Outside) (image : List ℕ) (script : ScriptValue) (side : SideValue) (answer : Result (Unit {0}) Fault)
+    → IsReady old o image script side → mid.files ≡ old.files → old.write_faults ≤ mid.write_faults
+    → RunAnswers o image script side mid new answer → OrderAnswers o old new answer
+run_ended o old mid new image script side (Ok done) ready kept count has =
+    told_all old.files (λ f. IsDone (of_order o f) f new.files) (λ f e. subst (λ v. IsDone v f new.files) (sym (ready f e))
+    (subst (λ files. HasOrdered o image script side files new.files) (kept ∙ e) has))
+run_ended o old mid new image script side (Err fault) ready kept count has =
+    run_fault o old mid new image script side fault ready kept count has.0 has.1
+
+pub order_ended : (o : OrderValue) (old made mid new : Outside) (image : List ℕ) (script : ScriptValue) (side : SideValue)
+    (answer : Result (Unit {0}) Fault) → IsRead old o image script true → made.files ≡ old.files → IsSideOf made script.chip o.extra side
+    → mid.files ≡ old.files → old.write_faults ≤ mid.write_faults → RunAnswers o image script side mid new answer → OrderAnswers o old new answer
+order_ended o old made mid new image script side answer read kept side_made same count answers =
+    run_ended o old mid new image script side answer
+    (λ f e. good_verdict old o image script side f e read (side_by old made o script o.extra side kept side_made)) same count answers
+
+-- the answers of a run, from how its files ended
+pub RunAnswers-files : (o : OrderValue) (image : List ℕ) (script : ScriptValue) (side : SideValue) (old new : Outside) (answer : Result (Unit {0}) Fault)
+    → OnOk answer (HasOrdered o image script side old.files new.files) → OnErr answer (LeavesOrdered o image script side old.files new.files)
+    → IfErr answer (IsRunFault (audio_of o.extra) old new) → RunAnswers o image script side old new answer
+RunAnswers-files o image script side old new (Ok done) has leaves cause = has
+RunAnswers-files o image script side old new (Err fault) has leaves cause = (cause, leaves)
+
+-- memory was wanting before a file was created
+pub RunAnswers-wanting : (o : OrderValue) (image : List ℕ) (script : ScriptValue) (side : SideValue) (old new : Outside) (fault : Fault)
+    → fault ≡ OutOfMemory → new.files ≡ old.files → RunAnswers o image script side old new (Err fault)
+RunAnswers-wanting o image script side old new fault is same =
+    (subst (λ (f : Fault). IsRunFault (audio_of o.extra) old new f) (sym is) tt, LeavesOrdered-kept o image script side old.files new.files same)
+
+-- an answer that is some fault
+pub by_err : {T E : Type 0} (P : Result T E → Type 0) (r : Result T E) (f : E) → IsErrAnd r (λ x. x ≡ f) → P (Err f) → P r
+by_err P (Ok v) f is p = absurd is
+by_err P (Err x) f is p = subst (λ e. P (Err e)) (sym is) p
+
+-- what a run gives, said of equal values
+moved : (P : Option (List ℕ) → SideValue → List ℕ → ScriptValue → OutNames → Type 0) (a b : Option (List ℕ)) (s t : SideValue) (i j : List ℕ)
+    (c d : ScriptValue) (n m : OutNames) → a ≡ b → s ≡ t → i ≡ j → c ≡ d → n ≡ m → P a s i c n → P b t j d m
+moved P a b s t i j c d n m audio side image script names is =
+    subst (λ x. P b t j d x) names (subst (λ x. P b t j x n) script (subst (λ x. P b t x c n) image
+    (subst (λ x. P b x i c n) side (subst (λ x. P x s i c n) audio is))))
+
+pub RunAnswers-run : (o : OrderValue) (image now_image : List ℕ) (script now_script : ScriptValue) (side now_side : SideValue) (audio : Option (List ℕ))
+    (names : OutNames) (old new : Outside) (answer : Result (Unit {0}) Fault) → audio ≡ audio_of o.extra → now_side ≡ side → now_image ≡ image
+    → now_script ≡ script → names ≡ out_names o
+    → OnOk answer (HasAllFiles audio now_side now_image now_script names old.files new.files)
+    → OnErr answer (LeavesFiles audio now_side now_image now_script names old.files new.files)
+    → IfErr answer (IsRunFault audio old new) → RunAnswers o image script side old new answer
+RunAnswers-run o image now_image script now_script side now_side audio names old new answer e f g h i has leaves cause =
+    RunAnswers-files o image script side old new answer
+    (moved (λ a s j c n. OnOk answer (HasAllFiles a s j c n old.files new.files)) _ _ _ _ _ _ _ _ _ _ e f g h i has)
+    (moved (λ a s j c n. OnErr answer (LeavesFiles a s j c n old.files new.files)) _ _ _ _ _ _ _ _ _ _ e f g h i leaves)
+    (subst (λ a. IfErr answer (IsRunFault a old new)) e cause)

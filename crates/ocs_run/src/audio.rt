@@ -1,0 +1,99 @@
+//! What a run sounds: what the side shows at the end of two clocks of each line, and the file of it.
+
+ghost use Rattle.std.specs.Prelude.{◌≡◌, ◌++◌, [], true, option_map, OnOk, OnErr, IfErr};
+ghost use Rattle.crew.specs.Crew.{side_seen};
+ghost use Rattle.ocs_io.specs.Place.{OnlyWrites, KeepsNames};
+ghost use Rattle.ocs_run.specs.Audio.{is_sampled as is_sample_place, sampled, with_audio, grown_audio, IsAudioGrowable, MayHaveMade, MayHaveGrown};
+ghost use Rattle.ocs_run.specs.Fault.{IsRunFault};
+
+use crate::fault::{Fault, Output};
+use crew::CrewSide;
+use ocs_base::{Beam, OutOfMemory};
+use ocs_io::{Place, WriteRefusal};
+
+/// What was taken of a run's clocks so far, `bytes`, where it is taken, `on`.
+#[derive(Drop)]
+pub struct Recording {
+    pub on: bool,
+    pub bytes: Vec<u8>,
+}
+
+/// Takes what the side shows as a clock has ended, where it is taken and the beam was at clock 0 or 114
+/// of a line: the left and the right byte.
+pub fn listen(beam: &Beam, side: &CrewSide, audio: &mut Recording) -> Result<(), OutOfMemory>
+    ensures taken { OnOk result (audio.old.on ≡ true → audio.new.bytes.items
+        ≡ audio.old.bytes.items ++ sampled beam.now (side_seen side.now)) }
+    ensures on { audio.new.on ≡ audio.old.on }
+{
+    if !audio.on || !is_sampled(beam) {
+        return Ok(());
+    }
+    let Some((left, right)) = side.pair() else {
+        return Ok(());
+    };
+    audio.bytes.push(left)?;
+    audio.bytes.push(right)?;
+    Ok(())
+}
+
+/// Whether it is taken what a side shows at the end of a clock with the beam there.
+fn is_sampled(beam: &Beam) -> bool
+    ensures { result ≡ is_sample_place beam.now }
+{
+    beam.h == 0 || beam.h == 114
+}
+
+/// Creates the audio file, empty, where a run has one. After a refusal it is as before or empty.
+pub fn create_audio<P: Place>(name: Option<&str>, place: &mut P) -> Result<(), Fault>
+    ensures done { OnOk result ((P.outside place.new).files
+        ≡ with_audio (option_map (λ n. n.now) name.entry) (P.outside place.old).files []) }
+    ensures growable { OnOk result
+        (IsAudioGrowable (P.growable place.new) (option_map (λ n. n.now) name.entry)) }
+    ensures stopped { OnErr result (MayHaveMade (option_map (λ n. n.now) name.entry)
+        (P.outside place.old).files (P.outside place.new).files) }
+    ensures cause { IfErr result (IsRunFault (option_map (λ n. n.now) name.entry)
+        (P.outside place.old) (P.outside place.new)) }
+    ensures kept { OnlyWrites (P.outside place.old) (P.outside place.new) }
+    ensures names { KeepsNames (P.readable place.old) (P.growable place.old) (P.readable place.new)
+        (P.growable place.new) }
+{
+    let Some(name) = name else {
+        return Ok(());
+    };
+    match place.create(name) {
+        Ok(()) => Ok(()),
+        Err(WriteRefusal::Failed) => Err(Fault::Unwritten {
+            output: Output::Audio,
+        }),
+        Err(WriteRefusal::OutOfMemory) => Err(Fault::OutOfMemory),
+    }
+}
+
+/// Appends what was taken to the audio file, where a run has one. After a refusal it has a part of it.
+pub fn write_audio<P: Place>(
+    name: Option<&str>,
+    heard: &Recording,
+    place: &mut P,
+) -> Result<(), Fault>
+    requires { IsAudioGrowable (P.growable place.old) (option_map (λ n. n.now) name) }
+    ensures done { OnOk result ((P.outside place.new).files
+        ≡ grown_audio (option_map (λ n. n.now) name.entry) (P.outside place.old).files
+        heard.now.bytes.items) }
+    ensures stopped { OnErr result (MayHaveGrown (option_map (λ n. n.now) name.entry)
+        heard.now.bytes.items
+        (P.outside place.old).files (P.outside place.new).files) }
+    ensures cause { IfErr result (IsRunFault (option_map (λ n. n.now) name.entry)
+        (P.outside place.old) (P.outside place.new)) }
+    ensures kept { OnlyWrites (P.outside place.old) (P.outside place.new) }
+{
+    let Some(name) = name else {
+        return Ok(());
+    };
+    match place.append(name, &heard.bytes) {
+        Ok(()) => Ok(()),
+        Err(WriteRefusal::Failed) => Err(Fault::Unwritten {
+            output: Output::Audio,
+        }),
+        Err(WriteRefusal::OutOfMemory) => Err(Fault::OutOfMemory),
+    }
+}

@@ -1,0 +1,291 @@
+//! Audio channels step by step.
+
+use crate::bench::{ALL, Step, ZERO, ask, ask_nothing, give, passes, poke, quiet, tick};
+use ocs_base::ChipSize;
+use paula_audio::Paula;
+
+/// Registers of channel 0; those of channel n are 10n further on.
+const LCH: u16 = 0x0a0;
+
+const LCL: u16 = 0x0a2;
+
+const LEN: u16 = 0x0a4;
+
+const PER: u16 = 0x0a6;
+
+const VOL: u16 = 0x0a8;
+
+fn reset(size: ChipSize) -> Paula {
+    match size {
+        ChipSize::Kib512 => Paula::reset(0x8_0000),
+        ChipSize::Mib1 => Paula::reset(0x10_0000),
+    }
+}
+
+/// Whether a Paula with a memory of this size answers as the steps say.
+fn answers(size: ChipSize, steps: &[Step]) -> bool {
+    passes(&mut reset(size), steps)
+}
+
+/// What is heard after the steps, if the channels answer as they say.
+fn heard(steps: &[Step]) -> Option<(u8, u8)> {
+    let mut paula = reset(ChipSize::Kib512);
+    if passes(&mut paula, steps) {
+        Some(paula.pair())
+    } else {
+        None
+    }
+}
+
+/// The high byte of a word at some volume, as it is heard on the left.
+fn byte_at(sample: u16, volume: u16) -> Option<(u8, u8)> {
+    heard(&[
+        poke(VOL, volume),
+        poke(LEN, 2),
+        poke(PER, 9),
+        tick(13, ZERO, 0x80),
+        give(sample),
+        tick(14, ZERO, 0),
+    ])
+}
+
+/// The first word begins at the tick behind its slot, and not at the tick that makes the channel on.
+#[test]
+fn a_word_begins_behind_its_slot(rt: HostRuntime) {
+    let start = [
+        poke(VOL, 64),
+        poke(LEN, 2),
+        poke(PER, 9),
+        tick(13, ZERO, 0x80),
+    ];
+    assert!(rt; heard(&start) == Some((0, 0)));
+    assert!(rt; heard(&[start[0], start[1], start[2], start[3], give(0x4000)]) == Some((0, 0)));
+    assert!(rt; byte_at(0x4000, 64) == Some((0x20, 0)));
+}
+
+/// A request that is due is made as the channel goes off; then the channel begins anew.
+#[test]
+fn a_request_outlives_its_channel(rt: HostRuntime) {
+    let steps = [
+        poke(LCL, 8),
+        poke(LEN, 1),
+        poke(PER, 9),
+        tick(13, ZERO, 0x80),
+        ask(13, ZERO, 8),
+        give(0x4000),
+        tick(14, 0x0200, 0x80),
+        tick(15, 0x0200, 0),
+        ask_nothing(13, ZERO),
+        tick(16, ZERO, 0x80),
+        tick(17, ZERO, 0),
+    ];
+    assert!(rt; answers(ChipSize::Kib512, &steps));
+}
+
+/// It goes off where DMAEN or its own bit is clear, and is silent then.
+#[test]
+fn a_channel_that_is_off_is_silent(rt: HostRuntime) {
+    for dmacon in [0x0000, 0x0200, 0x0001, 0x020e] {
+        let after = heard(&[
+            poke(VOL, 64),
+            poke(LEN, 2),
+            poke(PER, 9),
+            tick(13, ZERO, 0x80),
+            give(0x4000),
+            tick(14, ZERO, 0),
+            tick(15, dmacon & 0x0201, 0),
+        ]);
+        assert!(rt; after == Some((0, 0)), "{dmacon}");
+    }
+}
+
+/// After the last word the pointer and the length are loaded again, and the next tick requests AUD0.
+#[test]
+fn a_sample_begins_anew(rt: HostRuntime) {
+    let steps = [
+        poke(LCL, 8),
+        poke(LEN, 2),
+        poke(PER, 1),
+        tick(13, ZERO, 0x80),
+        give(1),
+        tick(14, ZERO, 0),
+        ask(13, ZERO, 10),
+        tick(13, ZERO, 0),
+        give(2),
+        tick(14, ZERO, 0x80),
+        ask(13, ZERO, 8),
+    ];
+    assert!(rt; answers(ChipSize::Kib512, &steps));
+}
+
+/// A word goes to the channel whose clock the last tick was, and to none where it was no channel's.
+#[test]
+fn words_go_by_the_clock(rt: HostRuntime) {
+    let start = [poke(LEN + 16, 2), poke(LEN, 2), tick(15, ALL, 0x780)];
+    let to_one = [
+        start[0],
+        start[1],
+        start[2],
+        give(7),
+        ask(13, ALL, 0),
+        ask_nothing(15, ALL),
+    ];
+    assert!(rt; answers(ChipSize::Kib512, &to_one));
+    let to_none = [
+        start[0],
+        start[1],
+        start[2],
+        tick(14, ALL, 0),
+        give(7),
+        ask(13, ALL, 0),
+        ask(15, ALL, 0),
+    ];
+    assert!(rt; answers(ChipSize::Kib512, &to_none));
+}
+
+/// A channel that is off or holds a word takes none: its pointer stays.
+#[test]
+fn a_word_too_many_is_lost(rt: HostRuntime) {
+    let held = [
+        poke(LEN, 3),
+        poke(PER, 1),
+        tick(13, ZERO, 0x80),
+        give(1),
+        give(2),
+        tick(14, ZERO, 0),
+        ask(13, ZERO, 2),
+    ];
+    assert!(rt; answers(ChipSize::Kib512, &held));
+    let off = [
+        poke(LEN, 1),
+        tick(13, 0, 0),
+        give(1),
+        tick(13, ZERO, 0x80),
+        tick(14, ZERO, 0),
+        ask(13, ZERO, 0),
+    ];
+    assert!(rt; answers(ChipSize::Kib512, &off));
+}
+
+/// Each channel has its own clock, bit, registers and side.
+#[test]
+fn channels_are_apart(rt: HostRuntime) {
+    for (first, h, dmacon, bits, left, right) in [
+        (0x0a0, 13, 0x0201, 0x080, 0x20, 0),
+        (0x0b0, 15, 0x0202, 0x100, 0, 0x20),
+        (0x0c0, 17, 0x0204, 0x200, 0, 0x20),
+        (0x0d0, 19, 0x0208, 0x400, 0x20, 0),
+    ] {
+        let after = heard(&[
+            poke(first | 2, 8),
+            poke(first | 4, 2),
+            poke(first | 6, 9),
+            poke(first | 8, 64),
+            tick(h, dmacon, bits),
+            ask(h, dmacon, 8),
+            give(0x4000),
+            tick(100, dmacon, 0),
+        ]);
+        assert!(rt; after == Some((left, right)), "{first}");
+    }
+}
+
+/// Bits 6 to 0 of the volume count, and above 64 they are 64.
+#[test]
+fn volumes_end_at_64(rt: HostRuntime) {
+    for (volume, left) in [
+        (0, 0),
+        (1, 0),
+        (32, 0x10),
+        (64, 0x20),
+        (0x7f, 0x20),
+        (0x80, 0),
+        (0xc0, 0x20),
+    ] {
+        assert!(rt; byte_at(0x4000, volume) == Some((left, 0)), "{volume}");
+    }
+}
+
+/// Levels and half their sums are rounded down: -1 at half the volume is -1, and so is half of it.
+#[test]
+fn levels_are_rounded_down(rt: HostRuntime) {
+    for (sample, volume, left) in [
+        (0xff00, 32, 0xff),
+        (0xff00, 64, 0xff),
+        (0x0100, 32, 0x00),
+        (0x8000, 64, 0xc0),
+        (0x7f00, 64, 0x3f),
+        (0x8100, 64, 0xc0),
+    ] {
+        assert!(rt; byte_at(sample, volume) == Some((left, 0)), "{sample}");
+    }
+}
+
+/// A length of 0 is of 65,536 words, and a period of 0 of 65,536 clocks.
+#[test]
+fn nothing_means_65536(rt: HostRuntime) {
+    let long = [
+        poke(LCL, 8),
+        tick(13, ZERO, 0x80),
+        give(0x4000),
+        tick(14, ZERO, 0),
+        ask(13, ZERO, 10),
+    ];
+    assert!(rt; answers(ChipSize::Kib512, &long));
+    let begun = [
+        poke(VOL, 64),
+        poke(LEN, 9),
+        tick(13, ZERO, 0x80),
+        give(0x40c0),
+        tick(14, ZERO, 0),
+    ];
+    let last = [
+        begun[0],
+        begun[1],
+        begun[2],
+        begun[3],
+        begun[4],
+        quiet(65_535, ZERO),
+    ];
+    assert!(rt; heard(&last) == Some((0x20, 0)));
+    let next = [
+        begun[0],
+        begun[1],
+        begun[2],
+        begun[3],
+        begun[4],
+        quiet(65_536, ZERO),
+    ];
+    assert!(rt; heard(&next) == Some((0xe0, 0)));
+}
+
+/// The pointer wraps at the size of chip memory.
+#[test]
+fn pointers_wrap_at_the_memory(rt: HostRuntime) {
+    for (size, first, second) in [
+        (ChipSize::Kib512, 0x7_fffe, 0),
+        (ChipSize::Mib1, 0x7_fffe, 0x8_0000),
+    ] {
+        let steps = [
+            poke(LCH, 0x0007),
+            poke(LCL, 0xffff),
+            poke(LEN, 3),
+            tick(13, ZERO, 0x80),
+            ask(13, ZERO, first),
+            give(0),
+            tick(14, ZERO, 0),
+            ask(13, ZERO, second),
+        ];
+        assert!(rt; answers(size, &steps));
+    }
+    let end = [
+        poke(LCH, 0x000f),
+        poke(LCL, 0xfffe),
+        poke(LEN, 3),
+        tick(13, ZERO, 0x80),
+        give(0),
+        tick(14, ZERO, 0),
+        ask(13, ZERO, 0),
+    ];
+    assert!(rt; answers(ChipSize::Mib1, &end));
+}
