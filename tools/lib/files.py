@@ -4,10 +4,20 @@ from __future__ import annotations
 import contextlib
 import os
 
+from faults import BadFile
+
 
 def named(fault: OSError, place: str) -> OSError:
     """The fault with the place of the file that it is about."""
     return OSError(fault.errno, fault.strerror, place)
+
+
+def check_made(place: str, source: str, force: bool) -> None:
+    """BadFile where a file that is made of another is that one, or is there and may not be overwritten."""
+    if os.path.exists(place) and os.path.samefile(place, source):
+        raise BadFile(place, "is the file itself that it would be made of")
+    if os.path.lexists(place) and not force:
+        raise BadFile(place, "is there already; --force overwrites it")
 
 
 def write_whole(place: str, data: bytes) -> None:

@@ -2,9 +2,21 @@
 from __future__ import annotations
 
 import argparse
+from typing import Callable
 
 from faults import BadFile
 from frames import FramesFile
+
+
+def number(least: int, most: int) -> Callable[[str], int]:
+    """What reads a number from `least` to `most`."""
+
+    def read(text: str) -> int:
+        if text.isascii() and text.isdigit() and least <= int(text) <= most:
+            return int(text)
+        raise argparse.ArgumentTypeError(f"'{text}' is not a number from {least} to {most}")
+
+    return read
 
 
 def parse_range(text: str) -> tuple[int, int | None]:

@@ -41,6 +41,14 @@ class Tools(unittest.TestCase):
             file.write(data.encode("ascii") if isinstance(data, str) else data)
         return place
 
+    def bytes_of(self, name: str) -> bytes:
+        with open(self.place(name), "rb") as file:
+            return file.read()
+
+    def names(self) -> list[str]:
+        """What is in the test's folder."""
+        return sorted(os.listdir(self.folder))
+
     def write_run(self, name: str, frames: bytes, trace: str = TRACE, memory: bytes = bytes(524288)) -> None:
         self.write(f"{name}/frames", frames)
         self.write(f"{name}/trace", trace)

@@ -17,7 +17,7 @@ from runs import TOOLS, Tools
 
 TOP = os.path.dirname(TOOLS)
 NAMES = ("LICENSE", "README.md", "CHANGELOG.md", "crates.txt", "HANDLES", ".gitignore", "bench", "docs", "examples", "tools")
-KIT_CRATES = ("itoa", "thiserror", "arrayvec", "smallvec", "atomic_table")
+KIT_CRATES = ("itoa", "thiserror", "arrayvec", "smallvec", "circular_buffer", "atomic_table")
 # of a kit: the two calls that a release makes
 RT = "#!/bin/sh\ncase $1 in version) echo a kit;; doc) echo {kit}/START-HERE.md;; esac\n"
 GATE = "crate ocs: is proved\n{} passed, {} failed\n"
