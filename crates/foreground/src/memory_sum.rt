@@ -8,10 +8,9 @@ use mem_versions::Chip;
 use serial_model::Side;
 
 impl<S: Side> Fore<S> {
-    /// The sum of the words of the memory as it is now, each of which is read once. The memory has the words
-    /// of 1 MiB at the most, as that of each run has. It takes no memory.
+    /// The sum of the words of the memory as it is now, each of which is read once. It takes no
+    /// memory.
     pub fn sum(&mut self) -> u64
-        requires few { length self.old.machine.chip.words ≤ 524288 }
         ensures total { result ≡ sum_of_words self.old.machine.chip.words }
         ensures same { self.new ≡ record self.old {
           machine = record self.old.machine {
@@ -25,7 +24,6 @@ impl<S: Side> Fore<S> {
 
 /// The sum of the words of a memory, page by page.
 fn sum_of(chip: &mut Chip) -> u64
-    requires few { length chip.old.words ≤ 524288 }
     ensures total { result ≡ sum_of_words chip.old.words }
     ensures chip { chip.new ≡ after_reads chip.old (length chip.old.words) }
 {

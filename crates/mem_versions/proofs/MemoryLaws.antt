@@ -108,13 +108,14 @@ memory_at-same now clock kept writes words early same =
     ∙ sym (get_or-memory_at clock place writes words inside))
 
 -- a new memory
-pub IsSound-new : (base words : List ℕ) (writes : List Write) → 0 < length base → words ≡ base → writes ≡ []
-    → IsSound base words writes 0
-IsSound-new base words writes some same none =
+pub IsSound-new : (base words : List ℕ) (writes : List Write) → 0 < length base → length base ≤ 524288 → words ≡ base
+    → writes ≡ [] → IsSound base words writes 0
+IsSound-new base words writes some few same none =
     let is : [] ≡ writes = sym none in
     let P : List Write → Type 0 = λ ws. IsSound base words ws 0 in
     subst P is (record {
       some = some;
+      few = few;
       present = same;
       stamped = λ i j d order within. absurd (omega arith);
       until = λ k d within. absurd (omega arith);
@@ -128,6 +129,7 @@ IsSound-write base words after writes grown newest w sound later made more =
     let P : List Write → Type 0 = λ ws. IsSound base after ws w.clock in
     subst P is (record {
       some = sound.some;
+      few = sound.few;
       present = made ∙ ap (λ (now : List ℕ). set now w.place w.word) sound.present ∙ sym (words_after-append base writes (w ∷ []));
       stamped =
           IsNonDecreasingBy-push (λ w. w.clock) writes w sound.stamped
@@ -146,6 +148,9 @@ IsSound-cut base words after writes left newest now count sound later made rest 
       some =
           let same : length after ≡ length base = ap length made ∙ length-words_after base (take count writes) in
           omega (arith, same, sound.some);
+      few =
+          let same : length after ≡ length base = ap length made ∙ length-words_after base (take count writes) in
+          omega (arith, same, sound.few);
       present =
           sound.present ∙ ap (words_after base) (sym (take-append-drop count writes)) ∙ words_after-append base (take count writes) (drop count writes)
           ∙ ap (λ (words : List ℕ). words_after words (drop count writes)) (sym made);

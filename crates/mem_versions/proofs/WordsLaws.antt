@@ -59,6 +59,11 @@ pub some-words : (size : ChipSize) (count : ℕ) → count ≡ bytes_of size / 2
 some-words Kib512 count is = omega (arith, is)
 some-words Mib1 count is = omega (arith, is)
 
+-- and no more than 1 MiB has
+pub few-words : (size : ChipSize) (count : ℕ) → count ≡ bytes_of size / 2 → count ≤ 524288
+few-words Kib512 count is = omega (arith, is)
+few-words Mib1 count is = omega (arith, is)
+
 -- the bytes of the size that a number of bytes names
 pub bytes-named : (bytes : ℕ) → is_chip_size bytes ≡ true → bytes_of (size_of_bytes bytes) ≡ bytes
 bytes-named bytes named = by_case (bytes == 1048576) (bytes == 524288) refl refl named

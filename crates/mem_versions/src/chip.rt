@@ -115,10 +115,11 @@ impl Chip {
         self.reads
     }
 
-    /// How many pages of 256 words the memory has.
+    /// How many pages of 256 words the memory has: those of 1 MiB at the most.
     pub fn pages(&self) -> usize
         ensures size { length self.now.words ≡ 256 * result }
         ensures some { 0 < result }
+        ensures few { result ≤ 2048 }
     {
         self.words.count()
     }

@@ -18,14 +18,14 @@ pub struct Kept {
 }
 
 impl Model for Kept {
-    ghost use Rattle.std.specs.Prelude.{◌<◌, length};
+    ghost use Rattle.std.specs.Prelude.{◌<◌, ◌≤◌, length};
     ghost use Rattle.mem_versions.specs.Kept.{KeptValue};
 
     ghost Value = { KeptValue };
 
     ghost view = { λ k. record { words = k.words; clock = k.clock } };
 
-    ghost invariant = { λ k. 0 < length k.words };
+    ghost invariant = { λ k. (0 < length k.words) × (length k.words ≤ 524288) };
 }
 
 impl Chip {

@@ -9,4 +9,4 @@ invariant_of-result c =
     let writes = c.self.inside.writes.items in
     let same : length c.in_ok-words.words ≡ length base =
     ap length (c.in_ok-words.ensures ∙ c.self.invariant.present) ∙ length-words_after base writes in
-    omega (arith, same, c.self.invariant.some)
+    (omega (arith, same, c.self.invariant.some), omega (arith, same, c.self.invariant.few))

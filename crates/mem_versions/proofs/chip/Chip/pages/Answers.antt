@@ -7,3 +7,9 @@ returns-clause-some c =
     let words : length c.self.inside.words ≡ length c.self.inside.base =
     ap length c.self.invariant.present ∙ length-words_after c.self.inside.base c.self.inside.writes.items in
     omega (arith, c.self.invariant.some, words, c.count.ensures.size)
+
+pub returns-clause-few : goal.returns-clause-few
+returns-clause-few c =
+    let words : length c.self.inside.words ≡ length c.self.inside.base =
+    ap length c.self.invariant.present ∙ length-words_after c.self.inside.base c.self.inside.writes.items in
+    omega (arith, c.self.invariant.few, words, c.count.ensures.size)

@@ -1,7 +1,7 @@
 -- The memory of an image has whole pages, and nothing is written yet.
 use Rattle.std.proofs.Common.{◌≤◌, ◌%◌, ◌/◌, ◌≡◌, ℕ, List, length, ap, sym, ◌∙◌, arith}
 use Rattle.ocs_base.specs.Sizes.{bytes_of}
-use Rattle.mem_versions.proofs.WordsLaws.{whole-pages, length-memory_of, some-words}
+use Rattle.mem_versions.proofs.WordsLaws.{whole-pages, length-memory_of, some-words, few-words}
 use Rattle.mem_versions.proofs.MemoryLaws.{IsSound-new}
 use Rattle.mem_versions.proofs.chip.Chip.sized.Goals as goal
 
@@ -19,4 +19,4 @@ invariant_of-result c =
     ap length (c.in_ok-base.ensures ∙ c.in_ok-words.ensures ∙ c.deref.ensures.value ∙ c.in_ok-image_words.ensures)
     ∙ length-memory_of size c.args.image.now fits in
     IsSound-new c.in_ok-base.base c.in_ok-words.words c.new-2.result.items
-    (some-words size (length c.in_ok-base.base) count) (sym c.in_ok-base.ensures) c.new-2.ensures.items
+    (some-words size (length c.in_ok-base.base) count) (few-words size (length c.in_ok-base.base) count) (sym c.in_ok-base.ensures) c.new-2.ensures.items
