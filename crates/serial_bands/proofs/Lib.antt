@@ -9,6 +9,8 @@ pub mod Counts
 pub mod Storing
 pub mod Opening
 pub mod Drawing
+pub mod Late
+pub mod Spans
 pub mod Shading
 pub mod Gathering
 pub mod BandRanges

@@ -89,7 +89,7 @@ are_sets (e ∷ events) = set_by e.act (touches_of events) (are_sets events)
 
 -- the first event, if there is one, is a write that no picture step before this clock sees, or a fetch of this other clock or a
 -- later one
-abbrev IsFrontFrom : ℕ → ℕ → List Event → Type 0
+abbrev pub IsFrontFrom : ℕ → ℕ → List Event → Type 0
 IsFrontFrom write fetch [] = Unit {0}
 IsFrontFrom write fetch (E.Set at reg word ∷ events) = write ≤ at.0
 IsFrontFrom write fetch (E.Plane at plane addr ∷ events) = fetch ≤ at.0
@@ -135,7 +135,7 @@ unfolding events_from
 parted run c zero = ap (λ l. script_events run c ++ l) (sym (no_more (bus_events c (fetch_alone (bus_touch_at run c)))))
 parted run c (suc n) = refl
 
-front_of : (run : RunValue) (c n : ℕ) → IsFrontFrom c c (events_from run c n)
+pub front_of : (run : RunValue) (c n : ℕ) → IsFrontFrom c c (events_from run c n)
 front_of run c zero =
     subst (λ l. IsFrontFrom c c l) (sym (parted run c 0))
     (script_front c (sets_at run c) (rest_from run c 0) (bus_front c (fetch_alone (bus_touch_at run c)) [] tt))

@@ -12,6 +12,8 @@ pub mod EventReading
 pub mod Stores
 pub mod OpenBand
 pub mod DrawnTo
+pub mod Late
+pub mod Spans
 pub mod Shadows
 pub mod Gathering
 pub mod BandRanges

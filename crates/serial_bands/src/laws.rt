@@ -12,6 +12,8 @@ ghost use Rattle.serial_bands.specs.EventReading.{ScriptEventsAreSets, ScriptCom
 ghost use Rattle.serial_bands.specs.Stores.{StoresMakeMemory, MemoryByStores, ViewHasMemory};
 ghost use Rattle.serial_bands.specs.OpenBand.{BandOpens, BandGoesOn, BandCloses};
 ghost use Rattle.serial_bands.specs.DrawnTo.{WordsAreFound, DrawingBegins, TouchIsNext, DrawingGoesOn, LastFetchIsNext, DrawingEnds};
+ghost use Rattle.serial_bands.specs.Late.{FetchesAreLate};
+ghost use Rattle.serial_bands.specs.Spans.{DrawingGoesOnQuietly, UntouchedBeforeFirst, FetchIsNext};
 ghost use Rattle.serial_bands.specs.Shadows.{ShadowOfPicture, ShadowOfKept, FirstShadow, ShadowTouched};
 ghost use Rattle.serial_bands.specs.Shadows.{ShadowShown, ShadowCleared, NextShadow, ShadowFound, LineOpens};
 ghost use Rattle.serial_bands.specs.Fetches.{LeftOfPicture, LeftOfFound, LeftBySets, LeftByTouch, TouchInTwo, FewerWithWrite, FetchesAreLatched};
@@ -150,6 +152,21 @@ pub fn drawn_band()
     ensures on { DrawingGoesOn }
     ensures fetch { LastFetchIsNext }
     ensures ends { DrawingEnds }
+{}
+
+/// The word that a plane fetches at a clock may be handed to the picture state before that clock's
+/// picture step, and before those of the clocks of the line just before it: they show and leave the
+/// same.
+pub fn fetches_late()
+    ensures { FetchesAreLate }
+{}
+
+/// Clocks of a line at which nothing touches the picture but fetches of bitplanes are drawn at once
+/// behind their fetches, and the events that are left tell which clocks these are.
+pub fn drawn_at_once()
+    ensures on { DrawingGoesOnQuietly }
+    ensures untouched { UntouchedBeforeFirst }
+    ensures fetch { FetchIsNext }
 {}
 
 /// A shadow of the picture state follows it from clock to clock without a word of a plane or a sprite,

@@ -10,3 +10,4 @@ pub mod SideLaws
 pub mod Standing
 pub mod Kept
 pub mod PictureRegisters
+pub mod LateLoads

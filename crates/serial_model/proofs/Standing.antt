@@ -1,5 +1,5 @@
 -- Kept picture states.
-use Rattle.std.proofs.Common.{◌≡◌, ◌≤◌, ℕ, zero, suc, ◌+◌, ◌-◌, ◌*◌, ◌/◌, ◌%◌, Bool, true, false, ◌==◌, if◌then◌else◌, List, [], ◌∷◌}
+use Rattle.std.proofs.Common.{◌≡◌, ◌<◌, ◌≤◌, ℕ, zero, suc, ◌+◌, ◌-◌, ◌*◌, ◌/◌, ◌%◌, Bool, true, false, ◌==◌, if◌then◌else◌, List, [], ◌∷◌}
 use Rattle.std.proofs.Common.{◌++◌, Option, Some, None, refl, ap, ◌∙◌, sym, subst, arith, replicate, slice_index, slice_set, bit_or}
 use Rattle.ocs_base.specs.declared.system.System.{System}
 use Rattle.planes.specs.PlaneBit.{ShowsSame, all_bits, load_of}
@@ -141,17 +141,20 @@ unfolding collisions_at
 collided_same v x values loads p same =
     ap (λ bits. if is_inside v (x / 2) p.diwstrt p.diwstop then collision_bits p.clxcon bits values else 0) same
 
-bits_same : (h n count : ℕ) (loads : List Load) (p : Denise) → ShowsSame (4 * h) loads p.loads
-    → all_bits (4 * h + n) count loads ≡ all_bits (4 * h + n) count p.loads
-bits_same h n count loads p same = all_bits-same (4 * h) (4 * h + n) count loads p.loads same (omega arith)
+-- other loads show the same at the four positions of a clock
+abbrev pub SameHere : ℕ → List Load → Denise → Type 0
+SameHere h loads p = (n : ℕ) → n < 4 → all_bits (4 * h + n) (planes_of p.con0) loads ≡ all_bits (4 * h + n) (planes_of p.con0) p.loads
 
-held_same : (v h n : ℕ) (loads : List Load) (p : Denise) → ShowsSame (4 * h) loads p.loads
+here_same : (h : ℕ) (loads : List Load) (p : Denise) → ShowsSame (4 * h) loads p.loads → SameHere h loads p
+here_same h loads p same n few = all_bits-same (4 * h) (4 * h + n) (planes_of p.con0) loads p.loads same (omega arith)
+
+held_same : (v h n : ℕ) (loads : List Load) (p : Denise) → SameHere h loads p → n ≤ 4
     → held_after v h n (with_loads loads p) ≡ held_after v h n p
 unfolding held_after
-held_same v h zero loads p same = refl
-held_same v h (suc n) loads p same =
-    ap (λ held. pixel_colour v (4 * h + n) held (with_loads loads p)) (held_same v h n loads p same)
-    ∙ colour_same v (4 * h + n) (held_after v h n p) loads p (bits_same h n (planes_of p.con0) loads p same)
+held_same v h zero loads p same few = refl
+held_same v h (suc n) loads p same few =
+    ap (λ held. pixel_colour v (4 * h + n) held (with_loads loads p)) (held_same v h n loads p same (omega arith))
+    ∙ colour_same v (4 * h + n) (held_after v h n p) loads p (same n (omega arith))
 
 runs_same : (h n : ℕ) (loads : List Load) (p : Denise) → runs_after h n (with_loads loads p) ≡ runs_after h n p
 unfolding runs_after
@@ -161,54 +164,57 @@ runs_same h (suc n) loads p = ap (λ runs. runs_at (2 * h + n) p runs) (runs_sam
 values_same : (h n : ℕ) (loads : List Load) (p : Denise) → values_after h n (with_loads loads p) ≡ values_after h n p
 values_same h n loads p = ap (λ runs. sprite_values (2 * h + n / 2) runs) (runs_same h (n / 2 + 1) loads p)
 
-bytes_same : (v h n : ℕ) (loads : List Load) (p : Denise) → ShowsSame (4 * h) loads p.loads
+bytes_same : (v h n : ℕ) (loads : List Load) (p : Denise) → SameHere h loads p → n < 4
     → pixel_bytes v h n (with_loads loads p) ≡ pixel_bytes v h n p
-bytes_same v h n loads p same =
+bytes_same v h n loads p same few =
     let q : Denise = with_loads loads p in
     ap (λ values. colour_bytes (shown_at v (4 * h + n) values (held_after v h n q) q)) (values_same h n loads p)
-    ∙ ap (λ held. colour_bytes (shown_at v (4 * h + n) (values_after h n p) held q)) (held_same v h n loads p same)
+    ∙ ap (λ held. colour_bytes (shown_at v (4 * h + n) (values_after h n p) held q)) (held_same v h n loads p same (omega arith))
     ∙ ap (λ colour. colour_bytes colour)
-    (shown_same v (4 * h + n) (values_after h n p) (held_after v h n p) loads p (bits_same h n (planes_of p.con0) loads p same))
+    (shown_same v (4 * h + n) (values_after h n p) (held_after v h n p) loads p (same n few))
 
-collisions_same : (v h n : ℕ) (loads : List Load) (p : Denise) → ShowsSame (4 * h) loads p.loads
+collisions_same : (v h n : ℕ) (loads : List Load) (p : Denise) → SameHere h loads p → n < 4
     → pixel_collisions v h n (with_loads loads p) ≡ pixel_collisions v h n p
-collisions_same v h n loads p same =
+collisions_same v h n loads p same few =
     ap (λ values. collisions_at v (4 * h + n) values (with_loads loads p)) (values_same h n loads p)
-    ∙ collided_same v (4 * h + n) (values_after h n p) loads p (bits_same h n (planes_of p.con0) loads p same)
+    ∙ collided_same v (4 * h + n) (values_after h n p) loads p (same n few)
 
 four_same : {A B : Type 0} (f : A → A → A → A → B) (a b c d e g h i : A) → a ≡ e → b ≡ g → c ≡ h → d ≡ i → f a b c d ≡ f e g h i
 four_same f a b c d e g h i first second third last =
     ap (λ x. f x b c d) first ∙ ap (λ x. f e x c d) second ∙ ap (λ x. f e g x d) third ∙ ap (λ x. f e g h x) last
 
-pixels_same : (system : System) (v h : ℕ) (loads : List Load) (p : Denise) → ShowsSame (4 * h) loads p.loads
+pixels_same : (system : System) (v h : ℕ) (loads : List Load) (p : Denise) → SameHere h loads p
     → pixels system v h (with_loads loads p) ≡ pixels system v h p
 pixels_same system v h loads p same =
     four_same (λ a b c d. if is_visible system v h then a ++ (b ++ (c ++ d)) else []) _ _ _ _ _ _ _ _
-    (bytes_same v h 0 loads p same) (bytes_same v h 1 loads p same) (bytes_same v h 2 loads p same) (bytes_same v h 3 loads p same)
+    (bytes_same v h 0 loads p same (omega arith)) (bytes_same v h 1 loads p same (omega arith))
+    (bytes_same v h 2 loads p same (omega arith)) (bytes_same v h 3 loads p same (omega arith))
 
-clx_same : (v h : ℕ) (loads : List Load) (p : Denise) → ShowsSame (4 * h) loads p.loads
+clx_same : (v h : ℕ) (loads : List Load) (p : Denise) → SameHere h loads p
     → clock_collisions v h (with_loads loads p) ≡ clock_collisions v h p
 clx_same v h loads p same =
     four_same (λ a b c d. bit_or (bit_or a b) (bit_or c d)) _ _ _ _ _ _ _ _
-    (collisions_same v h 0 loads p same) (collisions_same v h 1 loads p same)
-    (collisions_same v h 2 loads p same) (collisions_same v h 3 loads p same)
+    (collisions_same v h 0 loads p same (omega arith)) (collisions_same v h 1 loads p same (omega arith))
+    (collisions_same v h 2 loads p same (omega arith)) (collisions_same v h 3 loads p same (omega arith))
 
 abbrev step_by : ℕ → List (Option Start) → List ℕ → ℕ → PictureStep
 step_by held runs bytes clx = record { held = record { 0 = held }; runs = runs; bytes = bytes; clx = clx }
 
-step_same : (system : System) (v h : ℕ) (loads : List Load) (p : Denise) → ShowsSame (4 * h) loads p.loads
+-- the step of a clock reads the loads by what they show at its positions alone
+pub step_same : (system : System) (v h : ℕ) (loads : List Load) (p : Denise) → SameHere h loads p
     → step_of system v h (with_loads loads p) ≡ step_of system v h p
 unfolding step_of
 step_same system v h loads p same =
     let q : Denise = with_loads loads p in
-    ap (λ held. step_by held (runs_after h 2 q) (pixels system v h q) (clock_collisions v h q)) (held_same v h 4 loads p same)
+    ap (λ held. step_by held (runs_after h 2 q) (pixels system v h q) (clock_collisions v h q)) (held_same v h 4 loads p same (omega arith))
     ∙ ap (λ runs. step_by (held_after v h 4 p) runs (pixels system v h q) (clock_collisions v h q)) (runs_same h 2 loads p)
     ∙ ap (λ bytes. step_by (held_after v h 4 p) (runs_after h 2 p) bytes (clock_collisions v h q)) (pixels_same system v h loads p same)
     ∙ ap (λ clx. step_by (held_after v h 4 p) (runs_after h 2 p) (pixels system v h p) clx) (clx_same v h loads p same)
 
 pub stands_shown : StandsShown
 stands_shown system v h kept p stands =
-    ap (λ q. step_of system v h q) (same_but_loads (4 * h) kept p stands) ∙ step_same system v h kept.loads p stands.loads
+    ap (λ q. step_of system v h q) (same_but_loads (4 * h) kept p stands)
+    ∙ step_same system v h kept.loads p (here_same h kept.loads p stands.loads)
 
 positions : (h : ℕ) → 4 * h ≤ 4 * h + 4
 positions h = omega arith

@@ -7,6 +7,7 @@ pub mod Window
 pub mod PlaneFetch
 pub mod SpriteFetch
 pub mod Picture
+pub mod Spans
 pub mod StandsFor
 pub mod Keeps
 pub mod StandsLaws
