@@ -116,7 +116,7 @@ unfolding first_runs
 all_begun x s is = eight_by (run_or x s) s.runs is
 
 -- eight of which each is what ran
-same_eight : (f : ℕ → Option Start) (l : List (Option Start)) → length l ≡ 8 → ((n : ℕ) → n < 8 → f n ≡ slice_index_or l n None) → map f all_sprites ≡ l
+pub same_eight : (f : ℕ → Option Start) (l : List (Option Start)) → length l ≡ 8 → ((n : ℕ) → n < 8 → f n ≡ slice_index_or l n None) → map f all_sprites ≡ l
 same_eight f (a ∷ b ∷ c ∷ d ∷ e ∷ g ∷ h ∷ i ∷ []) is same =
     rw (
       same 0 (omega arith),

@@ -3,6 +3,7 @@ pub mod Spreading
 pub mod Loading
 pub mod Colours
 pub mod Beginning
+pub mod Runs
 pub mod LaidOut
 pub mod Ors
 pub mod Showing
@@ -10,3 +11,5 @@ pub mod Overlays
 pub mod Registers
 pub mod KeptLoads
 pub mod RunningLaws
+pub mod Spans
+pub mod Clocks

@@ -21,6 +21,12 @@ none_more a = omega arith
 pub or_none : (a : ℕ) → bit_or a 0 ≡ a
 or_none a = same_from_bits _ _ (λ i. bit_at_or a 0 i ∙ ap (max (bit_at a i)) (bit_at-zero i) ∙ none_more (bit_at a i))
 
+pub none_or : (a : ℕ) → bit_or 0 a ≡ a
+none_or a = same_from_bits _ _ (λ i. bit_at_or 0 a i ∙ ap (λ (n : ℕ). max n (bit_at a i)) (bit_at-zero i) ∙ more_none (bit_at a i))
+  where
+    more_none : (n : ℕ) → max 0 n ≡ n
+    more_none n = omega arith
+
 twice_max : (a : ℕ) → max a a ≡ a
 twice_max a = omega arith
 

@@ -500,7 +500,7 @@ unfolding step_of runs_after
 clock_stands system v h now p stands = stands
 
 -- a clock that shows the border's colour alone, with no sprite near
-still_held : (v h held : ℕ) (now : Painter) (p : Denise) → IsPainterOf now p → IsIdle h now.sprites → IsStill h (with_held held p) now.sprites.runs
+pub still_held : (v h held : ℕ) (now : Painter) (p : Denise) → IsPainterOf now p → IsIdle h now.sprites → IsStill h (with_held held p) now.sprites.runs
 still_held v h held now p stands idle =
     still h (record now { held = colour_bytes held }) (with_held held p) (with_held_stands now p (colour_bytes held) held stands refl) idle
 

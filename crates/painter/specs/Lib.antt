@@ -6,6 +6,9 @@ pub mod Inks
 pub mod Window
 pub mod Pixels
 pub mod SpriteState
+pub mod Runs
 pub mod Overlay
 pub mod Painter
 pub mod RunningWords
+pub mod Span
+pub mod SpanCode

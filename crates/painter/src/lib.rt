@@ -13,7 +13,10 @@ mod overlay;
 pub mod painter;
 mod pixels;
 pub mod row;
+mod show_spans;
+pub mod span;
 pub mod sprite_state;
+mod visible;
 pub mod window;
 mod words;
 

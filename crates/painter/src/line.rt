@@ -1,6 +1,6 @@
 //! What the bitplanes show along a line.
 
-ghost use Rattle.std.specs.Prelude.{◌≡◌, ◌≤◌, ◌<◌, ◌+◌, ◌*◌, ◌∷◌, ◌++◌, [], ◌/◌, ◌%◌, ℕ, ◌&&◌, true, nat_le, List, slice_index};
+ghost use Rattle.std.specs.Prelude.{◌≡◌, ◌≤◌, ◌<◌, ◌+◌, ◌-◌, ◌*◌, max, ◌∷◌, ◌++◌, [], ◌/◌, ◌%◌, ℕ, ◌&&◌, true, nat_le, List, slice_index};
 ghost use Rattle.planes.specs.declared.load.Load.{Load};
 ghost use Rattle.planes.specs.PlaneBit.{load_of, delay};
 
@@ -60,6 +60,15 @@ impl Line {
         ensures blank { result ≡ true → (y : ℕ) → x ≤ y → row_bits self.now y ≡ 0 }
     {
         self.odd.is_blank_from(x) && self.even.is_blank_from(x)
+    }
+
+    /// How many clocks there are from `h` on up to the end of what is laid.
+    pub fn clocks_before_end(&self, h: u16) -> u16
+        requires { h ≤ 228 }
+        ensures { result ≡ (max self.now.odd.end self.now.even.end + 3) / 4 - h }
+    {
+        let end = self.odd.end.max(self.even.end);
+        ((end + 3) / 4).saturating_sub(h as usize) as u16
     }
 
     /// The bits of all six planes at a high-resolution position, plane p as bit p - 1.

@@ -33,21 +33,21 @@ use serial_model::Denise;
 #[derive(Drop)]
 pub struct Painter {
     /// COLOR00 to COLOR31, BPLCON0 and BPLCON2.
-    inks: Inks,
+    pub(crate) inks: Inks,
     /// BPLCON1.
     con1: u16,
     /// DIWSTRT and DIWSTOP.
-    window: Window,
+    pub(crate) window: Window,
     /// CLXCON.
-    clxcon: u16,
+    pub(crate) clxcon: u16,
     /// The latches BPL1DAT to BPL6DAT.
     latches: [u16; 6],
     /// The sprites' registers, and their words that run.
-    sprites: SpriteState,
+    pub(crate) sprites: SpriteState,
     /// What the loads of this line show.
-    line: Line,
+    pub(crate) line: Line,
     /// The bytes of the playfields' colour of the pixel before.
-    held: [u8; 3],
+    pub(crate) held: [u8; 3],
 }
 
 impl Painter {
@@ -536,7 +536,7 @@ impl Painter {
 
     /// The collisions of a clock where no sprite shows: those of the playfields with one another.
     #[inline(never)]
-    fn meet_playfields(&self, v: u16, h: u16, clx: &mut u16)
+    pub(crate) fn meet_playfields(&self, v: u16, h: u16, clx: &mut u16)
         requires { h ≤ 227 }
         ensures { (p : DeniseValue) → IsPainterOf self.now p
             → clx.new ≡ bit_or clx.old (quiet_collisions v h p) }

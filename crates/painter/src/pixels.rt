@@ -1,14 +1,16 @@
 //! Two pixels of one low-resolution column.
 
-ghost use Rattle.std.specs.Prelude.{◌≡◌, ◌≤◌, ◌+◌, ℕ, slice_index, slice_set};
+ghost use Rattle.std.specs.Prelude.{◌≡◌, ◌≤◌, ◌+◌, ◌*◌, ◌++◌, ℕ, length, slice_index, slice_set, take};
 ghost use Rattle.serial_model.specs.Picture.{colour_bytes};
 ghost use Rattle.painter.specs.Held.{IsHeld};
 ghost use Rattle.painter.specs.Pixels.{ink_at, modified_at};
+ghost use Rattle.painter.specs.SpanCode.{bytes_of_clocks, ink_pixels};
 
 use crate::ham::{bytes_of, modify, modify_again};
 use crate::held::Held;
 use crate::inks::Inks;
 use crate::line::Line;
+use crate::span::put;
 
 /// Two pixels outside the display window: COLOR00.
 #[inline(always)]
@@ -63,4 +65,41 @@ pub fn show_modified(
     into[at] = bytes_of(first);
     into[at + 1] = bytes_of(second);
     second
+}
+
+/// A pixel inside the display window where no colour is held: the ink that its bits name.
+#[inline(always)]
+pub fn ink_bytes(inks: &Inks, line: &Line, x: usize) -> [u8; 3]
+    requires { x ≤ 1023 }
+    ensures { result ≡ colour_bytes (ink_at inks.now line.now x) }
+{
+    *inks.bytes(inks.name(line.bits(x)))
+}
+
+/// The four such pixels from a position on.
+#[inline(always)]
+fn ink_clock(inks: &Inks, line: &Line, x: usize) -> [[u8; 3]; 4]
+    requires { x ≤ 1020 }
+    ensures { result ≡ ink_pixels inks.now line.now x }
+{
+    [
+        ink_bytes(inks, line, x),
+        ink_bytes(inks, line, x + 1),
+        ink_bytes(inks, line, x + 2),
+        ink_bytes(inks, line, x + 3),
+    ]
+}
+
+/// Puts so many clocks of such pixels into a room, from a position on.
+pub fn put_inks(room: &mut [u8], at: usize, inks: &Inks, line: &Line, x: usize, count: u16)
+    requires room { at + 12 * count ≤ length room.old }
+    requires place { x + 4 * count ≤ 1024 }
+    ensures bytes { take (at + 12 * count) room.new ≡ take at room.old
+        ++ bytes_of_clocks (λ k. ink_pixels inks.now line.now (x + 4 * k)) count }
+    ensures size { length room.new ≡ length room.old }
+{
+    for clock in 0..count {
+        let pixels = ink_clock(inks, line, x + 4 * clock as usize);
+        put(room, at + 12 * clock as usize, &pixels);
+    }
 }

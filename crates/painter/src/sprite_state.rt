@@ -1,6 +1,6 @@
 //! The sprites' registers, and the words that run on a line.
 
-ghost use Rattle.std.specs.Prelude.{◌≡◌, ◌≤◌, ◌<◌, ◌-◌, ◌*◌, ◌%◌, ◌^◌, ℕ, None, true, false, bit_and};
+ghost use Rattle.std.specs.Prelude.{◌≡◌, ◌≢◌, ◌≤◌, ◌<◌, ◌+◌, ◌-◌, ◌*◌, ◌/◌, ◌%◌, ◌^◌, ℕ, None, true, false, bit_and};
 ghost use Rattle.std.specs.Prelude.{bit_or, length, replicate, slice_index, slice_set, IfSome};
 ghost use Rattle.std.specs.List.{All};
 ghost use Rattle.serial_model.specs.Picture.{sprite_values};
@@ -260,6 +260,44 @@ impl SpriteState {
         self.quiet_from <= 2 * h && (self.armed == 0 || !self.may_begin(h))
     }
 
+    /// How many clocks from `h` on there are in which words that have begun may still show.
+    pub fn clocks_running(&self, h: u16) -> u16
+        ensures { result ≡ self.now.quiet_from / 2 + 1 - h }
+    {
+        (self.quiet_from / 2 + 1).saturating_sub(h)
+    }
+
+    /// How many clocks from `h` on, at most so many, are known to be idle: no words begin there, and
+    /// none shows a bit.
+    pub fn idle_clocks(&self, h: u16, count: u16) -> u16
+        requires { h + count ≤ 228 }
+        ensures most { result ≤ count }
+        ensures idle { (k : ℕ) → k < result → IsIdle (h + k) self.now }
+    {
+        if 2 * h < self.quiet_from {
+            return 0;
+        }
+        if self.armed == 0 {
+            return count;
+        }
+        self.clocks_before_start(h, count)
+    }
+
+    /// How many clocks from `h` on, at most so many, come before each HSTART that is not before them,
+    /// of a sprite that is armed or not.
+    fn clocks_before_start(&self, h: u16, count: u16) -> u16
+        requires { h + count ≤ 228 }
+        ensures most { result ≤ count }
+        ensures before { (sprite k : ℕ) → sprite < 8 → k < result
+            → slice_index self.now.pos sprite % 256 ≢ h + k }
+    {
+        let mut least = count;
+        for sprite in 0..8 {
+            least = clocks_before(self.pos[sprite] % 256, h, least);
+        }
+        least
+    }
+
     /// Whether a sprite, armed or not, has its HSTART at this clock.
     fn may_begin(&self, h: u16) -> bool
         ensures { result ≡ has_start h self.now }
@@ -332,5 +370,18 @@ impl SpriteState {
             + 2 * (self.ctl[3] / 128 % 2)
             + 4 * (self.ctl[5] / 128 % 2)
             + 8 * (self.ctl[7] / 128 % 2)) as u8
+    }
+}
+
+/// How many clocks from `h` on, at most so many, come before a clock, if it is one of them.
+fn clocks_before(clock: u16, h: u16, count: u16) -> u16
+    requires { h + count ≤ 228 }
+    ensures most { result ≤ count }
+    ensures before { (k : ℕ) → k < result → clock ≢ h + k }
+{
+    if h <= clock && clock < h + count {
+        clock - h
+    } else {
+        count
     }
 }

@@ -1,6 +1,6 @@
 //! The display window.
 
-ghost use Rattle.std.specs.Prelude.{◌≡◌, ◌≤◌, ◌+◌, ◌*◌, ◌&&◌, ◌||◌, not, true, false};
+ghost use Rattle.std.specs.Prelude.{◌≡◌, ◌≤◌, ◌<◌, ◌+◌, ◌*◌, ◌&&◌, ◌||◌, not, true, false, ℕ};
 ghost use Rattle.serial_model.specs.Window.{is_inside};
 
 use std::marker::Model;
@@ -115,5 +115,36 @@ impl Window {
             → is_inside v (2 * h + 1) self.now.diwstrt self.now.diwstop ≡ false }
     {
         v < self.top || self.bottom <= v || 2 * h + 1 < self.left || self.right <= 2 * h
+    }
+
+    /// How many clocks from `h` on, at most so many, are known to have no column in the window.
+    pub fn clocks_outside(&self, v: u16, h: u16, count: u16) -> u16
+        requires { h + count ≤ 228 }
+        ensures most { result ≤ count }
+        ensures first { (k : ℕ) → k < result
+            → is_inside v (2 * (h + k)) self.now.diwstrt self.now.diwstop ≡ false }
+        ensures second { (k : ℕ) → k < result
+            → is_inside v (2 * (h + k) + 1) self.now.diwstrt self.now.diwstop ≡ false }
+    {
+        if v < self.top || self.bottom <= v || self.right <= 2 * h {
+            return count;
+        }
+        (self.left / 2).saturating_sub(h).min(count)
+    }
+
+    /// How many clocks from `h` on, at most so many, are known to have both their columns in the
+    /// window.
+    pub fn clocks_inside(&self, v: u16, h: u16, count: u16) -> u16
+        requires { h + count ≤ 228 }
+        ensures most { result ≤ count }
+        ensures first { (k : ℕ) → k < result
+            → is_inside v (2 * (h + k)) self.now.diwstrt self.now.diwstop ≡ true }
+        ensures second { (k : ℕ) → k < result
+            → is_inside v (2 * (h + k) + 1) self.now.diwstrt self.now.diwstop ≡ true }
+    {
+        if v < self.top || self.bottom <= v || 2 * h < self.left {
+            return 0;
+        }
+        (self.right / 2).saturating_sub(h).min(count)
     }
 }

@@ -10,6 +10,8 @@ mod jobs_of_bands;
 #[cfg(test)]
 mod painted_clocks;
 #[cfg(test)]
+mod painted_spans;
+#[cfg(test)]
 mod pixel_collisions;
 #[cfg(test)]
 mod pixel_colours;
