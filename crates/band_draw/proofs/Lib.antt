@@ -6,3 +6,5 @@ pub mod Giving
 pub mod Turning
 pub mod Beginning
 pub mod Keeping
+pub mod Fetching
+pub mod Passing

@@ -1,9 +1,10 @@
 -- What a painter of a band keeps beside its painter.
-use Rattle.std.proofs.Common.{◌≡◌, ◌≢◌, ◌≤◌, ℕ, ◌-◌, ◌*◌, ◌/◌, ◌%◌, ◌==◌, Bool, true, false, List, [], ◌∷◌, ◌++◌, None}
+use Rattle.std.proofs.Common.{◌≡◌, ◌≢◌, ◌≤◌, ℕ, zero, suc, ◌-◌, ◌*◌, ◌/◌, ◌%◌, ◌==◌, Bool, true, false, List, [], ◌∷◌, ◌++◌, None}
 use Rattle.std.proofs.Common.{replicate, slice_index, slice_set, refl, sym, ap, subst, arith, ◌<◌, nat_le, ◌+◌, ◌∙◌}
 use Rattle.std.specs.Bool.{if◌then◌else◌}
 use Rattle.std.proofs.lemmas.Bool.Decides.{nat_tests}
 use Rattle.ocs_base.specs.declared.beam.Beam.{Beam}
+use Rattle.ocs_base.specs.declared.system.System.{System}
 use Rattle.planes.specs.declared.load.Load.{Load}
 use Rattle.planes.specs.PlaneBit.{ShowsSame, load_of}
 use Rattle.planes.proofs.Standing.{ShowsSame-refl, ShowsSame-later, ShowsSame-loaded}
@@ -11,6 +12,7 @@ use Rattle.priority_ham.specs.PlaneCount.{is_hires}
 use Rattle.serial_model.specs.Beam.{is_line_start}
 use Rattle.serial_model.specs.declared.picture.Denise.{Denise}
 use Rattle.serial_model.specs.Picture.{set_picture, set_sprite, is_latch, is_sprite, is_colour, clear_line}
+use Rattle.serial_model.specs.Spans.{after_shows}
 use Rattle.painter.specs.Painter.{IsPainterOf}
 use Rattle.serial_model.specs.StandsFor.{StandsFor}
 use Rattle.band_draw.specs.declared.band_painter.BandPainter.{BandPainter}
@@ -53,6 +55,12 @@ load_added h from word old new p later stood made =
     let load : Load = load_of h (slice_set p.latches 0 word) p.con1 (is_hires p.con0) in
     ShowsSame-loaded from from old new p.loads load (omega arith)
     (ShowsSame-later (4 * h) from new (old ++ load ∷ []) later made) stood
+
+-- picture steps change none
+pub loads_shown : (system : System) (v h n : ℕ) (p : Denise) → (after_shows system v h n p).loads ≡ p.loads
+unfolding after_shows
+loads_shown system v h zero p = refl
+loads_shown system v h (suc n) p = loads_shown system v h n p
 
 -- the clearing
 cleared_by : (from : ℕ) (b : Beam) (now : List Load) (p : Denise) (at : Bool) → is_line_start b ≡ at → ShowsSame from now p.loads
@@ -107,7 +115,7 @@ keeps_by false keeps old new to clock last_clock h next is first on last place k
     omega (arith, before, step)
   where
     step_by : (b : Bool) → next ≡ (if b then 0 else h + 1) → (next == 0) ≡ false → next ≡ h + 1
-    step_by true zero not_zero = absurd (grind (arith, nat_tests))
+    step_by true start not_zero = absurd (grind (arith, nat_tests))
     step_by false one not_zero = one
 
 pub keeps_next : (b : Beam) (keeps old new : Bool) (to clock last_clock h : ℕ) → (is_line_start b ≡ true → new ≡ keeps)

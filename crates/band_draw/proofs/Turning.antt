@@ -73,7 +73,7 @@ size_grows run from n zero = omega (arith, ap (λ m. length (bytes_from run from
 size_grows run from n (suc k) =
     omega (arith, ap (λ m. length (bytes_from run from m)) (one_more n k), more_size run from (n + k), size_grows run from n k)
 
-size_within : (run : RunValue) (from n most : ℕ) → n ≤ most → length (bytes_from run from n) ≤ length (bytes_from run from most)
+pub size_within : (run : RunValue) (from n most : ℕ) → n ≤ most → length (bytes_from run from n) ≤ length (bytes_from run from most)
 size_within run from n most order =
     let there : n + (most - n) ≡ most = omega arith in
     subst (λ m. length (bytes_from run from n) ≤ length (bytes_from run from m)) there (size_grows run from n (most - n))
@@ -117,7 +117,7 @@ pub sound_there : (run : RunValue) (events : List Event) (room : List ℕ) (p : 
 sound_there run events room p at =
     sound_kept (4 * (beam_at run p.clock).h) at.picture (opening_at run p.clock) at.drawn.stands (sound_opening run p.clock)
 
-same_screen : (b other : Beam) → IsSamePlace b other → IsOnScreen other → IsOnScreen b
+pub same_screen : (b other : Beam) → IsSamePlace b other → IsOnScreen other → IsOnScreen b
 same_screen b other same on = record {
   line = subst (λ k. k < 313) (sym same.line) on.line;
   clock = subst (λ k. k < 228) (sym same.clock) on.clock;
@@ -210,7 +210,7 @@ accessed run events view room p shown touched after found there source at is pai
 next_clock : (c : ℕ) → suc c ≡ c + 1
 next_clock c = omega arith
 
-nexts : (run : RunValue) (c : ℕ) → begins run (c + 1) ≡ false → IsNextInField run.script.system (beam_at run c) (beam_at run (c + 1))
+pub nexts : (run : RunValue) (c : ℕ) → begins run (c + 1) ≡ false → IsNextInField run.script.system (beam_at run c) (beam_at run (c + 1))
 nexts run c none =
     subst (λ k. IsNextInField run.script.system (beam_at run c) (beam_at run k)) (next_clock c)
     (next_in_band run c (subst (λ k. begins run k ≡ false) (sym (next_clock c)) none))
@@ -225,7 +225,7 @@ clock_by : (system : System) (h k v w : ℕ) → h ≡ k → v ≡ w
 clock_by system h k v w clock line =
     ap (λ x. if nat_le (last_clock system v) x then 0 else x + 1) clock ∙ ap (λ x. if nat_le (last_clock system x) k then 0 else k + 1) line
 
-same_next : (system : System) (b beam other next : Beam) → IsSamePlace b other → IsNextInField system b beam → IsNextInField system other next
+pub same_next : (system : System) (b beam other next : Beam) → IsSamePlace b other → IsNextInField system b beam → IsNextInField system other next
     → IsSamePlace beam next
 same_next system b beam other next same one two = record {
   frame = one.frame ∙ same.frame ∙ sym two.frame;

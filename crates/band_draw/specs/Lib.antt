@@ -4,4 +4,5 @@ pub mod Touched
 pub mod Due
 pub mod Given
 pub mod Progress
+pub mod Ahead
 pub mod Direct

@@ -128,7 +128,10 @@ fn draw_all<S: Side>(
     ensures size { length room.new ≡ length room.old }
 {
     while p.clock < p.to - 1 {
-        p.turn(run, events, view, room);
+        p.pass(run, events, view, room);
+        if p.clock < p.to - 1 {
+            p.turn(run, events, view, room);
+        }
     }
     p.finish(run, events, view, room)
 }

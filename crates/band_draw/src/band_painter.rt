@@ -1,6 +1,6 @@
 //! What paints a band.
 
-ghost use Rattle.std.specs.Prelude.{◌≡◌, ◌≤◌, ◌+◌, ◌*◌, ℕ, bit_or, false, true, flat_map, length, ◌++◌, ◌∷◌, []};
+ghost use Rattle.std.specs.Prelude.{◌≡◌, ◌≤◌, ◌+◌, ◌*◌, ℕ, bit_or, false, true, flat_map, length, take, ◌++◌, ◌∷◌, []};
 ghost use Rattle.serial_model.specs.declared.picture.Denise.{Denise as DeniseValue};
 ghost use Rattle.ocs_base.specs.Systems.{is_visible};
 ghost use Rattle.serial_model.specs.Beam.{is_line_start};
@@ -26,7 +26,9 @@ impl BandPainter {
     ghost use Rattle.planes.specs.PlaneBit.{ShowsSame, load_of};
     ghost use Rattle.priority_ham.specs.PlaneCount.{is_hires};
     ghost use Rattle.painter.specs.Painter.{IsPainterOf};
+    ghost use Rattle.painter.specs.Span.{visible_clocks};
     ghost use Rattle.band_draw.specs.BandPainter.{IsBandPainterOf, Paints, opened};
+    ghost use Rattle.band_draw.specs.Given.{IsSpanGiven};
 
     /// One that begins with a picture state at a place of the beam.
     pub fn open(d: &Denise, beam: &Beam) -> BandPainter
@@ -122,5 +124,30 @@ impl BandPainter {
         ensures keeps { self.new.keeps ≡ self.old.keeps }
     {
         self.painter.show(system, beam, into, clx)
+    }
+
+    /// The picture steps of `count` clocks of line `v` from clock `h` on, between which nothing touches
+    /// the picture, as `Painter::show_span` has them.
+    pub fn show_span(
+        &mut self,
+        system: System,
+        v: u16,
+        h: u16,
+        count: u16,
+        room: &mut [u8],
+        filled: usize,
+        clx: &mut u16,
+    ) -> usize
+        requires place { h + count ≤ 228 }
+        requires room { filled + 12 * visible_clocks system v h count ≤ length room.old }
+        ensures given { (from : ℕ) (p : DeniseValue) → IsBandPainterOf from self.old p
+            → IsSpanGiven from system v h count p
+            self.new (take filled room.old) (take result room.new) clx.old clx.new }
+        ensures filled { result ≡ filled + 12 * visible_clocks system v h count }
+        ensures keeps { self.new.keeps ≡ self.old.keeps }
+        ensures size { length room.new ≡ length room.old }
+    {
+        self.painter
+            .show_span(system, v, h, count, room, filled, clx)
     }
 }

@@ -44,6 +44,19 @@ pub struct Due {
     pub behind: Cursor,
 }
 
+/// What of a script is due at the beam's place, found by halving.
+pub fn find_due(script: &[At], beam: &Beam) -> Due
+    requires screen { IsOnScreen beam.now }
+    requires left { IsLeft 0 script.now script.now }
+    ensures sets { result.sets ≡ length (touches_of (due_events beam.now script.now)) }
+    ensures left { IsLeft (place_of beam.now + 1) script.now
+        (drop result.behind.next script.now) }
+    ensures within { result.behind.next ≤ length script.now }
+{
+    let first = first_from(script, beam);
+    due_from(script, first, beam)
+}
+
 /// What is due at the beam's place of a script, of which the events before the cursor are before it.
 pub fn due_from(script: &[At], from: Cursor, beam: &Beam) -> Due
     requires screen { IsOnScreen beam.now }

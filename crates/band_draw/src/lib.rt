@@ -1,6 +1,7 @@
-//! Draws bands from their jobs, clock by clock.
+//! Draws bands from their jobs, from change to change.
 #![tactic(auto)]
 
+pub mod ahead;
 pub mod band;
 pub mod band_painter;
 pub mod clock;

@@ -7,7 +7,7 @@ ghost use Rattle.band_draw.specs.Progress.{IsSource, IsAt, IsEnded};
 
 use crate::band_painter::BandPainter;
 use crate::clock::{behind, next_place, part, show_clock, touch_access};
-use crate::due::due_from;
+use crate::due::{due_from, find_due};
 use band_log::{Cursor, Event, Run};
 use mem_versions::MemView;
 use ocs_base::{Beam, Clock};
@@ -37,6 +37,39 @@ pub struct Progress {
 }
 
 impl Progress {
+    /// Draws the clocks up to the next change, at most to the last of the line and of the band, as one
+    /// span: none where the next clock has a change. Fetches of bitplanes are made before it is shown.
+    pub fn pass<S: Side>(&mut self, run: &Run<S>, events: &[Event], view: &MemView, room: &mut [u8])
+        requires source { IsSource (run_over S.seen run.now) self.old.from self.old.to view.now }
+        requires at { IsAt (run_over S.seen run.now) events.now room.old self.old }
+        ensures at { IsAt (run_over S.seen run.now) events.now room.new self.new }
+        ensures from { self.new.from ≡ self.old.from }
+        ensures to { self.new.to ≡ self.old.to }
+        ensures clock { self.old.clock ≤ self.new.clock }
+        ensures size { length room.new ≡ length room.old }
+    {
+        let until = self.fetch_ahead(run, events, view);
+        if until == self.clock {
+            return;
+        }
+        let script = run.script();
+        let count = (until - self.clock) as u16;
+        self.filled = self.painter.show_span(
+            script.system(),
+            self.beam.v,
+            self.beam.h,
+            count,
+            room,
+            self.filled,
+            &mut self.clx,
+        );
+        self.beam.h += count;
+        let due = find_due(script.events(), &self.beam);
+        self.clock = until;
+        self.sets = due.sets;
+        self.due = due.behind;
+    }
+
     /// Draws a clock before the last, and comes to the next one.
     pub fn turn<S: Side>(&mut self, run: &Run<S>, events: &[Event], view: &MemView, room: &mut [u8])
         requires source { IsSource (run_over S.seen run.now) self.old.from self.old.to view.now }
