@@ -17,6 +17,7 @@ pub mod PlaceLaws
 pub mod RunLaws
 pub mod ReadingLaws
 pub mod BeginLaws
+pub mod KeptLaws
 pub mod SettleLaws
 pub mod NewLaws
 pub mod LeftLaws

@@ -1,11 +1,15 @@
 //! What precedes the first step of a clock: where a band begins, the one before it ends.
 
-ghost use Rattle.std.specs.Prelude.{◌≡◌, ◌<◌, ℕ, true, false, IfOk, OnErr};
+ghost use Rattle.std.specs.Prelude.{◌≡◌, ◌<◌, ℕ, true, false, IfOk, OnOk, OnErr};
+ghost use Rattle.serial_model.specs.Beam.{IsOnScreen};
+ghost use Rattle.serial_model.specs.Events.{due_events};
+ghost use Rattle.out_files.specs.OutFiles.{OutFilesValue};
+ghost use Rattle.band_log.specs.Raster.{RasterValue};
 ghost use Rattle.serial_bands.specs.Bands.{is_band_place as place_of_band, has_clx_read};
 ghost use Rattle.serial_bands.specs.BusReads.{latched_words};
 ghost use Rattle.serial_bands.specs.Clock.{due_at};
 ghost use Rattle.foreground.specs.Clock.{Rises};
-ghost use Rattle.foreground.specs.Fore.{over, IsUnderway, is_done, looked_up};
+ghost use Rattle.foreground.specs.Fore.{over, HasScript, IsUnderway, is_done, looked_up};
 ghost use Rattle.foreground.specs.Log.{with_begin};
 ghost use Rattle.foreground.specs.Steps.{StandsBeforeRead, BeginsClock, BeginsPart, KeepsClock};
 
@@ -100,6 +104,37 @@ impl<S: Side> Fore<S> {
         self.end_at_line(shown, raster, out)?;
         self.begin_log();
         Ok(0)
+    }
+
+    /// Whether the open band goes on with this clock: clocks of it are done, and none begins here, neither by
+    /// a read of the script nor by its place.
+    #[inline(always)]
+    pub(crate) fn keeps_band(&self) -> bool
+        requires script { HasScript (over S.seen self.now).run self.now.machine.beam self.now.next }
+        requires screen { IsOnScreen self.now.machine.beam }
+        ensures unread { result ≡ true → has_clx_read
+            (due_events self.now.machine.beam self.now.run.script.events) ≡ false }
+        ensures before { result ≡ true → self.now.log.band.from < self.now.machine.t }
+        ensures place { result ≡ true →
+            place_of_band self.now.run.height self.now.machine.beam ≡ false }
+    {
+        !self.script_reads() && self.log.band.from < self.machine.t && !self.is_band_place()
+    }
+
+    /// The open band goes on with this clock: the write that waited is an event of it.
+    #[inline(always)]
+    pub(crate) fn go_on(&mut self) -> Result<(), OutOfMemory>
+        requires running { is_done (over S.seen self.old) ≡ false }
+        requires unread { has_clx_read (due_at (over S.seen self.old).run self.old.machine.t) ≡
+            false }
+        requires before { self.old.log.band.from < self.old.machine.t }
+        requires place { place_of_band self.old.run.height self.old.machine.beam ≡ false }
+        ensures begins { OnOk result ((seen : RasterValue) (out : OutFilesValue) → BeginsClock
+            (over S.seen self.old) (over S.seen self.new) 0 seen seen out out) }
+        ensures reads { self.new.machine.chip.reads ≡ self.old.machine.chip.reads }
+        ensures same { self.new ≡ record self.old { log = self.new.log } }
+    {
+        self.log.take_waiting()
     }
 
     /// The band begins with the present place of the beam.

@@ -53,6 +53,46 @@ impl<S: Side> Fore<S> {
             (over S.seen self.old))
             self.old.machine.chip.reads self.new.machine.chip.reads) }
     {
+        if !self.keeps_band() {
+            return self.advance_from_band(raster, out);
+        }
+        self.go_on()?;
+        self.run_to_access(0, out)?;
+        let ask = self.machine.ask();
+        if is_clx_ask(&ask) {
+            self.access_clxdat(&ask, raster, out)?;
+            return self.end_clock(out);
+        }
+        self.access_asked(&ask, out)?;
+        self.end_clock(out)
+    }
+
+    /// The same where a band may begin with the clock.
+    #[inline(never)]
+    fn advance_from_band<Q: Raster<S>>(
+        &mut self,
+        raster: &mut Q,
+        out: &mut OutFiles,
+    ) -> Result<(), OutOfMemory>
+        requires underway { (first : ℕ) × IsUnderway (over S.seen self.old) first
+            (Q.seen raster.old) }
+        requires running { is_done (over S.seen self.old) ≡ false }
+        ensures clock { OnOk result (Advances (over S.seen self.old) (over S.seen self.new)
+            (Q.seen raster.old) (Q.seen raster.new) out.old out.new) }
+        ensures part { OnErr result (GivesPart (over S.seen self.old)
+            (Q.seen raster.old) (Q.seen raster.new) out.old out.new) }
+        ensures count { OnOk result (self.new.machine.t ≡ self.old.machine.t + 1) }
+        ensures run { (over S.seen self.new).run ≡ (over S.seen self.old).run }
+        ensures spent { OnOk result (self.new.spent ≡ self.old.spent) }
+        ensures reads { OnOk result (Rises (bus_reads (over S.seen self.old).run self.old.machine.t)
+            (bus_reads (over S.seen self.old).run self.old.machine.t + looked_up
+            (over S.seen self.old))
+            self.old.machine.chip.reads self.new.machine.chip.reads) }
+        ensures few { OnErr result (Rises 0
+            (bus_reads (over S.seen self.old).run self.old.machine.t + looked_up
+            (over S.seen self.old))
+            self.old.machine.chip.reads self.new.machine.chip.reads) }
+    {
         let clx = self.begin_clock(raster, out)?;
         self.run_to_access(clx, out)?;
         self.access(raster, out)?;
@@ -177,29 +217,27 @@ impl<S: Side> Fore<S> {
             (bus_reads (over S.seen self.old).run self.old.machine.t) self.old.machine.chip.reads }
     {
         let ask = self.machine.ask();
-        self.access_asked(&ask, raster, out)
+        if is_clx_ask(&ask) {
+            return self.access_clxdat(&ask, raster, out);
+        }
+        self.access_asked(&ask, out)
     }
 
-    /// The access, once the chips have asked. The owners of most clocks stand apart: what follows is
-    /// then that of the one owner, and no ask is put in memory.
+    /// The access, once the chips have asked, which does not read CLXDAT. The owners of most clocks stand
+    /// apart: what follows is then that of the one owner.
     #[inline(always)]
-    fn access_asked<Q: Raster<S>>(
-        &mut self,
-        ask: &Ask,
-        raster: &mut Q,
-        out: &mut OutFiles,
-    ) -> Result<(), OutOfMemory>
-        requires logged { (first : ℕ) × IsLoggedBefore (over S.seen self.old) first
-            (Q.seen raster.old) }
+    fn access_asked(&mut self, ask: &Ask, out: &mut OutFiles) -> Result<(), OutOfMemory>
+        requires logged { (first : ℕ) × (seen : RasterValue) × IsLoggedBefore
+            (over S.seen self.old) first seen }
         requires asked { HasAskedNow ask.now (over S.seen self.old) }
+        requires quiet { is_clx_asked ask.now ≡ false }
         requires able { CanAsk ask.now }
         requires wish { IsBlitAsk ask.now (kept_wish self.old.machine.chips) }
         requires room { self.old.machine.t + 1 < 2 ^ 64 }
-        ensures makes { OnOk result (MakesAskedAccess (over S.seen self.old)
-            (over S.seen self.new)
-            (Q.seen raster.old) (Q.seen raster.new) out.old out.new) }
-        ensures part { OnErr result (AccessesPart (over S.seen self.old)
-            (Q.seen raster.old) (Q.seen raster.new) out.old out.new) }
+        ensures makes { OnOk result ((seen : RasterValue) → MakesAskedAccess
+            (over S.seen self.old) (over S.seen self.new) seen seen out.old out.new) }
+        ensures part { OnErr result ((seen : RasterValue) → AccessesPart
+            (over S.seen self.old) seen seen out.old out.new) }
         ensures kept { KeepsClock (over S.seen self.old) (over S.seen self.new) }
         ensures reads { self.new.machine.chip.reads ≡ reads_more
             (reads_of_ask ask.now) self.old.machine.chip.reads }
@@ -208,12 +246,11 @@ impl<S: Side> Fore<S> {
             Ask::Free => self.make_access(&Ask::Free, out),
             Ask::Plane { ask } => self.make_access(&Ask::Plane { ask }, out),
             Ask::Sprite { ask } => self.make_access(&Ask::Sprite { ask }, out),
-            other if is_clx_ask(&other) => self.access_clxdat(&other, raster, out),
             other => self.make_access(&other, out),
         }
     }
 
-    /// The access, which does not read CLXDAT.
+    /// The access of one owner.
     #[inline(always)]
     fn make_access(&mut self, ask: &Ask, out: &mut OutFiles) -> Result<(), OutOfMemory>
         requires logged { (first : ℕ) × (seen : RasterValue) × IsLoggedBefore
@@ -279,8 +316,8 @@ impl<S: Side> Fore<S> {
         ensures chip { self.new.machine.chip ≡ self.old.machine.chip }
         ensures refused { OnErr result (out.new ≡ out.old) }
     {
-        let system = self.system();
         self.machine.process(out)?;
+        let system = self.system();
         self.machine.advance(system);
         Ok(())
     }

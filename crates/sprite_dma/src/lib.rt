@@ -18,6 +18,9 @@ use std::marker::Model;
 /// The line on which every sprite reads its control words.
 const FIRST_LINE: u16 = 25;
 
+/// The last clock of a line that is a slot of a sprite.
+const LAST_SLOT: u16 = 0x33;
+
 /// Sprite fetch between two colour clocks: what each sprite reads on this line.
 #[derive(Drop)]
 pub struct SpriteDma {
@@ -63,6 +66,9 @@ impl SpriteDma {
         ensures ask { result ≡ sprite_ask beam.now.h regs.old self.new taken }
         ensures moved { regs.new ≡ move_sprites beam.now.h self.new taken regs.old }
     {
+        if beam.h > LAST_SLOT {
+            return None;
+        }
         if !is_slot(beam.h) {
             if beam.h == 0 {
                 self.kinds = [SpriteKind::Nothing; 8];
@@ -95,7 +101,7 @@ impl SpriteDma {
 fn is_slot(h: u16) -> bool
     ensures { result ≡ is_sprite_slot h }
 {
-    h % 2 == 1 && h >= 0x15 && h <= 0x33
+    h % 2 == 1 && h >= 0x15 && h <= LAST_SLOT
 }
 
 /// Whether DMAEN and SPREN of DMACON are set.
