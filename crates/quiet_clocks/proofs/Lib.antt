@@ -1,0 +1,8 @@
+pub mod Ticks
+pub mod PlainClock
+pub mod Owners
+pub mod QuietClock
+pub mod QuietTurns
+pub mod QuietClocks
+pub mod Plan
+pub mod OwnedClock
