@@ -24,6 +24,10 @@ fn usage_of_disk() -> &'static [u8] {
     b"usage: ocs disk IMAGE SCRIPT FRAMES TRACE MEMORY TRACK BAND WORKERS\n"
 }
 
+fn usage_of_rewind() -> &'static [u8] {
+    b"usage: ocs rewind IMAGE SCRIPT EVERY KEEP CLOCK..\n"
+}
+
 /// Words that are no run: 33 workers; bands of no line, a leading zero, too many lines; six words; equal
 /// names; an empty name; another command; no word.
 fn no_run() -> [&'static str; 10] {
@@ -70,6 +74,25 @@ fn no_disk() -> [&'static str; 3] {
         "disk image script frames trace memory 313 2",
         "disk image script frames trace memory image 313 2",
         "disk",
+    ]
+}
+
+/// Words that begin with `rewind` and are not of its form: EVERY, KEEP and a clock below and above their
+/// bounds, a leading zero, a clock that is no number, no clock, two names that are one, an empty name.
+fn no_rewind() -> [&'static str; 12] {
+    [
+        "rewind image script 0 1 9",
+        "rewind image script 1001 1 9",
+        "rewind image script 1 0 9",
+        "rewind image script 1 65 9",
+        "rewind image script 1 1 71051001",
+        "rewind image script 1 1 9 71051001",
+        "rewind image script 01 1 9",
+        "rewind image script 1 1 9 x",
+        "rewind image script 1 1",
+        "rewind image image 1 1 9",
+        "rewind image  1 1 9",
+        "rewind",
     ]
 }
 
@@ -144,6 +167,9 @@ fn words_of_no_form(rt: HostRuntime) -> Result<(), Fail> {
     }
     for text in no_disk() {
         check_usage(&rt, alloc, text, usage_of_disk())?;
+    }
+    for text in no_rewind() {
+        check_usage(&rt, alloc, text, usage_of_rewind())?;
     }
     Ok(())
 }

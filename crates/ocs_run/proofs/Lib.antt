@@ -13,3 +13,7 @@ pub mod TextLaws
 pub mod TopLaws
 pub mod GrowthLaws
 pub mod PrefixLaws
+pub mod VerdictLaws
+pub mod RewindLaws
+pub mod RewindOrderLaws
+pub mod RewindTopLaws

@@ -1,31 +1,29 @@
 -- The answers to an order, from what its inputs were read to be and from how its run ended.
-use Rattle.std.proofs.Common.{◌≡◌, ℕ, ◌≤◌, ◌⊎◌, Bool, true, false, if◌then◌else◌, List, Option, Some, None, Result, Ok, Err, OnOk, OnErr, IfErr, IsErrAnd}
-use Rattle.std.proofs.Common.{refl, sym, ap, subst, ◌∙◌, arith}
+use Rattle.std.proofs.Common.{◌≡◌, ℕ, ◌≤◌, Bool, true, false, if◌then◌else◌, List, Option, Some, None, Result, Ok, Err, OnOk, OnErr, IfErr}
+use Rattle.std.proofs.Common.{refl, sym, ap, subst, ◌∙◌}
 use Rattle.disk_dma.specs.Disk.{disk_side, new_disk}
 use Rattle.disk_dma.specs.Track.{is_track}
-use Rattle.ocs_base.specs.Image.{is_image, fits_chip}
 use Rattle.ocs_base.specs.Script.{ScriptValue}
 use Rattle.ocs_io.specs.Answers.{WhereTold}
-use Rattle.ocs_io.specs.Place.{Files, Outside, Rose, OnlyReads, file}
-use Rattle.paula_audio.specs.Paula.{paula_side, reset_paula}
-use Rattle.script_read.specs.Grammar.{script_of, Good as GoodScript, Bad as BadLine, Verdict as ScriptVerdict}
-use Rattle.script_read.specs.declared.fault.BadKind.{BadKind}
-use Rattle.serial_model.specs.Side.{SideValue, no_side}
+use Rattle.ocs_io.specs.Place.{Files, Outside, file}
+use Rattle.script_read.specs.Grammar.{script_of}
+use Rattle.serial_model.specs.Side.{SideValue}
 use Rattle.ocs_run.specs.Command.{OrderAnswers, RunAnswers, IsDone, IsUnwritten, IsWanting, HasOrdered, LeavesOrdered, out_names}
-use Rattle.ocs_run.specs.Fault.{IsOutputOf, IsRunFault}
-use Rattle.ocs_run.specs.Inputs.{Holds, HoldsImage, HoldsNoImage, HoldsScript, HoldsBadScript, HoldsRun, HoldsNoTrack}
-use Rattle.ocs_run.specs.Inputs.{IsImageOf, IsImageFault, IsScriptOf, IsScriptFault, IsTrackOf, IsTrackFault, IsSideOf, IsSideFault}
+use Rattle.ocs_run.specs.Fault.{IsRunFault}
+use Rattle.ocs_run.specs.Inputs.{Holds, HoldsRun, HoldsNoTrack}
+use Rattle.ocs_run.specs.Inputs.{AreInputsOf, IsInputFault, IsTrackFault, IsSideOf, IsSideFault}
 use Rattle.ocs_run.specs.Order.{OrderValue, ExtraValue, NoFile, AudioFile, TrackFile, HasTrack, audio_of}
 use Rattle.out_files.specs.OutFiles.{OutNames}
 use Rattle.ocs_run.specs.Run.{HasAllFiles}
 use Rattle.ocs_run.specs.Prefix.{LeavesFiles}
 use Rattle.ocs_run.specs.Verdict.{Verdict, Usage as UsageVerdict, Absent, BadImage as BadImageVerdict, BadScript as BadScriptVerdict}
-use Rattle.ocs_run.specs.Verdict.{BadTrack as BadTrackVerdict, Good, Scene, of_order, of_image, of_text, of_script, of_extra, of_track}
+use Rattle.ocs_run.specs.Verdict.{BadTrack as BadTrackVerdict, Good, Scene, Rewind, of_order, of_extra, of_track}
 use Rattle.ocs_run.specs.declared.fault.Fault.{Fault}
 use Rattle.ocs_run.specs.declared.fault.Fault.TheVariants.{Usage, BadImage, BadScript, BadTrack, Unread, Unwritten, Unsaid, OutOfMemory}
 use Rattle.ocs_run.specs.declared.fault.Input.TheVariants.{Image, Script, Track}
 use Rattle.ocs_run.proofs.AudioLaws.{LeavesFiles-none}
 use Rattle.ocs_run.proofs.PrefixLaws.{prefixes_kept}
+use Rattle.ocs_run.proofs.VerdictLaws.{told_all, at_told, rose_since, inputs_are, inputs_good, image_verdict, line_verdict}
 
 -- ---- the verdict of an order is no usage and no scene
 
@@ -37,6 +35,7 @@ IsOfRun (BadScriptVerdict line kind) = Unit {0}
 IsOfRun BadTrackVerdict = Unit {0}
 IsOfRun (Good image script order side) = Unit {0}
 IsOfRun (Scene number band workers) = ⊥
+IsOfRun (Rewind image script every keep clocks) = ⊥
 
 if_of_run : (good : Bool) (v w : Verdict) → IsOfRun v → IsOfRun w → IsOfRun (if good then v else w)
 if_of_run true v w first second = first
@@ -53,67 +52,10 @@ extra_of_run o files image script NoFile = tt
 extra_of_run o files image script (AudioFile name) = tt
 extra_of_run o files image script (TrackFile name) = track_of_run o image script name (file files name)
 
-script_of_run : (o : OrderValue) (files : Files) (image : List ℕ) (v : ScriptVerdict) → IsOfRun (of_script o files image v)
-script_of_run o files image (GoodScript script) =
-    if_of_run (fits_chip script.chip image) _ _ (extra_of_run o files image script o.extra) tt
-script_of_run o files image (BadLine line kind) = tt
-
-text_of_run : (o : OrderValue) (files : Files) (image : List ℕ) (text : Option (List ℕ)) → IsOfRun (of_text o files image text)
-text_of_run o files image None = tt
-text_of_run o files image (Some text) = script_of_run o files image (script_of text)
-
-image_of_run : (o : OrderValue) (files : Files) (image : Option (List ℕ)) → IsOfRun (of_image o files image)
-image_of_run o files None = tt
-image_of_run o files (Some image) = if_of_run (is_image image) _ _ (text_of_run o files image (file files o.script)) tt
-
 pub of_run : (o : OrderValue) (files : Files) → IsOfRun (of_order o files)
-of_run o files = image_of_run o files (file files o.image)
-
--- ---- where the place tells its files
-
-told_all : (files : Option Files) (Q : Files → Type 0) → ((f : Files) → files ≡ Some f → Q f) → WhereTold files Q
-told_all None Q is = tt
-told_all (Some f) Q is = is f refl
-
-at_told : (files : Option Files) (P : Files → Type 0) (f : Files) → files ≡ Some f → WhereTold files P → P f
-at_told files P f is told = subst (λ fs. WhereTold fs P) is told
-
--- ---- the verdict, step by step
-
-image_read : (o : OrderValue) (f : Files) (image : List ℕ) → Holds o.image image f → is_image image ≡ true
-    → of_order o f ≡ of_text o f image (file f o.script)
-image_read o f image there good =
-    ap (λ found. of_image o f found) there ∙ ap (λ b. if b then of_text o f image (file f o.script) else BadImageVerdict) good
-
-bad_image : (o : OrderValue) (f : Files) → HoldsNoImage o.image f → of_order o f ≡ BadImageVerdict
-bad_image o f holds =
-    ap (λ found. of_image o f found) holds.there
-    ∙ ap (λ b. if b then of_text o f holds.bytes (file f o.script) else BadImageVerdict) holds.bad
-
-bad_script : (o : OrderValue) (f : Files) (image : List ℕ) (line : ℕ) (kind : BadKind) → Holds o.image image f → is_image image ≡ true
-    → HoldsBadScript o.script line kind f → of_order o f ≡ BadScriptVerdict line kind
-bad_script o f image line kind there good script =
-    image_read o f image there good ∙ ap (λ found. of_text o f image found) script.there ∙ ap (λ v. of_script o f image v) script.bad
-
-script_is_read : (o : OrderValue) (f : Files) (image : List ℕ) (script : ScriptValue) (fits : Bool) → Holds o.image image f → is_image image ≡ true
-    → HoldsScript o.script script f → fits_chip script.chip image ≡ fits
-    → of_order o f ≡ (if fits then of_extra o f image script o.extra else BadImageVerdict)
-script_is_read o f image script fits there good holds is =
-    image_read o f image there good ∙ ap (λ found. of_text o f image found) holds.there ∙ ap (λ v. of_script o f image v) holds.good
-    ∙ ap (λ b. if b then of_extra o f image script o.extra else BadImageVerdict) is
-
--- ---- what the inputs were read to be, one after another
-
-pub record IsRead (old : Outside) (o : OrderValue) (image : List ℕ) (script : ScriptValue) (fits : Bool) : Type 0 where
-  pub image_of : IsImageOf old o.image image
-  pub script_of : WhereTold old.files (HoldsScript o.script script)
-  pub fits_is : fits_chip script.chip image ≡ fits
-
-read_verdict : (old : Outside) (o : OrderValue) (image : List ℕ) (script : ScriptValue) (fits : Bool) (f : Files) → old.files ≡ Some f
-    → IsRead old o image script fits → of_order o f ≡ (if fits then of_extra o f image script o.extra else BadImageVerdict)
-read_verdict old o image script fits f is read =
-    script_is_read o f image script fits (at_told old.files _ f is read.image_of.holds) read.image_of.good (at_told old.files _ f is read.script_of)
-    read.fits_is
+of_run o files =
+    inputs_are IsOfRun (λ image script. of_extra o files image script o.extra) o.image o.script files (λ name. tt) tt (λ line kind. tt)
+    (λ image text script is. extra_of_run o files image script o.extra)
 
 -- and the side that was made of them
 side_is : (old : Outside) (o : OrderValue) (image : List ℕ) (script : ScriptValue) (f : Files) (extra : ExtraValue) (side : SideValue)
@@ -126,9 +68,10 @@ side_is old o image script f (TrackFile name) side is made =
     ∙ ap (λ s. Good image script o s) (sym made.2)
 
 good_verdict : (old : Outside) (o : OrderValue) (image : List ℕ) (script : ScriptValue) (side : SideValue) (f : Files) → old.files ≡ Some f
-    → IsRead old o image script true → IsSideOf old script.chip o.extra side → of_order o f ≡ Good image script o side
+    → AreInputsOf old o.image o.script image script → IsSideOf old script.chip o.extra side → of_order o f ≡ Good image script o side
 good_verdict old o image script side f is read made =
-    read_verdict old o image script true f is read ∙ side_is old o image script f o.extra side is made
+    inputs_good (λ image script. of_extra o f image script o.extra) o.image o.script f old image script is read
+    ∙ side_is old o image script f o.extra side is made
 
 -- ---- all files are as before
 
@@ -145,6 +88,7 @@ wanting_kept (BadScriptVerdict line kind) f new run same = same
 wanting_kept BadTrackVerdict f new run same = same
 wanting_kept (Good image script order side) f new run same = LeavesOrdered-kept order image script side (Some f) new same
 wanting_kept (Scene number band workers) f new run same = absurd run
+wanting_kept (Rewind image script every keep clocks) f new run same = absurd run
 
 wants : (o : OrderValue) (old new : Outside) → new.files ≡ old.files → OrderAnswers o old new (Err OutOfMemory)
 wants o old new same =
@@ -152,48 +96,26 @@ wants o old new same =
 
 -- ---- the faults of the inputs
 
-pub image_fault : (o : OrderValue) (old new : Outside) (fault : Fault) → IsImageFault old new o.image fault → new.files ≡ old.files
+pub input_fault : (o : OrderValue) (old new : Outside) (fault : Fault) → IsInputFault old new o.image o.script fault → new.files ≡ old.files
     → OrderAnswers o old new (Err fault)
-image_fault o old new Usage is same = absurd is
-image_fault o old new BadImage is same =
-    (told_all old.files (λ f. of_order o f ≡ BadImageVerdict) (λ f e. bad_image o f (at_told old.files _ f e is)), same)
-image_fault o old new (BadScript line kind) is same = absurd is
-image_fault o old new BadTrack is same = absurd is
-image_fault o old new (Unread Image) is same = (is, same)
-image_fault o old new (Unread Script) is same = absurd is
-image_fault o old new (Unread Track) is same = absurd is
-image_fault o old new (Unwritten output) is same = absurd is
-image_fault o old new Unsaid is same = absurd is
-image_fault o old new OutOfMemory is same = wants o old new same
-
-rose_since : (a b c : ℕ) → a ≤ b → Rose b c → Rose a c
-rose_since a b c le rose = omega (arith, le, rose)
-
-pub script_fault : (o : OrderValue) (old mid new : Outside) (image : List ℕ) (fault : Fault) → IsImageOf old o.image image → OnlyReads old mid
-    → IsScriptFault mid new o.script fault → new.files ≡ mid.files → OrderAnswers o old new (Err fault)
-script_fault o old mid new image Usage read kept is same = absurd is
-script_fault o old mid new image BadImage read kept is same = absurd is
-script_fault o old mid new image (BadScript line kind) read kept is same = (
+input_fault o old new Usage is same = absurd is
+input_fault o old new BadImage is same = (
+  told_all old.files (λ f. of_order o f ≡ BadImageVerdict)
+      (λ f e. image_verdict (λ image script. of_extra o f image script o.extra) o.image o.script f old e is),
+  same,
+)
+input_fault o old new (BadScript line kind) is same = (
   told_all old.files (λ f. of_order o f ≡ BadScriptVerdict line kind)
-      (λ f e. bad_script o f image line kind (at_told old.files _ f e read.holds) read.good (at_told mid.files _ f (kept.files ∙ e) is)),
-  same ∙ kept.files,
+      (λ f e. line_verdict (λ image script. of_extra o f image script o.extra) o.image o.script f old line kind e is),
+  same,
 )
-script_fault o old mid new image BadTrack read kept is same = absurd is
-script_fault o old mid new image (Unread Image) read kept is same = absurd is
-script_fault o old mid new image (Unread Script) read kept is same = (
-  rose_since old.read_faults mid.read_faults new.read_faults kept.read_faults is,
-  same ∙ kept.files,
-  told_all old.files (HoldsImage o.image) (λ f e. record { bytes = image; there = at_told old.files _ f e read.holds; good = read.good }),
-)
-script_fault o old mid new image (Unread Track) read kept is same = absurd is
-script_fault o old mid new image (Unwritten output) read kept is same = absurd is
-script_fault o old mid new image Unsaid read kept is same = absurd is
-script_fault o old mid new image OutOfMemory read kept is same = wants o old new (same ∙ kept.files)
-
-pub fit_fault : (o : OrderValue) (old new : Outside) (image : List ℕ) (script : ScriptValue) → IsRead old o image script false
-    → new.files ≡ old.files → OrderAnswers o old new (Err BadImage)
-fit_fault o old new image script read same =
-    (told_all old.files (λ f. of_order o f ≡ BadImageVerdict) (λ f e. read_verdict old o image script false f e read), same)
+input_fault o old new BadTrack is same = absurd is
+input_fault o old new (Unread Image) is same = (is, same)
+input_fault o old new (Unread Script) is same = (is.0, same, is.1)
+input_fault o old new (Unread Track) is same = absurd is
+input_fault o old new (Unwritten output) is same = absurd is
+input_fault o old new Unsaid is same = absurd is
+input_fault o old new OutOfMemory is same = wants o old new same
 
 -- a track that was read and is none
 bad_track : (old : Outside) (o : OrderValue) (image : List ℕ) (script : ScriptValue) (f : Files) (name : List ℕ) (extra : ExtraValue) → old.files ≡ Some f
@@ -204,14 +126,14 @@ bad_track old o image script f name extra e is holds =
     ∙ ap (λ b. if b then Good image script o (disk_side (new_disk holds.bytes script.chip)) else BadTrackVerdict) holds.bad
 
 module _ (o : OrderValue) (old mid new : Outside) (image : List ℕ) (script : ScriptValue) where
-  track_fault : (name : List ℕ) (fault : Fault) → o.extra ≡ TrackFile name → IsRead old o image script true → mid.files ≡ old.files
+  track_fault : (name : List ℕ) (fault : Fault) → o.extra ≡ TrackFile name → AreInputsOf old o.image o.script image script → mid.files ≡ old.files
       → old.read_faults ≤ mid.read_faults → IsTrackFault mid new name fault → new.files ≡ mid.files → OrderAnswers o old new (Err fault)
   track_fault name Usage extra read kept count is same = absurd is
   track_fault name BadImage extra read kept count is same = absurd is
   track_fault name (BadScript line kind) extra read kept count is same = absurd is
   track_fault name BadTrack extra read kept count is same = (
     told_all old.files (λ f. of_order o f ≡ BadTrackVerdict)
-        (λ f e. read_verdict old o image script true f e read
+        (λ f e. inputs_good (λ image script. of_extra o f image script o.extra) o.image o.script f old image script e read
         ∙ bad_track old o image script f name o.extra e extra (at_told mid.files _ f (kept ∙ e) is)),
     same ∙ kept,
     subst HasTrack (sym extra) tt,
@@ -226,8 +148,8 @@ module _ (o : OrderValue) (old mid new : Outside) (image : List ℕ) (script : S
       script = script;
       image_there = at_told old.files _ f e read.image_of.holds;
       image_good = read.image_of.good;
-      script_good = at_told old.files _ f e read.script_of;
-      fits = read.fits_is;
+      script_good = at_told old.files _ f e read.script_of.holds;
+      fits = read.fits;
     }),
     subst HasTrack (sym extra) tt,
   )
@@ -235,27 +157,19 @@ module _ (o : OrderValue) (old mid new : Outside) (image : List ℕ) (script : S
   track_fault name Unsaid extra read kept count is same = absurd is
   track_fault name OutOfMemory extra read kept count is same = wants o old new (same ∙ kept)
 
-  side_fault_by : (extra : ExtraValue) (fault : Fault) → o.extra ≡ extra → IsRead old o image script true → mid.files ≡ old.files
+  side_fault_by : (extra : ExtraValue) (fault : Fault) → o.extra ≡ extra → AreInputsOf old o.image o.script image script → mid.files ≡ old.files
       → old.read_faults ≤ mid.read_faults → IsSideFault mid new extra fault → new.files ≡ mid.files → OrderAnswers o old new (Err fault)
   side_fault_by NoFile fault is read kept count why same = absurd why
   side_fault_by (AudioFile name) fault is read kept count why same = absurd why
   side_fault_by (TrackFile name) fault is read kept count why same = track_fault name fault is read kept count why same
 
-  pub side_fault : (fault : Fault) → IsRead old o image script true → mid.files ≡ old.files → old.read_faults ≤ mid.read_faults
+  pub side_fault : (fault : Fault) → AreInputsOf old o.image o.script image script → mid.files ≡ old.files → old.read_faults ≤ mid.read_faults
       → IsSideFault mid new o.extra fault → new.files ≡ mid.files → OrderAnswers o old new (Err fault)
   side_fault fault read kept count why same = side_fault_by o.extra fault refl read kept count why same
 
 -- ---- the run
 
--- a script, or a side, that was read where the files were as before
-pub IsRead-later : (old mid : Outside) (o : OrderValue) (image : List ℕ) (script : ScriptValue) (fits : Bool) → IsImageOf old o.image image
-    → mid.files ≡ old.files → IsScriptOf mid o.script script → fits_chip script.chip image ≡ fits → IsRead old o image script fits
-IsRead-later old mid o image script fits read kept written is = record {
-  image_of = read;
-  script_of = subst (λ files. WhereTold files (HoldsScript o.script script)) kept written.holds;
-  fits_is = is;
-}
-
+-- a side that was read where the files were as before
 side_by : (old mid : Outside) (o : OrderValue) (script : ScriptValue) (extra : ExtraValue) (side : SideValue) → mid.files ≡ old.files
     → IsSideOf mid script.chip extra side → IsSideOf old script.chip extra side
 side_by old mid o script NoFile side kept made = made
@@ -298,7 +212,7 @@ run_ended o old mid new image script side (Err fault) ready kept count has =
     run_fault o old mid new image script side fault ready kept count has.0 has.1
 
 pub order_ended : (o : OrderValue) (old made mid new : Outside) (image : List ℕ) (script : ScriptValue) (side : SideValue)
-    (answer : Result (Unit {0}) Fault) → IsRead old o image script true → made.files ≡ old.files → IsSideOf made script.chip o.extra side
+    (answer : Result (Unit {0}) Fault) → AreInputsOf old o.image o.script image script → made.files ≡ old.files → IsSideOf made script.chip o.extra side
     → mid.files ≡ old.files → old.write_faults ≤ mid.write_faults → RunAnswers o image script side mid new answer → OrderAnswers o old new answer
 order_ended o old made mid new image script side answer read kept side_made same count answers =
     run_ended o old mid new image script side answer
@@ -316,11 +230,6 @@ pub RunAnswers-wanting : (o : OrderValue) (image : List ℕ) (script : ScriptVal
     → fault ≡ OutOfMemory → new.files ≡ old.files → RunAnswers o image script side old new (Err fault)
 RunAnswers-wanting o image script side old new fault is same =
     (subst (λ (f : Fault). IsRunFault (audio_of o.extra) old new f) (sym is) tt, LeavesOrdered-kept o image script side old.files new.files same)
-
--- an answer that is some fault
-pub by_err : {T E : Type 0} (P : Result T E → Type 0) (r : Result T E) (f : E) → IsErrAnd r (λ x. x ≡ f) → P (Err f) → P r
-by_err P (Ok v) f is p = absurd is
-by_err P (Err x) f is p = subst (λ e. P (Err e)) (sym is) p
 
 -- what a run gives, said of equal values
 moved : (P : Option (List ℕ) → SideValue → List ℕ → ScriptValue → OutNames → Type 0) (a b : Option (List ℕ)) (s t : SideValue) (i j : List ℕ)

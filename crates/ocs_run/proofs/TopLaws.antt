@@ -1,24 +1,26 @@
 -- The clauses of the top call, from what stands after the command and what was said.
-use Rattle.std.proofs.Common.{◌≡◌, ℕ, zero, suc, ◌≤◌, ◌⊎◌, ◌↔◌, Bool, true, false, if◌then◌else◌, List, [], take}
+use Rattle.std.proofs.Common.{◌≡◌, ℕ, zero, suc, ◌≤◌, ◌⊎◌, ◌↔◌, List, [], take}
 use Rattle.std.proofs.Common.{Option, Some, None, Ok, Err, inl, inr, refl, sym, ap, subst, ◌∙◌, append-nil, arith}
-use Rattle.ocs_base.specs.Image.{is_image, fits_chip}
 use Rattle.ocs_io.specs.Answers.{WhereTold}
-use Rattle.ocs_io.specs.Place.{Files, Outside, Rose, OnlySays, file, said_more}
-use Rattle.script_read.specs.Grammar.{script_of, Good as GoodScript, Bad as BadLine, Verdict as ScriptVerdict}
+use Rattle.ocs_io.specs.Place.{Files, Outside, Rose, OnlySays, said_more}
 use Rattle.ocs_run.specs.Command.{OrderAnswers, IsDone, IsUnwritten, IsWanting, KeepsSaid}
 use Rattle.ocs_run.specs.Fault.{status_of}
 use Rattle.ocs_run.specs.Order.{OrderValue}
 use Rattle.ocs_run.specs.SceneAnswers.{SceneAnswers, SaysSummaryPart}
 use Rattle.ocs_run.specs.Texts.{usage_text, fault_text, text_of, Says, SaysSurely}
-use Rattle.ocs_run.specs.Top.{UsageAnswers, CommandAnswers, SaysNothingElse, IsEarly, IsScene, IsRefused}
-use Rattle.ocs_run.specs.Top.{HasBadImage, HasBadScript, HasBadTrack, Completed, IsToldOfRun, IsTold, SaysFault, SaysOwn, SaysStatus}
+use Rattle.ocs_run.specs.RewindAnswers.{SaysLinesPart}
+use Rattle.ocs_run.specs.RewindOrder.{RewindOrderValue}
+use Rattle.ocs_run.specs.Top.{UsageAnswers, CommandAnswers, SaysNothingElse, IsEarly, WritesNoFile, IsRefused}
+use Rattle.ocs_run.specs.Top.{HasBadImage, HasBadScript, HasBadTrack, Completed, IsToldOfRun, IsToldOfRewind, IsTold, SaysFault, SaysOwn, SaysStatus}
 use Rattle.ocs_run.specs.Verdict.{Verdict, Usage as UsageVerdict, Absent, BadImage as BadImageVerdict}
-use Rattle.ocs_run.specs.Verdict.{BadScript as BadScriptVerdict, BadTrack as BadTrackVerdict, Good, Scene, of_order, of_command}
-use Rattle.ocs_run.specs.Words.{CommandValue, Run, Gen, command_of}
+use Rattle.ocs_run.specs.Verdict.{BadScript as BadScriptVerdict, BadTrack as BadTrackVerdict, Good, Scene, Rewind as RewindVerdict, of_order, of_command}
+use Rattle.ocs_run.specs.Words.{CommandValue, Run, Gen, Rewind, command_of}
 use Rattle.ocs_run.specs.declared.fault.Fault.{Fault}
 use Rattle.ocs_run.specs.declared.fault.Fault.TheVariants.{Usage, BadImage, BadScript, BadTrack, Unread, Unwritten, Unsaid, OutOfMemory}
 use Rattle.ocs_run.specs.declared.fault.Input.TheVariants.{Image, Script, Track}
 use Rattle.ocs_run.proofs.OrderLaws.{IsOfRun, of_run}
+use Rattle.ocs_run.proofs.RewindTopLaws.{rewind_done, rewind_two, rewind_nine, rewind_image, rewind_script, rewind_unread, rewind_refused}
+use Rattle.ocs_run.proofs.RewindTopLaws.{rewind_unsaid, rewind_complete, rewind_wanting, rewind_said}
 
 told_more : (files : Option Files) (P Q : Files → Type 0) → ((f : Files) → P f → Q f) → WhereTold files P → WhereTold files Q
 told_more None P Q f told = tt
@@ -74,6 +76,7 @@ script_clause None old mid fault s is e four = absurd (let two : s ≡ 2 = usage
 script_clause (Some (Run order)) old mid fault s is e four = order_script order old mid fault s is e four
 script_clause (Some (Gen scene)) old mid fault s is e four =
     absurd (let more : 6 ≤ s = scene_status scene.number old mid fault s is.0 e in omega arith)
+script_clause (Some (Rewind order)) old mid fault s is e four = rewind_script order old mid s fault is.0 e four
 
 order_track : (order : OrderValue) (old mid : Outside) (fault : Fault) (s : ℕ) → OrderAnswers order old mid (Err fault) → s ≡ status_of fault
     → s ≡ 9 → WhereTold old.files (λ files. HasBadTrack (of_order order files))
@@ -99,6 +102,7 @@ track_clause None old mid fault s is e nine = absurd (let two : s ≡ 2 = usage_
 track_clause (Some (Run order)) old mid fault s is e nine = order_track order old mid fault s is e nine
 track_clause (Some (Gen scene)) old mid fault s is e nine =
     absurd (let less : s ≤ 7 = scene_below scene.number old mid fault s is.0 e in omega arith)
+track_clause (Some (Rewind order)) old mid fault s is e nine = absurd (rewind_nine order old mid s fault is.0 e nine)
 
 not_early : (s n : ℕ) → s ≡ n → 6 ≤ n → n ≤ 8 → IsEarly s → ⊥
 not_early s n e big small (inl two) = omega arith
@@ -125,12 +129,14 @@ pub kept_clause : (command : Option CommandValue) (old mid new : Outside) (fault
 kept_clause None old mid new fault s is e says early = says.files ∙ (usage_fault old mid fault is).1
 kept_clause (Some (Run order)) old mid new fault s is e says early = order_kept order old mid new fault s is e says early
 kept_clause (Some (Gen scene)) old mid new fault s is e says early = says.files ∙ is.1
+kept_clause (Some (Rewind order)) old mid new fault s is e says early = says.files ∙ is.1
 
 pub apart_clause : (command : Option CommandValue) (old mid new : Outside) (fault : Fault) → CommandAnswers command old mid (Err fault)
-    → OnlySays mid new → IsScene command → new.files ≡ old.files
+    → OnlySays mid new → WritesNoFile command → new.files ≡ old.files
 apart_clause None old mid new fault is says scene = absurd scene
 apart_clause (Some (Run order)) old mid new fault is says scene = absurd scene
 apart_clause (Some (Gen order)) old mid new fault is says scene = says.files ∙ is.1
+apart_clause (Some (Rewind order)) old mid new fault is says scene = says.files ∙ is.1
 
 unread : (v : Verdict) (old new : Outside) (s : ℕ) → IsOfRun v → s ≡ 5 → Rose old.read_faults new.read_faults → Completed v old new s
 unread UsageVerdict old new s run e rose = absurd run
@@ -140,6 +146,7 @@ unread (BadScriptVerdict line kind) old new s run e rose = inl rose
 unread BadTrackVerdict old new s run e rose = inl rose
 unread (Good image script order side) old new s run e rose = inl (inl rose)
 unread (Scene number band workers) old new s run e rose = absurd run
+unread (RewindVerdict image script every keep clocks) old new s run e rose = absurd run
 
 unwritten : (v : Verdict) (files : Files) (after : Option Files) (old new : Outside) (s : ℕ) → IsOfRun v → IsUnwritten v files after
     → Rose old.write_faults new.write_faults → Completed v old new s
@@ -150,6 +157,7 @@ unwritten (BadScriptVerdict line kind) files after old new s run is rose = absur
 unwritten BadTrackVerdict files after old new s run is rose = absurd is
 unwritten (Good image script order side) files after old new s run is rose = inl (inr rose)
 unwritten (Scene number band workers) files after old new s run is rose = absurd run
+unwritten (RewindVerdict image script every keep clocks) files after old new s run is rose = absurd run
 
 wanting : (v : Verdict) (files : Files) (after : Option Files) (old new : Outside) (s : ℕ) → IsWanting v files after → s ≡ 7 → Completed v old new s
 wanting UsageVerdict files after old new s is e = absurd is
@@ -159,6 +167,7 @@ wanting (BadScriptVerdict line kind) files after old new s is e = inr (inr e)
 wanting BadTrackVerdict files after old new s is e = inr (inr e)
 wanting (Good image script order side) files after old new s is e = inr (inr e)
 wanting (Scene number band workers) files after old new s is e = inr (inr e)
+wanting (RewindVerdict image script every keep clocks) files after old new s is e = inr (inr e)
 
 rose_read : (old mid new : Outside) → OnlySays mid new → Rose old.read_faults mid.read_faults → Rose old.read_faults new.read_faults
 rose_read old mid new says rose = subst (λ n. Rose old.read_faults n) (sym says.read_faults) rose
@@ -217,6 +226,7 @@ complete_clause (Some (Run order)) old mid new fault s is e says = order_complet
 complete_clause (Some (Gen scene)) old mid new fault s is e says =
     always old.files (λ f. Completed (of_command (Some (Gen scene)) f) old new s)
     (λ f. scene_complete scene.number scene.band scene.workers old mid new fault s is.0 e says)
+complete_clause (Some (Rewind order)) old mid new fault s is e says = rewind_complete order old mid s new says fault is.0 e
 
 -- the faults of refusals to write
 order_refused : (order : OrderValue) (old mid new : Outside) (fault : Fault) (s : ℕ) → OrderAnswers order old mid (Err fault) → s ≡ status_of fault
@@ -243,6 +253,7 @@ pub refused_clause : (command : Option CommandValue) (old mid new : Outside) (fa
 refused_clause None old mid new fault s is e says six = absurd (let two : s ≡ 2 = usage_status old mid fault s is e in omega arith)
 refused_clause (Some (Run order)) old mid new fault s is e says six = order_refused order old mid new fault s is e says six
 refused_clause (Some (Gen scene)) old mid new fault s is e says six = scene_refused scene.number old mid new fault s is.0 e says six
+refused_clause (Some (Rewind order)) old mid new fault s is e says six = rewind_refused order old mid s new says fault is.0 e six
 
 order_unread : (order : OrderValue) (old mid new : Outside) (fault : Fault) (s : ℕ) → OrderAnswers order old mid (Err fault) → s ≡ status_of fault
     → OnlySays mid new → s ≡ 5 → Rose old.read_faults new.read_faults
@@ -263,6 +274,7 @@ unread_clause None old mid new fault s is e says five = absurd (let two : s ≡ 
 unread_clause (Some (Run order)) old mid new fault s is e says five = order_unread order old mid new fault s is e says five
 unread_clause (Some (Gen scene)) old mid new fault s is e says five =
     absurd (let more : 6 ≤ s = scene_status scene.number old mid fault s is.0 e in omega arith)
+unread_clause (Some (Rewind order)) old mid new fault s is e says five = rewind_unread order old mid s new says fault is.0 e five
 
 -- what a refusal to write leaves
 order_unwritten : (order : OrderValue) (old mid new : Outside) (fault : Fault) (s : ℕ) → OrderAnswers order old mid (Err fault) → s ≡ status_of fault
@@ -287,6 +299,7 @@ pub unwritten_clause : (command : Option CommandValue) (old mid new : Outside) (
 unwritten_clause None old mid new fault s is e says six = absurd (let two : s ≡ 2 = usage_status old mid fault s is e in omega arith)
 unwritten_clause (Some (Run order)) old mid new fault s is e says six = order_unwritten order old mid new fault s is e says six
 unwritten_clause (Some (Gen scene)) old mid new fault s is e says six = kept_where_told old.files new.files (says.files ∙ is.1)
+unwritten_clause (Some (Rewind order)) old mid new fault s is e says six = rewind_unsaid order old mid s new says fault is.0 e (says.files ∙ is.1) six
 
 -- ---- what is said
 
@@ -326,6 +339,7 @@ usage_of None old mid fault s is e two = (refl, (usage_fault old mid fault is).0
 usage_of (Some (Run order)) old mid fault s is e two = absurd (order_no_usage order old mid fault s is e two)
 usage_of (Some (Gen scene)) old mid fault s is e two =
     absurd (let more : 6 ≤ s = scene_status scene.number old mid fault s is.0 e in omega arith)
+usage_of (Some (Rewind order)) old mid fault s is e two = absurd (rewind_two order old mid s fault is.0 e two)
 
 -- no call of the place comes before it is said
 pub usage_clause : {V : Type 0} (outside : V → Outside) (freely : V → List ℕ → Type 0) (before mid : V) (new : Outside) (words : List (List ℕ))
@@ -368,6 +382,16 @@ scene_part words number old mid new fault is part only says = record {
   refused = rose_say old mid new only part.refused;
 }
 
+lines_part : (words : List (List ℕ)) (order : RewindOrderValue) (old mid new : Outside) (fault : Fault) → fault ≡ Unsaid
+    → SaysLinesPart order old mid → OnlySays mid new → Says (text_of words fault) mid new → SaysLinesPart order old new
+lines_part words order old mid new fault is part only says = record {
+  text = part.text;
+  lines = part.lines;
+  count = part.count;
+  said = says_no_text mid new (subst (λ text. Says text mid new) (ap (text_of words) is ∙ no_text words) says) ∙ part.said;
+  refused = rose_say old mid new only part.refused;
+}
+
 said_by : (words : List (List ℕ)) (command : Option CommandValue) (old mid new : Outside) (fault : Fault) (s : ℕ) → command_of words ≡ command
     → CommandAnswers command old mid (Err fault) → s ≡ status_of fault → SaysNothingElse command old mid → OnlySays mid new
     → Says (text_of words fault) mid new → SaysOwn command old new s ⊎ SaysFault words old new s
@@ -395,6 +419,17 @@ said_by words (Some (Gen scene)) old mid new fault s is answers e kept only says
       said = says_from (text_of words fault) old mid new none.1 says;
       told = subst (λ c. IsTold c old fault) (sym is) none.0;
     })
+said_by words (Some (Rewind order)) old mid new fault s is answers e kept only says = step (rewind_said order old mid fault answers.0)
+  where
+    step : ((fault ≡ Unsaid) × SaysLinesPart order old mid) ⊎ (KeepsSaid old mid × IsToldOfRewind order old fault)
+        → SaysOwn (Some (Rewind order)) old new s ⊎ SaysFault words old new s
+    step (inl part) = inl (inr (e ∙ ap status_of part.0, lines_part words order old mid new fault part.0 part.1 only says))
+    step (inr none) = inr (record {
+      fault = fault;
+      answered = e;
+      said = says_from (text_of words fault) old mid new none.0 says;
+      told = subst (λ c. IsTold c old fault) (sym is) none.1;
+    })
 
 pub said_clause : (words : List (List ℕ)) (old mid new : Outside) (fault : Fault) (s : ℕ) → CommandAnswers (command_of words) old mid (Err fault)
     → s ≡ status_of fault → SaysNothingElse (command_of words) old mid → OnlySays mid new → Says (text_of words fault) mid new
@@ -402,10 +437,11 @@ pub said_clause : (words : List (List ℕ)) (old mid new : Outside) (fault : Fau
 said_clause words old mid new fault s answers e kept only says = said_by words (command_of words) old mid new fault s refl answers e kept only says
 
 pub apart_done_clause : (command : Option CommandValue) (old new : Outside) (done : Unit {0}) → CommandAnswers command old new (Ok done)
-    → IsScene command → new.files ≡ old.files
+    → WritesNoFile command → new.files ≡ old.files
 apart_done_clause None old new done answers scene = absurd scene
 apart_done_clause (Some (Run order)) old new done answers scene = absurd scene
 apart_done_clause (Some (Gen order)) old new done answers scene = answers.1
+apart_done_clause (Some (Rewind order)) old new done answers scene = answers.1
 
 -- done: a run said nothing, and of a scene the summary was said
 said_done : (command : Option CommandValue) (old new : Outside) (done : Unit {0}) → CommandAnswers command old new (Ok done)
@@ -413,6 +449,7 @@ said_done : (command : Option CommandValue) (old new : Outside) (done : Unit {0}
 said_done None old new done answers kept = absurd answers
 said_done (Some (Run order)) old new done answers kept = (refl, kept.said)
 said_done (Some (Gen scene)) old new done answers kept = inl (refl, answers.0)
+said_done (Some (Rewind order)) old new done answers kept = inl (refl, answers.0)
 
 pub said_done_clause : (words : List (List ℕ)) (old new : Outside) (done : Unit {0}) → CommandAnswers (command_of words) old new (Ok done)
     → SaysNothingElse (command_of words) old new → SaysStatus words old new 0
@@ -425,6 +462,7 @@ done_by : (command : Option CommandValue) (old new : Outside) (done : Unit {0}) 
 done_by None old new done answers = absurd answers
 done_by (Some (Run order)) old new done answers = answers
 done_by (Some (Gen scene)) old new done answers = kept_where_told old.files new.files answers.1
+done_by (Some (Rewind order)) old new done answers = rewind_done order old new answers.0 answers.1
 
 pub done_clause : (command : Option CommandValue) (old new : Outside) (done : Unit {0}) → CommandAnswers command old new (Ok done)
     → WhereTold old.files (λ files. IsDone (of_command command files) files new.files)
@@ -438,6 +476,7 @@ done_complete (BadScriptVerdict line kind) files after old new is = absurd is
 done_complete BadTrackVerdict files after old new is = absurd is
 done_complete (Good image script order side) files after old new is = inr (inl refl)
 done_complete (Scene number band workers) files after old new is = inr (inl refl)
+done_complete (RewindVerdict image script every keep clocks) files after old new is = inr (inl refl)
 
 pub complete_done_clause : (command : Option CommandValue) (old new : Outside) (done : Unit {0}) → CommandAnswers command old new (Ok done)
     → WhereTold old.files (λ files. Completed (of_command command files) old new 0)
@@ -471,6 +510,7 @@ image_clause None old mid fault s is e three = absurd (let two : s ≡ 2 = usage
 image_clause (Some (Run order)) old mid fault s is e three = order_image order old mid fault s is e three
 image_clause (Some (Gen scene)) old mid fault s is e three =
     absurd (let more : 6 ≤ s = scene_status scene.number old mid fault s is.0 e in omega arith)
+image_clause (Some (Rewind order)) old mid fault s is e three = rewind_image order old mid s fault is.0 e three
 
 order_wanting : (order : OrderValue) (old mid new : Outside) (fault : Fault) (s : ℕ) → OrderAnswers order old mid (Err fault) → s ≡ status_of fault
     → OnlySays mid new → s ≡ 7 → WhereTold old.files (λ files. IsWanting (of_order order files) files new.files)
@@ -490,3 +530,4 @@ pub wanting_clause : (command : Option CommandValue) (old mid new : Outside) (fa
 wanting_clause None old mid new fault s is e says seven = absurd (let two : s ≡ 2 = usage_status old mid fault s is e in omega arith)
 wanting_clause (Some (Run order)) old mid new fault s is e says seven = order_wanting order old mid new fault s is e says seven
 wanting_clause (Some (Gen scene)) old mid new fault s is e says seven = kept_where_told old.files new.files (says.files ∙ is.1)
+wanting_clause (Some (Rewind order)) old mid new fault s is e says seven = rewind_wanting order old new (says.files ∙ is.1)

@@ -1,14 +1,16 @@
 -- What a reader of the command line answers.
-use Rattle.std.specs.Prelude.{◌≡◌, ◌≤◌, ℕ, ◌≢◌, List, Option, Some, None}
+use Rattle.std.specs.Prelude.{◌≡◌, ◌≤◌, ℕ, ◌≢◌, Option, Some, None}
 use Rattle.ocs_run.specs.Audio.{IsFourthName}
 use Rattle.ocs_run.specs.Order.{OrderValue, RunWordsValue, ExtraValue, NoFile, AudioFile, TrackFile, audio_of}
-use Rattle.ocs_run.specs.Words.{SceneOrderValue, CommandValue, Run as RunValue, Gen as GenValue}
+use Rattle.ocs_run.specs.RewindOrder.{RewindOrderValue}
+use Rattle.ocs_run.specs.Words.{SceneOrderValue, CommandValue, Run as RunValue, Gen as GenValue, Rewind as RewindValue}
 use Rattle.ocs_run.specs.declared.order.Extra.{Extra}
 use Rattle.ocs_run.specs.declared.order.Extra.TheVariants.{None as Neither, Audio, Track}
 use Rattle.ocs_run.specs.declared.order.Order.{Order}
 use Rattle.ocs_run.specs.declared.order.RunWords.{RunWords}
+use Rattle.ocs_run.specs.declared.rewind_order.RewindOrder.{RewindOrder}
 use Rattle.ocs_run.specs.declared.words.Command.{Command}
-use Rattle.ocs_run.specs.declared.words.Command.TheVariants.{Run, Gen}
+use Rattle.ocs_run.specs.declared.words.Command.TheVariants.{Run, Gen, Rewind}
 use Rattle.ocs_run.specs.declared.words.SceneOrder.{SceneOrder}
 
 -- the file that a run has besides, as a value
@@ -69,10 +71,32 @@ abbrev pub IsSceneOrder : Option SceneOrderValue → Option SceneOrder → Type 
 IsSceneOrder order None = order ≡ None
 IsSceneOrder order (Some o) = order ≡ Some (scene_value o)
 
+-- what the words of `rewind` ask for, as a value
+abbrev pub rewind_value : RewindOrder → RewindOrderValue
+rewind_value o = record {
+  image = o.image.now;
+  script = o.script.now;
+  every = o.every;
+  keep = o.keep;
+  clocks = o.clocks.items;
+}
+
+abbrev pub IsRewindOrder : Option RewindOrderValue → Option RewindOrder → Type 0
+IsRewindOrder order None = order ≡ None
+IsRewindOrder order (Some o) = order ≡ Some (rewind_value o)
+
+-- the numbers of a rewind are in the ranges that going to clocks needs
+pub record HasRanges (o : RewindOrder) : Type 0 where
+  pub every : 1 ≤ o.every
+  pub frames : o.every ≤ 1000
+  pub keep : 1 ≤ o.keep
+  pub checkpoints : o.keep ≤ 64
+
 -- the command as a value
 abbrev pub command_value : Command → CommandValue
 command_value (Run order) = RunValue (value_of order)
 command_value (Gen scene) = GenValue (scene_value scene)
+command_value (Rewind order) = RewindValue (rewind_value order)
 
 abbrev pub IsCommand : Option CommandValue → Option Command → Type 0
 IsCommand command None = command ≡ None
@@ -82,6 +106,7 @@ IsCommand command (Some c) = command ≡ Some (command_value c)
 abbrev pub WritesApart : Command → Type 0
 WritesApart (Run order) = AreApart order
 WritesApart (Gen scene) = Unit {0}
+WritesApart (Rewind order) = Unit {0}
 
 -- a band has 1 to 313 lines
 pub record IsHeight (band : ℕ) : Type 0 where
@@ -91,8 +116,16 @@ pub record IsHeight (band : ℕ) : Type 0 where
 abbrev pub HasHeight : Command → Type 0
 HasHeight (Run order) = IsHeight order.band
 HasHeight (Gen scene) = IsHeight scene.band
+HasHeight (Rewind order) = Unit {0}
 
 -- at most 32 workers draw
 abbrev pub HasFewWorkers : Command → Type 0
 HasFewWorkers (Run order) = order.workers ≤ 32
 HasFewWorkers (Gen scene) = scene.workers ≤ 32
+HasFewWorkers (Rewind order) = Unit {0}
+
+-- the numbers of a rewind are in their ranges
+abbrev pub IsInRange : Command → Type 0
+IsInRange (Run order) = Unit {0}
+IsInRange (Gen scene) = Unit {0}
+IsInRange (Rewind order) = HasRanges order

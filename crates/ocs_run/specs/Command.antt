@@ -14,7 +14,7 @@ use Rattle.ocs_run.specs.Order.{OrderValue, HasTrack, audio_of}
 use Rattle.ocs_run.specs.Run.{HasAllFiles}
 use Rattle.ocs_run.specs.Prefix.{LeavesFiles}
 use Rattle.ocs_run.specs.Verdict.{Verdict, Usage as UsageVerdict, Absent, BadImage as BadImageVerdict, BadScript as BadScriptVerdict}
-use Rattle.ocs_run.specs.Verdict.{BadTrack as BadTrackVerdict, Good, Scene, of_order}
+use Rattle.ocs_run.specs.Verdict.{BadTrack as BadTrackVerdict, Good, Scene, Rewind, of_order}
 use Rattle.serial_model.specs.Side.{SideValue}
 
 -- the names of the files that a run writes
@@ -47,21 +47,23 @@ RunAnswers order image script side old new (Ok done) = HasOrdered order image sc
 RunAnswers order image script side old new (Err fault) =
     IsRunFault (audio_of order.extra) old new fault × LeavesOrdered order image script side old.files new.files
 
--- done: the files of a run are its texts, whole, and every other file is as before; a scene leaves all files as before
+-- done: the files of a run are its texts, whole, and every other file is as before; a scene and a rewind leave all files as before
 abbrev pub IsDone : Verdict → Files → Option Files → Type 0
 IsDone (Good image script order side) files new = HasOrdered order image script side (Some files) new
 IsDone (Scene number band workers) files new = new ≡ Some files
+IsDone (Rewind image script every keep clocks) files new = new ≡ Some files
 IsDone UsageVerdict files new = ⊥
 IsDone (Absent name) files new = ⊥
 IsDone BadImageVerdict files new = ⊥
 IsDone (BadScriptVerdict line kind) files new = ⊥
 IsDone BadTrackVerdict files new = ⊥
 
--- stopped by a file that could not be written, which only a good verdict comes to; or by a summary that could not be said, and
--- then all files are as before
+-- stopped by a file that could not be written, which only a good verdict comes to; or by a summary or lines that could not be said,
+-- and then all files are as before
 abbrev pub IsUnwritten : Verdict → Files → Option Files → Type 0
 IsUnwritten (Good image script order side) files new = LeavesOrdered order image script side (Some files) new
 IsUnwritten (Scene number band workers) files new = new ≡ Some files
+IsUnwritten (Rewind image script every keep clocks) files new = new ≡ Some files
 IsUnwritten UsageVerdict files new = ⊥
 IsUnwritten (Absent name) files new = ⊥
 IsUnwritten BadImageVerdict files new = ⊥
@@ -72,6 +74,7 @@ IsUnwritten BadTrackVerdict files new = ⊥
 abbrev pub IsWanting : Verdict → Files → Option Files → Type 0
 IsWanting (Good image script order side) files new = LeavesOrdered order image script side (Some files) new
 IsWanting (Scene number band workers) files new = new ≡ Some files
+IsWanting (Rewind image script every keep clocks) files new = new ≡ Some files
 IsWanting UsageVerdict files new = ⊥
 IsWanting (Absent name) files new = new ≡ Some files
 IsWanting BadImageVerdict files new = new ≡ Some files

@@ -1,5 +1,5 @@
 -- What reading the inputs tells.
-use Rattle.std.specs.Prelude.{◌≡◌, ℕ, true, false, List, Option, Some, None}
+use Rattle.std.specs.Prelude.{◌≡◌, ℕ, true, false, ◌⊎◌, List, Some}
 use Rattle.disk_dma.specs.Disk.{disk_side, new_disk}
 use Rattle.disk_dma.specs.Track.{is_track}
 use Rattle.ocs_base.specs.Image.{is_image, fits_chip}
@@ -106,6 +106,39 @@ IsTextFault text (Unread input) = ⊥
 IsTextFault text (Unwritten output) = ⊥
 IsTextFault text Unsaid = ⊥
 IsTextFault text OutOfMemory = Unit {0}
+
+-- image and script were read, are good, and fit
+pub record AreInputsOf (old : Outside) (image_name script_name image : List ℕ) (script : ScriptValue) : Type 0 where
+  pub image_of : IsImageOf old image_name image
+  pub script_of : IsScriptOf old script_name script
+  pub fits : fits_chip script.chip image ≡ true
+
+-- image and script are there and good, and the image is longer than the script's chip memory
+pub record HoldsMisfit (image_name script_name : List ℕ) (files : Files) : Type 0 where
+  pub image : List ℕ
+  pub script : ScriptValue
+  pub image_there : file files image_name ≡ Some image
+  pub image_good : is_image image ≡ true
+  pub script_good : HoldsScript script_name script files
+  pub misfits : fits_chip script.chip image ≡ false
+
+-- the image is good, and the script bad at a line
+pub record HoldsBadLine (image_name script_name : List ℕ) (line : ℕ) (kind : BadKind) (files : Files) : Type 0 where
+  pub image : HoldsImage image_name files
+  pub script : HoldsBadScript script_name line kind files
+
+-- why the two inputs of a run and of a rewind were not read
+abbrev pub IsInputFault : Outside → Outside → List ℕ → List ℕ → Fault → Type 0
+IsInputFault old new image script Usage = ⊥
+IsInputFault old new image script BadImage = WhereTold old.files (HoldsNoImage image) ⊎ WhereTold old.files (HoldsMisfit image script)
+IsInputFault old new image script (BadScript line kind) = WhereTold old.files (HoldsBadLine image script line kind)
+IsInputFault old new image script BadTrack = ⊥
+IsInputFault old new image script (Unread Image) = Rose old.read_faults new.read_faults
+IsInputFault old new image script (Unread Script) = Rose old.read_faults new.read_faults × WhereTold old.files (HoldsImage image)
+IsInputFault old new image script (Unread Track) = ⊥
+IsInputFault old new image script (Unwritten output) = ⊥
+IsInputFault old new image script Unsaid = ⊥
+IsInputFault old new image script OutOfMemory = Unit {0}
 
 -- the place lets the track be read, where there is one
 abbrev pub ReadableTrack : (List ℕ → Type 0) → ExtraValue → Type 0

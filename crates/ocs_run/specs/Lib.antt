@@ -5,6 +5,9 @@ pub mod Fault
 pub mod Inputs
 pub mod Order
 pub mod Prefix
+pub mod RewindAnswers
+pub mod RewindOrder
+pub mod RewindText
 pub mod Run
 pub mod SceneAnswers
 pub mod SceneSummary

@@ -9,8 +9,8 @@ use Rattle.ocs_run.specs.declared.fault.Input.{Input}
 use Rattle.ocs_run.specs.declared.fault.Input.TheVariants.{Image, Script, Track}
 use Rattle.ocs_run.specs.declared.fault.Output.{Output}
 use Rattle.ocs_run.specs.declared.fault.Output.TheVariants.{File, Audio}
-use Rattle.ocs_run.specs.Order.{OrderValue, NoFile, audio_of, track_of, order_of}
-use Rattle.ocs_run.specs.Words.{begins_with}
+use Rattle.ocs_run.specs.Order.{OrderValue, NoFile, audio_of, track_of}
+use Rattle.ocs_run.specs.Words.{CommandValue, Run, Gen, Rewind, command_of, begins_with}
 
 abbrev pub input_name : OrderValue → Input → List ℕ
 input_name order Image = order.image
@@ -29,9 +29,10 @@ usage_text words =
     if begins_with (codes "gen") words then codes "usage: ocs gen N BAND WORKERS\n"
     else (if begins_with (codes "sound") words then codes "usage: ocs sound IMAGE SCRIPT FRAMES TRACE MEMORY AUDIO BAND WORKERS\n"
     else (if begins_with (codes "disk") words then codes "usage: ocs disk IMAGE SCRIPT FRAMES TRACE MEMORY TRACK BAND WORKERS\n"
-    else codes "usage: ocs run IMAGE SCRIPT FRAMES TRACE MEMORY BAND WORKERS\n"))
+    else (if begins_with (codes "rewind") words then codes "usage: ocs rewind IMAGE SCRIPT EVERY KEEP CLOCK..\n"
+    else codes "usage: ocs run IMAGE SCRIPT FRAMES TRACE MEMORY BAND WORKERS\n")))
 
--- the text of a fault of a command with this text of its form and this order; a summary that could not be said has none
+-- the text of a fault of a command with this text of its form and this order; a summary or lines that could not be said have none
 unfoldable pub fault_text : List ℕ → OrderValue → Fault → List ℕ
 fault_text usage order Usage = usage
 fault_text usage order BadImage = codes "bad image\n"
@@ -46,12 +47,15 @@ fault_text usage order OutOfMemory = codes "out of memory\n"
 abbrev pub no_order : OrderValue
 no_order = record { image = []; script = []; frames = []; trace = []; memory = []; extra = NoFile; band = 0; workers = 0 }
 
-abbrev pub order_or_none : Option OrderValue → OrderValue
+-- the names of the files of a command, as those of an order: a rewind has the two inputs of a run
+abbrev pub order_or_none : Option CommandValue → OrderValue
 order_or_none None = no_order
-order_or_none (Some order) = order
+order_or_none (Some (Run order)) = order
+order_or_none (Some (Gen scene)) = no_order
+order_or_none (Some (Rewind order)) = record no_order { image = order.image; script = order.script }
 
 abbrev pub text_of : List (List ℕ) → Fault → List ℕ
-text_of words fault = fault_text (usage_text words) (order_or_none (order_of words)) fault
+text_of words fault = fault_text (usage_text words) (order_or_none (command_of words)) fault
 
 -- a text was said: all of it, or a part of it where the outside refused
 abbrev pub SaysSurely : List ℕ → Outside → Outside → Type 0

@@ -12,8 +12,10 @@ use Rattle.ocs_run.specs.Order.{OrderValue, HasTrack, audio_of}
 use Rattle.ocs_run.specs.SceneAnswers.{SceneAnswers, SaysSummary, SaysSummaryPart}
 use Rattle.ocs_run.specs.Texts.{text_of, Says}
 use Rattle.ocs_run.specs.Verdict.{Verdict, Usage as UsageVerdict, Absent, BadImage as BadImageVerdict, BadScript as BadScriptVerdict}
-use Rattle.ocs_run.specs.Verdict.{BadTrack as BadTrackVerdict, Good, Scene, of_order}
-use Rattle.ocs_run.specs.Words.{CommandValue, Run, Gen, command_of}
+use Rattle.ocs_run.specs.Verdict.{BadTrack as BadTrackVerdict, Good, Scene, Rewind as RewindVerdict, of_order, of_rewind}
+use Rattle.ocs_run.specs.RewindAnswers.{RewindAnswers, SaysLines, SaysLinesPart}
+use Rattle.ocs_run.specs.RewindOrder.{RewindOrderValue}
+use Rattle.ocs_run.specs.Words.{CommandValue, Run, Gen, Rewind, command_of}
 use Rattle.ocs_run.specs.declared.fault.Fault.{Fault}
 use Rattle.ocs_run.specs.declared.fault.Fault.TheVariants.{Usage, BadImage, BadScript, BadTrack, Unread, Unwritten, Unsaid, OutOfMemory}
 use Rattle.ocs_run.specs.declared.fault.Input.TheVariants.{Image, Script, Track}
@@ -24,15 +26,22 @@ pub record ReadableOrder (readable : List ℕ → Type 0) (order : OrderValue) :
   pub script : readable order.script
   pub track : ReadableTrack readable order.extra
 
+-- the place lets the two inputs of a rewind be read
+pub record ReadablePair (readable : List ℕ → Type 0) (order : RewindOrderValue) : Type 0 where
+  pub image : readable order.image
+  pub script : readable order.script
+
 -- and those named in the words
-abbrev pub ReadableInputs : (List ℕ → Type 0) → Option CommandValue → Type 0
-ReadableInputs readable command = (order : OrderValue) → command ≡ Some (Run order) → ReadableOrder readable order
+pub record ReadableInputs (readable : List ℕ → Type 0) (command : Option CommandValue) : Type 0 where
+  pub run : (order : OrderValue) → command ≡ Some (Run order) → ReadableOrder readable order
+  pub rewind : (order : RewindOrderValue) → command ≡ Some (Rewind order) → ReadablePair readable order
 
 -- the same, by the command
 abbrev pub ReadableCommand : (List ℕ → Type 0) → Option CommandValue → Type 0
 ReadableCommand readable None = Unit {0}
 ReadableCommand readable (Some (Run order)) = readable order.image × readable order.script × ReadableTrack readable order.extra
 ReadableCommand readable (Some (Gen scene)) = Unit {0}
+ReadableCommand readable (Some (Rewind order)) = readable order.image × readable order.script
 
 -- what stands after words of no command
 abbrev pub UsageAnswers : Outside → Outside → Result (Unit {0}) Fault → Type 0
@@ -51,27 +60,32 @@ abbrev pub CommandAnswers : Option CommandValue → Outside → Outside → Resu
 CommandAnswers None old new answer = UsageAnswers old new answer
 CommandAnswers (Some (Run order)) old new answer = OrderAnswers order old new answer
 CommandAnswers (Some (Gen scene)) old new answer = SceneAnswers scene.number old new answer × (new.files ≡ old.files)
+CommandAnswers (Some (Rewind order)) old new answer = RewindAnswers order old new answer × (new.files ≡ old.files)
 
 -- a run says nothing before the text of a fault
 abbrev pub SaysNothingElse : Option CommandValue → Outside → Outside → Type 0
 SaysNothingElse None old new = KeepsSaid old new
 SaysNothingElse (Some (Run order)) old new = KeepsSaid old new
 SaysNothingElse (Some (Gen scene)) old new = Unit {0}
+SaysNothingElse (Some (Rewind order)) old new = Unit {0}
 
 -- the answers before the first create
 abbrev pub IsEarly : ℕ → Type 0
 IsEarly status = (status ≡ 2) ⊎ ((status ≡ 3) ⊎ ((status ≡ 4) ⊎ ((status ≡ 5) ⊎ (status ≡ 9))))
 
-abbrev pub IsScene : Option CommandValue → Type 0
-IsScene None = ⊥
-IsScene (Some (Run order)) = ⊥
-IsScene (Some (Gen scene)) = Unit {0}
+-- a command that writes no file
+abbrev pub WritesNoFile : Option CommandValue → Type 0
+WritesNoFile None = ⊥
+WritesNoFile (Some (Run order)) = ⊥
+WritesNoFile (Some (Gen scene)) = Unit {0}
+WritesNoFile (Some (Rewind order)) = Unit {0}
 
--- the outside refused what a command writes: a file of a run, or the summary of a scene
+-- the outside refused what a command writes: a file of a run, the summary of a scene, or the lines of a rewind
 abbrev pub IsRefused : Option CommandValue → Outside → Outside → Type 0
 IsRefused None old new = ⊥
 IsRefused (Some (Run order)) old new = Rose old.write_faults new.write_faults
 IsRefused (Some (Gen scene)) old new = Rose old.say_faults new.say_faults
+IsRefused (Some (Rewind order)) old new = Rose old.say_faults new.say_faults
 
 abbrev pub HasBadImage : Verdict → Type 0
 HasBadImage verdict = verdict ≡ BadImageVerdict
@@ -82,7 +96,7 @@ HasBadScript verdict = (line : ℕ) × (kind : BadKind) × (verdict ≡ BadScrip
 abbrev pub HasBadTrack : Verdict → Type 0
 HasBadTrack verdict = verdict ≡ BadTrackVerdict
 
--- a run of good inputs comes to an end, and so does a scene's
+-- a run of good inputs comes to an end, and so do a scene's and that of a rewind
 abbrev pub HasRunEnd : Verdict → Type 0
 HasRunEnd UsageVerdict = Unit {0}
 HasRunEnd (Absent name) = Unit {0}
@@ -91,6 +105,7 @@ HasRunEnd (BadScriptVerdict line kind) = Unit {0}
 HasRunEnd BadTrackVerdict = Unit {0}
 HasRunEnd (Good image script order side) = (end : ℕ) × IsEndOver side image script end
 HasRunEnd (Scene number band workers) = (end : ℕ) × IsEnd (scene_image number) (scene_script number) end
+HasRunEnd (RewindVerdict image script every keep clocks) = (end : ℕ) × IsEnd image script end
 
 -- the status of a verdict where no fault of the outside came, but for want of memory
 abbrev pub Completed : Verdict → Outside → Outside → ℕ → Type 0
@@ -103,6 +118,9 @@ Completed (Good image script order side) old new status =
     (Rose old.read_faults new.read_faults ⊎ Rose old.write_faults new.write_faults)
     ⊎ ((status ≡ 0) ⊎ (status ≡ 7))
 Completed (Scene number band workers) old new status = Rose old.say_faults new.say_faults ⊎ ((status ≡ 0) ⊎ (status ≡ 7))
+Completed (RewindVerdict image script every keep clocks) old new status =
+    (Rose old.read_faults new.read_faults ⊎ Rose old.say_faults new.say_faults)
+    ⊎ ((status ≡ 0) ⊎ (status ≡ 7))
 
 -- the fault is one of a run, and what its text tells is so: the bad line of the script; and the script is named only where the
 -- image has the form of one, the track, of a command that reads one, only where the image fits the good script's chip memory
@@ -118,11 +136,25 @@ IsToldOfRun order old (Unwritten output) = IsOutputOf (audio_of order.extra) out
 IsToldOfRun order old Unsaid = ⊥
 IsToldOfRun order old OutOfMemory = Unit {0}
 
+-- the same of a rewind
+abbrev pub IsToldOfRewind : RewindOrderValue → Outside → Fault → Type 0
+IsToldOfRewind order old Usage = ⊥
+IsToldOfRewind order old BadImage = Unit {0}
+IsToldOfRewind order old (BadScript line kind) = WhereTold old.files (λ files. of_rewind order files ≡ BadScriptVerdict line kind)
+IsToldOfRewind order old BadTrack = ⊥
+IsToldOfRewind order old (Unread Image) = Unit {0}
+IsToldOfRewind order old (Unread Script) = WhereTold old.files (HoldsImage order.image)
+IsToldOfRewind order old (Unread Track) = ⊥
+IsToldOfRewind order old (Unwritten output) = ⊥
+IsToldOfRewind order old Unsaid = ⊥
+IsToldOfRewind order old OutOfMemory = Unit {0}
+
 -- the fault is one of the command: words of none have the form alone to tell, and a scene only wants memory
 abbrev pub IsTold : Option CommandValue → Outside → Fault → Type 0
 IsTold None old fault = fault ≡ Usage
 IsTold (Some (Run order)) old fault = IsToldOfRun order old fault
 IsTold (Some (Gen scene)) old fault = fault ≡ OutOfMemory
+IsTold (Some (Rewind order)) old fault = IsToldOfRewind order old fault
 
 -- the text of a fault was said, and nothing else
 pub record SaysFault (words : List (List ℕ)) (old new : Outside) (status : ℕ) : Type 0 where
@@ -131,12 +163,15 @@ pub record SaysFault (words : List (List ℕ)) (old new : Outside) (status : ℕ
   pub said : Says (text_of words fault) old new
   pub told : IsTold (command_of words) old fault
 
--- a run that is done says nothing; of a scene the summary was said at 0, and a part of it at 6, and nothing else
+-- a run that is done says nothing; of a scene the summary was said at 0, and a part of it at 6, and nothing else; and so of a rewind
+-- its lines
 abbrev pub SaysOwn : Option CommandValue → Outside → Outside → ℕ → Type 0
 SaysOwn None old new status = ⊥
 SaysOwn (Some (Run order)) old new status = (status ≡ 0) × (new.said ≡ old.said)
 SaysOwn (Some (Gen scene)) old new status =
     ((status ≡ 0) × SaysSummary scene.number old new) ⊎ ((status ≡ 6) × SaysSummaryPart scene.number old new)
+SaysOwn (Some (Rewind order)) old new status =
+    ((status ≡ 0) × SaysLines order old new) ⊎ ((status ≡ 6) × SaysLinesPart order old new)
 
 abbrev pub SaysStatus : List (List ℕ) → Outside → Outside → ℕ → Type 0
 SaysStatus words old new status = SaysOwn (command_of words) old new status ⊎ SaysFault words old new status

@@ -10,7 +10,8 @@ use Rattle.script_read.specs.Grammar.{script_of, Good as GoodScript, Bad as BadL
 use Rattle.script_read.specs.declared.fault.BadKind.{BadKind}
 use Rattle.serial_model.specs.Side.{SideValue, no_side}
 use Rattle.ocs_run.specs.Order.{OrderValue, ExtraValue, NoFile, AudioFile, TrackFile}
-use Rattle.ocs_run.specs.Words.{CommandValue, Run, Gen}
+use Rattle.ocs_run.specs.RewindOrder.{RewindOrderValue}
+use Rattle.ocs_run.specs.Words.{CommandValue, Run, Gen, Rewind as GoTo}
 
 -- the first of these that applies, in the order in which the command does its work
 pub data Verdict : Type 0 where
@@ -29,6 +30,9 @@ pub data Verdict : Type 0 where
   Good : List ℕ → ScriptValue → OrderValue → SideValue → Verdict
   -- a scene: its number, how many lines a band has, and how many workers
   Scene : ℕ → ℕ → ℕ → Verdict
+  -- an image and a script whose chip memory it fits, of every how many frames one begins with a checkpoint, how many of these are kept,
+  -- and the clocks that are gone to
+  Rewind : List ℕ → ScriptValue → ℕ → ℕ → List ℕ → Verdict
 
 -- the disk has the track
 abbrev pub of_track : OrderValue → List ℕ → ScriptValue → List ℕ → Option (List ℕ) → Verdict
@@ -42,24 +46,32 @@ of_extra order files image script NoFile = Good image script order no_side
 of_extra order files image script (AudioFile name) = Good image script order (paula_side (reset_paula script.chip))
 of_extra order files image script (TrackFile name) = of_track order image script name (file files name)
 
-abbrev pub of_script : OrderValue → Files → List ℕ → ScriptVerdict → Verdict
-of_script order files image (GoodScript script) =
-    if fits_chip script.chip image then of_extra order files image script order.extra else BadImage
-of_script order files image (BadLine line kind) = BadScript line kind
+-- What the two inputs come to that a run and a rewind read, and what is asked of an image and a script whose chip memory it fits
+abbrev pub of_script : (List ℕ → ScriptValue → Verdict) → List ℕ → ScriptVerdict → Verdict
+of_script asked image (GoodScript script) = if fits_chip script.chip image then asked image script else BadImage
+of_script asked image (BadLine line kind) = BadScript line kind
 
-abbrev pub of_text : OrderValue → Files → List ℕ → Option (List ℕ) → Verdict
-of_text order files image None = Absent order.script
-of_text order files image (Some text) = of_script order files image (script_of text)
+abbrev pub of_text : (List ℕ → ScriptValue → Verdict) → List ℕ → List ℕ → Option (List ℕ) → Verdict
+of_text asked script_name image None = Absent script_name
+of_text asked script_name image (Some text) = of_script asked image (script_of text)
 
-abbrev pub of_image : OrderValue → Files → Option (List ℕ) → Verdict
-of_image order files None = Absent order.image
-of_image order files (Some image) = if is_image image then of_text order files image (file files order.script) else BadImage
+abbrev pub of_image : (List ℕ → ScriptValue → Verdict) → List ℕ → List ℕ → Files → Option (List ℕ) → Verdict
+of_image asked image_name script_name files None = Absent image_name
+of_image asked image_name script_name files (Some image) =
+    if is_image image then of_text asked script_name image (file files script_name) else BadImage
+
+abbrev pub of_inputs : (List ℕ → ScriptValue → Verdict) → List ℕ → List ℕ → Files → Verdict
+of_inputs asked image_name script_name files = of_image asked image_name script_name files (file files image_name)
 
 abbrev pub of_order : OrderValue → Files → Verdict
-of_order order files = of_image order files (file files order.image)
+of_order order files = of_inputs (λ image script. of_extra order files image script order.extra) order.image order.script files
+
+abbrev pub of_rewind : RewindOrderValue → Files → Verdict
+of_rewind order files = of_inputs (λ image script. Rewind image script order.every order.keep order.clocks) order.image order.script files
 
 -- by the command that the words are
 abbrev pub of_command : Option CommandValue → Files → Verdict
 of_command None files = Usage
 of_command (Some (Run order)) files = of_order order files
 of_command (Some (Gen scene)) files = Scene scene.number scene.band scene.workers
+of_command (Some (GoTo order)) files = of_rewind order files

@@ -2,6 +2,7 @@
 use Rattle.std.specs.Prelude.{ℕ, Bool, false, if◌then◌else◌, List, [], ◌∷◌, codes, bytes_eq, Option, Some, None, option_map}
 use Rattle.ocs_io.specs.Numbers.{dec_of}
 use Rattle.ocs_run.specs.Order.{OrderValue, order_of, kept_within, band_of, workers_of}
+use Rattle.ocs_run.specs.RewindOrder.{RewindOrderValue, rewind_order_of}
 
 -- what the words of `gen` ask for
 pub record SceneOrderValue : Type 0 where
@@ -14,6 +15,8 @@ pub data CommandValue : Type 0 where
   Run : OrderValue → CommandValue
   -- a scene and the summary of its run
   Gen : SceneOrderValue → CommandValue
+  -- clocks of a run that are gone to
+  Rewind : RewindOrderValue → CommandValue
 
 -- the number of a scene, 0 to 4294967295
 abbrev pub number_of : List ℕ → Option ℕ
@@ -38,4 +41,5 @@ begins_with name (command ∷ words) = bytes_eq command name
 -- the command, by the first word; words of no command are None
 abbrev pub command_of : List (List ℕ) → Option CommandValue
 command_of words =
-    if begins_with (codes "gen") words then option_map Gen (scene_order_of words) else option_map Run (order_of words)
+    if begins_with (codes "gen") words then option_map Gen (scene_order_of words)
+    else (if begins_with (codes "rewind") words then option_map Rewind (rewind_order_of words) else option_map Run (order_of words))

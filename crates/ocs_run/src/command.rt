@@ -11,7 +11,7 @@ ghost use Rattle.ocs_run.specs.Inputs.{ReadableTrack};
 ghost use Rattle.serial_model.specs.Side.{FitsSide};
 
 use crate::fault::Fault;
-use crate::inputs::{read_image, read_script_file};
+use crate::inputs::{Inputs, read_inputs};
 use crate::order::Order;
 use crate::run::{Drawing, run_files};
 use crate::sides::{Sides, read_sides};
@@ -42,20 +42,9 @@ pub fn run_order<
         (P.outside place.new) result }
     ensures said { KeepsSaid (P.outside place.old) (P.outside place.new) }
 {
-    let image = read_image(alloc, order.image, place)?;
-    let script = read_script_file(alloc, order.script, place)?;
-    if !fits(&image, &script) {
-        return Err(Fault::BadImage);
-    }
+    let Inputs { image, script } = read_inputs(alloc, order.image, order.script, place)?;
     let sides = read_sides(alloc, order.extra, script.chip_size(), place)?;
     run_inputs(rt, alloc, order, gate, image, script, sides, place)
-}
-
-/// Whether an image is not longer than a script's chip memory.
-fn fits(image: &[u8], script: &Script) -> bool
-    ensures { result ≡ fits_chip script.now.chip image.now }
-{
-    image.len() <= script.chip() as usize
 }
 
 /// Runs a good script over a good image that fits its chip memory, with a side that does so too.

@@ -2,10 +2,11 @@
 
 ghost use Rattle.std.specs.Prelude.{◌≡◌, true, IfOk, IfErr};
 ghost use Rattle.ocs_io.specs.Place.{OnlyReads, KeepsNames};
+ghost use Rattle.ocs_run.specs.Inputs.{AreInputsOf, IsInputFault};
 ghost use Rattle.ocs_run.specs.Inputs.{IsImageOf, IsImageFault, IsScriptOf, IsScriptFault, IsTextFault};
 ghost use Rattle.ocs_base.specs.Limits.{IsRunnable};
 ghost use Rattle.script_read.specs.Grammar.{script_of, Good};
-ghost use Rattle.ocs_base.specs.Image.{is_image as good_image};
+ghost use Rattle.ocs_base.specs.Image.{is_image as good_image, fits_chip};
 ghost use Rattle.disk_dma.specs.Track.{is_track as good_track};
 ghost use Rattle.ocs_run.specs.Inputs.{IsTrackOf, IsTrackFault};
 
@@ -24,9 +25,49 @@ const SCRIPT_BYTES: usize = 4_194_304;
 /// The most bytes of a track.
 const TRACK_BYTES: usize = 32_768;
 
+/// The inputs of a run and of a rewind: a good image and a good script, whose chip memory it fits.
+#[derive(Drop)]
+pub struct Inputs {
+    pub image: Vec<u8>,
+    pub script: Script,
+}
+
+/// Reads the image and tests its form, then the script, and then tests whether the image fits the script's
+/// chip memory.
+pub fn read_inputs<P: Place>(
+    alloc: Global,
+    image: &str,
+    script: &str,
+    place: &mut P,
+) -> Result<Inputs, Fault>
+    requires image { P.readable place.old image.now }
+    requires script { P.readable place.old script.now }
+    ensures good { IfOk result (λ inputs. AreInputsOf (P.outside place.old) image.now script.now
+        inputs.image.items inputs.script) }
+    ensures fault { IfErr result (IsInputFault (P.outside place.old) (P.outside place.new)
+        image.now script.now) }
+    ensures kept { OnlyReads (P.outside place.old) (P.outside place.new) }
+    ensures names { KeepsNames (P.readable place.old) (P.growable place.old) (P.readable place.new)
+        (P.growable place.new) }
+{
+    let image = read_image(alloc, image, place)?;
+    let script = read_script_file(alloc, script, place)?;
+    if !fits(&image, &script) {
+        return Err(Fault::BadImage);
+    }
+    Ok(Inputs { image, script })
+}
+
+/// Whether an image is not longer than a script's chip memory.
+fn fits(image: &[u8], script: &Script) -> bool
+    ensures { result ≡ fits_chip script.now.chip image.now }
+{
+    image.len() <= script.chip() as usize
+}
+
 /// Reads the image: an even number of 8 to 1,048,576 bytes. Whether they fit the machine's chip memory
 /// the script says, which is read later.
-pub fn read_image<P: Place>(alloc: Global, name: &str, place: &mut P) -> Result<Vec<u8>, Fault>
+fn read_image<P: Place>(alloc: Global, name: &str, place: &mut P) -> Result<Vec<u8>, Fault>
     requires { P.readable place.old name.now }
     ensures good { IfOk result (λ image. IsImageOf (P.outside place.old) name.now image.items) }
     ensures fault { IfErr result (IsImageFault (P.outside place.old)
@@ -54,7 +95,7 @@ fn is_image(image: &[u8]) -> bool
 }
 
 /// Reads the script. A text that is longer than a script may be is bad at line 0.
-pub fn read_script_file<P: Place>(alloc: Global, name: &str, place: &mut P) -> Result<Script, Fault>
+fn read_script_file<P: Place>(alloc: Global, name: &str, place: &mut P) -> Result<Script, Fault>
     requires { P.readable place.old name.now }
     ensures good { IfOk result (λ script. IsScriptOf (P.outside place.old) name.now script) }
     ensures fault { IfErr result (IsScriptFault (P.outside place.old)

@@ -207,7 +207,7 @@ fn have_names(words: &RunWords<'_>) -> bool
 }
 
 /// Whether names are not empty, and no two of them one.
-fn are_names(names: &[&str]) -> bool
+pub fn are_names(names: &[&str]) -> bool
     ensures { result ≡ names_of (map (λ name. name.now) names.now) }
 {
     match names {

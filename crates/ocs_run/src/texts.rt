@@ -2,13 +2,12 @@
 
 ghost use Rattle.std.specs.Prelude.{◌≡◌, ◌++◌, [], map, option_map, unwrap_or, string_bytes, OnOk, codes, decimal};
 ghost use Rattle.ocs_io.specs.Place.{OnlySays};
-ghost use Rattle.ocs_run.specs.Order.{order_of};
+ghost use Rattle.ocs_run.specs.Words.{command_of};
 ghost use Rattle.ocs_run.specs.Texts.{text_of, Says, SaysSurely, usage_text, order_or_none, input_name as name_of_input, output_name as name_of_output};
 ghost use Rattle.script_read.specs.KindName.{kind_name};
 
 use crate::fault::{Fault, Input, Output};
-use crate::order::read_order;
-use crate::words::begins_with;
+use crate::words::{Command, begins_with, read_command};
 use ocs_base::OutOfMemory;
 use ocs_io::{Place, put_dec};
 use out_files::OutFile;
@@ -93,34 +92,42 @@ fn usage(words: &[String]) -> &'static str
         "usage: ocs sound IMAGE SCRIPT FRAMES TRACE MEMORY AUDIO BAND WORKERS\n"
     } else if begins_with(words, "disk") {
         "usage: ocs disk IMAGE SCRIPT FRAMES TRACE MEMORY TRACK BAND WORKERS\n"
+    } else if begins_with(words, "rewind") {
+        "usage: ocs rewind IMAGE SCRIPT EVERY KEEP CLOCK..\n"
     } else {
         "usage: ocs run IMAGE SCRIPT FRAMES TRACE MEMORY BAND WORKERS\n"
     }
 }
 
-/// The name of an input, empty where the words are not those of a run that has it.
+/// The name of an input, empty where the words are of no command that reads it.
 fn input_name(words: &[String], input: Input) -> &str
     ensures { result.now ≡ name_of_input
-        (order_or_none (order_of (map string_bytes words.now))) input }
+        (order_or_none (command_of (map string_bytes words.now))) input }
 {
-    match (read_order(words), input) {
-        (Some(order), Input::Image) => order.image,
-        (Some(order), Input::Script) => order.script,
-        (Some(order), Input::Track) => or_empty(order.extra.track()),
+    match (read_command(words), input) {
+        (Some(Command::Run(order)), Input::Image) => order.image,
+        (Some(Command::Run(order)), Input::Script) => order.script,
+        (Some(Command::Run(order)), Input::Track) => or_empty(order.extra.track()),
+        (Some(Command::Rewind(order)), Input::Image) => order.image,
+        (Some(Command::Rewind(order)), Input::Script) => order.script,
+        (Some(Command::Rewind(_)), Input::Track) => "",
+        (Some(Command::Gen(_)), _) => "",
         (None, _) => "",
     }
 }
 
-/// The name of an output, empty where the words are not those of a run that has it.
+/// The name of an output, empty where the words are of no command that writes it.
 fn output_name(words: &[String], output: Output) -> &str
     ensures { result.now ≡ name_of_output
-        (order_or_none (order_of (map string_bytes words.now))) output }
+        (order_or_none (command_of (map string_bytes words.now))) output }
 {
-    match (read_order(words), output) {
-        (Some(order), Output::File(OutFile::Frames)) => order.frames,
-        (Some(order), Output::File(OutFile::Trace)) => order.trace,
-        (Some(order), Output::File(OutFile::Memory)) => order.memory,
-        (Some(order), Output::Audio) => or_empty(order.extra.audio()),
+    match (read_command(words), output) {
+        (Some(Command::Run(order)), Output::File(OutFile::Frames)) => order.frames,
+        (Some(Command::Run(order)), Output::File(OutFile::Trace)) => order.trace,
+        (Some(Command::Run(order)), Output::File(OutFile::Memory)) => order.memory,
+        (Some(Command::Run(order)), Output::Audio) => or_empty(order.extra.audio()),
+        (Some(Command::Rewind(_)), _) => "",
+        (Some(Command::Gen(_)), _) => "",
         (None, _) => "",
     }
 }

@@ -7,11 +7,12 @@ ghost use Rattle.ocs_run.specs.Words.{command_of};
 ghost use Rattle.ocs_run.specs.Verdict.{of_command};
 ghost use Rattle.ocs_run.specs.Command.{IsDone, IsUnwritten, IsWanting};
 ghost use Rattle.ocs_run.specs.Top.{ReadableInputs, ReadableCommand, CommandAnswers, SaysNothingElse, SaysStatus, IsEarly};
-ghost use Rattle.ocs_run.specs.Top.{IsScene, IsRefused, HasBadImage, HasBadScript, HasBadTrack, Completed, HasRunEnd};
+ghost use Rattle.ocs_run.specs.Top.{WritesNoFile, IsRefused, HasBadImage, HasBadScript, HasBadTrack, Completed, HasRunEnd};
 ghost use Rattle.ocs_run.specs.Texts.{SaysSurely, usage_text};
 
 use crate::command::run_order;
 use crate::fault::Fault;
+use crate::rewind::run_rewind;
 use crate::scene::run_scene;
 use crate::texts::say_fault;
 use crate::words::{Command, read_command};
@@ -41,6 +42,15 @@ use std::thread::Threads;
 /// piece: the number of frames, the sum of the frames file's bytes, the number of lines of the trace, and
 /// the sum of the memory file's bytes. 0 done; 2 the words are not of this form; 6 the lines could not be
 /// said, and no other text is; 7 memory was wanting.
+///
+/// `rewind IMAGE SCRIPT EVERY KEEP CLOCK..` reads image and script as `run` does, goes to one to sixteen
+/// clocks of the run without a side, one after another, and says a line of each, all in one piece. Of every
+/// EVERY frames, 1 to 1000, one begins with a checkpoint, of which the latest KEEP, 1 to 64, are kept; each
+/// clock is at most 71,051,000. A line has the clock, or the run's last where that comes before it; frame,
+/// line, clock of the line and 1 or 0 for a long field; DMACON and COLOR00 in four hexadecimal digits; the
+/// sum of the memory's words; and the clock from which it was reached: the present one where that is not
+/// above the asked one, else that of the best checkpoint, else 0. 0 done; 2 to 5 and 7 as of `run`; 6 the
+/// lines could not be said, and no other text is. It makes no thread and leaves all files as they are.
 ///
 /// BAND is the height of the bands of lines in which the picture is drawn, and WORKERS the number of
 /// threads that draw them beside the caller's own; no file depends on either. `gate` is called before
@@ -77,8 +87,8 @@ pub fn ocs_main<
         (P.outside place.new).files) }
     ensures kept { IsEarly result → (P.outside place.new).files ≡ (P.outside place.old).files }
 
-    // A scene leaves all files as before, whatever the answer.
-    ensures apart { IsScene (command_of (map string_bytes words.now))
+    // A scene and a rewind leave all files as before, whatever the answer.
+    ensures apart { WritesNoFile (command_of (map string_bytes words.now))
         → (P.outside place.new).files ≡ (P.outside place.old).files }
 
     // Without a rise of its count of faults a command answers by its verdict, or wants memory.
@@ -86,13 +96,13 @@ pub fn ocs_main<
         (λ files. Completed (of_command (command_of (map string_bytes words.now)) files)
         (P.outside place.old) (P.outside place.new) result) }
 
-    // The run of a good image and script and that of a scene, of whose texts the clauses speak, have an
-    // end.
+    // The run of a good image and script, also that of a rewind, and that of a scene, of whose texts the
+    // clauses speak, have an end.
     ensures ends { WhereTold (P.outside place.old).files
         (λ files. HasRunEnd (of_command (command_of (map string_bytes words.now)) files)) }
 
     // What is said is the text of the status, and nothing where a run is done; of a scene the summary is
-    // said, or a part of it where that was refused.
+    // said, and of a rewind the lines of its clocks, or a part of them where that was refused.
     ensures said { SaysStatus (map string_bytes words.now) (P.outside place.old)
         (P.outside place.new) result }
 
@@ -129,6 +139,7 @@ fn run_words<
     match read_command(words) {
         Some(Command::Run(order)) => run_order(rt, alloc, &order, gate, place),
         Some(Command::Gen(scene)) => run_scene(rt, alloc, scene, gate, place),
+        Some(Command::Rewind(order)) => run_rewind(alloc, &order, place),
         None => Err(Fault::Usage),
     }
 }

@@ -2,9 +2,10 @@
 
 ghost use Rattle.std.specs.Prelude.{◌≡◌, ◌≤◌, map, string_bytes, IfSome};
 ghost use Rattle.ocs_run.specs.Words.{command_of, scene_order_of, number_of, begins_with as first_is};
-ghost use Rattle.ocs_run.specs.Asked.{IsCommand, IsSceneOrder, WritesApart, IsHeight, HasHeight, HasFewWorkers};
+ghost use Rattle.ocs_run.specs.Asked.{IsCommand, IsSceneOrder, WritesApart, IsHeight, HasHeight, HasFewWorkers, IsInRange};
 
 use crate::order::{Order, read_band, read_order, read_workers};
+use crate::rewind_order::{RewindOrder, read_rewind_order};
 use ocs_io::dec;
 
 /// What the words `gen N BAND WORKERS` ask for: the scene of `number`. `band` is 1 to 313 lines, and
@@ -17,10 +18,11 @@ pub struct SceneOrder {
 }
 
 /// A command and what it is asked.
-#[derive(Clone, Copy)]
+#[derive(Drop)]
 pub enum Command<'a> {
     Run(Order<'a>),
     Gen(SceneOrder),
+    Rewind(RewindOrder<'a>),
 }
 
 /// Reads the words; None exactly where they are of no command.
@@ -29,10 +31,16 @@ pub fn read_command(words: &[String]) -> Option<Command<'_>>
     ensures apart { IfSome result WritesApart }
     ensures height { IfSome result HasHeight }
     ensures few { IfSome result HasFewWorkers }
+    ensures ranges { IfSome result IsInRange }
 {
     if begins_with(words, "gen") {
         match read_scene_order(words) {
             Some(scene) => Some(Command::Gen(scene)),
+            None => None,
+        }
+    } else if begins_with(words, "rewind") {
+        match read_rewind_order(words) {
+            Some(order) => Some(Command::Rewind(order)),
             None => None,
         }
     } else {

@@ -4,7 +4,8 @@ use Rattle.run_side.specs.declared.side.RunSide.{RunSide}
 use Rattle.serial_bands.specs.Run.{RunOf}
 use Rattle.ocs_run.specs.Asked.{value_of}
 use Rattle.ocs_run.specs.Command.{RunAnswers}
-use Rattle.ocs_run.proofs.OrderLaws.{by_err, RunAnswers-run, RunAnswers-wanting}
+use Rattle.ocs_run.proofs.OrderLaws.{RunAnswers-run, RunAnswers-wanting}
+use Rattle.ocs_run.proofs.VerdictLaws.{by_err}
 use Rattle.ocs_run.proofs.command.run_inputs.Goals as goal
 
 pub returns-clause-answer : goal.returns-clause-answer

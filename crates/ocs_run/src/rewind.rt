@@ -1,0 +1,67 @@
+//! The command `rewind`: the clocks of a run that are asked for are gone to, and a line is said of each.
+
+ghost use Rattle.std.specs.Prelude.{◌≡◌, ◌≤◌, true, IfOk};
+ghost use Rattle.ocs_base.specs.Image.{is_image, fits_chip};
+ghost use Rattle.ocs_base.specs.Limits.{IsRunnable};
+ghost use Rattle.ocs_run.specs.Asked.{rewind_value, HasRanges};
+ghost use Rattle.ocs_run.specs.RewindAnswers.{RewindAnswers};
+ghost use Rattle.ocs_run.specs.RewindText.{AreLines};
+
+use crate::fault::Fault;
+use crate::inputs::{Inputs, read_inputs};
+use crate::rewind_order::RewindOrder;
+use crate::rewind_text::make_lines;
+use band_log::Run;
+use ocs_base::{OutOfMemory, Script};
+use ocs_io::{Place, WriteRefusal};
+use rewind_loop::Rewind;
+use serial_model::NoSide;
+use std::alloc::Global;
+use std::sync::Arc;
+
+/// The height of the bands, in lines, on which nothing that is said depends.
+const BAND_LINES: u16 = 313;
+
+/// Reads image and script as a run does, goes to the clocks that are asked for, and says their lines in one
+/// piece. It creates no file and makes no thread.
+pub fn run_rewind<P: Place>(
+    alloc: Global,
+    order: &RewindOrder<'_>,
+    place: &mut P,
+) -> Result<(), Fault>
+    requires image { P.readable place.old order.now.image.now }
+    requires script { P.readable place.old order.now.script.now }
+    requires ranges { HasRanges order.now }
+    ensures answer { RewindAnswers (rewind_value order.now) (P.outside place.old)
+        (P.outside place.new) result }
+    ensures files { (P.outside place.new).files ≡ (P.outside place.old).files }
+{
+    let Inputs { image, script } = read_inputs(alloc, order.image, order.script, place)?;
+    let text = tell_clocks(alloc, order, image, script)?;
+    match place.say(&text) {
+        Ok(()) => Ok(()),
+        Err(WriteRefusal::Failed) => Err(Fault::Unsaid),
+        Err(WriteRefusal::OutOfMemory) => Err(Fault::OutOfMemory),
+    }
+}
+
+/// The lines of the clocks that are asked for, of the run of a good script over a good image that fits its
+/// chip memory.
+fn tell_clocks(
+    alloc: Global,
+    order: &RewindOrder<'_>,
+    image: Vec<u8>,
+    script: Script,
+) -> Result<Vec<u8>, OutOfMemory>
+    requires image { is_image image.items ≡ true }
+    requires fits { fits_chip script.chip image.items ≡ true }
+    requires script { IsRunnable script }
+    requires ranges { HasRanges order.now }
+    ensures { IfOk result (λ text. AreLines image.items script order.now.every order.now.keep
+        order.now.clocks.items text.items) }
+{
+    let run = Arc::new(alloc, Run::over(image, script, BAND_LINES, NoSide))?;
+    let mut rewind = Rewind::new(alloc, run, order.every as u32, order.keep as usize)?;
+    let told = rewind.go_all(order.clocks.as_slice())?;
+    make_lines(alloc, &told)
+}
