@@ -17,7 +17,7 @@ class Look {
     this.buildPicture();
     const choose = (at) => this.choose(at, true);
     this.list = new List(byId("list"), byId("list-space"), (row, at) => this.drawRow(row, at), choose);
-    this.reading = new Reading(trace, data.system, choose);
+    this.reading = new Reading(trace, data.system, data.inputs, choose);
     this.filter = new Filter(data.registers, data.system.lines, () => this.applyFilter());
     this.tip = element("div", "tip");
     this.tip.hidden = true;

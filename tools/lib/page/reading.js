@@ -5,10 +5,12 @@ const FIRST_WATCHED = 3;
 const NOTHING = "\u2013";
 
 class Reading {
-  /** `whenChosen(at)` is called with the index of a write that the user wants to see. */
-  constructor(trace, system, whenChosen) {
+  /** `inputs` are the names of image and script, as a shell reads them. `whenChosen(at)` is called with the index of a
+   *  write that the user wants to see. */
+  constructor(trace, system, inputs, whenChosen) {
     this.trace = trace;
     this.system = system;
+    this.inputs = inputs;
     this.whenChosen = whenChosen;
     this.watched = this.registersByCount().slice(0, FIRST_WATCHED);
     if (!this.watched.includes(FIRST_COLOUR)) this.watched.unshift(FIRST_COLOUR);
@@ -51,7 +53,7 @@ class Reading {
   }
 
   drawNothing() {
-    for (const id of ["colour", "beam", "column", "held"]) byId(id).textContent = NOTHING;
+    for (const id of ["colour", "beam", "column", "held", "ask"]) byId(id).textContent = NOTHING;
     byId("swatch").style.background = "none";
   }
 
@@ -64,6 +66,7 @@ class Reading {
     const inside = column >= 0 && column < WIDTH && row >= 0 && row < this.system.height;
     const colour = inside ? colourAt(this.image, column, row) : null;
     byId("beam").textContent = `${this.place.line}, ${this.clock}`;
+    byId("ask").textContent = this.isClock() ? this.command() : NOTHING;
     byId("column").textContent = inside ? `${column}, ${row}` : "off the picture";
     byId("swatch").style.background = colour === null ? "none" : cssColour(colour);
     if (colour === null) {
@@ -78,6 +81,11 @@ class Reading {
   /** Whether the beam comes there: with NTSC even lines have a clock less than odd ones. */
   isClock() {
     return this.place.line % 2 === 1 || this.clock < this.system.evenClocks;
+  }
+
+  /** What tells the state of the machine at the place. */
+  command() {
+    return `tools/look --at ${this.frame} ${this.place.line} ${this.clock} ${this.inputs}`;
   }
 
   /** The colour registers that hold the pixel's colour, each with a way to the write that made it so. */

@@ -71,6 +71,18 @@ class LookTest(Tools):
         self.assertNotRegex(text, r"(src|href)=\"(?!data:)")
         self.assertNotIn("{{", text)
 
+    def test_names_of_image_and_script(self) -> None:
+        """They stand in the commands of the page, as a shell reads them."""
+        self.write_run("run", frame({}))
+        self.write("an image", "")
+        self.write("a<b>", "")
+        self.assertEqual(self.page("run/frames", "run/trace")[0]["inputs"], "IMAGE SCRIPT")
+        data, text = self.page("run/frames", "run/trace", "an image", "a<b>")
+        self.assertEqual(data["inputs"], "'an image' 'a<b>'")
+        self.assertNotIn("a<b>", text)
+        self.assertEqual(self.refused("look", "run/frames", "run/trace", "an image", "none"), "look: none: no such file or directory")
+        self.assertIn("is one of the files of the run", self.refused("look", "run/frames", "run/trace", "an image", "a<b>", "-o", "a<b>"))
+
     def test_range(self) -> None:
         self.write_run("run", frame({}) * 3)
         data, text = self.page("run/frames", "run/trace", "--frames", "1")

@@ -174,7 +174,8 @@ class PackedTest(Release):
             text = tar.extractfile(f"{top}/RELEASE").read().decode()
         self.assertEqual(names, sorted(names))
         self.assertEqual({(member.mtime, member.uid, member.gid, member.uname) for member in members}, {(946684800, 0, 0, "")})
-        for name in ("ocs", "README.md", "LICENSE", "CHANGELOG.md", "RELEASE", "SHA256SUMS", "licences/itoa/LICENSE", "tools/look"):
+        tops = ("ocs", "README.md", "LICENSE", "CHANGELOG.md", "RELEASE", "SHA256SUMS")
+        for name in (*tops, "licences/itoa/LICENSE", "tools/look", "tools/when"):
             self.assertIn(name, names)
         self.assertFalse([name for name in names if name.startswith(("crates", "tools/test-", "tools/build", "tools/release"))])
         self.assertIn("57 passed, 0 failed\n", text)
