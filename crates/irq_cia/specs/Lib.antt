@@ -5,3 +5,4 @@ pub mod Icr
 pub mod Port
 pub mod Timer
 pub mod Tod
+pub mod Ticks

@@ -5,6 +5,7 @@ ghost use Rattle.irq_cia.specs.Cia.{register_at, reset_cia, after_tick, after_to
 ghost use Rattle.irq_cia.specs.Cia.{after_read, sets_alarm as alarm_set};
 ghost use Rattle.irq_cia.specs.Cia.{after_write};
 ghost use Rattle.irq_cia.specs.Icr.{is_active};
+ghost use Rattle.irq_cia.specs.Ticks.{HasNoUnderflow, ticks_before_underflow, ticks_on};
 
 use crate::icr::Icr;
 use crate::port::Port;
@@ -143,6 +144,32 @@ impl Cia {
         let underflow_b = self.state.timer_b.count(counts_b);
         self.state.icr.raise(underflow_a, TIMER_A);
         self.state.icr.raise(underflow_b, TIMER_B);
+    }
+
+    /// Ticks of the timers among which none underflows, as many one behind the other: each timer that counts
+    /// goes down by their number.
+    pub fn skip(&mut self, ticks: u16)
+        requires { HasNoUnderflow ticks self.old }
+        ensures { self.new ≡ ticks_on ticks self.old }
+    {
+        let counts_a = self.state.timer_a.counts_ticks();
+        let counts_b = self.state.timer_b.counts_cascade(false);
+        self.state.timer_a.lower(counts_a, ticks);
+        self.state.timer_b.lower(counts_b, ticks);
+    }
+
+    /// A number of ticks among which no timer underflows: the lesser counter of those that count, and 65,535
+    /// where none counts.
+    pub fn ticks_left(&self) -> u16
+        ensures exact { result ≡ ticks_before_underflow self.now }
+        ensures none { HasNoUnderflow result self.now }
+    {
+        let counts_a = self.state.timer_a.counts_ticks();
+        let counts_b = self.state.timer_b.counts_cascade(false);
+        self.state
+            .timer_a
+            .left(counts_a)
+            .min(self.state.timer_b.left(counts_b))
     }
 
     /// One count of the time of day: a line for CIA B and a field for CIA A. Where it makes the time equal

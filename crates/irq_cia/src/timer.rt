@@ -1,11 +1,12 @@
 //! A timer of a CIA.
 
-ghost use Rattle.std.specs.Prelude.{◌≡◌};
+ghost use Rattle.std.specs.Prelude.{◌≡◌, true};
 ghost use Rattle.irq_cia.specs.Bits.{has_bits};
 ghost use Rattle.irq_cia.specs.Timer.{reset_timer, has_start, has_one_shot, counts_as_a, counts_as_b};
 ghost use Rattle.irq_cia.specs.Timer.{is_underflow};
 ghost use Rattle.irq_cia.specs.Timer.{after_underflow, after_count, after_low_write, after_high_write};
 ghost use Rattle.irq_cia.specs.Timer.{after_control_write};
+ghost use Rattle.irq_cia.specs.Ticks.{counts_left, is_far, lowered};
 
 /// START of a control register.
 const START: u8 = 0x01;
@@ -107,6 +108,24 @@ impl Timer {
             self.control &= !START;
         }
         true
+    }
+
+    /// So many ticks, not above its counter, at each of which it counts or not.
+    pub fn lower(&mut self, counts: bool, ticks: u16)
+        requires { is_far counts ticks self.old ≡ true }
+        ensures { self.new ≡ lowered ticks counts self.old }
+    {
+        if counts {
+            self.counter -= ticks;
+        }
+    }
+
+    /// How many ticks it counts, at each or at none, before it underflows; 65,535 where it does not count.
+    pub fn left(&self, counts: bool) -> u16
+        ensures exact { result ≡ counts_left counts self.now }
+        ensures far { is_far counts result self.now ≡ true }
+    {
+        if counts { self.counter } else { 0xffff }
     }
 
     /// A write of the latch's low byte.

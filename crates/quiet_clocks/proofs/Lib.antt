@@ -6,3 +6,4 @@ pub mod QuietTurns
 pub mod QuietClocks
 pub mod Plan
 pub mod OwnedClock
+pub mod IdleClocks

@@ -152,7 +152,7 @@ pub if_either : {X : Type 0} (b : Bool) (x y : X) → x ≡ y → (if b then x e
 if_either true x y is = is
 if_either false x y is = refl
 
-still_copper : (b : Beam) (c : Chips) → CopperIsStill b c → copper_wish b c ≡ None
+pub still_copper : (b : Beam) (c : Chips) → CopperIsStill b c → copper_wish b c ≡ None
 still_copper b c (inl off) = else_of (copper_runs b c) (wish_of c.copper) None off
 still_copper b c (inr (inl stopped)) = if_either (copper_runs b c) (wish_of c.copper) None (stopped_wish c.copper.phase c.copper.at stopped)
 still_copper b c (inr (inr waits)) =
@@ -165,7 +165,7 @@ waiting_step b busy danger c is below =
     ∙ ap (λ holds. record c { phase = if holds then First else Waiting }) below
     ∙ ap (λ (phase : CopperPhase). record c { phase = phase }) (sym is)
 
-still_steps : (b : Beam) (c : Chips) → CopperIsStill b c → copper_after b None c ≡ c.copper
+pub still_steps : (b : Beam) (c : Chips) → CopperIsStill b c → copper_after b None c ≡ c.copper
 unfolding step_copper
 still_steps b c (inl off) = else_of (copper_runs b c) _ c.copper off
 still_steps b c (inr (inl stopped)) =
@@ -173,7 +173,7 @@ still_steps b c (inr (inl stopped)) =
 still_steps b c (inr (inr waits)) =
     if_either (copper_runs b c) _ c.copper (waiting_step b (is_busy c) (is_danger c.registers) c.copper waits.0 waits.1)
 
-still_blit : (c : Chips) → ((blitter_dma c.registers ≡ false) ⊎ (c.blit ≡ None)) → blit_wish c ≡ None
+pub still_blit : (c : Chips) → ((blitter_dma c.registers ≡ false) ⊎ (c.blit ≡ None)) → blit_wish c ≡ None
 still_blit c (inl off) = else_of (blitter_dma c.registers) (option_map ask_of_blit c.blit) None off
 still_blit c (inr none) =
     if_either (blitter_dma c.registers) (option_map ask_of_blit c.blit) None (ap (λ (run : Option BlitUnderWay). option_map ask_of_blit run) none)

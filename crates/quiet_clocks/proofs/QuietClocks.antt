@@ -18,7 +18,8 @@ use Rattle.serial_model.specs.Serial.{state_over}
 use Rattle.serial_model.specs.Side.{SideValue, tick_side}
 use Rattle.serial_model.specs.State.{Chips, State}
 use Rattle.serial_model.specs.Tick.{tick}
-use Rattle.quiet_clocks.specs.Ticks.{HasNoUnderflow, ticks_on, ticks_in}
+use Rattle.irq_cia.specs.Ticks.{HasNoUnderflow, ticks_on}
+use Rattle.quiet_clocks.specs.Ticks.{ticks_in}
 use Rattle.quiet_clocks.specs.PlainClock.{AsksNothingNew}
 use Rattle.quiet_clocks.specs.QuietClock.{IsCalm, IsQuiet, quiet_state, quiet_chips}
 use Rattle.quiet_clocks.specs.QuietClocks.{clocks, later_beam, later_side, later_units, later_chips, later_state, IsQuietSpan, QuietSpan}

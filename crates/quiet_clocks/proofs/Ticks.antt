@@ -6,7 +6,8 @@ use Rattle.irq_cia.specs.Icr.{with_flag}
 use Rattle.irq_cia.specs.Timer.{counts_as_a, counts_as_b, is_underflow, after_underflow, after_count}
 use Rattle.irq_cia.specs.declared.cia.CiaState.{CiaState}
 use Rattle.irq_cia.specs.declared.timer.Timer.{Timer}
-use Rattle.quiet_clocks.specs.Ticks.{after_ticks, is_far, counts_b, HasNoUnderflow, lowered, ticks_on}
+use Rattle.irq_cia.specs.Ticks.{is_far, counts_b, HasNoUnderflow, lowered, ticks_on}
+use Rattle.quiet_clocks.specs.Ticks.{after_ticks}
 use Rattle.quiet_clocks.specs.Ticks.{TicksInClosedForm, TicksTwice, FewerTicks, TicksOfTwo, TickMore, TickLess}
 
 -- one timer

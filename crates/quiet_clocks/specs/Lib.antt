@@ -5,3 +5,4 @@ pub mod QuietTurns
 pub mod QuietClocks
 pub mod Plan
 pub mod OwnedClock
+pub mod IdleClocks

@@ -13,7 +13,8 @@ use Rattle.serial_model.specs.Serial.{state_over}
 use Rattle.serial_model.specs.Side.{SideValue, no_side, tick_side, bits_of_side, ask_of_side}
 use Rattle.serial_model.specs.State.{Chips, State}
 use Rattle.serial_model.specs.Tick.{tick}
-use Rattle.quiet_clocks.specs.Ticks.{HasNoUnderflow, ticks_on, ticks_in}
+use Rattle.irq_cia.specs.Ticks.{HasNoUnderflow, ticks_on}
+use Rattle.quiet_clocks.specs.Ticks.{ticks_in}
 use Rattle.quiet_clocks.specs.PlainClock.{AsksNothingNew}
 use Rattle.quiet_clocks.specs.QuietClock.{IsCalm, TurnsTo}
 
@@ -76,6 +77,17 @@ pub record IsQuietSpan (events : List At) (s : State) (n : ℕ) (processors : �
   pub turns : (k : ℕ) → k < n → TurnsTo s.chips.irq (processors k) (processors (suc k))
   pub timers_a : HasNoUnderflow (ticks_in s.t n) s.chips.cia_a
   pub timers_b : HasNoUnderflow (ticks_in s.t n) s.chips.cia_b
+
+-- what is known of the chips by which the next n clocks are quiet, where no side is, the clocks lie within the line, and no event
+-- of the script is due: nothing new is requested, nobody asks for the slot, the processor turns to the next of these, and no
+-- timer underflows
+pub record AreQuiet (b : Beam) (t n : ℕ) (processors : ℕ → Processor) (c : Chips) : Type 0 where
+  pub begin : processors 0 ≡ c.processor
+  pub lines : AsksNothingNew 0 c
+  pub calm : (k : ℕ) → k < n → IsCalm (later_beam k b) (record c { processor = processors k; units = later_units k b c.registers c.units })
+  pub turns : (k : ℕ) → k < n → TurnsTo c.irq (processors k) (processors (suc k))
+  pub timers_a : HasNoUnderflow (ticks_in t n) c.cia_a
+  pub timers_b : HasNoUnderflow (ticks_in t n) c.cia_b
 
 -- n quiet clocks
 abbrev pub QuietSpan : Type 0

@@ -7,6 +7,7 @@ ghost use Rattle.quiet_clocks.specs.QuietClock.{QuietTick, QuietMakes, StillIsCa
 ghost use Rattle.quiet_clocks.specs.QuietTurns.{WaitsThrough, StaysOff, StaysHalted, StaysStopped, LosesSlot};
 ghost use Rattle.quiet_clocks.specs.QuietClocks.{QuietSpan, FewerAreQuiet, ClocksOfTwo};
 ghost use Rattle.quiet_clocks.specs.QuietClocks.{ClocksOfRun, NoSideStays};
+ghost use Rattle.quiet_clocks.specs.IdleClocks.{IdleIsCalm, LastLater, UnitStays, UnitOfTwo, UnitCanBegin, TicksByPlace};
 ghost use Rattle.quiet_clocks.specs.Plan.{PlanNext, PlanKept, WriteKeepsFetches};
 ghost use Rattle.quiet_clocks.specs.Plan.{FetchKeepsFetches, SpriteKeepsFetches, PlanSays, PlanSpan};
 ghost use Rattle.quiet_clocks.specs.OwnedClock.{PlaneTick, CopperHas, BlitterHas, ProcessorHas};
@@ -56,6 +57,17 @@ pub fn quiet_clocks()
     ensures of_two { ClocksOfTwo }
     ensures of_run { ClocksOfRun }
     ensures no_side { NoSideStays }
+{}
+
+/// What tells that nobody of the chips asks for the slot, in clocks of sprites too; where the last unit of a
+/// later clock began; and that the ticks among clocks hang on the first one's place among five alone.
+pub fn idle_clocks()
+    ensures calm { IdleIsCalm }
+    ensures last { LastLater }
+    ensures stays { UnitStays }
+    ensures two { UnitOfTwo }
+    ensures can { UnitCanBegin }
+    ensures ticks { TicksByPlace }
 {}
 
 /// A plan of the fetches of a line, made at some clock of it: that it stays one from clock to clock and
