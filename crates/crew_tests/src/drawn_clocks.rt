@@ -116,6 +116,10 @@ impl Side for Steady {
     }
 
     fn give(&mut self, _word: u16) {}
+
+    fn is_nothing(&self) -> bool {
+        false
+    }
 }
 
 fn fresh(beam: &Beam) -> BandPainter

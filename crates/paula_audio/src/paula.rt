@@ -140,6 +140,10 @@ impl Side for Paula {
     fn give(&mut self, word: u16) {
         self.take(word);
     }
+
+    fn is_nothing(&self) -> bool {
+        false
+    }
 }
 
 /// Whether DMAEN and a channel's bit of DMACON are set.

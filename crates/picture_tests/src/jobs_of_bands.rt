@@ -184,4 +184,8 @@ impl Side for Steady {
     }
 
     fn give(&mut self, _word: u16) {}
+
+    fn is_nothing(&self) -> bool {
+        false
+    }
 }

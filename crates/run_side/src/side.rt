@@ -73,6 +73,11 @@ impl Side for RunSide {
             RunSide::Reading(disk) => give_disk(disk, word),
         }
     }
+
+    #[inline(always)]
+    fn is_nothing(&self) -> bool {
+        matches!(self, RunSide::Nothing)
+    }
 }
 
 // The calls of sound and disk stand apart, so that the clocks of a run without them have nothing of theirs

@@ -24,7 +24,8 @@ use Rattle.serial_bands.specs.EventReading.{touch_of_event}
 use Rattle.serial_bands.specs.ReplayLaws.{with_script, step_of_kept, after_kept}
 use Rattle.serial_bands.specs.DrawnTo.{IsDrawnTo, with_access}
 use Rattle.serial_bands.specs.Late.{IsLate}
-use Rattle.serial_bands.specs.Spans.{IsPlaneIfAny, IsQuiet, AreQuiet, IsUntouched, AreUntouched, fetched, IsOnLine, DrawingGoesOnQuietly, IsBehind, UntouchedBeforeFirst}
+use Rattle.serial_bands.specs.Spans.{IsPlaneIfAny, IsQuiet, AreQuiet, IsUntouched, AreUntouched, fetched, IsOnLine}
+use Rattle.serial_bands.specs.Spans.{DrawingGoesOnQuietly, IsBehind, UntouchedBeforeFirst}
 use Rattle.serial_bands.specs.Spans.{FetchIsNext}
 use Rattle.serial_bands.proofs.Ors.{or_assoc, or_none}
 use Rattle.serial_bands.proofs.Late.{fetches_are_late}

@@ -1,7 +1,7 @@
 //! What stands beside the chips and takes part in the bus.
 
-ghost use Rattle.std.specs.Prelude.{◌≡◌};
-ghost use Rattle.serial_model.specs.Side.{SideValue, IsInTime, poke_side, tick_side, bits_of_side, ask_of_side, give_side};
+ghost use Rattle.std.specs.Prelude.{◌≡◌, true};
+ghost use Rattle.serial_model.specs.Side.{SideValue, IsInTime, poke_side, tick_side, bits_of_side, ask_of_side, give_side, no_side};
 
 use crate::bus::SideAsk;
 use ocs_base::{Beam, Reg};
@@ -32,6 +32,11 @@ pub trait Side: Drop {
     /// It got the slot, with this word: the one that it stores, or the one that it reads.
     fn give(&mut self, word: u16)
         ensures { seen self.new ≡ give_side word (seen self.old) };
+
+    /// Whether it is known to be no side, which does nothing whatever happens. One that cannot tell answers
+    /// false; nothing hangs on it but how fast a run is.
+    fn is_nothing(&self) -> bool
+        ensures { result ≡ true → seen self.now ≡ no_side };
 }
 
 /// No side: it asks for nothing and requests nothing.
@@ -58,4 +63,9 @@ impl Side for NoSide {
 
     #[inline(always)]
     fn give(&mut self, _word: u16) {}
+
+    #[inline(always)]
+    fn is_nothing(&self) -> bool {
+        true
+    }
 }
