@@ -5,8 +5,10 @@ ghost use Rattle.std.specs.Prelude.{◌≡◌, ◌≤◌, Some};
 ghost use Rattle.cpu_bus.specs.Bus.{AdvancesBy};
 ghost use Rattle.serial_model.specs.Processor.{Processor, reset_processor, processor_wish, slot_wish, give_processor, turn_of, turn_by, after_clocks};
 
+mod quiet;
 mod target;
 
+pub use crate::quiet::waits_of_none;
 use crate::target::wait_for;
 use m68k_exec::{Ask as Access, Cpu};
 use ocs_base::ChipSize;

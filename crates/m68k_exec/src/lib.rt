@@ -19,6 +19,7 @@ mod operation;
 mod row_data;
 mod state;
 mod status;
+mod stopped;
 
 pub use ask::Ask;
 pub use m68k_decode::CpuRegs;

@@ -1,0 +1,31 @@
+//! Whether the processor is stopped.
+
+ghost use Rattle.std.specs.Prelude.{◌≡◌, ℕ, List};
+ghost use Rattle.m68k_decode.specs.declared.regs.CpuRegs.{CpuRegs};
+ghost use Rattle.m68k_decode.specs.declared.under.Under.{Under};
+ghost use Rattle.m68k_decode.specs.Status.{mask_of};
+ghost use Rattle.m68k_exec.specs.Stands.{Stands};
+ghost use Rattle.m68k_exec.specs.Stopped.{stands_stopped};
+
+use crate::state::{Cpu, Step};
+use crate::status::mask;
+
+impl Cpu {
+    /// Whether STOP has stopped it, a clock of that is over, and nothing but an interrupt wakes it (or it has
+    /// just begun one more of these clocks).
+    pub fn is_stopped(&self) -> bool
+        ensures { (r : CpuRegs) (u : Under) (ws : List ℕ) → Stands self.now r u ws
+            → result ≡ stands_stopped u ws }
+    {
+        self.done == 0 && matches!(self.machine.step, Step::Ended { .. })
+    }
+
+    /// The interrupt mask of the status register with which what is under way began, 0 to 7: only a level
+    /// above it begins an interrupt.
+    pub fn mask(&self) -> u8
+        ensures { (r : CpuRegs) (u : Under) (ws : List ℕ) → Stands self.now r u ws
+            → result ≡ mask_of r.sr }
+    {
+        mask(self.context.start.sr)
+    }
+}
