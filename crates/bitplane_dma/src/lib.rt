@@ -6,12 +6,15 @@
 //! registers of its own clock is this project's profile.
 #![tactic(auto)]
 
-ghost use Rattle.std.specs.Prelude.{◌≡◌, ◌<◌, ◌≤◌, IfSome, Some, None, List, ℕ, Option};
+ghost use Rattle.std.specs.Prelude.{◌≡◌, ◌<◌, ◌≤◌, ◌+◌, false, IfSome, Some, None, List, ℕ, Option};
 ghost use Rattle.serial_model.specs.PlaneFetch.{units_at, last_unit, last_unit_at, plane_ask, move_planes, IsLastUnit};
-ghost use Rattle.serial_model.specs.PlaneFetch.{begins_unit, begins_first as first_begins, has_next as next_follows, plane_dma};
+ghost use Rattle.serial_model.specs.PlaneFetch.{begins_unit, is_running, fetches_plane, high_resolution, begins_first as first_begins, has_next as next_follows, plane_dma};
 ghost use Rattle.serial_model.specs.PlaneFetch.{fetch_start as start_of, fetch_end as end_of, fetched_plane};
 ghost use Rattle.serial_model.specs.PlaneFetch.{slot_plane as plane_of_slot, added_bytes as bytes_added, modulo_bytes as bytes_of};
 ghost use Rattle.serial_model.specs.Registers.{kept_word};
+ghost use Rattle.quiet_clocks.specs.Plan.{unit_on};
+ghost use Rattle.quiet_clocks.specs.QuietClocks.{later_beam};
+ghost use Rattle.bitplane_dma.specs.Quiet.{FetchesNothing};
 ghost use Rattle.serial_model.specs.Window.{is_window_line as in_window};
 
 use ocs_base::offset::{BPL1MOD, BPL2MOD, BPLCON0, DDFSTOP, DDFSTRT, DIWSTOP, DIWSTRT, DMACON};
@@ -75,6 +78,45 @@ impl Fetcher {
         fetch(beam.h, start, regs)
     }
 
+    /// For how many clocks of this line, from this one on and at most so many, the planes need no slot, while
+    /// the registers stay: no plane is fetched. There may be more such clocks behind them.
+    #[tactic(auto, using(crate::proofs::Quiet::quiet_off, crate::proofs::Quiet::quiet_in_unit, crate::proofs::Quiet::quiet_between))]
+    pub fn quiet(&self, beam: &Beam, regs: &Regs, most: u16) -> u16
+        requires inner { 0 < beam.now.h }
+        ensures most { result ≤ most }
+        ensures quiet { (k : ℕ) → k < result → FetchesNothing k beam.now regs.now self.now }
+    {
+        if !has_planes(regs) {
+            return most;
+        }
+        match unit_now(self.last, beam, regs) {
+            Some(start) if start <= beam.h && beam.h - start < 8 => {
+                before_fetch(beam.h - start, regs, most)
+            }
+            _ => before_unit(self.last, beam, regs, most),
+        }
+    }
+
+    /// Whether a unit runs, or ends with this clock, whose planes leave hardly two clocks in a row free: then
+    /// it does not pay to look for such. Nothing hangs on the answer but how fast a run is.
+    #[inline(always)]
+    pub fn is_dense(&self, beam: &Beam, regs: &Regs) -> bool {
+        match self.last {
+            Some(start) if start <= beam.h && beam.h - start <= 8 => has_many_planes(regs),
+            _ => false,
+        }
+    }
+
+    /// So many clocks of this line pass, from this one on, at which no plane is fetched, while the registers
+    /// stay: units may have begun.
+    pub fn skip(&mut self, beam: &Beam, regs: &Regs, clocks: u16)
+        requires inner { 0 < beam.now.h }
+        requires room { beam.now.h + clocks ≤ 226 }
+        ensures { self.new ≡ unit_on clocks beam.now regs.now self.old }
+    {
+        self.last = unit_after(self.last, beam, regs, clocks);
+    }
+
     /// Begins a unit where one begins at this clock. All begin at multiples of four.
     #[inline(always)]
     fn begin(&mut self, beam: &Beam, regs: &Regs)
@@ -112,6 +154,133 @@ fn begins_first(beam: &Beam, regs: &Regs) -> bool
     ensures { result ≡ first_begins beam.now regs.now }
 {
     has_dma(regs) && beam.h <= 0xd8 && beam.h == fetch_start(regs) && is_window_line(beam.v, regs)
+}
+
+/// Whether a unit has three planes or more, or two in high resolution. Nothing hangs on it but how fast a run
+/// is.
+#[inline(always)]
+fn has_many_planes(regs: &Regs) -> bool {
+    let con0 = regs.word(Reg::masked(BPLCON0));
+    con0 / 0x1000 % 8 >= if con0 >= 0x8000 { 2 } else { 3 }
+}
+
+/// Whether any plane is fetched in a unit.
+fn has_planes(regs: &Regs) -> bool
+    ensures { result ≡ false → (plane : ℕ) → fetches_plane regs.now plane ≡ false }
+{
+    regs.word(Reg::masked(BPLCON0)) / 0x1000 % 8 != 0 && has_dma(regs)
+}
+
+/// Where the last unit began, with what this clock adds.
+fn unit_now(last: Option<u16>, beam: &Beam, regs: &Regs) -> Option<u16>
+    requires { 0 < beam.now.h }
+    ensures { result ≡ last_unit_at beam.now regs.now last }
+{
+    if begins(beam, last, regs) {
+        Some(beam.h)
+    } else {
+        last
+    }
+}
+
+/// Where the last unit began by so many clocks on in this line.
+fn unit_after(last: Option<u16>, beam: &Beam, regs: &Regs, clocks: u16) -> Option<u16>
+    requires inner { 0 < beam.now.h }
+    requires room { beam.now.h + clocks ≤ 226 }
+    ensures { result ≡ unit_on clocks beam.now regs.now last }
+{
+    let mut unit = last;
+    let mut passed = 0;
+    while passed < clocks {
+        let later = Beam {
+            frame: beam.frame,
+            v: beam.v,
+            h: beam.h + passed,
+            lof: beam.lof,
+        };
+        passed += pass_unit(&mut unit, &later, regs, clocks - passed);
+    }
+    unit
+}
+
+/// Passes over clocks of this line up to where the next unit begins, or over the one at which it begins; at
+/// most so many. The answer is how many.
+fn pass_unit(unit: &mut Option<u16>, beam: &Beam, regs: &Regs, most: u16) -> u16
+    requires inner { 0 < beam.now.h }
+    requires some { 0 < most }
+    ensures some { 0 < result }
+    ensures most { result ≤ most }
+    ensures unit { unit.new ≡ unit_on result beam.now regs.now unit.old }
+{
+    let stays = stay(*unit, beam, regs, most);
+    if stays > 0 {
+        return stays;
+    }
+    *unit = unit_now(*unit, beam, regs);
+    1
+}
+
+/// For how many clocks of this line, from this one on and at most so many, no unit begins.
+fn stay(last: Option<u16>, beam: &Beam, regs: &Regs, most: u16) -> u16
+    ensures most { result ≤ most }
+    ensures none { (k : ℕ) → k < result
+        → begins_unit (later_beam k beam.now) regs.now last ≡ false }
+{
+    match last {
+        Some(start) if start <= beam.h && beam.h - start < 8 => most.min(8 - (beam.h - start)),
+        _ => before_unit(last, beam, regs, most),
+    }
+}
+
+/// For how many clocks of this line, from this one on and at most so many, no unit begins or runs.
+fn before_unit(last: Option<u16>, beam: &Beam, regs: &Regs, most: u16) -> u16
+    ensures most { result ≤ most }
+    ensures none { (k : ℕ) → k < result
+        → begins_unit (later_beam k beam.now) regs.now last ≡ false }
+    ensures rest { (k : ℕ) → k < result → is_running (beam.now.h + k) last ≡ false }
+{
+    if let Some(start) = last {
+        if beam.h < start || beam.h - start < 8 {
+            return 0;
+        }
+        if beam.h - 8 == start && has_next(start, regs) {
+            return 0;
+        }
+    }
+    before_first(beam, regs, most)
+}
+
+/// For how many clocks from this slot of a unit on, at most so many, the unit goes on and fetches no plane.
+fn before_fetch(slot: u16, regs: &Regs, most: u16) -> u16
+    requires { slot < 8 }
+    ensures most { result ≤ most }
+    ensures within { slot + result ≤ 8 }
+    ensures none { (k : ℕ) → k < result →
+        fetches_plane regs.now (plane_of_slot (high_resolution regs.now) (slot + k)) ≡ false }
+{
+    let con0 = regs.word(Reg::masked(BPLCON0));
+    let mut clocks = 0;
+    while clocks < most && slot + clocks < 8 {
+        let plane = slot_plane(con0 >= 0x8000, slot + clocks);
+        if plane >= 1 && plane as u16 <= con0 / 0x1000 % 8 {
+            return clocks;
+        }
+        clocks += 1;
+    }
+    clocks
+}
+
+/// For how many clocks of this line, from this one on and at most so many, none begins as the line's first,
+/// or as the first of a further train.
+fn before_first(beam: &Beam, regs: &Regs, most: u16) -> u16
+    ensures most { result ≤ most }
+    ensures none { (k : ℕ) → k < result → first_begins (later_beam k beam.now) regs.now ≡ false }
+{
+    let start = fetch_start(regs);
+    if start < beam.h || start > 0xd8 || !has_dma(regs) || !is_window_line(beam.v, regs) {
+        return most;
+    }
+    most.min(start - beam.h)
 }
 
 /// Whether a further unit follows the one that began at `start`.

@@ -6,10 +6,12 @@
 //! chip memory.
 #![tactic(auto)]
 
-ghost use Rattle.std.specs.Prelude.{◌≡◌, ◌<◌};
+ghost use Rattle.std.specs.Prelude.{◌≡◌, ◌<◌, ◌≤◌, ◌+◌, ℕ, true, false};
 ghost use Rattle.serial_model.specs.Copper.{copper_from, wish_of, step_copper, copper_act, bytes_after};
 ghost use Rattle.serial_model.specs.Copper.{comparison_holds, is_forbidden as forbidden, is_stopped, instruction_of};
 ghost use Rattle.serial_model.specs.Copper.{complete_instruction, phase_after as phase_of, length_of, act_of};
+ghost use Rattle.quiet_clocks.specs.QuietClocks.{later_beam};
+ghost use Rattle.copper.specs.Quiet.{DoesNothing, HoldsNot};
 
 use ocs_base::{Addr, Beam, Reg};
 use serial_model::CopperInstruction;
@@ -74,6 +76,23 @@ impl Copper {
         ensures { result ≡ is_stopped self.now }
     {
         matches!(self.state.phase, CopperPhase::Stopped)
+    }
+
+    /// For how many clocks of this line, from this one on and at most so many, it does nothing even with its
+    /// DMA on: it neither asks for a slot nor goes on. `busy` says that the blitter is busy all the while.
+    /// There may be more such clocks behind them.
+    pub fn quiet(&self, beam: &Beam, busy: bool, most: u16) -> u16
+        requires room { beam.now.h + most ≤ 226 }
+        ensures most { result ≤ most }
+        ensures quiet { (k : ℕ) → k < result → DoesNothing (later_beam k beam.now) busy self.now }
+    {
+        match self.state.phase {
+            CopperPhase::Stopped => most,
+            CopperPhase::First | CopperPhase::Second => most.min(beam.h % 2),
+            CopperPhase::Waiting => {
+                before_hold(beam, busy, self.state.first, self.state.second, most)
+            }
+        }
     }
 
     /// One step. It is made once on each even clock at which DMAEN and COPEN of DMACON are set (that the
@@ -227,4 +246,41 @@ fn holds(beam: &Beam, busy: bool, first: u16, second: u16) -> bool
     let mask = 0x8000 | second & 0x7ffe;
     let place = (beam.v as u32 % 256) * 256 + beam.h as u32 / 2 * 2;
     place & mask as u32 >= (first & 0xfffe & mask) as u32 && (second >= 0x8000 || !busy)
+}
+
+/// For how many clocks of this line, from this one on and at most so many, the comparison holds at no even
+/// one.
+fn before_hold(beam: &Beam, busy: bool, first: u16, second: u16, most: u16) -> u16
+    requires room { beam.now.h + most ≤ 226 }
+    ensures most { result ≤ most }
+    ensures none { (k : ℕ) → k < result → HoldsNot (later_beam k beam.now) busy first second }
+{
+    if is_never_met(beam, busy, first, second) {
+        return most;
+    }
+    let mut clocks = beam.h % 2;
+    while clocks < most {
+        let later = Beam {
+            frame: beam.frame,
+            v: beam.v,
+            h: beam.h + clocks,
+            lof: beam.lof,
+        };
+        if holds(&later, busy, first, second) {
+            return clocks;
+        }
+        clocks += 2;
+    }
+    most
+}
+
+/// Whether the comparison is known to hold at no clock of this line from this one on: the line is below that
+/// of the first word, under the mask, or the blitter is busy and counts.
+#[tactic(auto, using(crate::proofs::Quiet::never_by_line, crate::proofs::Quiet::never_by_blitter))]
+fn is_never_met(beam: &Beam, busy: bool, first: u16, second: u16) -> bool
+    ensures { result ≡ true → (k : ℕ) → beam.now.h + k < 256
+        → comparison_holds (later_beam k beam.now) busy first second ≡ false }
+{
+    let masked = 0x8000 | second & 0x7ffe;
+    beam.v % 256 & masked / 256 < (first & 0xfffe & masked) / 256 || second < 0x8000 && busy
 }

@@ -5,9 +5,12 @@
 //! sprite hardware). The clocks of the slots and the first line are this project's profile.
 #![tactic(auto)]
 
-ghost use Rattle.std.specs.Prelude.{◌≡◌, ◌<◌, true};
+ghost use Rattle.std.specs.Prelude.{◌≡◌, ◌<◌, ◌≤◌, ◌+◌, ◌%◌, true, false, ℕ, get_or};
 ghost use Rattle.serial_model.specs.SpriteFetch.{no_kinds, kinds_at, sprite_ask, move_sprites, kind_of, kind_by};
 ghost use Rattle.serial_model.specs.SpriteFetch.{sprite_dma as dma_of, ask_by_kind, move_if_asked, is_sprite_slot};
+ghost use Rattle.serial_model.specs.declared.fetch.SpriteKind.TheVariants.{Nothing};
+ghost use Rattle.quiet_clocks.specs.QuietClocks.{later_beam};
+ghost use Rattle.sprite_dma.specs.Quiet.{ReadsNothing};
 
 use ocs_base::offset::DMACON;
 use ocs_base::{Addr, Beam, Reg};
@@ -18,7 +21,9 @@ use std::marker::Model;
 /// The line on which every sprite reads its control words.
 const FIRST_LINE: u16 = 25;
 
-/// The last clock of a line that is a slot of a sprite.
+/// The first and the last clock of a line that are slots of sprites.
+const FIRST_SLOT: u16 = 0x15;
+
 const LAST_SLOT: u16 = 0x33;
 
 /// Sprite fetch between two colour clocks: what each sprite reads on this line.
@@ -84,6 +89,76 @@ impl SpriteDma {
         fetch(kind, sprite as u8, beam.h % 4 == 3, regs)
     }
 
+    /// For how many clocks of this line, from this one on and at most so many, the sprites need no slot,
+    /// while the registers stay: what they read on this line stays as it is, and none asks. There may be
+    /// more such clocks behind them.
+    #[tactic(auto, using(crate::proofs::Quiet::quiet_without_dma, crate::proofs::Quiet::quiet_behind, std::proofs::lemmas::Bool::Decides::nat_tests))]
+    pub fn quiet(&self, beam: &Beam, regs: &Regs, most: u16) -> u16
+        requires inner { 0 < beam.now.h }
+        ensures most { result ≤ most }
+        ensures quiet { (k : ℕ) → k < result
+            → ReadsNothing (later_beam k beam.now) regs.now self.now }
+    {
+        if beam.h > LAST_SLOT {
+            return most;
+        }
+        if !has_dma(regs) && self.is_idle() {
+            return most;
+        }
+        self.before_read(beam, regs, most)
+    }
+
+    /// For how many clocks of this line, from this one on and at most so many, no sprite reads anything, and
+    /// none begins to.
+    fn before_read(&self, beam: &Beam, regs: &Regs, most: u16) -> u16
+        requires inner { 0 < beam.now.h }
+        requires early { beam.now.h ≤ 0x33 }
+        ensures most { result ≤ most }
+        ensures quiet { (k : ℕ) → k < result
+            → ReadsNothing (later_beam k beam.now) regs.now self.now }
+    {
+        let mut clocks = before_slot(beam.h);
+        while clocks < most && beam.h + clocks <= LAST_SLOT {
+            let slot = Beam {
+                frame: beam.frame,
+                v: beam.v,
+                h: beam.h + clocks,
+                lof: beam.lof,
+            };
+            if !self.is_idle_slot(&slot, regs) {
+                return clocks;
+            }
+            clocks += 2;
+        }
+        most
+    }
+
+    /// Whether the sprite of this slot reads nothing on this line, and does not begin to.
+    #[tactic(auto, using(crate::proofs::Quiet::quiet_second, crate::proofs::Quiet::quiet_first, std::proofs::lemmas::Bool::Decides::nat_tests))]
+    fn is_idle_slot(&self, beam: &Beam, regs: &Regs) -> bool
+        requires { is_sprite_slot beam.now.h ≡ true }
+        ensures { result ≡ true → ReadsNothing beam.now regs.now self.now }
+    {
+        let sprite = (beam.h - 0x15) / 4;
+        if !is_nothing(self.kinds[sprite as usize]) {
+            return false;
+        }
+        beam.h % 4 == 3 || is_nothing(kind(beam.v, sprite as u8, regs))
+    }
+
+    /// Whether no sprite reads anything on this line, as far as it is decided.
+    fn is_idle(&self) -> bool
+        ensures { result ≡ true → (sprite : ℕ) → sprite < 8
+            → get_or self.now sprite Nothing ≡ Nothing }
+    {
+        for sprite in 0..8 {
+            if !is_nothing(self.kinds[sprite]) {
+                return false;
+            }
+        }
+        true
+    }
+
     /// Decides at a sprite's first slot what it reads on this line.
     #[tactic(auto, unfolding(serial_model::specs::SpriteFetch::kinds_at))]
     fn decide(&mut self, beam: &Beam, regs: &Regs)
@@ -94,6 +169,28 @@ impl SpriteDma {
             let sprite = (beam.h - 0x15) / 4;
             self.kinds[sprite as usize] = kind(beam.v, sprite as u8, regs);
         }
+    }
+}
+
+/// Whether a sprite of this kind reads nothing.
+fn is_nothing(kind: SpriteKind) -> bool
+    ensures { result ≡ true → kind ≡ Nothing }
+{
+    matches!(kind, SpriteKind::Nothing)
+}
+
+/// How many clocks from clock `h` of a line on come before the next slot of a sprite, if there is one.
+fn before_slot(h: u16) -> u16
+    requires { h ≤ 0x33 }
+    ensures few { h + result ≤ 0x35 }
+    ensures slot { (h + result) % 2 ≡ 1 }
+    ensures first { 0x15 ≤ h + result }
+    ensures none { (k : ℕ) → k < result → is_sprite_slot (h + k) ≡ false }
+{
+    if h < FIRST_SLOT {
+        FIRST_SLOT - h
+    } else {
+        1 - h % 2
     }
 }
 
