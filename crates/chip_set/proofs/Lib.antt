@@ -5,6 +5,7 @@ pub mod ChipsLaws
 pub mod ClxLaws
 pub mod MadeLaws
 pub mod TurnLaws
+pub mod QuietLaws
 mod WriteLaws
 mod LateLaws
 mod StartLaws

@@ -3,7 +3,7 @@
 
 ghost use Rattle.std.specs.Prelude.{◌≡◌, Some, is_some};
 ghost use Rattle.serial_model.specs.State.{Chips as ChipsOf};
-ghost use Rattle.serial_model.specs.Registers.{is_interlaced as interlaced, is_danger as danger, blitter_first, blitter_dma, dmacon_of, effect_of, word_at};
+ghost use Rattle.serial_model.specs.Registers.{is_interlaced as interlaced, is_danger as danger, blitter_first, blitter_dma, copper_dma, dmacon_of, effect_of, word_at};
 ghost use Rattle.serial_model.specs.Bus.{copper_runs as runs, copper_wish as wish_of, copper_word as word_to_copper};
 ghost use Rattle.serial_model.specs.Bus.{copper_after, blit_owner_ask, missed_after, ask_at, answer_blit};
 ghost use Rattle.serial_model.specs.Made.{word_of};
@@ -61,15 +61,15 @@ const LACE: u16 = 0x4;
 /// which it missed the slot, the two CIAs and the joysticks.
 #[derive(Drop)]
 pub struct Chips {
-    registers: Regs,
-    fetcher: Fetcher,
-    sprites: SpriteDma,
-    copper: Copper,
-    blit: Option<Blit>,
+    pub(crate) registers: Regs,
+    pub(crate) fetcher: Fetcher,
+    pub(crate) sprites: SpriteDma,
+    pub(crate) copper: Copper,
+    pub(crate) blit: Option<Blit>,
     zero: bool,
     pub(crate) irq: Irq,
     pub(crate) processor: BusCpu,
-    missed: u8,
+    pub(crate) missed: u8,
     pub(crate) cia_a: Cia,
     pub(crate) cia_b: Cia,
     pub(crate) inputs: Inputs,
@@ -550,7 +550,7 @@ impl Chips {
     }
 
     /// Whether DMAEN and BLTEN are set.
-    fn has_blitter_dma(&self) -> bool
+    pub(crate) fn has_blitter_dma(&self) -> bool
         ensures { result ≡ blitter_dma self.now.registers }
     {
         self.registers.word(Reg::masked(DMACON)) & BLITTER_DMA == BLITTER_DMA
@@ -623,7 +623,14 @@ impl Chips {
     fn copper_runs(&self, beam: &Beam) -> bool
         ensures { result ≡ runs beam.now (plain_chips self.now) }
     {
-        beam.h % 2 == 0 && self.registers.word(Reg::masked(DMACON)) & COPPER_DMA == COPPER_DMA
+        beam.h % 2 == 0 && self.has_copper_dma()
+    }
+
+    /// Whether DMAEN and COPEN are set.
+    pub(crate) fn has_copper_dma(&self) -> bool
+        ensures { result ≡ copper_dma self.now.registers }
+    {
+        self.registers.word(Reg::masked(DMACON)) & COPPER_DMA == COPPER_DMA
     }
 
     /// The address of the word that the Copper asks for at this clock.

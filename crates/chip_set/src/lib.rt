@@ -5,6 +5,7 @@ mod asks;
 mod blit_registers;
 mod chips;
 pub mod laws;
+mod quiet;
 mod turn;
 
 pub use asks::is_clx_ask;

@@ -6,15 +6,17 @@ ghost use Rattle.serial_model.specs.State.{Chips as ChipsOf};
 ghost use Rattle.serial_model.specs.Cias.{answer_of_cia, access_cia as access_of_cia, pins_at, fire_pins as fire_pins_of};
 ghost use Rattle.serial_model.specs.Cias.{tick_timers as ticked, line_bits as line_bits_of, time_chips};
 ghost use Rattle.serial_model.specs.Turns.{go_on_with, begins_with, run_chips, interrupt_of};
+ghost use Rattle.serial_model.specs.Processor.{turn_of};
+ghost use Rattle.serial_model.specs.declared.processor.Turn.TheVariants.{Goes};
 ghost use Rattle.chip_set.specs.Chips.{IsChipsOf};
 
 use crate::chips::Chips;
 use serial_model::{CiaName, CiaRegister, Inputs, Turn};
 
 /// The interrupts of the two CIAs, as bits of INTREQ.
-const PORTS: u16 = 0x8;
+pub(crate) const PORTS: u16 = 0x8;
 
-const EXTER: u16 = 0x2000;
+pub(crate) const EXTER: u16 = 0x2000;
 
 /// The bits of CIA A's port A that are 0 while a fire button is down.
 const FIRE0: u8 = 0x40;
@@ -76,12 +78,28 @@ impl Chips {
                 self.processor.wait(spent);
                 None
             }
-            Turn::Goes { word } => self.go_on(word),
+            Turn::Goes { word } => self.go_on_or_rest(word),
             Turn::Cia { cia, reg, byte } => {
                 let word = self.access_cia(cia, reg, byte);
                 self.go_on(word)
             }
         }
+    }
+
+    /// The processor goes on with a word, where that is its turn. One that only waits on by it, as while it
+    /// is stopped by STOP, is not worked out anew.
+    #[inline(always)]
+    fn go_on_or_rest(&mut self, word: u16) -> Option<u8>
+        ensures chips { (c : ChipsOf) → IsChipsOf self.old c → turn_of c.processor ≡ Goes word
+            → IsChipsOf self.new (go_on_with word c) }
+        ensures interrupt { (c : ChipsOf) → IsChipsOf self.old c → turn_of c.processor ≡ Goes word
+            → result ≡ begins_with word c }
+    {
+        if self.processor.quiet(&self.irq) == 0 {
+            return self.go_on(word);
+        }
+        self.processor.skip(1);
+        None
     }
 
     /// The processor goes on with a word, and with the interrupt level as it is now.

@@ -1,0 +1,166 @@
+//! Clocks at which no chip does anything but wait, passed over at once.
+
+ghost use Rattle.std.specs.Prelude.{◌≡◌, ◌⊎◌, ◌≤◌, ◌<◌, ◌+◌, ℕ, false, true, is_some};
+ghost use Rattle.serial_model.specs.Registers.{blitter_dma, copper_dma};
+ghost use Rattle.serial_model.specs.State.{Chips as ChipsOf};
+ghost use Rattle.irq_cia.specs.Ticks.{HasNoUnderflow};
+ghost use Rattle.cpu_bus.specs.Quiet.{RestsFor, CanCount};
+ghost use Rattle.quiet_clocks.specs.PlainClock.{AsksNothingNew};
+ghost use Rattle.quiet_clocks.specs.QuietClocks.{later_beam};
+ghost use Rattle.quiet_clocks.specs.Ticks.{ticks_in};
+ghost use Rattle.chip_set.specs.Chips.{IsChipsOf, plain_chips};
+ghost use Rattle.chip_set.specs.Quiet.{PassesQuiet, AreIdle, AreLater, IsCopperIdle};
+
+use crate::chips::Chips;
+use crate::turn::{EXTER, PORTS};
+use ocs_base::Beam;
+
+impl Chips {
+    /// Passes over clocks of this line at which nobody asks for the slot and nothing is due, from clock `t`
+    /// on, where the beam is there; at most so many. The answer is how many: as many as are known to be
+    /// quiet, and nothing hangs on it but how fast a run is. There must be no side that does anything, and
+    /// no event of the script must be due in these clocks.
+    pub fn pass_quiet(&mut self, beam: &Beam, t: u64, most: u16) -> u16
+        requires inner { 0 < beam.now.h }
+        requires room { beam.now.h + most ≤ 226 }
+        ensures most { result ≤ most }
+        ensures none { result ≡ 0 → self.new ≡ self.old }
+        ensures quiet { 0 < result → (c : ChipsOf) → IsChipsOf self.old c
+            → PassesQuiet beam.now t result c self.new }
+    {
+        let clocks = self.idle_clocks(beam, t, most);
+        if clocks > 0 {
+            self.skip(beam, t, clocks);
+        }
+        clocks
+    }
+
+    /// Whether a glance tells that it does not pay to look for quiet clocks here: a blit is under way, a
+    /// unit of many planes runs, the processor does not wait for time to pass, or the Copper fetches. Nothing
+    /// hangs on the answer but how fast a run is.
+    #[inline(always)]
+    pub fn is_busy(&self, beam: &Beam) -> bool {
+        self.blit.is_some()
+            || self.fetcher.is_dense(beam, &self.registers)
+            || self.processor.quiet(&self.irq) == 0
+            || self.copper.wants().is_some() && self.has_copper_dma()
+    }
+
+    /// For how many clocks, from this one on and at most so many, they only wait, as far as that is known.
+    /// Who asks most often is asked first.
+    fn idle_clocks(&self, beam: &Beam, t: u64, most: u16) -> u16
+        requires inner { 0 < beam.now.h }
+        requires room { beam.now.h + most ≤ 226 }
+        ensures most { result ≤ most }
+        ensures idle { 0 < result → AreIdle beam.now t result self.now }
+    {
+        if !self.has_blitter_rest() {
+            return 0;
+        }
+        let waits = self.processor_rest(most);
+        if waits == 0 || !self.asks_nothing_new() {
+            return 0;
+        }
+        let planes = self.fetcher.quiet(beam, &self.registers, waits);
+        if planes == 0 {
+            return 0;
+        }
+        let copper = self.copper_rest(beam, planes);
+        if copper == 0 {
+            return 0;
+        }
+        let sprites = self.sprites.quiet(beam, &self.registers, copper);
+        self.timers_rest(t, sprites)
+    }
+
+    /// Whether the blitter has no blit, or no DMA.
+    fn has_blitter_rest(&self) -> bool
+        ensures { result ≡ true
+            → (blitter_dma self.now.registers ≡ false) ⊎ (self.now.blit ≡ None) }
+    {
+        self.blit.is_none() || !self.has_blitter_dma()
+    }
+
+    /// For how many clocks, at most so many, the processor only waits.
+    fn processor_rest(&self, most: u16) -> u16
+        ensures most { result ≤ most }
+        ensures rests { RestsFor self.now.irq result self.now.processor }
+        ensures counts { CanCount result self.now.processor }
+    {
+        let clocks = self.processor.quiet(&self.irq);
+        if clocks < most as u32 {
+            clocks as u16
+        } else {
+            most
+        }
+    }
+
+    /// Whether the CIAs request no interrupt that is not requested already.
+    fn asks_nothing_new(&self) -> bool
+        ensures { result ≡ true → AsksNothingNew 0 (plain_chips self.now) }
+    {
+        let ports = if self.cia_a.line() { PORTS } else { 0 };
+        let exter = if self.cia_b.line() { EXTER } else { 0 };
+        let requested = self.irq.req();
+        requested | ports + exter == requested
+    }
+
+    /// For how many clocks of this line, from this one on and at most so many, the Copper has nothing to do.
+    fn copper_rest(&self, beam: &Beam, most: u16) -> u16
+        requires room { beam.now.h + most ≤ 226 }
+        ensures most { result ≤ most }
+        ensures idle { (k : ℕ) → k < result → IsCopperIdle (later_beam k beam.now) self.now }
+    {
+        if !self.has_copper_dma() {
+            return most;
+        }
+        self.copper.quiet(beam, self.blit.is_some(), most)
+    }
+
+    /// For how many clocks from clock `t` on, at most so many, no timer underflows.
+    fn timers_rest(&self, t: u64, most: u16) -> u16
+        requires few { most ≤ 226 }
+        ensures most { result ≤ most }
+        ensures timers_a { HasNoUnderflow (ticks_in t result) self.now.cia_a }
+        ensures timers_b { HasNoUnderflow (ticks_in t result) self.now.cia_b }
+    {
+        let left = self.cia_a.ticks_left().min(self.cia_b.ticks_left());
+        clocks_with(t, left, most)
+    }
+
+    /// So many clocks of this line pass from clock `t` on, where the beam is there, at which they only wait.
+    fn skip(&mut self, beam: &Beam, t: u64, clocks: u16)
+        requires inner { 0 < beam.now.h }
+        requires room { beam.now.h + clocks ≤ 226 }
+        requires counts { CanCount clocks self.old.processor }
+        requires timers_a { HasNoUnderflow (ticks_in t clocks) self.old.cia_a }
+        requires timers_b { HasNoUnderflow (ticks_in t clocks) self.old.cia_b }
+        ensures { AreLater beam.now t clocks self.old self.new }
+    {
+        self.fetcher.skip(beam, &self.registers, clocks);
+        self.processor.skip(clocks as u32);
+        self.missed = 0;
+        let ticks = ticks_among(t, clocks);
+        self.cia_a.skip(ticks);
+        self.cia_b.skip(ticks);
+    }
+}
+
+/// The number of ticks of the timers among so many clocks from clock `t` on.
+fn ticks_among(t: u64, clocks: u16) -> u16
+    requires { clocks ≤ 226 }
+    ensures { result ≡ ticks_in t clocks }
+{
+    let place = (t % 5) as u16;
+    (place + clocks + 4) / 5 - (place + 4) / 5
+}
+
+/// The greatest number of clocks from clock `t` on, at most so many, with so many ticks of the timers.
+fn clocks_with(t: u64, ticks: u16, most: u16) -> u16
+    requires { most ≤ 226 }
+    ensures most { result ≤ most }
+    ensures ticks { ticks_in t result ≤ ticks }
+{
+    let before_first = (5 - (t % 5) as u16) % 5;
+    most.min(5 * ticks.min(46) + before_first)
+}
