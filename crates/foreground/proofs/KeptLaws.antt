@@ -52,26 +52,6 @@ kept_once_asked f g new m1 view same kept =
       spent = kept.spent;
     })
 
--- the words that were read once the access was made: so many were counted then
-pub rises_kept : (f0 f1 f2 g : ForeValue) (m1 : MachineValue) (ask : Ask) (first clx more made reads : ℕ) (seen : RasterValue) (o0 o1 o2 : OutFilesValue)
-    → IsUnderway f0 first seen → BeginsClock f0 f1 clx seen seen o0 o1 → f1.machine.chip.reads ≡ f0.machine.chip.reads → ReachesAccess clx f1 f2 o1 o2
-    → g ≡ f2 → ((s : State) → IsMachineOf g.machine s → ask ≡ ask_of s) → m1 ≡ record g.machine { chips = m1.chips }
-    → made ≡ reads_more (reads_of_ask ask) m1.chip.reads → reads ≡ made
-    → Rises (bus_reads f0.run f0.machine.t) (bus_reads f0.run f0.machine.t + more) f0.machine.chip.reads reads
-    × Rises 0 (bus_reads f0.run f0.machine.t + more) f0.machine.chip.reads reads
-rises_kept f0 f1 f2 g m1 ask first clx more made reads seen o0 o1 o2 is begins kept reaches view asks same count end =
-    let begun : HasBegunClock f0 f1 first clx seen seen o0 o1 = begins first is in
-    let before : (until : ℕ) × IsBefore f2 until seen = before_access_of f0 f1 f2 first clx seen seen o0 o1 o2 is begins reaches in
-    let run : f2.run ≡ f0.run = reaches.run ∙ ap (λ (f : ForeValue). f.run) begun.same in
-    let t : f2.machine.t ≡ f0.machine.t = reaches.t ∙ ap (λ (f : ForeValue). f.machine.t) begun.same in
-    let begin : Rises 0 more f0.machine.chip.reads f1.machine.chip.reads = rises_same more f0.machine.chip.reads f1.machine.chip.reads kept in
-    let f3 : ForeValue = record f2 { machine = record f2.machine { chip = record f2.machine.chip { reads = made } } } in
-    let access : made ≡ reads_more (bus_reads f2.run f2.machine.t) f2.machine.chip.reads =
-    reads_of_access f2 g m1 ask before.0 made seen view before.1 asks same count in (
-      rises_in_clock f0 f1 f2 f3 more reads begin reaches.reads access end run t,
-      rises_at_refusal f0 f1 f2 f3 more reads begin reaches.reads access end run t,
-    )
-
 -- what holds whatever was answered holds after a success
 pub on_ok : {T E P : Type 0} (r : Result T E) → P → OnOk r P
 on_ok (Ok x) p = p

@@ -27,3 +27,6 @@ pub mod ShownLaws
 pub mod Sizes
 pub mod SaveLaws
 pub mod SumLaws
+pub mod QuietLaws
+pub mod QuietRuns
+pub mod AskedLaws

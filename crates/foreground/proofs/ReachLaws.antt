@@ -137,26 +137,6 @@ reaches_access bits f0 f2 m1 m3 out given start first events place notes script 
       reads = ap (λ (x : ChipValue). x.reads) chip;
     }
 
--- the same through the views of a foreground's struct
-pub reaches_fore : (bits : ℕ) (f0 g0 f2 g2 : ForeValue) (m1 m3 : MachineValue) (out given : OutFilesValue) → g0 ≡ f0 → g2 ≡ f2
-    → MakesQuietly start_clock g0.machine m1 → m1 ≡ record g0.machine { chips = m1.chips }
-    → MakesEvents bits (due_events m1.beam g0.run.script.events) m1 out f2.machine given → KeepsPlace m1 f2.machine
-    → f2.log ≡ with_script_touches m1.t (touches_of (due_events m1.beam g0.run.script.events)) g0.log
-    → HasScriptBehind g0.run m1.beam g0.next f2.next
-    → f2 ≡ record g0 { machine = f2.machine; log = f2.log; next = f2.next }
-    → MakesQuietly count_timers g2.machine m3 → m3 ≡ record g2.machine { chips = m3.chips; side = m3.side }
-    → ReachesAccess bits f0 (record g2 { machine = m3 }) out given
-reaches_fore bits f0 g0 f2 g2 m1 m3 out given view0 view2 start first events place notes script same timers last =
-    let back : f2 ≡ g2 = sym view2 in
-    subst (λ f. ReachesAccess bits f (record g2 { machine = m3 }) out given) view0
-    (reaches_access bits g0 g2 m1 m3 out given start first
-    (subst (λ (f : ForeValue). MakesEvents bits (due_events m1.beam g0.run.script.events) m1 out f.machine given) back events)
-    (subst (λ (f : ForeValue). KeepsPlace m1 f.machine) back place)
-    (subst (λ (f : ForeValue). f.log ≡ with_script_touches m1.t (touches_of (due_events m1.beam g0.run.script.events)) g0.log) back notes)
-    (subst (λ (f : ForeValue). HasScriptBehind g0.run m1.beam g0.next f.next) back script)
-    (subst (λ (f : ForeValue). f ≡ record g0 { machine = f.machine; log = f.log; next = f.next }) back same)
-    timers last)
-
 pub machine_started : (m new : MachineValue) (out : OutFilesValue) → IsMachine m → MakesQuietly start_clock m new → IsMachine new
 machine_started m new out is step =
     let stands : Stands (record { out = out; trace = is.0.trace }) new out (start_clock is.0) =

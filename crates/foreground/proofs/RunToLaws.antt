@@ -66,7 +66,7 @@ rises_twice l1 h1 l2 h2 a b d one two =
     let lower : min (b + l2) (2 ^ 64 - 1) ≤ d = two.least_rise in
     record { least_rise = grind (arith, nat_tests); most_rise = omega (arith, one.most_rise, two.most_rise) }
 
-rises_within : (l least h most a b : ℕ) → least ≤ l → h ≤ most → Rises l h a b → Rises least most a b
+pub rises_within : (l least h most a b : ℕ) → least ≤ l → h ≤ most → Rises l h a b → Rises least most a b
 rises_within l least h most a b low high is =
     let least_rise : min (a + l) (2 ^ 64 - 1) ≤ b = is.least_rise in
     record { least_rise = grind (arith, nat_tests); most_rise = omega (arith, high, is.most_rise) }
@@ -107,7 +107,7 @@ looked_in f0 f1 s1 run on fresh can =
     (looked_most f1 (can fresh).0 s1 (can fresh).1))
 
 -- the rise through one clock more
-one_more : (run : RunValue) (from n looked a b d : ℕ)
+pub one_more : (run : RunValue) (from n looked a b d : ℕ)
     → looked ≤ (if is_band_place run.height (beam_at run (from + n)) then length word_registers else 0)
     → RisesIn run from n a b → Rises (bus_reads run (from + n)) (bus_reads run (from + n) + looked) b d → RisesIn run from (suc n) a d
 one_more run from n looked a b d few one two =

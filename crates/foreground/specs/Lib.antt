@@ -13,3 +13,4 @@ pub mod Steps
 pub mod RunTo
 pub mod Checkpoint
 pub mod Save
+pub mod Quiet

@@ -11,10 +11,11 @@ use Rattle.serial_model.specs.declared.bus.SideAsk.TheVariants as S
 use Rattle.serial_model.specs.declared.bus.Made.TheVariants as M
 use Rattle.serial_model.specs.Made.{word_of, chips_after, lof_after, merge_half, lines_of}
 use Rattle.serial_model.specs.Side.{poke_side, answer_side, side_by_made}
-use Rattle.serial_model.specs.State.{Chips}
+use Rattle.serial_model.specs.State.{Chips, State}
+use Rattle.serial_model.specs.Tick.{count_timers, ask_of}
 use Rattle.serial_model.specs.Write.{write_chips, write_lof}
 use Rattle.chip_set.specs.Chips.{IsChipsOf, read_by}
-use Rattle.foreground.specs.Machine.{MachineValue}
+use Rattle.foreground.specs.Machine.{MachineValue, IsMachineOf, HasAskedOf, MakesQuietly}
 use Rattle.foreground.specs.Out.{Gives}
 
 -- a write reached the chips and LOF; the trace has no line of it yet
@@ -24,6 +25,15 @@ pub record WritesRegister (reg : Reg) (word : ℕ) (old new : MachineValue) : Ty
   pub chip : new.chip ≡ old.chip
   pub chips : (c : Chips) → IsChipsOf old.chips c → IsChipsOf new.chips (write_chips reg.offset word c)
   pub side : new.side ≡ poke_side reg word old.side
+
+-- the timers and the side have ticked, and with that the chips have asked for the slot: what the machine was in between
+pub record AsksInTime (ask : Ask) (old new : MachineValue) : Type 0 where
+  pub between : MachineValue
+  pub timers : MakesQuietly count_timers old between
+  pub kept : between ≡ record old { chips = between.chips; side = between.side }
+  pub asks : (s : State) → IsMachineOf between s → ask ≡ ask_of s
+  pub asked : (s : State) → IsMachineOf between s → HasAskedOf new s
+  pub same : new ≡ record between { chips = new.chips }
 
 -- the memory after a store at a clock; nothing else that is made changes it
 abbrev pub chip_after : ℕ → Made → ChipValue → ChipValue

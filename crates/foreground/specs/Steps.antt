@@ -5,16 +5,18 @@ use Rattle.out_files.specs.OutFiles.{OutFilesValue}
 use Rattle.serial_model.specs.declared.bus.Ask.{Ask}
 use Rattle.serial_model.specs.declared.trace.TraceLine.{TraceLine}
 use Rattle.serial_model.specs.Beam.{place_of}
-use Rattle.serial_model.specs.Tick.{ask_of}
+use Rattle.serial_model.specs.State.{State}
+use Rattle.serial_model.specs.Events.{due_events, touches_of}
+use Rattle.serial_model.specs.Tick.{start_clock, ask_of}
 use Rattle.serial_bands.specs.Run.{RunValue, state_of, beam_at}
 use Rattle.serial_model.specs.Made.{is_clx_read}
 use Rattle.serial_bands.specs.Clock.{due_at, made_at}
 use Rattle.serial_bands.specs.Bands.{has_clx_read}
 use Rattle.band_log.specs.Raster.{RasterValue}
-use Rattle.foreground.specs.Machine.{IsSamePlace, HasAskedOf}
-use Rattle.foreground.specs.Log.{IsLogOf}
+use Rattle.foreground.specs.Machine.{MachineValue, IsMachineOf, IsSamePlace, HasAskedOf, MakesQuietly, KeepsPlace}
+use Rattle.foreground.specs.Log.{IsLogOf, with_script_touches}
 use Rattle.foreground.specs.Gathered.{Fits}
-use Rattle.foreground.specs.Script.{IsLeft, HasLater}
+use Rattle.foreground.specs.Script.{IsLeft, HasLater, MakesEvents}
 use Rattle.foreground.specs.Clock.{IsAt, HasBegun, IsLogged, IsBeforeAccess, IsBehindAccess, Tells, HasGiven, HasGivenPart, access_state, accessed_state}
 use Rattle.foreground.specs.Fore.{ForeValue, HasScript, IsUnderway}
 
@@ -81,6 +83,26 @@ pub record ReachesAccess (clx : ℕ) (old new : ForeValue) (out given : OutFiles
       (has_clx_read (due_at old.run old.machine.t) ≡ true → (state_of old.run old.machine.t).clx ≡ clx) →
       IsBefore new first seen × Tells (state_of old.run old.machine.t) (access_state old.run old.machine.t) out given
   pub reads : new.machine.chip.reads ≡ old.machine.chip.reads
+
+-- the first two steps: its machine has started the clock, and the script's events have happened
+pub record RunsEvents (clx : ℕ) (old new : ForeValue) (out given : OutFilesValue) : Type 0 where
+  pub started : MachineValue
+  pub start : MakesQuietly start_clock old.machine started
+  pub first : started ≡ record old.machine { chips = started.chips }
+  pub events : MakesEvents clx (due_events started.beam old.run.script.events) started out new.machine given
+  pub place : KeepsPlace started new.machine
+  pub notes : new.log ≡ with_script_touches started.t (touches_of (due_events started.beam old.run.script.events)) old.log
+  pub script : HasScriptBehind old.run started.beam old.next new.next
+  pub same : new ≡ record old { machine = new.machine; log = new.log; next = new.next }
+
+-- it has reached the access, and its chips have asked for the slot: what the foreground was right before
+pub record ReachesAsk (clx : ℕ) (ask : Ask) (old new : ForeValue) (out given : OutFilesValue) : Type 0 where
+  pub between : ForeValue
+  pub reaches : ReachesAccess clx old between out given
+  pub asks : (s : State) → IsMachineOf between.machine s → ask ≡ ask_of s
+  pub asked : (s : State) → IsMachineOf between.machine s → HasAskedOf new.machine s
+  pub chips : new.machine ≡ record between.machine { chips = new.machine.chips }
+  pub same : new ≡ record between { machine = new.machine }
 
 -- a count of reads once so many more words were read: it stands still at the greatest number of 64 bits
 abbrev pub reads_more : ℕ → ℕ → ℕ

@@ -41,6 +41,32 @@ impl<S: Side> Fore<S> {
         ensures reads { Rises 0 (looked_up (over S.seen self.old))
             self.old.machine.chip.reads self.new.machine.chip.reads }
     {
+        if self.keeps_band() {
+            self.go_on()?;
+            return Ok(0);
+        }
+        self.begin_band(raster, out)
+    }
+
+    /// The same where a band may begin with the clock.
+    #[inline(never)]
+    fn begin_band<Q: Raster<S>>(
+        &mut self,
+        raster: &mut Q,
+        out: &mut OutFiles,
+    ) -> Result<u16, OutOfMemory>
+        requires underway { (first : ℕ) × IsUnderway (over S.seen self.old) first
+            (Q.seen raster.old) }
+        requires running { is_done (over S.seen self.old) ≡ false }
+        ensures begins { IfOk result (λ clx. BeginsClock (over S.seen self.old)
+            (over S.seen self.new) clx
+            (Q.seen raster.old) (Q.seen raster.new) out.old out.new) }
+        ensures part { OnErr result (BeginsPart (over S.seen self.old)
+            (Q.seen raster.old) (Q.seen raster.new) out.old out.new) }
+        ensures kept { KeepsClock (over S.seen self.old) (over S.seen self.new) }
+        ensures reads { Rises 0 (looked_up (over S.seen self.old))
+            self.old.machine.chip.reads self.new.machine.chip.reads }
+    {
         if self.script_reads() {
             return self.begin_at_read(raster, out);
         }

@@ -1,6 +1,6 @@
 //! One colour clock.
 
-ghost use Rattle.std.specs.Prelude.{◌≡◌, ◌+◌, ◌<◌, ◌^◌, ℕ, Bool, true, false, OnOk, OnErr};
+ghost use Rattle.std.specs.Prelude.{◌≡◌, ◌+◌, ◌<◌, ◌^◌, ℕ, Bool, true, false, IfOk, OnOk, OnErr};
 ghost use Rattle.serial_model.specs.Beam.{IsOnScreen, next_place};
 ghost use Rattle.serial_model.specs.Events.{due_events, touches_of};
 ghost use Rattle.serial_bands.specs.Bands.{has_clx_read};
@@ -10,12 +10,13 @@ ghost use Rattle.chip_set.specs.Chips.{CanAsk, IsBlitAsk, kept_wish};
 ghost use Rattle.band_log.specs.Raster.{RasterValue};
 ghost use Rattle.foreground.specs.Out.{GivesLines};
 ghost use Rattle.foreground.specs.Machine.{KeepsPlace};
+ghost use Rattle.foreground.specs.MachineSteps.{AsksInTime};
 ghost use Rattle.foreground.specs.Log.{with_script_touches};
 ghost use Rattle.foreground.specs.Script.{IsMachine, MakesEvents};
 ghost use Rattle.foreground.specs.Clock.{Rises};
 ghost use Rattle.foreground.specs.Fore.{over, HasScript, IsUnderway, Advances, GivesPart, is_done, looked_up};
-ghost use Rattle.foreground.specs.Steps.{IsBefore, IsLoggedBefore, HasScriptBehind, ReachesAccess, KeepsClock};
-ghost use Rattle.foreground.specs.Steps.{HasAskedNow, MakesItsAccess, MakesAskedAccess, AccessesPart, EndsClock, reads_more};
+ghost use Rattle.foreground.specs.Steps.{IsLoggedBefore, HasScriptBehind, RunsEvents, KeepsClock};
+ghost use Rattle.foreground.specs.Steps.{HasAskedNow, MakesAskedAccess, AccessesPart, EndsClock, reads_more};
 
 use crate::fore::Fore;
 use crate::script::{reads_clxdat, run_script};
@@ -53,49 +54,10 @@ impl<S: Side> Fore<S> {
             (over S.seen self.old))
             self.old.machine.chip.reads self.new.machine.chip.reads) }
     {
-        if !self.keeps_band() {
-            return self.advance_from_band(raster, out);
-        }
-        self.go_on()?;
-        self.run_to_access(0, out)?;
-        let ask = self.machine.ask();
-        if is_clx_ask(&ask) {
-            self.access_clxdat(&ask, raster, out)?;
-            return self.end_clock(out);
-        }
-        self.access_asked(&ask, out)?;
-        self.end_clock(out)
-    }
-
-    /// The same where a band may begin with the clock.
-    #[inline(never)]
-    fn advance_from_band<Q: Raster<S>>(
-        &mut self,
-        raster: &mut Q,
-        out: &mut OutFiles,
-    ) -> Result<(), OutOfMemory>
-        requires underway { (first : ℕ) × IsUnderway (over S.seen self.old) first
-            (Q.seen raster.old) }
-        requires running { is_done (over S.seen self.old) ≡ false }
-        ensures clock { OnOk result (Advances (over S.seen self.old) (over S.seen self.new)
-            (Q.seen raster.old) (Q.seen raster.new) out.old out.new) }
-        ensures part { OnErr result (GivesPart (over S.seen self.old)
-            (Q.seen raster.old) (Q.seen raster.new) out.old out.new) }
-        ensures count { OnOk result (self.new.machine.t ≡ self.old.machine.t + 1) }
-        ensures run { (over S.seen self.new).run ≡ (over S.seen self.old).run }
-        ensures spent { OnOk result (self.new.spent ≡ self.old.spent) }
-        ensures reads { OnOk result (Rises (bus_reads (over S.seen self.old).run self.old.machine.t)
-            (bus_reads (over S.seen self.old).run self.old.machine.t + looked_up
-            (over S.seen self.old))
-            self.old.machine.chip.reads self.new.machine.chip.reads) }
-        ensures few { OnErr result (Rises 0
-            (bus_reads (over S.seen self.old).run self.old.machine.t + looked_up
-            (over S.seen self.old))
-            self.old.machine.chip.reads self.new.machine.chip.reads) }
-    {
         let clx = self.begin_clock(raster, out)?;
-        self.run_to_access(clx, out)?;
-        self.access(raster, out)?;
+        self.run_to_timers(clx, out)?;
+        let ask = self.ask();
+        self.access(&ask, raster, out)?;
         self.end_clock(out)
     }
 
@@ -111,22 +73,34 @@ impl<S: Side> Fore<S> {
         reads_clxdat(&events[self.cursor.next..], &self.machine.beam)
     }
 
-    /// The first four steps, up to the access. `clx` is what the script's first read of CLXDAT sees.
+    /// The first two steps. `clx` is what the script's first read of CLXDAT sees.
     #[inline(always)]
-    fn run_to_access(&mut self, clx: u16, out: &mut OutFiles) -> Result<(), OutOfMemory>
+    fn run_to_timers(&mut self, clx: u16, out: &mut OutFiles) -> Result<(), OutOfMemory>
         requires script { HasScript (over S.seen self.old).run self.old.machine.beam self.old.next }
         requires screen { IsOnScreen self.old.machine.beam }
         requires some { IsMachine (over S.seen self.old).machine }
-        ensures reaches { OnOk result (ReachesAccess clx (over S.seen self.old)
-            (over S.seen self.new) out.old out.new) }
+        ensures events { OnOk result (RunsEvents clx (over S.seen self.old) (over S.seen self.new)
+            out.old out.new) }
         ensures run { (over S.seen self.new).run ≡ (over S.seen self.old).run }
         ensures chip { self.new.machine.chip ≡ self.old.machine.chip }
         ensures told { OnErr result (GivesLines out.old out.new) }
     {
         self.machine.start();
         self.run_events(clx, out)?;
-        self.machine.count_timers();
         Ok(())
+    }
+
+    /// The third and the fourth, and the ask of the slot's owner.
+    #[inline(always)]
+    fn ask(&mut self) -> Ask
+        ensures asks { AsksInTime result (over S.seen self.old).machine
+            (over S.seen self.new).machine }
+        ensures able { CanAsk result }
+        ensures wish { IsBlitAsk result (kept_wish self.new.machine.chips) }
+        ensures same { self.new ≡ record self.old { machine = self.new.machine } }
+        ensures chip { self.new.machine.chip ≡ self.old.machine.chip }
+    {
+        self.machine.ask_in_time()
     }
 
     /// Second step: the script's events of the clock. Once none is left there is nothing to do.
@@ -199,31 +173,36 @@ impl<S: Side> Fore<S> {
         Ok(())
     }
 
-    /// Fifth step: the access.
+    /// Fifth step: the access, once the chips have asked.
     #[inline(always)]
     fn access<Q: Raster<S>>(
         &mut self,
+        ask: &Ask,
         raster: &mut Q,
         out: &mut OutFiles,
     ) -> Result<(), OutOfMemory>
-        requires before { (first : ℕ) × IsBefore (over S.seen self.old) first (Q.seen raster.old) }
+        requires logged { (first : ℕ) × IsLoggedBefore (over S.seen self.old) first
+            (Q.seen raster.old) }
+        requires asked { HasAskedNow ask.now (over S.seen self.old) }
+        requires able { CanAsk ask.now }
+        requires wish { IsBlitAsk ask.now (kept_wish self.old.machine.chips) }
         requires room { self.old.machine.t + 1 < 2 ^ 64 }
-        ensures makes { OnOk result (MakesItsAccess (over S.seen self.old) (over S.seen self.new)
+        ensures makes { OnOk result (MakesAskedAccess (over S.seen self.old)
+            (over S.seen self.new)
             (Q.seen raster.old) (Q.seen raster.new) out.old out.new) }
         ensures part { OnErr result (AccessesPart (over S.seen self.old)
             (Q.seen raster.old) (Q.seen raster.new) out.old out.new) }
         ensures kept { KeepsClock (over S.seen self.old) (over S.seen self.new) }
         ensures reads { self.new.machine.chip.reads ≡ reads_more
-            (bus_reads (over S.seen self.old).run self.old.machine.t) self.old.machine.chip.reads }
+            (reads_of_ask ask.now) self.old.machine.chip.reads }
     {
-        let ask = self.machine.ask();
-        if is_clx_ask(&ask) {
-            return self.access_clxdat(&ask, raster, out);
+        if is_clx_ask(ask) {
+            return self.access_clxdat(ask, raster, out);
         }
-        self.access_asked(&ask, out)
+        self.access_asked(ask, out)
     }
 
-    /// The access, once the chips have asked, which does not read CLXDAT. The owners of most clocks stand
+    /// The access, which does not read CLXDAT. The owners of most clocks stand
     /// apart: what follows is then that of the one owner.
     #[inline(always)]
     fn access_asked(&mut self, ask: &Ask, out: &mut OutFiles) -> Result<(), OutOfMemory>

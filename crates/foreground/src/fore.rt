@@ -7,6 +7,7 @@ ghost use Rattle.serial_bands.specs.Run.{run_over};
 ghost use Rattle.foreground.specs.Fore.{over, IsNew, is_done};
 
 use crate::log::Log;
+use crate::lookout::Lookout;
 use crate::machine::Machine;
 use band_log::{Cursor, Run};
 use ocs_base::{Beam, OutOfMemory, System};
@@ -31,6 +32,8 @@ pub struct Fore<S> {
     pub(crate) clx: u16,
     /// Whether memory was wanted before.
     pub(crate) spent: bool,
+    /// When quiet clocks are looked for.
+    pub(crate) lookout: Lookout,
 }
 
 impl<S> Model for Fore<S> {
@@ -84,6 +87,7 @@ impl<S: Side> Fore<S> {
             cursor: Cursor { next: 0 },
             clx: 0,
             spent: false,
+            lookout: Lookout::new(),
         })
     }
 

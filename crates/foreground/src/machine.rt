@@ -14,7 +14,7 @@ ghost use Rattle.chip_set.specs.AskLaws.{is_clx_ask};
 ghost use Rattle.chip_set.specs.Chips.{CanAsk, CanDo, IsBlitAsk, kept_wish};
 ghost use Rattle.foreground.specs.Machine.{machine_over, IsMachineOf, IsReset, Makes, MakesQuietly, MakesEvent, MakesAccess};
 ghost use Rattle.foreground.specs.Machine.{HasAskedOf, StoresMade, StaysInPlace, KeepsPlace, reads_after};
-ghost use Rattle.foreground.specs.MachineSteps.{WritesRegister, GivesSide, Does};
+ghost use Rattle.foreground.specs.MachineSteps.{WritesRegister, AsksInTime, GivesSide, Does};
 
 use chip_set::Chips;
 use mem_versions::Chip;
@@ -91,10 +91,47 @@ impl<S: Side> Machine<S> {
         Ok(())
     }
 
-    /// Third step: the timers of the CIAs tick at each fifth clock, the side ticks, and CIAs and
-    /// side request their interrupts. A clock at which the side requests nothing stands apart.
+    /// Third step, and the fifth's beginning: the timers of the CIAs tick at each fifth clock, the side
+    /// ticks, CIAs and side request their interrupts, and the owner of the slot says what it asks for. The
+    /// fetches of bitplanes and sprites are done with it. `answer` is to be called next. Whether there is a
+    /// side is asked here alone: without one a clock has nothing of it.
     #[inline(always)]
-    pub fn count_timers(&mut self)
+    pub fn ask_in_time(&mut self) -> Ask
+        ensures asks { AsksInTime result (machine_over S.seen self.old)
+            (machine_over S.seen self.new) }
+        ensures able { CanAsk result }
+        ensures wish { IsBlitAsk result (kept_wish self.new.chips) }
+        ensures same { self.new ≡ record self.old {
+          chips = self.new.chips;
+          side = self.new.side;
+        } }
+    {
+        if !self.side.is_nothing() {
+            return self.ask_beside_side();
+        }
+        self.chips.count_timers(self.t, 0);
+        self.chips.ask(&self.beam, SideAsk::Nothing)
+    }
+
+    /// The same with a side.
+    #[cold]
+    #[inline(never)]
+    fn ask_beside_side(&mut self) -> Ask
+        ensures asks { AsksInTime result (machine_over S.seen self.old)
+            (machine_over S.seen self.new) }
+        ensures able { CanAsk result }
+        ensures wish { IsBlitAsk result (kept_wish self.new.chips) }
+        ensures same { self.new ≡ record self.old {
+          chips = self.new.chips;
+          side = self.new.side;
+        } }
+    {
+        self.count_timers();
+        self.ask()
+    }
+
+    /// Third step, where there may be a side.
+    fn count_timers(&mut self)
         ensures step { MakesQuietly count_timers_of (machine_over S.seen self.old)
             (machine_over S.seen self.new) }
         ensures same { self.new ≡ record self.old {
@@ -104,18 +141,11 @@ impl<S: Side> Machine<S> {
     {
         let dmacon = self.chips.dmacon();
         let bits = self.side.tick(&self.beam, dmacon);
-        if bits == 0 {
-            self.chips.count_timers(self.t, 0);
-        } else {
-            self.chips.count_timers(self.t, bits);
-        }
+        self.chips.count_timers(self.t, bits);
     }
 
-    /// Fifth step, its beginning: what the owner of the slot asks for. The fetches of bitplanes and
-    /// sprites are done with it. `answer` is to be called next. A clock at which the side asks for
-    /// nothing stands apart.
-    #[inline(always)]
-    pub fn ask(&mut self) -> Ask
+    /// The beginning of the fifth, where there may be a side.
+    fn ask(&mut self) -> Ask
         ensures ask { (s : State) → IsMachineOf (machine_over S.seen self.old) s → result ≡ ask_of
             s }
         ensures chips { (s : State) → IsMachineOf (machine_over S.seen self.old) s → HasAskedOf
@@ -126,9 +156,6 @@ impl<S: Side> Machine<S> {
     {
         let dmacon = self.chips.dmacon();
         let wish = self.side.ask(&self.beam, dmacon);
-        if let SideAsk::Nothing = wish {
-            return self.chips.ask(&self.beam, SideAsk::Nothing);
-        }
         self.chips.ask(&self.beam, wish)
     }
 

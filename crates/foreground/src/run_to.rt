@@ -13,7 +13,8 @@ use serial_model::Side;
 impl<S: Side> Fore<S> {
     /// As many clocks as come before the clock `limit`, a number of colour clocks since reset, or up
     /// to the run's end; none where that clock is the present one or is behind. All of it is what as
-    /// many calls of `advance` give, a refusal too.
+    /// many calls of `advance` give, a refusal too. Clocks at which nobody asks for the bus and
+    /// nothing is due are passed over at once where they are known to be such.
     pub fn run_to<Q: Raster<S>>(
         &mut self,
         limit: u64,
@@ -43,7 +44,9 @@ impl<S: Side> Fore<S> {
             return Err(OutOfMemory);
         }
         while self.machine.t < limit && !self.done() {
-            self.advance(raster, out)?;
+            if !self.pass_quiet(limit)? {
+                self.advance(raster, out)?;
+            }
         }
         Ok(())
     }

@@ -14,6 +14,7 @@ use crate::checkpoint::Checkpoint;
 use crate::fore::Fore;
 use crate::gather::gather_all;
 use crate::log::Log;
+use crate::lookout::Lookout;
 use crate::machine::Machine;
 use crate::reading::clock_before;
 use crate::shown_count::shown_before;
@@ -170,6 +171,7 @@ impl<S: Side + Copy> Fore<S> {
             cursor: Cursor { next: from.next },
             clx: from.clx,
             spent: false,
+            lookout: Lookout::new(),
         })
     }
 }

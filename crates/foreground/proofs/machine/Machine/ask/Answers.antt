@@ -6,9 +6,9 @@ use Rattle.foreground.proofs.machine.Machine.ask.Goals as goal
 pub returns-clause-ask : goal.returns-clause-ask
 returns-clause-ask g c =
     asks_of (machine_over g.S.Side.seen c.args.self.now) _ c.dmacon-dmacon.result c.ask-wish.result c.dmacon-dmacon.ensures c.ask-wish.ensures.ask
-    c.ask-2.ensures.ask
+    c.ask.ensures.ask
 
 pub returns-clause-chips : goal.returns-clause-chips
 returns-clause-chips g c =
     HasAskedOf-by (machine_over g.S.Side.seen c.args.self.now) _ c.dmacon-dmacon.result c.ask-wish.result c.dmacon-dmacon.ensures
-    c.ask-wish.ensures.ask c.ask-wish.ensures.time refl c.ask-2.ensures.chips
+    c.ask-wish.ensures.ask c.ask-wish.ensures.time refl c.ask.ensures.chips

@@ -1,0 +1,155 @@
+//! Clocks at which nobody asks for the bus and nothing is due, passed over at once.
+
+ghost use Rattle.std.specs.Prelude.{◌≡◌, ◌≤◌, ◌<◌, ◌+◌, ◌^◌, ℕ, true, false, [], IfOk, OnOk, OnErr};
+ghost use Rattle.serial_model.specs.Beam.{IsOnScreen, place_of};
+ghost use Rattle.serial_model.specs.Events.{due_events};
+ghost use Rattle.serial_model.specs.Side.{no_side};
+ghost use Rattle.quiet_clocks.specs.QuietClocks.{later_beam};
+ghost use Rattle.band_log.specs.Raster.{RasterValue};
+ghost use Rattle.foreground.specs.Machine.{machine_over};
+ghost use Rattle.foreground.specs.Script.{IsLeft};
+ghost use Rattle.foreground.specs.Fore.{over, HasScript, IsUnderway, is_done};
+ghost use Rattle.foreground.specs.Quiet.{PassesOver, HasPassed};
+
+use crate::fore::Fore;
+use crate::machine::Machine;
+use ocs_base::{At, Beam, OutOfMemory};
+use serial_model::Side;
+
+impl<S: Side> Machine<S> {
+    /// Passes over clocks of this line at which nobody asks for the bus and nothing is due, at most so many,
+    /// where there is no side. The answer is how many, and nothing hangs on it but how fast a run is.
+    #[inline(always)]
+    pub fn pass_quiet(&mut self, most: u16) -> u16
+        requires inner { 0 < self.old.beam.h }
+        requires room { self.old.beam.h + most ≤ 226 }
+        requires count { self.old.t + most < 2 ^ 64 }
+        requires side { S.seen self.old.side ≡ no_side }
+        ensures most { result ≤ most }
+        ensures none { result ≡ 0 → self.new ≡ self.old }
+        ensures passes { 0 < result → PassesOver result (machine_over S.seen self.old)
+            (machine_over S.seen self.new) }
+        ensures same { self.new ≡ record self.old {
+          t = self.old.t + result;
+          beam = later_beam result self.old.beam;
+          chips = self.new.chips;
+        } }
+    {
+        let passed = self.chips.pass_quiet(&self.beam, self.t, most);
+        self.beam.h += passed;
+        self.t += passed as u64;
+        passed
+    }
+}
+
+impl<S: Side> Fore<S> {
+    /// Passes over clocks of this line before the clock `limit` at which nobody asks for the bus and nothing
+    /// is due, if some are known to be such: as many calls of `advance` would give nothing. The answer says
+    /// whether there were any. Memory may be wanted.
+    #[inline(always)]
+    pub(crate) fn pass_quiet(&mut self, limit: u64) -> Result<bool, OutOfMemory>
+        requires underway { (first : ℕ) × (seen : RasterValue) × IsUnderway
+            (over S.seen self.old) first seen }
+        requires running { is_done (over S.seen self.old) ≡ false }
+        requires before { self.old.machine.t < limit }
+        ensures passed { OnOk result (HasPassed limit (over S.seen self.old)
+            (over S.seen self.new)) }
+        ensures some { IfOk result (λ some. some ≡ true → self.old.machine.t < self.new.machine.t) }
+        ensures none { IfOk result (λ some. some ≡ false → self.new ≡ self.old) }
+        ensures run { (over S.seen self.new).run ≡ (over S.seen self.old).run }
+        ensures reads { self.new.machine.chip.reads ≡ self.old.machine.chip.reads }
+        ensures spent { OnErr result (self.new.spent ≡ true) }
+    {
+        let h = self.machine.beam.h;
+        let due = self.lookout.is_due(self.machine.t);
+        if !due || h == 0 || 226 <= h || self.machine.t <= self.log.band.from {
+            return Ok(false);
+        }
+        if self.machine.chips.is_busy(&self.machine.beam) {
+            self.lookout.note(self.machine.t, 0);
+            return Ok(false);
+        }
+        if !self.machine.side.is_nothing() {
+            return Ok(false);
+        }
+        self.pass_in_line(limit)
+    }
+
+    /// The same within a line of a run without a side, where the open band goes on with this clock unless the
+    /// script reads CLXDAT in it.
+    #[inline(never)]
+    fn pass_in_line(&mut self, limit: u64) -> Result<bool, OutOfMemory>
+        requires underway { (first : ℕ) × (seen : RasterValue) × IsUnderway
+            (over S.seen self.old) first seen }
+        requires running { is_done (over S.seen self.old) ≡ false }
+        requires before { self.old.machine.t < limit }
+        requires inner { 0 < self.old.machine.beam.h }
+        requires last { self.old.machine.beam.h < 226 }
+        requires open { self.old.log.band.from < self.old.machine.t }
+        requires side { S.seen self.old.machine.side ≡ no_side }
+        ensures passed { OnOk result (HasPassed limit (over S.seen self.old)
+            (over S.seen self.new)) }
+        ensures some { IfOk result (λ some. some ≡ true → self.old.machine.t < self.new.machine.t) }
+        ensures none { IfOk result (λ some. some ≡ false → self.new ≡ self.old) }
+        ensures run { (over S.seen self.new).run ≡ (over S.seen self.old).run }
+        ensures reads { self.new.machine.chip.reads ≡ self.old.machine.chip.reads }
+        ensures spent { OnErr result (self.new.spent ≡ true) }
+    {
+        let most = self.most_clocks(limit);
+        let passed = self.machine.pass_quiet(most);
+        self.lookout.note(self.machine.t, passed);
+        if passed == 0 {
+            return Ok(false);
+        }
+        match self.log.take_waiting() {
+            Ok(()) => Ok(true),
+            Err(refusal) => {
+                self.spent = true;
+                Err(refusal)
+            }
+        }
+    }
+
+    /// How many clocks from this one on are in this line, before the clock `limit` and before the next event
+    /// of the script; nothing hangs on it but how fast a run is.
+    #[inline(always)]
+    fn most_clocks(&self, limit: u64) -> u16
+        requires script { HasScript (over S.seen self.now).run self.now.machine.beam self.now.next }
+        requires screen { IsOnScreen self.now.machine.beam }
+        requires before { self.now.machine.t < limit }
+        requires last { self.now.machine.beam.h < 226 }
+        ensures line { self.now.machine.beam.h + result ≤ 226 }
+        ensures limit { self.now.machine.t + result ≤ limit }
+        ensures due { (k : ℕ) → k < result → due_events (later_beam k self.now.machine.beam)
+            self.now.run.script.events ≡ [] }
+    {
+        let rest = 226 - self.machine.beam.h;
+        let left = limit - self.machine.t;
+        let most = if left < rest as u64 {
+            left as u16
+        } else {
+            rest
+        };
+        let events = self.run.script().events();
+        clocks_before_event(&events[self.cursor.next..], &self.machine.beam, most)
+    }
+}
+
+/// How many clocks of this line come before the first of these events, at most so many; nothing hangs on it
+/// but how fast a run is. `events` are those that are left.
+#[inline(always)]
+fn clocks_before_event(events: &[At], beam: &Beam, most: u16) -> u16
+    requires screen { IsOnScreen beam.now }
+    requires queue { IsLeft (place_of beam.now) events.now }
+    requires room { beam.now.h + most ≤ 226 }
+    ensures most { result ≤ most }
+    ensures none { (k : ℕ) → k < result → due_events (later_beam k beam.now) events.now ≡ [] }
+{
+    let Some((event, _)) = events.split_first() else {
+        return most;
+    };
+    if event.frame != beam.frame || event.v != beam.v {
+        return most;
+    }
+    most.min(event.h.saturating_sub(beam.h))
+}
