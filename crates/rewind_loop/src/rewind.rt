@@ -90,6 +90,24 @@ impl Rewind {
         if self.is_kept() {
             return Ok(());
         }
+        self.push_checkpoint()
+    }
+
+    /// A checkpoint of the present clock is pushed. It is large, so it has a function of its own: a clock at
+    /// which none is due makes no room for one.
+    #[inline(never)]
+    fn push_checkpoint(&mut self) -> Result<(), OutOfMemory>
+        requires at { (keep : ℕ) × (p : Place) × IsPresent keep p self.old }
+        requires due { due_of self.old.every self.old.fore.machine.beam ≡ true }
+        requires new { (keep : ℕ) (p : Place) → IsPresent keep p self.old
+            → is_that p.now (last_of p.ring) ≡ false }
+        ensures run { self.new.run ≡ self.old.run }
+        ensures every { self.new.every ≡ self.old.every }
+        ensures visits { OnOk result ((keep : ℕ) (p : Place) → IsPresent keep p self.old
+            → IsPresent keep (record p {
+              ring = visited (due_in (run_in self.old) self.old.every) keep p.now p.ring;
+            }) self.new) }
+    {
         let kept = self.fore.save(&mut self.raster, &mut self.out)?;
         self.ring.push(Clock(self.fore.clocks()), kept);
         Ok(())

@@ -1,31 +1,11 @@
 -- A visit pushes a checkpoint, or nothing.
-use Rattle.std.proofs.Common.{◌≡◌, sym, ap, subst, ◌∙◌, true}
-use Rattle.foreground.specs.Fore.{ForeValue}
-use Rattle.foreground.specs.Save.{HasSaved}
-use Rattle.rewind_loop.specs.Places.{is_due, due_in, visited}
-use Rattle.rewind_loop.specs.Present.{AreAt, run_in, fore_of, raster_of}
-use Rattle.rewind_loop.proofs.PresentLaws.{push_allowed, present_pushed}
+use Rattle.std.proofs.Common.{sym, ap, ◌∙◌}
+use Rattle.rewind_loop.specs.Places.{is_due}
 use Rattle.rewind_loop.proofs.rewind.Rewind.visit.Goals as goal
 
-pub push-requires : goal.push-requires
-push-requires c =
-    let self = c.args.self.now in
-    let is = c.requires.at.2 in
-    let has : HasSaved (fore_of self.fore) (fore_of c.save.new.self) is.first (raster_of self.raster) (raster_of c.save.new.raster) self.out c.save.new.out =
-    c.in_ok-kept.ensures.saved is.first is.stands in
-    push_allowed (run_in self) c.requires.at.0 c.requires.at.1 (fore_of self.fore) (raster_of self.raster) self.ring is c.clocks.result
-    (c.clocks.ensures ∙ ap (λ (f : ForeValue). f.machine.t) has.same) (sym (c.is_kept.ensures c.requires.at.0 c.requires.at.1 is) ∙ c.if-is_kept.false)
+pub push_checkpoint-requires-clause-due : goal.push_checkpoint-requires-clause-due
+push_checkpoint-requires-clause-due c =
+    sym (ap (is_due c.args.self.now.every) c.beam.ensures) ∙ sym c.is_due.ensures ∙ c.if-not-is_due.false
 
-pub returns-clause-visits : goal.returns-clause-visits
-returns-clause-visits c keep p is =
-    let self = c.args.self.now in
-    let has : HasSaved (fore_of self.fore) (fore_of c.save.new.self) is.first (raster_of self.raster) (raster_of c.save.new.raster) self.out c.save.new.out =
-    c.in_ok-kept.ensures.saved is.first is.stands in
-    let due : is_due self.every self.fore.machine.beam ≡ true =
-    sym (ap (is_due self.every) c.beam.ensures) ∙ sym c.is_due.ensures ∙ c.if-not-is_due.false in
-    subst (λ ring. AreAt (run_in self) keep (record p { ring = visited (due_in (run_in self) self.every) keep p.now p.ring }) (fore_of c.save.new.self)
-    (raster_of c.save.new.raster) ring) (sym c.push.ensures)
-    (present_pushed (run_in self) keep p (fore_of self.fore) (raster_of self.raster) self.ring is self.every c.clocks.result (fore_of c.save.new.self)
-    (raster_of c.save.new.raster) c.in_ok-kept.kept self.out c.save.new.out due
-    (sym (c.is_kept.ensures keep p is) ∙ c.if-is_kept.false) c.in_ok-kept.ensures.saved c.in_ok-kept.ensures.checkpoint
-    (c.clocks.ensures ∙ ap (λ (f : ForeValue). f.machine.t) has.same))
+pub push_checkpoint-requires-clause-new : goal.push_checkpoint-requires-clause-new
+push_checkpoint-requires-clause-new c keep p is = sym (c.is_kept.ensures keep p is) ∙ c.if-is_kept.false
