@@ -61,6 +61,7 @@ impl BandPainter {
     }
 
     /// A write at clock `h` of the line to the register at an offset.
+    #[inline(always)]
     pub fn set(&mut self, h: u16, offset: u16, word: u16)
         requires { h ≤ 227 }
         ensures paints { Paints (4 * h) (set_picture h offset word) self.old self.new }

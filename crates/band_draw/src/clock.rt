@@ -13,11 +13,11 @@ ghost use Rattle.band_draw.specs.Touched.{touched_by_events};
 ghost use Rattle.band_draw.specs.Given.{IsGiven, filled_after};
 
 use crate::band_painter::BandPainter;
-use crate::room::put;
 use crate::touch::{bus_count, touch_all};
 use band_log::Event;
 use mem_versions::MemView;
 use ocs_base::{Beam, Clock, System};
+use painter::span::put;
 
 /// The script's events of a clock, which are `due`, and its picture step, whose bytes are put into
 /// the room from the place `filled` on where they are visible, and whose collision bits are added to

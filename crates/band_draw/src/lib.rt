@@ -8,7 +8,6 @@ pub mod clock;
 pub mod direct;
 pub mod due;
 pub mod progress;
-pub mod room;
 pub mod touch;
 
 pub use band::draw;

@@ -13,7 +13,7 @@ use Rattle.painter.specs.Painter.{IsPainterOf, with_held, clock_bytes}
 use Rattle.painter.specs.Overlay.{quiet_collisions}
 use Rattle.painter.specs.SpriteState.{IsIdle}
 use Rattle.painter.specs.Span.{visible_clocks, IsSpan}
-use Rattle.painter.specs.SpanCode.{bytes_of_clocks, gathered, held_to, pixels_to, AreClocks, all_backdrop, all_inks, ink_pixels, quiet_gathered}
+use Rattle.painter.specs.SpanCode.{bytes_of_clocks, gathered, held_to, pixels_to, AreClocks, AreInside, all_backdrop, all_inks, ink_pixels, quiet_gathered}
 use Rattle.painter.specs.Pixels.{ink_at}
 use Rattle.painter.specs.Inks.{is_held}
 use Rattle.serial_model.specs.Window.{is_inside}
@@ -24,14 +24,14 @@ use Rattle.painter.proofs.Ors.{or_assoc, or_none}
 use Rattle.painter.proofs.Spans.{hidden_bytes}
 
 -- one clock: its bytes, and what it leaves
-quiet_shown : (system : System) (v h : ℕ) (now : Painter) (p : Denise) (into : List (List ℕ)) → IsPainterOf now p → IsIdle h now.sprites →
+pub quiet_shown : (system : System) (v h : ℕ) (now : Painter) (p : Denise) (into : List (List ℕ)) → IsPainterOf now p → IsIdle h now.sprites →
     into ≡ clock_bytes v h p → is_visible system v h ≡ true → flat_map (λ (x : List ℕ). x) into ≡ pixels system v h p
 quiet_shown system v h now p into stands idle is visible =
     let four : length into ≡ 4 = ap length is in
     clock_shown system v h (held_after v h 4 p) p into into visible is
     (still_pixels v h (with_held (held_after v h 4 p) p) now.sprites.runs into (still_held v h (held_after v h 4 p) now p stands idle) four)
 
-quiet_stands : (system : System) (v h : ℕ) (now : Painter) (p : Denise) (into : List (List ℕ)) → IsPainterOf now p → IsIdle h now.sprites →
+pub quiet_stands : (system : System) (v h : ℕ) (now : Painter) (p : Denise) (into : List (List ℕ)) → IsPainterOf now p → IsIdle h now.sprites →
     into ≡ clock_bytes v h p → IsPainterOf (record now { held = get_or into 3 [] }) (after_step (step_of system v h p) p)
 quiet_stands system v h now p into stands idle is =
     clock_stands system v h (record now { held = get_or into 3 [] }) p
@@ -86,17 +86,23 @@ clocks_hidden system v h n p hidden (suc k) le =
     clocks_hidden system v h n p hidden k (omega arith)
     ∙ hidden_bytes system v (h + k) (after_shows system v h k p) (shown_bytes system v h k p) (hidden k (omega arith))
 
-clocks_gathered : (system : System) (v h n : ℕ) (now : Painter) (shown : ℕ → List ℕ → List (List ℕ)) (p : Denise) →
-    AreClocks v h n now shown → IsPainterOf now p → (k : ℕ) → k ≤ n → quiet_gathered v h k p ≡ shown_clx system v h k p
+pub gathered_of : (system : System) (v h n : ℕ) (now : Painter) (held : ℕ → List ℕ) (p : Denise) →
+    ((k : ℕ) → k < n → IsIdle (h + k) now.sprites) →
+    ((k : ℕ) → k ≤ n → IsPainterOf (record now { held = held k }) (after_shows system v h k p)) →
+    (k : ℕ) → k ≤ n → quiet_gathered v h k p ≡ shown_clx system v h k p
 unfolding gathered shown_clx step_of
-clocks_gathered system v h n now shown p are stands zero le = refl
-clocks_gathered system v h n now shown p are stands (suc k) le =
-    let before : IsPainterOf (record now { held = held_to shown now.held k }) (after_shows system v h k p) =
-    clocks_stand system v h n now shown p are stands k (omega arith) in
-    ap (λ (b : ℕ). bit_or b (quiet_collisions v (h + k) p)) (clocks_gathered system v h n now shown p are stands k (omega arith))
+gathered_of system v h n now held p idle stands zero le = refl
+gathered_of system v h n now held p idle stands (suc k) le =
+    let before : IsPainterOf (record now { held = held k }) (after_shows system v h k p) = stands k (omega arith) in
+    ap (λ (b : ℕ). bit_or b (quiet_collisions v (h + k) p)) (gathered_of system v h n now held p idle stands k (omega arith))
     ∙ ap (bit_or (shown_clx system v h k p))
     (sym (quiet_stays system v h (h + k) k p)
-    ∙ backdrop_gathers v (h + k) (record now { held = held_to shown now.held k }) (after_shows system v h k p) before (are.idle k (omega arith)))
+    ∙ backdrop_gathers v (h + k) (record now { held = held k }) (after_shows system v h k p) before (idle k (omega arith)))
+
+clocks_gathered : (system : System) (v h n : ℕ) (now : Painter) (shown : ℕ → List ℕ → List (List ℕ)) (p : Denise) →
+    AreClocks v h n now shown → IsPainterOf now p → (k : ℕ) → k ≤ n → quiet_gathered v h k p ≡ shown_clx system v h k p
+clocks_gathered system v h n now shown p are stands =
+    gathered_of system v h n now (held_to shown now.held) p are.idle (clocks_stand system v h n now shown p are stands)
 
 -- the whole span, where all its clocks are visible, and where none is
 pub clocks_span : (system : System) (v h n : ℕ) (now new : Painter) (shown : ℕ → List ℕ → List (List ℕ)) (p : Denise)
@@ -237,3 +243,11 @@ one_gathered met old now new n is step =
     ∙ ap (λ (b : ℕ). bit_or b (met n)) is
     ∙ or_assoc old (gathered met n) (met n)
     ∙ ap (λ (k : ℕ). bit_or old (gathered met k)) (sym next)
+
+pub inside_inks : (v h n : ℕ) (now : Painter) → AreInside v h n now → h + n ≤ 228 → is_held now.inks.con0 ≡ false → AreClocks v h n now (all_inks now h)
+inside_inks v h n now are room free = record {
+  idle = are.idle;
+  pixels = λ k held q lt stands.
+      inks_shown v (h + k) (4 * h + 4 * k) (record now { held = held }) q stands (omega (arith, room, lt)) (omega arith)
+      (are.first k lt) (are.second k lt) free;
+}

@@ -1,6 +1,9 @@
 pub mod Rows
 pub mod Spreading
+pub mod OnceTable
+pub mod TwiceTable
 pub mod Loading
+pub mod Modifying
 pub mod Colours
 pub mod Beginning
 pub mod Runs
@@ -8,6 +11,7 @@ pub mod LaidOut
 pub mod Ors
 pub mod Showing
 pub mod Overlays
+pub mod Covering
 pub mod Registers
 pub mod KeptLoads
 pub mod RunningLaws

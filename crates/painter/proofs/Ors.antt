@@ -1,7 +1,7 @@
 -- Bits that are gathered.
-use Rattle.std.proofs.Common.{◌≡◌, ℕ, ◌+◌, ◌*◌, ◌/◌, ◌%◌, max, bit_or, sym, ◌∙◌, ap, arith}
+use Rattle.std.proofs.Common.{◌≡◌, ℕ, ◌+◌, ◌*◌, ◌/◌, ◌%◌, max, min, bit_or, bit_and, sym, ◌∙◌, ap, arith}
 use Rattle.std.proofs.lemmas.Nat.{or_block}
-use Rattle.std.proofs.lemmas.Nat.Bits.{bit_at_or, bit_at-zero, same_from_bits}
+use Rattle.std.proofs.lemmas.Nat.Bits.{bit_at_or, bit_at_and, bit_at-zero, same_from_bits}
 use Rattle.std.specs.Int.{bit_at}
 
 three : (a b c : ℕ) → max (max a b) c ≡ max a (max b c)
@@ -41,3 +41,17 @@ or_lowest a is =
     ∙ or_block 1 (a / 2) 0 1 1 (omega arith) (omega arith)
     ∙ ap (λ (n : ℕ). n * 2 + 1) (or_none (a / 2))
     ∙ sym split
+
+-- bits that are there already, and bits among these
+among : (a r x : ℕ) → min a r ≡ r → max r x ≡ r → a ≡ max a x
+among a r x held more = omega (arith, held, more)
+
+pub or_reached : (a r x : ℕ) → bit_and a r ≡ r → bit_or r x ≡ r → a ≡ bit_or a x
+or_reached a r x held more = same_from_bits _ _ (λ i.
+    among (bit_at a i) (bit_at r i) (bit_at x i)
+    (sym (bit_at_and a r i) ∙ ap (λ (n : ℕ). bit_at n i) held)
+    (sym (bit_at_or r x i) ∙ ap (λ (n : ℕ). bit_at n i) more)
+    ∙ sym (bit_at_or a x i))
+
+pub or_both : (r x y : ℕ) → bit_or r x ≡ r → bit_or r y ≡ r → bit_or r (bit_or x y) ≡ r
+or_both r x y one two = sym (or_assoc r x y) ∙ ap (λ (n : ℕ). bit_or n y) one ∙ two

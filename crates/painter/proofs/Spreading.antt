@@ -1,37 +1,8 @@
--- The bits of a number of four, spread over bytes; and the bytes of a sum of such.
-use Rattle.std.proofs.Common.{◌≡◌, ℕ, zero, suc, ◌+◌, ◌*◌, ◌/◌, ◌%◌, ◌<◌, List, [], ◌∷◌, get_or, refl, ◌∙◌, arith, w64}
+-- The bytes of a sum of words whose bits are spread over bytes.
+use Rattle.std.proofs.Common.{◌≡◌, ℕ, ◌+◌, ◌*◌, ◌/◌, ◌%◌, ◌<◌, [], ◌∷◌, arith, w64}
 use Rattle.std.specs.Int.{to_le_bytes}
 use Rattle.sprite_rows.proofs.Spreading.{spread_bits, eight_digits, upper_bits, lower_bits}
 use Rattle.painter.specs.Words.{three_last}
-
-abbrev twice_entries : List ℕ
-twice_entries =
-    0 ∷ 72339069014638592 ∷ 1103806595072 ∷ 72340172821233664 ∷ 16842752 ∷ 72339069031481344 ∷ 1103823437824 ∷ 72340172838076416 ∷ 257 ∷
-    72339069014638849 ∷ 1103806595329 ∷ 72340172821233921 ∷ 16843009 ∷ 72339069031481601 ∷ 1103823438081 ∷ 72340172838076673 ∷ []
-
-twice : (n : ℕ) → n < 16 → get_or twice_entries n 0 ≡ 257 * (n / 8 % 2) + 16842752 * (n / 4 % 2) + 1103806595072 * (n / 2 % 2) + 72339069014638592 * (n % 2)
-twice zero h = refl
-twice (suc zero) h = refl
-twice (suc (suc zero)) h = refl
-twice (suc (suc (suc zero))) h = refl
-twice (suc (suc (suc (suc zero)))) h = refl
-twice (suc (suc (suc (suc (suc zero))))) h = refl
-twice (suc (suc (suc (suc (suc (suc zero)))))) h = refl
-twice (suc (suc (suc (suc (suc (suc (suc zero))))))) h = refl
-twice (suc (suc (suc (suc (suc (suc (suc (suc zero)))))))) h = refl
-twice (suc (suc (suc (suc (suc (suc (suc (suc (suc zero))))))))) h = refl
-twice (suc (suc (suc (suc (suc (suc (suc (suc (suc (suc zero)))))))))) h = refl
-twice (suc (suc (suc (suc (suc (suc (suc (suc (suc (suc (suc zero))))))))))) h = refl
-twice (suc (suc (suc (suc (suc (suc (suc (suc (suc (suc (suc (suc zero)))))))))))) h = refl
-twice (suc (suc (suc (suc (suc (suc (suc (suc (suc (suc (suc (suc (suc zero))))))))))))) h = refl
-twice (suc (suc (suc (suc (suc (suc (suc (suc (suc (suc (suc (suc (suc (suc zero)))))))))))))) h = refl
-twice (suc (suc (suc (suc (suc (suc (suc (suc (suc (suc (suc (suc (suc (suc (suc zero))))))))))))))) h = refl
-twice (suc (suc (suc (suc (suc (suc (suc (suc (suc (suc (suc (suc (suc (suc (suc (suc n)))))))))))))))) h = absurd (omega arith)
-
--- the table of each bit as two bytes, at a word's last four bits
-pub twice_of : (n : ℕ) → get_or twice_entries (n % 16) 0
-    ≡ 257 * (n / 8 % 2) + 16842752 * (n / 4 % 2) + 1103806595072 * (n / 2 % 2) + 72339069014638592 * (n % 2)
-twice_of n = twice (n % 16) (omega arith) ∙ omega arith
 
 -- the bytes of three words' last eight bits
 three_small : (a b c : ℕ) → a % 2 + 4 * (b % 2) + 16 * (c % 2) < 256
@@ -63,3 +34,8 @@ eight_bytes a b c =
     (a / 128 % 2) (a / 64 % 2) (a / 32 % 2) (a / 16 % 2) (a / 8 % 2) (a / 4 % 2) (a / 2 % 2) (a / 1 % 2)
     (b / 128 % 2) (b / 64 % 2) (b / 32 % 2) (b / 16 % 2) (b / 8 % 2) (b / 4 % 2) (b / 2 % 2) (b / 1 % 2)
     (c / 128 % 2) (c / 64 % 2) (c / 32 % 2) (c / 16 % 2) (c / 8 % 2) (c / 4 % 2) (c / 2 % 2) (c / 1 % 2)))
+
+-- the upper four bits of three words, and their lower four
+pub regrouped : (a a' b b' c c' : ℕ) →
+    a + 4294967296 * a' + 4 * (b + 4294967296 * b') + 16 * (c + 4294967296 * c') ≡ a + 4 * b + 16 * c + 4294967296 * (a' + 4 * b' + 16 * c')
+regrouped a a' b b' c c' = omega arith

@@ -1,5 +1,5 @@
 -- What the painter's own functions leave of a span of clocks, by the number of a clock in it.
-use Rattle.std.specs.Prelude.{◌≡◌, ◌<◌, ℕ, zero, suc, ◌+◌, ◌*◌, List, [], ◌∷◌, ◌++◌, bit_or, flat_map, slice_index_or}
+use Rattle.std.specs.Prelude.{◌≡◌, true, ◌<◌, ℕ, zero, suc, ◌+◌, ◌*◌, List, [], ◌∷◌, ◌++◌, bit_or, flat_map, slice_index_or}
 use Rattle.serial_model.specs.declared.picture.Denise.{Denise}
 use Rattle.serial_model.specs.Picture.{colour_bytes}
 use Rattle.painter.specs.declared.line.Line.{Line}
@@ -7,7 +7,8 @@ use Rattle.painter.specs.declared.painter.Painter.{Painter}
 use Rattle.painter.specs.Inks.{InkRegisters, backdrop}
 use Rattle.painter.specs.Overlay.{quiet_collisions}
 use Rattle.painter.specs.Painter.{IsPainterOf, clock_bytes}
-use Rattle.painter.specs.Pixels.{ink_at}
+use Rattle.painter.specs.Pixels.{ink_at, modified_along, all_modified}
+use Rattle.serial_model.specs.Window.{is_inside}
 use Rattle.painter.specs.SpriteState.{IsIdle}
 
 -- the bytes of n clocks, of which each has four pixels
@@ -52,3 +53,14 @@ all_inks now h k held = ink_pixels now.inks now.line (4 * h + 4 * k)
 -- what the playfields gather at n clocks
 abbrev pub quiet_gathered : ℕ → ℕ → ℕ → Denise → ℕ
 quiet_gathered v h n p = gathered (λ k. quiet_collisions v (h + k) p) n
+
+-- n clocks from clock h of line v on whose columns are all inside the display window, with no sprite near
+pub record AreInside (v h n : ℕ) (now : Painter) : Type 0 where
+  pub idle : (k : ℕ) → k < n → IsIdle (h + k) now.sprites
+  pub first : (k : ℕ) → k < n → is_inside v (2 * (h + k)) now.window.diwstrt now.window.diwstop ≡ true
+  pub second : (k : ℕ) → k < n → is_inside v (2 * (h + k) + 1) now.window.diwstrt now.window.diwstop ≡ true
+
+-- n clocks of hold and modify from clock h on are put behind the bytes from before, where a colour was held before them
+pub record AreModified (h n colour : ℕ) (now new : Painter) (before after : List ℕ) : Type 0 where
+  pub painted : new ≡ record now { held = colour_bytes (modified_along now.inks now.line (4 * h) colour (4 * n)) }
+  pub bytes : after ≡ before ++ bytes_of_clocks (all_modified now.inks now.line (4 * h) colour) n

@@ -14,3 +14,11 @@ three_last place a b c = a / 2 ^ place % 2 + 4 * (b / 2 ^ place % 2) + 16 * (c /
 -- all 32 positions that may show a bit of them
 unfoldable pub spread_bits : Bool → ℕ → ℕ → ℕ → List ℕ
 spread_bits hires a b c = map (λ passed. three_bits hires passed a b c) (range_with_len 0 32)
+
+-- the last four bits of a word, the highest first, as the digits of 256
+abbrev pub bits_spread : ℕ → ℕ
+bits_spread n = n / 8 % 2 + 256 * (n / 4 % 2) + 65536 * (n / 2 % 2) + 16777216 * (n % 2)
+
+-- the last four bits of a word, the highest first, as the digits of 256, each two times
+abbrev pub bits_doubled : ℕ → ℕ
+bits_doubled n = 0x101 * (n / 8 % 2) + 0x101_0000 * (n / 4 % 2) + 0x101_0000_0000 * (n / 2 % 2) + 0x101_0000_0000_0000 * (n % 2)

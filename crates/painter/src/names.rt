@@ -36,6 +36,9 @@ pub fn counted_planes(con0: u16, bits: u8) -> u8
     requires { bits < 64 }
     ensures { result ≡ counted_bits con0 bits }
 {
+    if bits == 0 {
+        return 0;
+    }
     match plane_count(con0) {
         0 => 0,
         1 => bits % 2,

@@ -10,7 +10,7 @@ ghost use Rattle.serial_model.specs.Window.{is_inside};
 ghost use Rattle.painter.specs.Overlay.{with_runs, shown_bits, covered_column, covered_collisions, column_over};
 ghost use Rattle.painter.specs.Overlay.{column_collisions, clock_over, quiet_in_column, quiet_collisions};
 ghost use Rattle.painter.specs.Inks.{is_held, backdrop};
-ghost use Rattle.painter.specs.SpriteState.{IsIdle};
+ghost use Rattle.painter.specs.SpriteState.{IsIdle, attached_in};
 ghost use Rattle.painter.specs.Line.{row_bits};
 ghost use Rattle.ocs_base.specs.Systems.{is_visible};
 
@@ -151,9 +151,25 @@ impl Painter {
         self.set_at(h, reg.offset, word);
     }
 
-    /// The same to the register at an offset, where it is one of Denise's.
-    #[tactic(auto, unfolding(serial_model::specs::Picture::set_picture))]
+    /// The same to the register at an offset, where it is one of Denise's. The latches of planes 2 to 6
+    /// are written most often.
+    #[inline(always)]
     pub fn set_at(&mut self, h: u16, offset: u16, word: u16)
+        requires { h ≤ 227 }
+        ensures { (p : DeniseValue) → IsPainterOf self.old p
+            → IsPainterOf self.new (set_picture h offset word p) }
+    {
+        if 0x112 <= offset && offset <= 0x11a {
+            self.latches[(offset - 0x110) as usize / 2] = word;
+            return;
+        }
+        self.set_register(h, offset, word);
+    }
+
+    /// The same to any register.
+    #[inline(never)]
+    #[tactic(auto, unfolding(serial_model::specs::Picture::set_picture))]
+    fn set_register(&mut self, h: u16, offset: u16, word: u16)
         requires { h ≤ 227 }
         ensures { (p : DeniseValue) → IsPainterOf self.old p
             → IsPainterOf self.new (set_picture h offset word p) }
@@ -333,7 +349,7 @@ impl Painter {
 
     /// The four pixels of a clock inside the display window.
     #[inline(always)]
-    fn show_inside(&mut self, v: u16, h: u16, into: &mut [[u8; 3]; 4])
+    pub(crate) fn show_inside(&mut self, v: u16, h: u16, into: &mut [[u8; 3]; 4])
         requires place { h ≤ 227 }
         requires first { is_inside v (2 * h) self.old.window.diwstrt
             self.old.window.diwstop ≡ true }
@@ -342,7 +358,12 @@ impl Painter {
         ensures pixels { (p : DeniseValue) → IsPainterOf self.old p → into.new ≡ clock_bytes v h p }
         ensures held { (p : DeniseValue) → IsPainterOf self.old p
             → IsPainterOf self.new (with_held (held_after v h 4 p) p) }
+        ensures window { self.new.window ≡ self.old.window }
     {
+        if self.line.is_blank_from(4 * h as usize) {
+            self.show_backdrop(into);
+            return;
+        }
         if self.inks.holds_colour() {
             self.show_held(v, h, into);
             return;
@@ -393,6 +414,7 @@ impl Painter {
         ensures pixels { (p : DeniseValue) → IsPainterOf self.old p → into.new ≡ clock_bytes v h p }
         ensures held { (p : DeniseValue) → IsPainterOf self.old p
             → IsPainterOf self.new (with_held (held_after v h 4 p) p) }
+        ensures window { self.new.window ≡ self.old.window }
     {
         let x = 2 * (2 * h) as usize;
         let next = 2 * (2 * h + 1) as usize;
@@ -455,7 +477,13 @@ impl Painter {
 
     /// The sprites over the four pixels of a clock, column by column, and what collides there.
     #[inline(never)]
-    fn show_sprite_columns(&mut self, v: u16, h: u16, into: &mut [[u8; 3]; 4], clx: &mut u16)
+    pub(crate) fn show_sprite_columns(
+        &mut self,
+        v: u16,
+        h: u16,
+        into: &mut [[u8; 3]; 4],
+        clx: &mut u16,
+    )
         requires { h ≤ 227 }
         ensures pixels { (p : DeniseValue) → IsPainterOf self.old p
             → into.new ≡ clock_over v h into.old p }
@@ -463,6 +491,7 @@ impl Painter {
             → IsPainterOf self.new (with_runs (runs_after h 2 p) p) }
         ensures clx { (p : DeniseValue) → IsPainterOf self.old p
             → clx.new ≡ bit_or clx.old (clock_collisions v h p) }
+        ensures window { self.new.window ≡ self.old.window }
     {
         self.show_sprite_column(v, 2 * h, 0, into, clx);
         self.show_sprite_column(v, 2 * h + 1, 2, into, clx);
@@ -485,41 +514,79 @@ impl Painter {
             → IsPainterOf self.new (with_runs (runs_at column p p.runs) p) }
         ensures clx { (p : DeniseValue) → IsPainterOf self.old p → clx.new ≡ bit_or clx.old
             (column_collisions v column (with_runs (runs_at column p p.runs) p)) }
+        ensures window { self.new.window ≡ self.old.window }
     {
         self.sprites.begin_words(column);
         if self.window.has(v, column) {
-            self.cover_column(column, at, into, clx);
+            let attached = self.sprites.attached_pairs();
+            self.cover_column(column, at, attached, into, clx);
         }
     }
 
-    /// The sprites over the two pixels of a column inside the display window, and what collides
-    /// there.
-    fn cover_column(&self, column: u16, at: usize, into: &mut [[u8; 3]; 4], clx: &mut u16)
+    /// The sprites over the two pixels of a column inside the display window, and what collides there,
+    /// where these pairs are attached.
+    #[inline(always)]
+    pub(crate) fn cover_column(
+        &self,
+        column: u16,
+        at: usize,
+        attached: u8,
+        into: &mut [[u8; 3]; 4],
+        clx: &mut u16,
+    )
         requires place { at ≤ 2 }
         requires room { column ≤ 455 }
+        requires attached { attached ≡ attached_in self.now.sprites }
         ensures pixels { (p : DeniseValue) → IsPainterOf self.now p
             → into.new ≡ covered_column column at into.old p }
         ensures clx { (p : DeniseValue) → IsPainterOf self.now p
             → clx.new ≡ bit_or clx.old (covered_collisions column p) }
     {
-        let first = self.planes_at(2 * column as usize);
-        let second = self.planes_at(2 * column as usize + 1);
-        if let Some(sprite) = self.sprites.front_pixel(column) {
+        self.put_front(column, at, attached, into);
+        self.gather(column, clx);
+    }
+
+    /// The sprite in front over the two pixels of such a column, where there is one.
+    #[inline(always)]
+    fn put_front(&self, column: u16, at: usize, attached: u8, into: &mut [[u8; 3]; 4])
+        requires place { at ≤ 2 }
+        requires room { column ≤ 455 }
+        requires attached { attached ≡ attached_in self.now.sprites }
+        ensures { (p : DeniseValue) → IsPainterOf self.now p
+            → into.new ≡ covered_column column at into.old p }
+    {
+        if let Some(sprite) = self.sprites.front_pixel(column, attached) {
+            let first = self.planes_at(2 * column as usize);
+            let second = self.planes_at(2 * column as usize + 1);
             cover(&self.inks, sprite, first, at, into);
             cover(&self.inks, sprite, second, at + 1, into);
         }
-        self.collide(column, first, second, clx);
     }
 
-    /// What collides at the two pixels of a column inside the display window, whose planes show
-    /// these bits. In low resolution they are the same.
+    /// What collides at the two pixels of such a column. Where all is gathered that may collide there,
+    /// its planes are not looked at.
     #[inline(always)]
-    fn collide(&self, column: u16, first: u8, second: u8, clx: &mut u16)
+    fn gather(&self, column: u16, clx: &mut u16)
         requires { column ≤ 455 }
-        ensures { let values = sprite_values column self.now.sprites.runs in
-            clx.new ≡ bit_or clx.old (bit_or (collision_bits self.now.clxcon first values)
-            (collision_bits self.now.clxcon second values)) }
+        ensures { (p : DeniseValue) → IsPainterOf self.now p
+            → clx.new ≡ bit_or clx.old (covered_collisions column p) }
     {
+        let reach = self.sprites.reach(column);
+        if *clx & reach != reach {
+            self.collide(column, clx);
+        }
+    }
+
+    /// What collides at the two pixels of a column inside the display window. In low resolution their
+    /// planes show the same.
+    #[inline(never)]
+    fn collide(&self, column: u16, clx: &mut u16)
+        requires { column ≤ 455 }
+        ensures { (p : DeniseValue) → IsPainterOf self.now p
+            → clx.new ≡ bit_or clx.old (covered_collisions column p) }
+    {
+        let first = self.planes_at(2 * column as usize);
+        let second = self.planes_at(2 * column as usize + 1);
         *clx |= self.sprites.collisions(column, self.clxcon, first);
         if second != first {
             *clx |= self.sprites.collisions(column, self.clxcon, second);

@@ -3,7 +3,7 @@
 ghost use Rattle.std.specs.Prelude.{◌≡◌, ◌≤◌, ◌+◌, ◌*◌, ◌++◌, ℕ, length, slice_index, slice_set, take};
 ghost use Rattle.serial_model.specs.Picture.{colour_bytes};
 ghost use Rattle.painter.specs.Held.{IsHeld};
-ghost use Rattle.painter.specs.Pixels.{ink_at, modified_at};
+ghost use Rattle.painter.specs.Pixels.{ink_at, modified_at, modified_along, modified_pixels, all_modified};
 ghost use Rattle.painter.specs.SpanCode.{bytes_of_clocks, ink_pixels};
 
 use crate::ham::{bytes_of, modify, modify_again};
@@ -102,4 +102,45 @@ pub fn put_inks(room: &mut [u8], at: usize, inks: &Inks, line: &Line, x: usize, 
         let pixels = ink_clock(inks, line, x + 4 * clock as usize);
         put(room, at + 12 * clock as usize, &pixels);
     }
+}
+
+/// The four pixels from a position on, inside the display window, in hold-and-modify; the last is held.
+#[inline(always)]
+fn modified_clock(inks: &Inks, line: &Line, held: Held, x: usize, into: &mut [[u8; 3]; 4]) -> Held
+    requires { x ≤ 1020 }
+    ensures pixels { (colour : ℕ) → IsHeld held colour
+        → into.new ≡ modified_pixels inks.now line.now x colour }
+    ensures held { (colour : ℕ) → IsHeld held colour
+        → IsHeld result (modified_along inks.now line.now x colour 4) }
+{
+    let second = show_modified(inks, line, held, x, 0, into);
+    show_modified(inks, line, second, x + 2, 2, into)
+}
+
+/// Puts so many clocks of such pixels into a room, from a position on; the last pixel is held.
+#[inline(always)]
+pub fn put_modified(
+    room: &mut [u8],
+    at: usize,
+    inks: &Inks,
+    line: &Line,
+    held: Held,
+    x: usize,
+    count: u16,
+) -> Held
+    requires room { at + 12 * count ≤ length room.old }
+    requires place { x + 4 * count ≤ 1024 }
+    ensures bytes { (colour : ℕ) → IsHeld held colour → take (at + 12 * count) room.new
+        ≡ take at room.old ++ bytes_of_clocks (all_modified inks.now line.now x colour) count }
+    ensures held { (colour : ℕ) → IsHeld held colour
+        → IsHeld result (modified_along inks.now line.now x colour (4 * count)) }
+    ensures size { length room.new ≡ length room.old }
+{
+    let mut last = held;
+    for clock in 0..count {
+        let mut pixels = [[0; 3]; 4];
+        last = modified_clock(inks, line, last, x + 4 * clock as usize, &mut pixels);
+        put(room, at + 12 * clock as usize, &pixels);
+    }
+    last
 }

@@ -8,12 +8,15 @@ ghost use Rattle.painter.specs.Inks.{backdrop};
 ghost use Rattle.painter.specs.Line.{row_bits};
 ghost use Rattle.painter.specs.Pixels.{ink_at};
 ghost use Rattle.painter.specs.Span.{visible_clocks, IsSpan};
-ghost use Rattle.painter.specs.SpanCode.{bytes_of_clocks, AreClocks, all_backdrop, all_inks, quiet_gathered};
+ghost use Rattle.painter.specs.SpanCode.{bytes_of_clocks, AreClocks, AreInside, AreModified};
+ghost use Rattle.painter.specs.SpanCode.{all_backdrop, all_inks, quiet_gathered};
+ghost use Rattle.ocs_base.specs.Systems.{is_visible};
 
+use crate::ham::{bytes_of, hold};
 use crate::painter::Painter;
-use crate::pixels::{ink_bytes, put_inks};
+use crate::pixels::{ink_bytes, put_inks, put_modified};
 use crate::span::{fill, put};
-use crate::visible::clocks_alike;
+use crate::visible::{Alike, clocks_alike};
 use collisions::do_playfields_meet;
 use ocs_base::{Beam, System};
 
@@ -90,31 +93,56 @@ impl Painter {
                 behind,
             };
         }
-        let inks = self.inks_ahead(v, h, near.count);
-        if near.visible && inks > 0 {
-            self.meet_clocks(v, h, inks, clx);
-            let behind = self.show_clocks(h, inks, room, at);
+        let inside = self.inside_ahead(v, h, near.count);
+        if near.visible && inside > 0 {
+            let behind = self.show_planes(system, v, h, inside, room, at, clx);
             return Part {
-                count: inks,
+                count: inside,
                 behind,
             };
         }
-        let count = self.clocks_apart(h, near.count);
-        let behind = self.show_each(system, v, h, count, room, at, clx);
-        Part { count, behind }
+        self.show_running(system, v, h, &near, room, at, clx)
     }
 
-    /// How many clocks from `h` on, at most so many, are to be shown one by one: in hold-and-modify all,
-    /// where sprites' words run those up to their end, and one elsewhere.
-    fn clocks_apart(&self, h: u16, count: u16) -> u16
-        requires { 1 ≤ count }
-        ensures some { 1 ≤ result }
-        ensures most { result ≤ count }
+    /// The picture steps of the next of so many clocks, at least one, in which sprites' words may run:
+    /// those up to their end.
+    fn show_running(
+        &mut self,
+        system: System,
+        v: u16,
+        h: u16,
+        near: &Alike,
+        room: &mut [u8],
+        at: usize,
+        clx: &mut u16,
+    ) -> Part
+        requires place { h + near.now.count ≤ 228 }
+        requires some { 1 ≤ near.now.count }
+        requires seen { (k : ℕ) → k < near.now.count
+            → is_visible system v (h + k) ≡ near.now.visible }
+        requires room { at + 12 * visible_clocks system v h near.now.count ≤ length room.old }
+        ensures given { (p : DeniseValue) → IsPainterOf self.old p
+            → IsSpan system v h result.count p self.new
+            (take at room.old) (take result.behind room.new) clx.old clx.new }
+        ensures filled { result.behind ≡ at + 12 * visible_clocks system v h result.count }
+        ensures some { 1 ≤ result.count }
+        ensures most { result.count ≤ near.now.count }
+        ensures size { length room.new ≡ length room.old }
     {
-        if self.inks.holds_colour() {
-            return count;
+        let running = self.sprites.clocks_running(h).max(1).min(near.count);
+        let inside = self.window.clocks_inside(v, h, running);
+        if near.visible && inside > 0 {
+            let behind = self.show_covered(system, v, h, inside, room, at, clx);
+            return Part {
+                count: inside,
+                behind,
+            };
         }
-        self.sprites.clocks_running(h).max(1).min(count)
+        let behind = self.show_each(system, v, h, running, room, at, clx);
+        Part {
+            count: running,
+            behind,
+        }
     }
 
     /// The picture steps of so many clocks, one by one.
@@ -160,18 +188,69 @@ impl Painter {
     }
 
     /// How many clocks from `h` on, at most so many, are known to be inside the display window before
-    /// the end of the last load, where no colour is held, with no sprite near.
-    fn inks_ahead(&self, v: u16, h: u16, count: u16) -> u16
+    /// the end of the last load, with no sprite near.
+    fn inside_ahead(&self, v: u16, h: u16, count: u16) -> u16
         requires { h + count ≤ 228 }
         ensures most { result ≤ count }
-        ensures known { AreClocks v h result self.now (all_inks self.now h) }
+        ensures inside { AreInside v h result self.now }
     {
-        if self.inks.holds_colour() {
-            return 0;
-        }
         let idle = self.sprites.idle_clocks(h, count);
         let inside = self.window.clocks_inside(v, h, idle);
         inside.min(self.line.clocks_before_end(h))
+    }
+
+    /// The picture steps of so many such clocks that are visible.
+    fn show_planes(
+        &mut self,
+        system: System,
+        v: u16,
+        h: u16,
+        count: u16,
+        room: &mut [u8],
+        at: usize,
+        clx: &mut u16,
+    ) -> usize
+        requires place { h + count ≤ 228 }
+        requires some { 1 ≤ count }
+        requires inside { AreInside v h count self.old }
+        requires seen { (k : ℕ) → k < count → is_visible system v (h + k) ≡ true }
+        requires room { at + 12 * count ≤ length room.old }
+        ensures given { (p : DeniseValue) → IsPainterOf self.old p → IsSpan system v h count p
+            self.new (take at room.old) (take result room.new) clx.old clx.new }
+        ensures place { result ≡ at + 12 * count }
+        ensures size { length room.new ≡ length room.old }
+    {
+        self.meet_clocks(v, h, count, clx);
+        if self.inks.holds_colour() {
+            self.show_modified_clocks(h, count, room, at)
+        } else {
+            self.show_clocks(h, count, room, at)
+        }
+    }
+
+    /// Puts so many such clocks into the room in hold-and-modify: the held colour goes from pixel to
+    /// pixel.
+    #[inline(never)]
+    fn show_modified_clocks(&mut self, h: u16, count: u16, room: &mut [u8], at: usize) -> usize
+        requires place { h + count ≤ 228 }
+        requires room { at + 12 * count ≤ length room.old }
+        ensures given { (colour : ℕ) → self.old.held ≡ colour_bytes colour
+            → AreModified h count colour self.old self.new (take at room.old) (take result room.new) }
+        ensures place { result ≡ at + 12 * count }
+        ensures size { length room.new ≡ length room.old }
+    {
+        let held = hold(&self.held);
+        let last = put_modified(
+            room,
+            at,
+            &self.inks,
+            &self.line,
+            held,
+            4 * h as usize,
+            count,
+        );
+        self.held = bytes_of(last);
+        at + 12 * count as usize
     }
 
     /// Puts so many such clocks into the room, and holds the last of their pixels.

@@ -8,6 +8,7 @@ ghost use Rattle.sprites.specs.SpriteFront.{front_pixel as pixel_of_front};
 ghost use Rattle.collisions.specs.Collision.{collision_bits};
 ghost use Rattle.painter.specs.SpriteState.{
   run_in,
+  runs_in,
   quiet_or,
   words_begun,
   has_start,
@@ -260,6 +261,16 @@ impl SpriteState {
         self.quiet_from <= 2 * h && (self.armed == 0 || !self.may_begin(h))
     }
 
+    /// Whether it is known that no words begin at this clock, so that those that run stay. Only speed
+    /// hangs on where that is not known.
+    #[inline(always)]
+    pub fn is_steady(&self, h: u16) -> bool
+        ensures first { result ≡ true → runs_in (2 * h) self.now ≡ self.now.runs }
+        ensures second { result ≡ true → runs_in (2 * h + 1) self.now ≡ self.now.runs }
+    {
+        self.armed == 0 || !self.may_begin(h)
+    }
+
     /// How many clocks from `h` on there are in which words that have begun may still show.
     pub fn clocks_running(&self, h: u16) -> u16
         ensures { result ≡ self.now.quiet_from / 2 + 1 - h }
@@ -299,6 +310,7 @@ impl SpriteState {
     }
 
     /// Whether a sprite, armed or not, has its HSTART at this clock.
+    #[inline(always)]
     fn may_begin(&self, h: u16) -> bool
         ensures { result ≡ has_start h self.now }
     {
@@ -314,18 +326,17 @@ impl SpriteState {
     }
 
     /// The pixel of the sprite in front at a column, None where no sprite shows (Hardware Reference
-    /// Manual, sprite hardware).
+    /// Manual, sprite hardware), where these pairs are attached, pair p as bit p.
     #[inline(always)]
-    pub fn front_pixel(&self, column: u16) -> Option<SpritePixel>
+    pub fn front_pixel(&self, column: u16, attached: u8) -> Option<SpritePixel>
         requires { column ≤ 455 }
-        ensures value { result ≡ pixel_of_front (sprite_values column self.now.runs)
-            (attached_in self.now) }
+        ensures value { result ≡ pixel_of_front (sprite_values column self.now.runs) attached }
         ensures within { IfSome result (λ s. (s.pair ≤ 3) × (s.colour ≤ 31)) }
     {
         if column < self.exact_from {
-            front(&self.values(column), self.attached_pairs())
+            front(&self.values(column), attached)
         } else {
-            self.rows.front(column, self.attached_pairs())
+            self.rows.front(column, attached)
         }
     }
 
@@ -343,6 +354,20 @@ impl SpriteState {
         let worth = 2 * one as u16 + 32 * two as u16;
         let present = self.rows.present(column, clxcon);
         collisions((one & two) as u16, worth, present)
+    }
+
+    /// The collision bits that a pixel of a column has at most, whatever its planes show and CLXCON
+    /// says, in the places of CLXDAT.
+    #[inline(always)]
+    pub fn reach(&self, column: u16) -> u16
+        requires { column ≤ 455 }
+        ensures { (con bits : ℕ) → bit_or result
+            (collision_bits con bits (sprite_values column self.now.runs)) ≡ result }
+    {
+        if column < self.exact_from {
+            return 0x7fff;
+        }
+        self.rows.reach(column)
     }
 
     /// The values of the eight sprites at a column.
@@ -363,7 +388,7 @@ impl SpriteState {
     }
 
     /// Which pairs of sprites are attached, pair p as bit p: ATT, bit 7 of SPRxCTL of the odd one.
-    fn attached_pairs(&self) -> u8
+    pub fn attached_pairs(&self) -> u8
         ensures { result ≡ attached_in self.now }
     {
         (self.ctl[1] / 128 % 2
@@ -379,9 +404,5 @@ fn clocks_before(clock: u16, h: u16, count: u16) -> u16
     ensures most { result ≤ count }
     ensures before { (k : ℕ) → k < result → clock ≢ h + k }
 {
-    if h <= clock && clock < h + count {
-        clock - h
-    } else {
-        count
-    }
+    clock.wrapping_sub(h).min(count)
 }

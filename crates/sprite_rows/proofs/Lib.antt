@@ -4,3 +4,4 @@ pub mod Values
 pub mod FrontByBytes
 pub mod Meeting
 pub mod Standing
+pub mod Reaching

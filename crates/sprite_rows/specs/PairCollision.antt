@@ -1,6 +1,6 @@
 -- The collisions of a pixel, from what its playfields alone meet and the pairs that are present.
-use Rattle.std.specs.Prelude.{ℕ, ◌+◌, ◌*◌, ◌%◌, ◌==◌, ◌&&◌, Bool, not, if◌then◌else◌, List, [], ◌∷◌}
-use Rattle.collisions.specs.Collision.{bit, playfield_matches, is_present, number_of}
+use Rattle.std.specs.Prelude.{true, ℕ, ◌+◌, ◌*◌, ◌%◌, ◌==◌, ◌&&◌, Bool, not, if◌then◌else◌, List, [], ◌∷◌}
+use Rattle.collisions.specs.Collision.{bit, playfield_matches, is_present, number_of, collisions_among}
 
 -- whether a pair is present, by its byte: 4 times the odd sprite's value and the even one's
 abbrev pub is_byte_present : ℕ → ℕ → ℕ → Bool
@@ -24,3 +24,8 @@ among_pairs present =
     let c = bit 2 present == 1 in
     let d = bit 3 present == 1 in
     512 * number_of ((a && b) ∷ (a && c) ∷ (a && d) ∷ (b && c) ∷ (b && d) ∷ (c && d) ∷ [])
+
+-- the most that a pixel may collide where the pairs have these bytes: both playfields match, and each pair is present that shows
+abbrev pub most_collisions : ℕ → ℕ → ℕ → ℕ → ℕ
+most_collisions a b c d =
+    number_of (collisions_among true true (not (a == 0)) (not (b == 0)) (not (c == 0)) (not (d == 0)))

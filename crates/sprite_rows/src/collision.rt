@@ -7,6 +7,7 @@ ghost use Rattle.sprite_rows.specs.PairCollision.{
   present_pairs,
   worth_of_playfields,
   among_pairs,
+  most_collisions,
 };
 
 use collisions::clx;
@@ -66,4 +67,23 @@ fn is_present(clxcon: u16, pair: u16, byte: u8) -> bool
     let counts = (clxcon >> (pair + 12)) & 1 == 1;
     let seen = if counts { byte } else { byte % 4 };
     seen != 0
+}
+
+/// What a pixel whose playfields both match collides where these pairs are present, pair p as bit p.
+const REACH: [u16; 16] = [
+    0x0001, 0x0023, 0x0045, 0x0267, 0x0089, 0x04ab, 0x10cd, 0x16ef, 0x0111, 0x0933, 0x2155, 0x2b77,
+    0x4199, 0x4dbb, 0x71dd, 0x7fff,
+];
+
+/// The collision bits that a pixel has at most where the four pairs have these bytes, in the places of
+/// CLXDAT: its playfields both match, and each pair is present that shows.
+#[inline(always)]
+pub fn reach_of(a: u8, b: u8, c: u8, d: u8) -> u16
+    ensures { result ≡ most_collisions a b c d }
+{
+    let there = (a != 0) as usize
+        + 2 * (b != 0) as usize
+        + 4 * (c != 0) as usize
+        + 8 * (d != 0) as usize;
+    REACH[there]
 }

@@ -6,6 +6,7 @@ ghost use Rattle.sprite_rows.specs.PairFront.{colour_of_byte, front_of_bytes};
 use sprites::SpritePixel;
 
 /// The pixel of the first pair whose byte is not 0, since lower-numbered sprites are in front.
+#[inline(always)]
 pub fn pixel_in_front(a: u8, b: u8, c: u8, d: u8, attached: u8) -> Option<SpritePixel>
     requires a { a ≤ 15 }
     requires b { b ≤ 15 }
@@ -29,6 +30,7 @@ pub fn pixel_in_front(a: u8, b: u8, c: u8, d: u8, attached: u8) -> Option<Sprite
 
 /// The pixel of a pair whose byte is not 0. Attached sprites have the colours 16 to 31 by the byte;
 /// else a pair has four colours, and its even sprite is in front.
+#[inline(always)]
 fn pixel(pair: u8, byte: u8, attached: u8) -> SpritePixel
     requires pair { pair ≤ 3 }
     requires byte { byte ≤ 15 }

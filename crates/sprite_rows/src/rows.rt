@@ -11,6 +11,7 @@ ghost use Rattle.std.specs.Prelude.{
   Some,
   None,
   IfSome,
+  bit_or,
   max,
   replicate,
   slice_set,
@@ -19,8 +20,9 @@ ghost use Rattle.sprites.specs.declared.runs.Start.{Start};
 ghost use Rattle.sprites.specs.SpriteFront.{front_pixel};
 ghost use Rattle.sprite_rows.specs.Laid.{byte_of};
 ghost use Rattle.sprite_rows.specs.PairCollision.{present_pairs};
+ghost use Rattle.collisions.specs.Collision.{collision_bits};
 
-use crate::collision::present_in;
+use crate::collision::{present_in, reach_of};
 use crate::front::pixel_in_front;
 use crate::laying::lay;
 use crate::words::values_of_words;
@@ -101,6 +103,7 @@ impl SpriteRows {
     ///
     /// Bit p of `attached`, p from 0 to 3, says that pair p is attached (bit 7 of SPRnCTL of its
     /// odd sprite).
+    #[inline(always)]
     pub fn front(&self, x: u16, attached: u8) -> Option<SpritePixel>
         requires { x ≤ 511 }
         ensures value { (runs : List (Option Start)) → IsRowsOf x self.now runs →
@@ -133,6 +136,23 @@ impl SpriteRows {
             self.pairs[2][at],
             self.pairs[3][at],
             clxcon,
+        )
+    }
+
+    /// The collision bits that a pixel at position `x` has at most, whatever its planes show and
+    /// CLXCON says, in the places of CLXDAT.
+    #[inline(always)]
+    pub fn reach(&self, x: u16) -> u16
+        requires { x ≤ 511 }
+        ensures { (runs : List (Option Start)) → IsRowsOf x self.now runs → (con bits : ℕ) →
+            bit_or result (collision_bits con bits (values_at x runs)) ≡ result }
+    {
+        let at = x as usize;
+        reach_of(
+            self.pairs[0][at],
+            self.pairs[1][at],
+            self.pairs[2][at],
+            self.pairs[3][at],
         )
     }
 }

@@ -1,14 +1,12 @@
-use Rattle.painter.proofs.Spreading.{eight_bytes}
+use Rattle.painter.proofs.Spreading.{eight_bytes, regrouped}
 use Rattle.painter.proofs.words.bytes_once.Goals as goal
 
 pub returns : goal.returns
 returns c =
     rw (
       c.to_le_bytes.ensures,
-      c.bits_as_bytes.ensures,
-      c.bits_as_bytes-2.ensures,
-      c.bits_as_bytes-3.ensures,
-      c.bits_as_bytes-4.ensures,
-      c.bits_as_bytes-5.ensures,
-      c.bits_as_bytes-6.ensures,
+      c.bits_once.ensures,
+      c.bits_once-2.ensures,
+      c.bits_once-3.ensures,
+      regrouped _ _ _ _ _ _,
     ) (eight_bytes c.args.a c.args.b c.args.c)

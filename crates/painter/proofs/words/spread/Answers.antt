@@ -12,8 +12,8 @@ unfolding spread_bits
 returns-else-hires c =
     rw (
       c.if-hires.false,
+      c.upper_twice.ensures,
       c.bytes_twice.ensures,
+      c.upper_twice-else-hires.ensures,
       c.bytes_twice-else-hires.ensures,
-      c.bytes_twice-else-hires-2.ensures,
-      c.bytes_twice-else-hires-3.ensures,
     ) (simp div-div-eq-div-mul)

@@ -1,6 +1,6 @@
 use Rattle.std.proofs.Common.{[], ◌∙◌, ℕ, List, get_or, sym, ap}
 use Rattle.serial_model.specs.Picture.{held_after}
-use Rattle.painter.proofs.Showing.{ink_clock, with_held_stands}
+use Rattle.painter.proofs.Showing.{backdrop_stands, ink_clock, unset_clock, with_held_stands}
 use Rattle.painter.proofs.painter.Painter.show_inside.Goals as goal
 
 pub returns-clause-pixels : goal.returns-clause-pixels
@@ -13,3 +13,16 @@ pub returns-clause-held : goal.returns-clause-held
 returns-clause-held c p stands =
     with_held_stands c.args.self.now p (get_or c.show_inks-2.new.into 3 []) (held_after c.args.v c.args.h 4 p) stands
     (ap (λ (l : List (List ℕ)). get_or l 3 []) (returns-clause-pixels c p stands))
+
+pub returns-then-is_blank_from-clause-pixels : goal.returns-then-is_blank_from-clause-pixels
+returns-then-is_blank_from-clause-pixels c p stands =
+    c.show_backdrop.ensures.pixels
+    ∙ unset_clock c.args.v c.args.h c.args.self.now p stands c.requires.place
+    (λ x from. c.is_blank_from.ensures.blank c.if-is_blank_from.true x from)
+
+pub returns-then-is_blank_from-clause-held : goal.returns-then-is_blank_from-clause-held
+returns-then-is_blank_from-clause-held c p stands =
+    backdrop_stands c.args.v c.args.h c.args.self.now c.show_backdrop.new.self p stands
+    (unset_clock c.args.v c.args.h c.args.self.now p stands c.requires.place
+    (λ x from. c.is_blank_from.ensures.blank c.if-is_blank_from.true x from))
+    c.show_backdrop.ensures.held

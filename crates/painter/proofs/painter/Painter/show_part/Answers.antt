@@ -1,7 +1,7 @@
 use Rattle.std.proofs.Common.{◌≡◌, ◌∙◌, ◌+◌, ◌*◌, ℕ, true, take, sym, ap, arith}
 use Rattle.painter.specs.Span.{visible_clocks}
 use Rattle.painter.proofs.Spans.{visible_within}
-use Rattle.painter.proofs.Clocks.{all_visible, backdrop_span, inks_span}
+use Rattle.painter.proofs.Clocks.{all_visible, backdrop_span}
 use Rattle.painter.proofs.painter.Painter.show_part.Goals as goal
 
 pub show_backdrops-behind-requires : goal.show_backdrops-behind-requires
@@ -30,33 +30,28 @@ returns-then-blank-gt0-clause-filled c =
     ∙ ap (λ (m : ℕ). c.args.at + 12 * m) (sym (all_visible c.args.system c.args.v c.args.h n c.clocks_alike-near.result.visible
     (λ k lt. c.clocks_alike-near.ensures.seen k (omega (arith, lt, c.backdrops-blank.ensures.most))) n (omega arith)))
 
-pub show_clocks-behind-requires-clause-room : goal.show_clocks-behind-requires-clause-room
-show_clocks-behind-requires-clause-room c =
-    let n : ℕ = c.inks_ahead-inks.result in
-    let all : visible_clocks c.args.system c.args.v c.args.h c.inks_ahead-inks.result ≡ c.inks_ahead-inks.result =
+pub show_planes-behind-requires-clause-seen : goal.show_planes-behind-requires-clause-seen
+show_planes-behind-requires-clause-seen c k lt =
+    c.clocks_alike-near.ensures.seen k (omega (arith, lt, c.inside_ahead-inside.ensures.most)) ∙ c.if-near.true
+
+pub show_planes-behind-requires-clause-room : goal.show_planes-behind-requires-clause-room
+show_planes-behind-requires-clause-room c =
+    let n : ℕ = c.inside_ahead-inside.result in
+    let all : visible_clocks c.args.system c.args.v c.args.h c.inside_ahead-inside.result ≡ c.inside_ahead-inside.result =
     all_visible c.args.system c.args.v c.args.h n true
-    (λ k lt. c.clocks_alike-near.ensures.seen k (omega (arith, lt, c.inks_ahead-inks.ensures.most)) ∙ c.if-near.true) n (omega arith) in
+    (λ k lt. c.clocks_alike-near.ensures.seen k (omega (arith, lt, c.inside_ahead-inside.ensures.most)) ∙ c.if-near.true) n (omega arith) in
     let within = visible_within c.args.system c.args.v c.args.h n c.args.count
-    (omega (arith, c.clocks_alike-near.ensures.most, c.inks_ahead-inks.ensures.most)) in
+    (omega (arith, c.clocks_alike-near.ensures.most, c.inside_ahead-inside.ensures.most)) in
     omega (arith, c.requires.room)
 
-pub returns-then-inks-gt0-clause-given : goal.returns-then-inks-gt0-clause-given
-returns-then-inks-gt0-clause-given c p stands =
-    inks_span c.args.system c.args.v c.args.h c.inks_ahead-inks.result c.args.self.now c.show_clocks-behind.new.self p
-    (take c.args.at c.args.room.now) (take c.show_clocks-behind.result c.show_clocks-behind.new.room) c.args.clx.now c.meet_clocks.new.clx
-    c.inks_ahead-inks.ensures.known
-    (λ k lt. c.clocks_alike-near.ensures.seen k (omega (arith, lt, c.inks_ahead-inks.ensures.most)) ∙ c.if-near.true)
-    stands (omega arith) c.show_clocks-behind.ensures.held c.show_clocks-behind.ensures.shown (c.meet_clocks.ensures p stands)
-
-pub returns-then-inks-gt0-clause-filled : goal.returns-then-inks-gt0-clause-filled
-returns-then-inks-gt0-clause-filled c =
-    let n : ℕ = c.inks_ahead-inks.result in
-    c.show_clocks-behind.ensures.place
+pub returns-then-inside-gt0-clause-filled : goal.returns-then-inside-gt0-clause-filled
+returns-then-inside-gt0-clause-filled c =
+    let n : ℕ = c.inside_ahead-inside.result in
+    c.show_planes-behind.ensures.place
     ∙ ap (λ (m : ℕ). c.args.at + 12 * m) (sym (all_visible c.args.system c.args.v c.args.h n true
-    (λ k lt. c.clocks_alike-near.ensures.seen k (omega (arith, lt, c.inks_ahead-inks.ensures.most)) ∙ c.if-near.true) n (omega arith)))
+    (λ k lt. c.clocks_alike-near.ensures.seen k (omega (arith, lt, c.inside_ahead-inside.ensures.most)) ∙ c.if-near.true) n (omega arith)))
 
-pub show_each-behind-requires-clause-room : goal.show_each-behind-requires-clause-room
-show_each-behind-requires-clause-room c =
-    let within = visible_within c.args.system c.args.v c.args.h c.clocks_apart-count.result c.args.count
-    (omega (arith, c.clocks_alike-near.ensures.most, c.clocks_apart-count.ensures.most)) in
+pub show_running-requires-clause-room : goal.show_running-requires-clause-room
+show_running-requires-clause-room c =
+    let within = visible_within c.args.system c.args.v c.args.h c.clocks_alike-near.result.count c.args.count c.clocks_alike-near.ensures.most in
     omega (arith, c.requires.room)

@@ -1,0 +1,68 @@
+-- Sprites over the pixels of clocks inside the display window.
+use Rattle.std.proofs.Common.{◌≡◌, ℕ, ◌+◌, ◌*◌, true, List, Option, length, bit_or, bit_and, refl, ◌∙◌, ap, subst}
+use Rattle.sprites.specs.declared.runs.Start.{Start}
+use Rattle.collisions.specs.Collision.{collision_bits}
+use Rattle.serial_model.specs.declared.picture.Denise.{Denise}
+use Rattle.serial_model.specs.Picture.{runs_at, runs_after, sprite_values, clock_collisions}
+use Rattle.serial_model.specs.Window.{is_inside}
+use Rattle.painter.specs.declared.painter.Painter.{Painter}
+use Rattle.painter.specs.Overlay.{with_runs, shown_bits, covered_column, covered_collisions, clock_over}
+use Rattle.painter.specs.Painter.{IsPainterOf}
+use Rattle.painter.specs.SpriteState.{runs_in}
+use Rattle.painter.proofs.Overlays.{after_first, after_second, same_runs_stand, runs_same, runs_of, inside_same}
+use Rattle.painter.proofs.Overlays.{clock_changed, clock_gathered, column_inside, bits_inside}
+use Rattle.painter.proofs.Ors.{or_reached, or_both}
+
+-- what collides at the two pixels of a column
+pub column_collides : (column first second : ℕ) (now : Painter) (p : Denise) → IsPainterOf now p → first ≡ shown_bits (2 * column) p →
+    second ≡ shown_bits (2 * column + 1) p →
+    bit_or (collision_bits now.clxcon first (sprite_values column now.sprites.runs)) (collision_bits now.clxcon second (sprite_values column now.sprites.runs))
+    ≡ covered_collisions column p
+column_collides column first second now p stands one two = rw (one, two, ← stands.clxcon, ← stands.runs) refl
+
+-- where all is gathered that may collide
+pub column_reached : (column clx reach : ℕ) (now : Painter) (p : Denise) → IsPainterOf now p →
+    ((con bits : ℕ) → bit_or reach (collision_bits con bits (sprite_values column now.sprites.runs)) ≡ reach) →
+    bit_and clx reach ≡ reach → clx ≡ bit_or clx (covered_collisions column p)
+column_reached column clx reach now p stands within held =
+    let all : (con bits : ℕ) → bit_or reach (collision_bits con bits (sprite_values column p.runs)) ≡ reach =
+    λ con bits. ap (λ (runs : List (Option Start)). bit_or reach (collision_bits con bits (sprite_values column runs))) stands.runs ∙ within con bits in
+    or_reached clx reach (covered_collisions column p) held
+    (or_both reach _ _ (all p.clxcon (shown_bits (2 * column) p)) (all p.clxcon (shown_bits (2 * column + 1) p)))
+
+-- a clock at which no words begin
+pub record IsSteady (h : ℕ) (now : Painter) : Type 0 where
+  pub first : runs_in (2 * h) now.sprites ≡ now.sprites.runs
+  pub second : runs_in (2 * h + 1) now.sprites ≡ now.sprites.runs
+
+pub steady_first : (h : ℕ) (now : Painter) (p : Denise) → IsPainterOf now p → IsSteady h now → IsPainterOf now (after_first h p)
+steady_first h now p stands is = same_runs_stand now p (runs_at (2 * h) p p.runs) stands (runs_same (2 * h) now p stands ∙ is.first)
+
+pub steady_second : (h : ℕ) (now : Painter) (p : Denise) → IsPainterOf now p → IsSteady h now → IsPainterOf now (after_second h p)
+steady_second h now p stands is =
+    let one : IsPainterOf now (after_first h p) = steady_first h now p stands is in
+    same_runs_stand now (after_first h p) (runs_at (2 * h + 1) (after_first h p) (runs_at (2 * h) p p.runs)) one
+    (runs_same (2 * h + 1) now (after_first h p) one ∙ is.second)
+
+pub steady_runs : (h : ℕ) (now : Painter) (p : Denise) → IsPainterOf now p → IsSteady h now → IsPainterOf now (with_runs (runs_after h 2 p) p)
+steady_runs h now p stands is =
+    subst (λ (runs : List (Option Start)). IsPainterOf now (with_runs runs p)) (runs_of h p).both (steady_second h now p stands is)
+
+-- its two columns inside the window
+pub steady_pixels : (v h : ℕ) (now : Painter) (p : Denise) (into left right : List (List ℕ)) → IsPainterOf now p → length into ≡ 4 →
+    is_inside v (2 * h) now.window.diwstrt now.window.diwstop ≡ true → is_inside v (2 * h + 1) now.window.diwstrt now.window.diwstop ≡ true →
+    left ≡ covered_column (2 * h) 0 into (after_first h p) → right ≡ covered_column (2 * h + 1) 2 left (after_second h p) →
+    right ≡ clock_over v h into p
+steady_pixels v h now p into left right stands four first second one two =
+    clock_changed v h p into left right four
+    (one ∙ column_inside v (2 * h) 0 into (after_first h p) (inside_same v (2 * h) now p stands ∙ first))
+    (two ∙ column_inside v (2 * h + 1) 2 left (after_second h p) (inside_same v (2 * h + 1) now p stands ∙ second))
+
+pub steady_bits : (v h old between new : ℕ) (now : Painter) (p : Denise) → IsPainterOf now p →
+    is_inside v (2 * h) now.window.diwstrt now.window.diwstop ≡ true → is_inside v (2 * h + 1) now.window.diwstrt now.window.diwstop ≡ true →
+    between ≡ bit_or old (covered_collisions (2 * h) (after_first h p)) → new ≡ bit_or between (covered_collisions (2 * h + 1) (after_second h p)) →
+    new ≡ bit_or old (clock_collisions v h p)
+steady_bits v h old between new now p stands first second one two =
+    clock_gathered v h p old between new
+    (one ∙ ap (bit_or old) (bits_inside v (2 * h) (after_first h p) (inside_same v (2 * h) now p stands ∙ first)))
+    (two ∙ ap (bit_or between) (bits_inside v (2 * h + 1) (after_second h p) (inside_same v (2 * h + 1) now p stands ∙ second)))

@@ -1,0 +1,32 @@
+use Rattle.std.proofs.Common.{◌∙◌, ◌+◌, ◌*◌, ◌++◌, ℕ, List, bit_or, take, ap}
+use Rattle.serial_model.specs.declared.picture.Denise.{Denise}
+use Rattle.serial_model.specs.Picture.{held_after, step_of}
+use Rattle.serial_model.specs.Window.{is_inside}
+use Rattle.painter.specs.Painter.{with_held}
+use Rattle.painter.proofs.Overlays.{clock_shown, clock_stands, bits_apart}
+use Rattle.painter.proofs.Spans.{one_span}
+use Rattle.painter.proofs.painter.Painter.show_over.Goals as goal
+
+pub cover_clock-requires-clause-first : goal.cover_clock-requires-clause-first
+cover_clock-requires-clause-first c =
+    ap (λ window. is_inside c.args.v (2 * c.args.h) window.diwstrt window.diwstop) c.show_inside.ensures.window ∙ c.requires.first
+
+pub cover_clock-requires-clause-second : goal.cover_clock-requires-clause-second
+cover_clock-requires-clause-second c =
+    ap (λ window. is_inside c.args.v (2 * c.args.h + 1) window.diwstrt window.diwstop) c.show_inside.ensures.window ∙ c.requires.second
+
+pub returns-clause-given : goal.returns-clause-given
+unfolding step_of
+returns-clause-given c p stands =
+    let v = c.args.v in
+    let h = c.args.h in
+    let next : Denise = with_held (held_after c.args.v c.args.h 4 p) p in
+    let held = c.show_inside.ensures.held p stands in
+    one_span c.args.system v h p c.cover_clock.new.self (take c.args.at c.args.room.now) (take (c.args.at + 12) c.put.new.room)
+    c.args.clx.now c.cover_clock.new.clx
+    (clock_stands c.args.system v h c.cover_clock.new.self p (c.cover_clock.ensures.runs next held))
+    (c.put.ensures.bytes
+    ∙ ap (λ (l : List ℕ). take c.args.at c.args.room.now ++ l)
+    (clock_shown c.args.system v h (held_after v h 4 p) p c.cover_clock.new.into c.show_inside.new.into c.requires.seen
+    (c.show_inside.ensures.pixels p stands) (c.cover_clock.ensures.pixels next held)))
+    (c.cover_clock.ensures.clx next held ∙ ap (bit_or c.args.clx.now) (bits_apart v h (held_after v h 4 p) p))
