@@ -1,5 +1,7 @@
 //! Lines of fetches, worked by hand from the manual's tables of slots.
 
+ghost use Rattle.std.specs.Prelude.{◌≡◌, ◌≤◌, ◌<◌, ◌+◌};
+
 use bitplane_dma::Fetcher;
 use ocs_base::{Beam, Reg};
 use reg_file::Regs;
@@ -128,4 +130,112 @@ fn pointers_after_a_line(rt: HostRuntime) {
     ] {
         assert_eq!(rt; regs.word(Reg::masked(offset)), want, "{offset}");
     }
+}
+
+/// A place of line 2C.
+fn place(h: u16) -> Beam
+    ensures { result.h ≡ h }
+{
+    Beam {
+        frame: 0,
+        v: 0x2c,
+        h,
+        lof: true,
+    }
+}
+
+/// Registers with which units begin at clocks 56, 64 and so on to 208 of a line.
+fn registers_of_planes(con0: u16) -> Regs {
+    registers(&[
+        (0x08e, 0x2c81),
+        (0x090, 0xf4c1),
+        (0x092, 0x38),
+        (0x094, 0xd0),
+        (0x096, 0x8300),
+        (0x100, con0),
+    ])
+}
+
+/// A fetcher that came to clock `h` of the line by single clocks.
+fn fetcher_at(h: u16, regs: &mut Regs) -> Fetcher {
+    let mut fetcher = Fetcher::new();
+    for clock in 0..h {
+        let _ask = fetcher.step(&place(clock), regs);
+    }
+    fetcher
+}
+
+/// For how many clocks from clock `h` on, at most so many, the planes of this word of BPLCON0 need no slot.
+fn quiet(con0: u16, h: u16, most: u16) -> u16
+    requires inner { 0 < h }
+    requires room { h + most ≤ 226 }
+{
+    let mut regs = registers_of_planes(con0);
+    fetcher_at(h, &mut regs).quiet(&place(h), &regs, most)
+}
+
+/// One plane is fetched in the last slot of a unit, and six leave the first and the fifth free.
+#[test]
+fn clocks_without_a_fetch(rt: HostRuntime) {
+    let found = [
+        quiet(0x0000, 10, 200),
+        quiet(0x1000, 40, 16),
+        quiet(0x1000, 56, 100),
+        quiet(0x1000, 58, 100),
+        quiet(0x1000, 63, 100),
+        quiet(0x1000, 64, 100),
+        quiet(0x1000, 216, 10),
+        quiet(0x6000, 56, 100),
+        quiet(0x6000, 57, 100),
+        quiet(0x6000, 60, 100),
+    ];
+    assert_eq!(rt; found, [200, 16, 7, 5, 0, 7, 10, 1, 0, 1]);
+}
+
+/// The clock of the first fetch behind clocks that were passed over from clock 1 on; 0 where there is none.
+fn fetch_behind(clocks: u16) -> u16
+    requires { clocks ≤ 225 }
+{
+    let mut regs = registers_of_planes(0x1000);
+    let mut fetcher = Fetcher::new();
+    fetcher.skip(&place(1), &regs, clocks);
+    for h in 1 + clocks..227 {
+        if fetcher.step(&place(h), &mut regs).is_some() {
+            return h;
+        }
+    }
+    0
+}
+
+/// Units begin among the clocks that are passed over, the first at clock 56 and the last at clock 208.
+#[test]
+fn units_begin_among_clocks_passed_over(rt: HostRuntime) {
+    let found = [
+        fetch_behind(50),
+        fetch_behind(57),
+        fetch_behind(62),
+        fetch_behind(100),
+        fetch_behind(211),
+        fetch_behind(215),
+    ];
+    assert_eq!(rt; found, [63, 63, 63, 103, 215, 0]);
+}
+
+/// Whether a unit of many planes runs at clock `h` or ends with it, with this word of BPLCON0.
+fn is_dense(con0: u16, h: u16) -> bool {
+    let mut regs = registers_of_planes(con0);
+    fetcher_at(h, &mut regs).is_dense(&place(h), &regs)
+}
+
+/// Six planes in low resolution and four in high leave no two clocks in a row free, and one leaves seven.
+#[test]
+fn units_of_many_planes(rt: HostRuntime) {
+    let found = [
+        is_dense(0x6000, 50),
+        is_dense(0x6000, 60),
+        is_dense(0xc000, 60),
+        is_dense(0x1000, 60),
+        is_dense(0x6000, 220),
+    ];
+    assert_eq!(rt; found, [false, true, true, false, false]);
 }

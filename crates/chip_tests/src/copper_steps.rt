@@ -1,5 +1,7 @@
 //! Instructions of the Copper, step by step, worked by hand.
 
+ghost use Rattle.std.specs.Prelude.{◌≤◌};
+
 use copper::{Copper, CopperAct};
 use ocs_base::{Addr, Beam};
 
@@ -129,4 +131,37 @@ fn a_jump_drops_the_first_word(rt: HostRuntime) {
     let second = copper.step(Some(0x0123), &beam(0, 0), false, false);
     assert_eq!(rt; written(second), Some((0x180, 0x0123)));
     assert_eq!(rt; wanted(&copper), Some(0x44));
+}
+
+/// For how many clocks from clock `h` of line `v` on, at most 100, a Copper that has read these two words
+/// does nothing.
+fn quiet(first: u16, second: u16, busy: bool, v: u16, h: u16) -> u16
+    requires { h ≤ 126 }
+{
+    let beam_now = Beam {
+        frame: 0,
+        v,
+        h,
+        lof: true,
+    };
+    after(8, first, second, &beam(0, 0), busy).quiet(&beam_now, busy, 100)
+}
+
+/// The line of a WAIT is above, here or below; the blitter holds a WAIT up; a MOVE is read, and then the
+/// Copper asks at each even clock; a forbidden MOVE stops it.
+#[test]
+fn clocks_at_which_it_does_nothing(rt: HostRuntime) {
+    let found = [
+        quiet(0x3041, 0xfffe, false, 47, 10),
+        quiet(0x3041, 0xfffe, false, 48, 10),
+        quiet(0x3041, 0xfffe, false, 48, 11),
+        quiet(0x3041, 0xfffe, false, 48, 64),
+        quiet(0x3041, 0xfffe, false, 48, 65),
+        quiet(0x3041, 0xfffe, false, 49, 10),
+        quiet(0x0001, 0x7ffe, true, 49, 10),
+        quiet(0x0180, 0x0f00, false, 49, 10),
+        quiet(0x0180, 0x0f00, false, 49, 11),
+        quiet(0x003e, 0x0007, false, 49, 10),
+    ];
+    assert_eq!(rt; found, [100, 54, 53, 0, 1, 0, 100, 0, 1, 100]);
 }

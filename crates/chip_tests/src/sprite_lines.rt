@@ -1,5 +1,7 @@
 //! Lines of sprite fetches, worked by hand from the places of the slots.
 
+ghost use Rattle.std.specs.Prelude.{◌<◌};
+
 use ocs_base::{Addr, Beam, Reg};
 use reg_file::Regs;
 use sprite_dma::{SpriteAsk, SpriteDma};
@@ -141,4 +143,39 @@ fn dma_changes_between_the_slots(rt: HostRuntime) {
         let (rest, _, _) = run(&mut sprites, 25, 0x16, 227, 0, &mut regs);
         assert_eq!(rt; first.saturating_add(rest), want, "{before}");
     }
+}
+
+/// For how many clocks from clock `h` of line `v` on, at most 200, no sprite needs a slot, with this word
+/// written to DMACON. Sprite 2 has an image on lines 26 and 27, and the others have none.
+fn quiet(dma: u16, v: u16, h: u16) -> u16
+    requires { 0 < h }
+{
+    let mut regs = registers(&[(0x096, dma), (0x150, 0x1a40), (0x152, 0x1c00)]);
+    let mut sprites = SpriteDma::new();
+    let _read = run(&mut sprites, v, 0, h, 0, &mut regs);
+    let beam = Beam {
+        frame: 0,
+        v,
+        h,
+        lof: true,
+    };
+    sprites.quiet(&beam, &regs, 200)
+}
+
+/// The first slots of sprites 0 and 2 are clocks 21 and 29, and the last slot of all is clock 51. On line 25
+/// each sprite reads its control words.
+#[test]
+fn clocks_without_a_read(rt: HostRuntime) {
+    let found = [
+        quiet(0x8220, 25, 1),
+        quiet(0x8220, 25, 21),
+        quiet(0x8220, 25, 22),
+        quiet(0x8220, 25, 52),
+        quiet(0x8200, 25, 1),
+        quiet(0x8220, 26, 1),
+        quiet(0x8220, 26, 30),
+        quiet(0x8220, 26, 32),
+        quiet(0x8220, 29, 1),
+    ];
+    assert_eq!(rt; found, [20, 0, 1, 200, 200, 28, 1, 200, 200]);
 }

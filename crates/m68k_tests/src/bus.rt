@@ -1,6 +1,7 @@
 //! The processor on the bus, clock by clock, worked by hand.
 
 use cpu_bus::BusCpu;
+use irq_cia::Irq;
 use ocs_base::ChipSize;
 use serial_model::{CiaName, Half, ProcessorAsk, Turn};
 
@@ -127,4 +128,72 @@ fn chip_memory_ends_where_its_size_does(rt: HostRuntime) {
         _ => assert!(rt; false, "no read"),
     }
     assert!(rt; wish_above_512_kib(ChipSize::Kib512).is_none());
+}
+
+/// Interrupts of which that of vertical blanking, level 3, is requested and enabled.
+fn level_3() -> Irq {
+    let mut irq = Irq::reset();
+    irq.request(0x0020);
+    irq.poke_ena(0xc020);
+    irq
+}
+
+/// The clocks for which a processor only waits behind these words of a program, with no interrupt.
+fn quiet_after(words: &[u16]) -> u32 {
+    after(words).quiet(&Irq::reset())
+}
+
+/// A processor that STOP with this SR stopped: its words, and its first clock.
+fn stopped(sr: u16) -> BusCpu {
+    let mut cpu = after(&[0x4e72, sr]);
+    let _clock = clocks_to_go_on(&mut cpu, 0);
+    cpu
+}
+
+/// All clocks but the last of a CIA's access, of a place that is nowhere, and of the 12 idle ones of reset;
+/// none of an access to memory. For ever where it is off.
+#[test]
+fn clocks_at_which_it_only_waits(rt: HostRuntime) {
+    let mut reset = BusCpu::reset(ChipSize::Kib512, true);
+    for word in [0, 0x1000, 0, 8] {
+        let _clocks = clocks_to_go_on(&mut reset, word);
+    }
+    let found = [
+        reset.quiet(&Irq::reset()),
+        quiet_after(&[0x1039, 0x00bf, 0xe001]),
+        quiet_after(&[0x1039, 0x00f8, 0x0000]),
+        quiet_after(&[0x1039, 0x0007, 0xffff]),
+        BusCpu::reset(ChipSize::Kib512, false).quiet(&Irq::reset()),
+    ];
+    assert_eq!(rt; found, [11, 4, 1, 0, u32::MAX]);
+}
+
+/// STOP waits for ever, unless an interrupt is above its mask.
+#[test]
+fn clocks_of_stop(rt: HostRuntime) {
+    let found = [
+        stopped(0x2000).quiet(&Irq::reset()),
+        stopped(0x2300).quiet(&level_3()),
+        stopped(0x2200).quiet(&level_3()),
+    ];
+    assert_eq!(rt; found, [u32::MAX, u32::MAX, 0]);
+}
+
+/// The clocks until it goes on, where those at which it only waits are passed over.
+fn clocks_behind_quiet(words: &[u16]) -> u32 {
+    let mut cpu = after(words);
+    let clocks = cpu.quiet(&Irq::reset());
+    cpu.skip(clocks);
+    clocks_to_go_on(&mut cpu, 0)
+}
+
+/// Behind them it goes on at the next clock; an access to memory still takes its two.
+#[test]
+fn clocks_passed_over(rt: HostRuntime) {
+    let found = [
+        clocks_behind_quiet(&[0x1039, 0x00bf, 0xe001]),
+        clocks_behind_quiet(&[0x1039, 0x00f8, 0x0000]),
+        clocks_behind_quiet(&[0x1039, 0x0007, 0xffff]),
+    ];
+    assert_eq!(rt; found, [1, 1, 2]);
 }

@@ -28,6 +28,35 @@ fn tick(cia: &mut Cia, times: u16) {
     }
 }
 
+/// The ticks that are left before the first timer underflows, where A's counter is 7 and B's is 3, by CRA and
+/// CRB, after so many ticks.
+fn ticks_left(controls: (u8, u8), ticks: u16) -> u16 {
+    let mut cia = timers_of_7_and_3(controls);
+    tick(&mut cia, ticks);
+    cia.ticks_left()
+}
+
+/// A CIA with counters of 7 and 3, and these words of CRA and CRB.
+fn timers_of_7_and_3(controls: (u8, u8)) -> Cia {
+    let (control_a, control_b) = controls;
+    make_cia(&[
+        (4, 7),
+        (5, 0),
+        (6, 3),
+        (7, 0),
+        (14, control_a),
+        (15, control_b),
+    ])
+}
+
+/// The two counters and the flags in ICR behind all ticks that are left.
+fn behind_ticks_left(controls: (u8, u8)) -> (u8, u8, u8) {
+    let mut cia = timers_of_7_and_3(controls);
+    let ticks = cia.ticks_left();
+    cia.skip(ticks);
+    (read(&mut cia, 4), read(&mut cia, 6), read(&mut cia, 13))
+}
+
 /// The three bytes of the time of day, as reads from TODHI to TODLO give them.
 fn time_of(cia: &mut Cia) -> (u8, u8, u8) {
     let high = read(cia, 10);
@@ -149,6 +178,37 @@ fn cascade(rt: HostRuntime) {
         assert_eq!(rt; read(&mut cia, 6), counter, "{control} {ticks}");
         assert_eq!(rt; read(&mut cia, 13), flags, "{control} {ticks}");
     }
+}
+
+/// Timers that stand still do not count; nor does a timer B that counts underflows of A, or a timer A that
+/// counts pulses of CNT.
+#[test]
+fn ticks_before_an_underflow(rt: HostRuntime) {
+    let found = [
+        ticks_left((0x01, 0x00), 0),
+        ticks_left((0x01, 0x00), 2),
+        ticks_left((0x01, 0x00), 7),
+        ticks_left((0x01, 0x01), 0),
+        ticks_left((0x01, 0x41), 0),
+        ticks_left((0x00, 0x01), 1),
+        ticks_left((0x21, 0x00), 0),
+        ticks_left((0x00, 0x00), 0),
+    ];
+    assert_eq!(rt; found, [7, 5, 0, 3, 7, 2, 65_535, 65_535]);
+}
+
+/// The counter that was the lesser comes to 0, and no flag is set.
+#[test]
+fn ticks_passed_over(rt: HostRuntime) {
+    let found = [
+        behind_ticks_left((0x01, 0x00)),
+        behind_ticks_left((0x01, 0x01)),
+        behind_ticks_left((0x01, 0x41)),
+        behind_ticks_left((0x00, 0x01)),
+        behind_ticks_left((0x00, 0x00)),
+    ];
+    let want = [(0, 3, 0), (4, 0, 0), (0, 3, 0), (7, 0, 0), (7, 3, 0)];
+    assert_eq!(rt; found, want);
 }
 
 #[test]

@@ -673,6 +673,22 @@ fn stop_ends_by_an_interrupt(rt: HostRuntime) {
     assert!(rt; cpu.regs().pc == 0xe32 && cpu.regs().sr == 0x2100);
 }
 
+/// Whether it is stopped, and its mask, before STOP #2000h, behind each of its two words, and behind each of
+/// two idle clocks. It has 8 clocks and two accesses, so it ends with its last word.
+#[test]
+fn what_stop_stops(rt: HostRuntime) {
+    let case = &WAITING[0];
+    let mut memory = memory(case, &registers(case));
+    let mut cpu = at_code(&mut memory);
+    let mut found = [(false, 0); 5];
+    for place in 0..5 {
+        found[place] = (cpu.is_stopped(), cpu.mask());
+        step(&mut cpu, &mut memory, 0);
+    }
+    let want = [(false, 7), (false, 7), (true, 0), (true, 0), (true, 0)];
+    assert_eq!(rt; found, want);
+}
+
 /// Reset reads SSP and PC.
 #[test]
 fn reset(rt: HostRuntime) {

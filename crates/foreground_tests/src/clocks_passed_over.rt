@@ -1,0 +1,164 @@
+//! Quiet clocks that the chips and the foreground pass over at once. The expected numbers and words are
+//! worked by hand.
+
+ghost use Rattle.std.specs.Prelude.{◌≡◌, ◌≤◌, ◌<◌, ◌+◌, ℕ, [], None, false};
+ghost use Rattle.foreground.specs.Fore.{over, IsUnderway};
+
+use crate::runs::{out_files, run_of};
+use band_draw::Direct;
+use band_log::{Raster, Run};
+use chip_set::Chips;
+use foreground::Fore;
+use ocs_base::{Beam, ChipSize, OutOfMemory, Reg};
+use out_files::OutFiles;
+use serial_model::{NoSide, Side};
+use std::alloc::Global;
+use std::sync::Arc;
+use std::test::Fail;
+
+/// One plane in low resolution, fetched at clocks 63, 71 and so on.
+const PLANE: [(u16, u16); 6] = [
+    (0x08e, 0x2c81),
+    (0x090, 0xf4c1),
+    (0x092, 0x38),
+    (0x094, 0xd0),
+    (0x096, 0x8300),
+    (0x100, 0x1000),
+];
+
+/// DMA of the Copper, which stands before its first instruction.
+const COPPER: [(u16, u16); 1] = [(0x096, 0x8280)];
+
+/// A blit of a word, without DMA.
+const BLIT: [(u16, u16); 1] = [(0x058, 0x0041)];
+
+/// Clock `h` of line 100.
+fn place(h: u16) -> Beam
+    ensures { result.h ≡ h }
+{
+    Beam {
+        frame: 0,
+        v: 100,
+        h,
+        lof: true,
+    }
+}
+
+/// Chips after these writes, with or without a processor at its reset.
+fn chips_after(cpu: bool, writes: &[(u16, u16)]) -> Chips {
+    let mut chips = Chips::reset(ChipSize::Kib512, cpu);
+    for (offset, word) in writes.iter().copied() {
+        let _effect = chips.poke(Reg::masked(offset), word);
+    }
+    chips
+}
+
+/// How many of the 50 clocks from clock `h` on they pass over.
+fn passed(cpu: bool, writes: &[(u16, u16)], h: u16) -> u16
+    requires inner { 0 < h }
+    requires room { h ≤ 176 }
+{
+    let mut chips = chips_after(cpu, writes);
+    chips.pass_quiet(&place(h), 22_700 + h as u64, 50)
+}
+
+/// All where nobody is at work, none where the processor or the Copper asks for a word, and those before the
+/// fetch of a unit that begins. Behind clock 56 no unit begins any more in a line that has none.
+#[test]
+fn chips_pass_over_quiet_clocks(rt: HostRuntime) {
+    let found = [
+        passed(false, &[], 10),
+        passed(true, &[], 10),
+        passed(false, &PLANE, 56),
+        passed(false, &PLANE, 57),
+        passed(false, &COPPER, 10),
+        passed(false, &COPPER, 11),
+    ];
+    assert_eq!(rt; found, [50, 0, 7, 50, 0, 1]);
+}
+
+/// They are where the processor, the Copper or a blit is at work.
+#[test]
+fn chips_at_work_are_busy(rt: HostRuntime) {
+    let found = [
+        chips_after(false, &[]).is_busy(&place(10)),
+        chips_after(true, &[]).is_busy(&place(10)),
+        chips_after(false, &COPPER).is_busy(&place(10)),
+        chips_after(false, &BLIT).is_busy(&place(10)),
+    ];
+    assert_eq!(rt; found, [false, true, true, true]);
+}
+
+/// A run whose Copper waits for clock 60 of line 1, and whose script writes COLOR01 at clock 50 of it. Behind
+/// the wait the Copper writes COLOR00.
+fn waiting_run(alloc: Global) -> Result<Arc<Run<NoSide>>, Fail> {
+    run_of(
+        alloc,
+        &[0x01, 0x3d, 0xff, 0xfe, 0x01, 0x80, 0x0f, 0x00],
+        "at 0 0 0 poke 096 8280\nat 0 1 50 poke 182 0123\n",
+        20,
+    )
+}
+
+/// Does 300 clocks by single calls.
+fn run_singly<S: Side, Q: Raster<S>>(
+    fore: &mut Fore<S>,
+    raster: &mut Q,
+    out: &mut OutFiles,
+) -> Result<(), OutOfMemory>
+    requires fresh { fore.old.spent ≡ false }
+    requires fits { (first : ℕ) × IsUnderway (over S.seen fore.old) first
+        (Q.seen raster.old) }
+{
+    for _ in 0..300 {
+        if fore.done() {
+            return Ok(());
+        }
+        fore.advance(raster, out)?;
+    }
+    Ok(())
+}
+
+/// The first 300 clocks of a run, singly or by one call, over a raster that took no band yet.
+fn run_clocks<Q: Raster<NoSide>>(
+    alloc: Global,
+    run: Arc<Run<NoSide>>,
+    raster: &mut Q,
+    singly: bool,
+) -> Result<Fore<NoSide>, Fail>
+    requires empty { (Q.seen raster.old).outstanding ≡ [] }
+    requires first { (Q.seen raster.old).next ≡ 0 }
+    requires unbound { (Q.seen raster.old).bound ≡ None }
+{
+    let mut fore = Fore::new(alloc, run)?;
+    let mut out = out_files(alloc)?;
+    if singly {
+        run_singly(&mut fore, raster, &mut out)?;
+    } else {
+        fore.run_to(300, raster, &mut out)?;
+    }
+    Ok(fore)
+}
+
+/// The clocks that were done, the line and the clock of it, and the words of DMACON, COLOR00 and COLOR01.
+fn place_and_words(fore: &Fore<NoSide>) -> (u64, u16, u16, [u16; 3]) {
+    let beam = fore.beam();
+    let regs = fore.regs();
+    let words = [0x096, 0x180, 0x182].map(|offset| regs.word(Reg::masked(offset)));
+    (fore.clocks(), beam.v, beam.h, words)
+}
+
+/// Of the 300 clocks 227 are those of line 0. The Copper goes on at clock 60 of line 1, and writes at clock
+/// 64.
+#[test]
+fn a_run_to_a_clock_stands_where_single_clocks_do(rt: HostRuntime) -> Result<(), Fail> {
+    let alloc = rt.alloc();
+    let mut found = [(0, 0, 0, [0; 3]); 2];
+    for (place, singly) in [(0, false), (1, true)] {
+        let mut raster = Direct::new(alloc)?;
+        let fore = run_clocks(alloc, waiting_run(alloc)?, &mut raster, singly)?;
+        found[place] = place_and_words(&fore);
+    }
+    assert_eq!(rt; found, [(300, 1, 73, [0x0280, 0x0f00, 0x0123]); 2]);
+    Ok(())
+}
