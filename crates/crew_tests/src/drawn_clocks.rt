@@ -116,10 +116,6 @@ impl Side for Steady {
     }
 
     fn give(&mut self, _word: u16) {}
-
-    fn is_nothing(&self) -> bool {
-        false
-    }
 }
 
 fn fresh(beam: &Beam) -> BandPainter

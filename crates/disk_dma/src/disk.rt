@@ -305,10 +305,6 @@ impl Side for Disk {
     fn give(&mut self, _word: u16) {
         self.take();
     }
-
-    fn is_nothing(&self) -> bool {
-        false
-    }
 }
 
 /// Whether a word of DSKLEN ends a transfer: its bit 15 is clear, or its bit 14 is set.

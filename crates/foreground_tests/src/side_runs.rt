@@ -61,10 +61,6 @@ impl Side for Recorder {
     fn give(&mut self, word: u16) {
         self.given = word;
     }
-
-    fn is_nothing(&self) -> bool {
-        false
-    }
 }
 
 fn fresh_side() -> Recorder

@@ -140,10 +140,6 @@ impl Side for Paula {
     fn give(&mut self, word: u16) {
         self.take(word);
     }
-
-    fn is_nothing(&self) -> bool {
-        false
-    }
 }
 
 /// Whether DMAEN and a channel's bit of DMACON are set.

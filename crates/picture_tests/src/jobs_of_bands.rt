@@ -184,8 +184,4 @@ impl Side for Steady {
     }
 
     fn give(&mut self, _word: u16) {}
-
-    fn is_nothing(&self) -> bool {
-        false
-    }
 }

@@ -34,9 +34,13 @@ pub trait Side: Drop {
         ensures { seen self.new ≡ give_side word (seen self.old) };
 
     /// Whether it is known to be no side, which does nothing whatever happens. One that cannot tell answers
-    /// false; nothing hangs on it but how fast a run is.
+    /// false, as a side does that does not write this call; nothing hangs on it but how fast a run is.
+    #[inline(always)]
     fn is_nothing(&self) -> bool
-        ensures { result ≡ true → seen self.now ≡ no_side };
+        ensures { result ≡ true → seen self.now ≡ no_side }
+    {
+        false
+    }
 }
 
 /// No side: it asks for nothing and requests nothing.
