@@ -1,14 +1,17 @@
 //! Draws bands from their jobs, from change to change.
 #![tactic(auto)]
 
-pub mod ahead;
-pub mod band;
-pub mod band_painter;
-pub mod clock;
-pub mod direct;
-pub mod due;
-pub mod progress;
-pub mod touch;
+mod ahead;
+mod band;
+mod band_painter;
+mod clock;
+mod direct;
+mod due;
+mod progress;
+mod touch;
 
 pub use band::draw;
+pub use band_painter::BandPainter;
+pub use clock::show_clock;
 pub use direct::Direct;
+pub use touch::bus_count;

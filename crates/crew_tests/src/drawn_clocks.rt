@@ -2,10 +2,7 @@
 
 ghost use Rattle.std.specs.Prelude.{◌≡◌, [], true, IfOk};
 
-use band_draw::Direct;
-use band_draw::band_painter::BandPainter;
-use band_draw::clock::show_clock;
-use band_draw::touch::bus_count;
+use band_draw::{BandPainter, Direct, bus_count, show_clock};
 use band_log::{Denise, Event, Raster};
 use mem_versions::{Chip, MemView};
 use ocs_base::{Beam, Clock, OutOfMemory, Reg, System};

@@ -4,27 +4,27 @@
 #![tactic(auto)]
 
 mod advance;
-pub mod band;
+mod band;
 mod begin;
-pub mod checkpoint;
+mod checkpoint;
 mod clock;
 mod cuts;
-pub mod fore;
-pub mod gather;
+mod fore;
+mod gather;
 pub mod laws;
-pub mod log;
+mod log;
 mod lookout;
-pub mod machine;
+mod machine;
 mod memory_sum;
 mod quiet;
 mod reading;
 mod run_to;
 mod save;
-pub mod script;
+mod script;
 mod settle;
-pub mod shadow;
-pub mod shown_count;
-pub mod touches;
+mod shadow;
+mod shown_count;
+mod touches;
 
 pub use checkpoint::Checkpoint;
 pub use fore::Fore;

@@ -3,24 +3,24 @@
 #![tactic(auto)]
 
 mod ham;
-pub mod held;
-pub mod inks;
+mod held;
+mod inks;
 mod kept_loads;
 pub mod laws;
-pub mod line;
+mod line;
 mod names;
 mod once;
 mod overlay;
-pub mod painter;
+mod painter;
 mod pixels;
-pub mod row;
+mod row;
 mod show_covered;
 mod show_spans;
 pub mod span;
-pub mod sprite_state;
+mod sprite_state;
 mod twice;
 mod visible;
-pub mod window;
+mod window;
 mod words;
 
 pub use painter::Painter;

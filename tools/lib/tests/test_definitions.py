@@ -1,0 +1,48 @@
+"""tools/definitions: the table in the documents is that of the tree, and a contract leads to the files that it names."""
+from __future__ import annotations
+
+import os
+import subprocess
+import unittest
+
+from runs import TOOLS
+
+TOOL = os.path.join(TOOLS, "definitions")
+
+
+def run(*words: str) -> subprocess.CompletedProcess[str]:
+    return subprocess.run([TOOL, *words], capture_output=True, text=True)
+
+
+class DefinitionsTest(unittest.TestCase):
+    def test_table_is_of_this_tree(self) -> None:
+        self.assertEqual(run("--ask").returncode, 0, "docs/proofs.md wants tools/definitions")
+
+    def test_files_of_a_crate(self) -> None:
+        """`clx` of `collisions` says its result by one definition, which cites no other file."""
+        said = run("collisions").stdout.splitlines()
+        self.assertEqual(len(said), 2)
+        self.assertTrue(said[0].endswith(" crates/collisions/specs/Collision.antt"))
+        self.assertEqual(said[1].split()[1:], ["lines", "for", "collisions"])
+        self.assertEqual(said[0].split()[0], said[1].split()[0])
+
+    def test_files_of_a_call(self) -> None:
+        """A call leads to no more than its crate, and the first step of the beam to the beam's places."""
+        call, crate = (run(name).stdout for name in ("beam::advance_in", "beam"))
+        self.assertIn("crates/serial_model/specs/Beam.antt", call)
+        self.assertNotIn("crates/serial_model/specs/Picture.antt", call)
+        self.assertLessEqual({line.split()[1] for line in call.splitlines()[:-1]}, {line.split()[1] for line in crate.splitlines()[:-1]})
+
+    def test_what_no_contract_leads_to(self) -> None:
+        said = run("--unread").stdout.splitlines()
+        self.assertIn("crates/m68k_opcodes/specs/LinesCode.antt", said)
+        self.assertNotIn("crates/serial_model/specs/Tick.antt", said)
+
+    def test_no_such_crate(self) -> None:
+        said = run("no_such_crate")
+        self.assertEqual((said.returncode, said.stdout), (1, ""))
+        self.assertEqual(said.stderr, "tools/definitions: no_such_crate: there is no such crate\n")
+
+
+if __name__ == "__main__":
+    unittest.main()
