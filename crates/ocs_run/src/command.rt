@@ -77,9 +77,9 @@ fn run_inputs<
 {
     let out = out_files(alloc, order, script.system())?;
     let Sides { first, second } = sides;
-    let run = Run::over(image, script, order.band as u16, first);
+    let run = Run::over(image, script, order.band, first);
     let drawing = Drawing {
-        workers: order.workers as u8,
+        workers: order.workers,
         gate,
     };
     run_files(

@@ -55,8 +55,8 @@ pub struct Order<'a> {
     pub trace: &'a str,
     pub memory: &'a str,
     pub extra: Extra<'a>,
-    pub band: u64,
-    pub workers: u64,
+    pub band: u16,
+    pub workers: u8,
 }
 
 /// The words of a run behind the first.
@@ -227,23 +227,27 @@ fn is_new(name: &str, others: &[&str]) -> bool
 }
 
 /// The number of lines of a band.
-pub fn read_band(text: &str) -> Option<u64>
+pub fn read_band(text: &str) -> Option<u16>
     ensures value { result ≡ band_of text.now }
     ensures height { IfSome result IsHeight }
 {
     let band = dec(text.as_bytes())?;
     if (1..=313).contains(&band) {
-        Some(band)
+        Some(band as u16)
     } else {
         None
     }
 }
 
 /// The number of workers.
-pub fn read_workers(text: &str) -> Option<u64>
+pub fn read_workers(text: &str) -> Option<u8>
     ensures value { result ≡ workers_of text.now }
     ensures few { IfSome result (λ workers. workers ≤ 32) }
 {
     let workers = dec(text.as_bytes())?;
-    if workers <= 32 { Some(workers) } else { None }
+    if workers <= 32 {
+        Some(workers as u8)
+    } else {
+        None
+    }
 }

@@ -76,9 +76,9 @@ fn run_on_shelf<
     let (image, script) = scene(alloc, order.number)?;
     let out = out_files(alloc, script.system())?;
     let mut shelf = SureShelf::new(alloc);
-    let run = Run::over(image, script, order.band as u16, CrewSide::Nothing);
+    let run = Run::over(image, script, order.band, CrewSide::Nothing);
     let drawing = Drawing {
-        workers: order.workers as u8,
+        workers: order.workers,
         gate,
     };
     run_files(

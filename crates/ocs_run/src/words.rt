@@ -13,8 +13,8 @@ use ocs_io::dec;
 #[derive(Clone, Copy)]
 pub struct SceneOrder {
     pub number: u32,
-    pub band: u64,
-    pub workers: u64,
+    pub band: u16,
+    pub workers: u8,
 }
 
 /// A command and what it is asked.
