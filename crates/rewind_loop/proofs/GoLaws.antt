@@ -4,36 +4,17 @@ use Rattle.std.proofs.Common.{refl, sym, ap, ◌∙◌, arith, subst}
 use Rattle.std.proofs.lemmas.Bool.{cases_lt}
 use Rattle.std.proofs.lemmas.Bool.Decides.{nat_tests}
 use Rattle.std.proofs.lemmas.List.{append-nil, append_assoc, drop_more, drop_all}
-use Rattle.std.proofs.lemmas.List.Elements.{All-weaker}
 use Rattle.ocs_base.specs.declared.beam.Beam.{Beam}
-use Rattle.ocs_rewind.specs.Ring.{RingOf, EntryOf}
-use Rattle.out_files.specs.OutFiles.{OutFilesValue}
 use Rattle.serial_bands.specs.Run.{RunValue, IsEndOf, beam_at}
 use Rattle.band_log.specs.Raster.{RasterValue}
-use Rattle.foreground.specs.Fore.{ForeValue, IsUnderway, is_done, Advances, HasAdvanced}
+use Rattle.foreground.specs.Fore.{ForeValue, IsUnderway, is_done}
 use Rattle.rewind_loop.specs.Places.{Place, due_in, arrival_at, arrivals, gone_to, visited, visited_from, run_to}
-use Rattle.rewind_loop.specs.Present.{Checkpoint, clock_of, AreAt, IsPresent, told_of, run_in, run_of, fore_of, raster_of}
+use Rattle.rewind_loop.specs.Present.{IsPresent, told_of, run_in, run_of, fore_of, raster_of}
 use Rattle.rewind_loop.specs.declared.arrived.Arrived.{Arrived}
 use Rattle.rewind_loop.specs.declared.rewind.Rewind.{Rewind}
-use Rattle.rewind_loop.proofs.PlaceLaws.{first_visit, next_visit}
+use Rattle.rewind_loop.specs.StepsCode.{GoesOn}
+use Rattle.rewind_loop.proofs.PlaceLaws.{first_visit, later_visit}
 use Rattle.std.specs.Arc.{arc_value}
-
--- ---- one clock
-
-pub advanced : (run : RunValue) (keep : ℕ) (p : Place) (fore new : ForeValue) (raster after : RasterValue) (ring : RingOf Checkpoint)
-    (out given : OutFilesValue) → AreAt run keep p fore raster ring → Advances fore new raster after out given → new.machine.t ≡ fore.machine.t + 1
-    → new.run ≡ fore.run → new.spent ≡ false → AreAt run keep (record p { now = p.now + 1 }) new after ring
-advanced run keep p fore new raster after ring out given is advances count same fresh =
-    let has : HasAdvanced fore new is.first raster after out given = advances is.first is.stands in
-    record {
-      first = has.until;
-      stands = has.stands;
-      run_is = same ∙ is.run_is;
-      fresh = fresh;
-      here = count ∙ ap (λ t. t + 1) is.here;
-      kept = is.kept;
-      below = All-weaker (λ (e : EntryOf Checkpoint). clock_of e ≤ p.now) (λ e. clock_of e ≤ p.now + 1) (λ e low. omega (arith, low)) ring.entries is.below;
-    }
 
 -- ---- the end of a run
 
@@ -63,13 +44,10 @@ at_end end fore first raster ends stands done = by_order (cases_lt fore.machine.
 
 -- ---- many clocks
 
--- what visits and single clocks leave of a run
+-- what a visit leaves of a run
 abbrev pub Visits : Rewind → Rewind → Type 0
 Visits old new =
     (keep : ℕ) (p : Place) → IsPresent keep p old → IsPresent keep (record p { ring = visited (due_in (run_in old) old.every) keep p.now p.ring }) new
-
-abbrev pub Steps : Rewind → Rewind → Type 0
-Steps old new = (keep : ℕ) (p : Place) → IsPresent keep p old → IsPresent keep (record p { now = p.now + 1 }) new
 
 -- the clocks from where it was up to the present one were visited, which is not above a clock
 pub record Ran (old new : Rewind) (clock : ℕ) : Type 0 where
@@ -116,45 +94,52 @@ ran_first old new clock run every at visits =
 pub ran_at : (old new : Rewind) (clock : ℕ) → Ran old new clock → (keep : ℕ) × (p : Place) × IsPresent keep p new
 ran_at old new clock ran = (ran.some.0, _, ran.ran ran.some.0 ran.some.1 ran.some.2)
 
-pub stepped_at : (old mid new : Rewind) (clock : ℕ) → Ran old mid clock → Steps mid new → (keep : ℕ) × (p : Place) × IsPresent keep p new
-stepped_at old mid new clock ran steps =
+pub gone_at : (old mid new : Rewind) (clock : ℕ) → Ran old mid clock → GoesOn clock mid new → (keep : ℕ) × (p : Place) × IsPresent keep p new
+gone_at old mid new clock ran goes =
     let at : (keep : ℕ) × (p : Place) × IsPresent keep p mid = ran_at old mid clock ran in
-    (at.0, record at.1 { now = at.1.now + 1 }, steps at.0 at.1 at.2)
+    (at.0, record at.1 { now = new.fore.machine.t }, goes.comes at.0 at.1 at.2)
 
-pub ran_grows : (old mid step new : Rewind) (clock : ℕ) → Ran old mid clock → Steps mid step → Visits step new → new.fore.machine.t ≡ mid.fore.machine.t + 1
-ran_grows old mid step new clock ran steps visits =
+-- the visit stays where the clocks came to
+pub ran_there : (old mid step new : Rewind) (clock : ℕ) → Ran old mid clock → GoesOn clock mid step → Visits step new
+    → new.fore.machine.t ≡ step.fore.machine.t
+ran_there old mid step new clock ran goes visits =
     let p : Place = ran.some.1 in
     let here : Place = record {
       now = mid.fore.machine.t;
       ring = visited_from (due_in (run_in old) old.every) ran.some.0 p.now (mid.fore.machine.t - p.now + 1) p.ring;
     } in
-    (visits ran.some.0 (record here { now = here.now + 1 }) (steps ran.some.0 here (ran.ran ran.some.0 p ran.some.2))).here
+    (visits ran.some.0 (record here { now = step.fore.machine.t }) (goes.comes ran.some.0 here (ran.ran ran.some.0 p ran.some.2))).here
 
-pub ran_next : (old mid step new : Rewind) (clock : ℕ) → Ran old mid clock → mid.fore.machine.t < clock → step.run ≡ mid.run → step.every ≡ mid.every
-    → Steps mid step → new.run ≡ step.run → new.every ≡ step.every → Visits step new → Ran old new clock
-ran_next old mid step new clock ran less run1 every1 steps run2 every2 visits =
+pub ran_next : (old mid step new : Rewind) (clock : ℕ) → Ran old mid clock → step.run ≡ mid.run → step.every ≡ mid.every
+    → GoesOn clock mid step → new.run ≡ step.run → new.every ≡ step.every → Visits step new → Ran old new clock
+ran_next old mid step new clock ran run1 every1 goes run2 every2 visits =
     let due : ℕ → Bool = due_in (run_in old) old.every in
     let t : ℕ = mid.fore.machine.t in
-    let next : new.fore.machine.t ≡ t + 1 = ran_grows old mid step new clock ran steps visits in
-    let then : due_in (run_in step) step.every ≡ due = same_due old step (run1 ∙ ran.run) (every1 ∙ ran.every) in
+    let later : ℕ = step.fore.machine.t in
+    let there : new.fore.machine.t ≡ later = ran_there old mid step new clock ran goes visits in
+    let same_mid : due_in (run_in mid) mid.every ≡ due = same_due old mid ran.run ran.every in
+    let same_step : due_in (run_in step) step.every ≡ due = same_due old step (run1 ∙ ran.run) (every1 ∙ ran.every) in
     record {
       run = run2 ∙ run1 ∙ ran.run;
       every = every2 ∙ every1 ∙ ran.every;
       some = ran.some;
-      low = omega (arith, next, less);
-      on = omega (arith, next, ran.on);
+      low = omega (arith, there, goes.most);
+      on = omega (arith, there, goes.later, ran.on);
       ran = λ keep p is.
           (let before : List ℕ = visited_from due keep p.now (t - p.now + 1) p.ring in
           let here : old.fore.machine.t ≡ p.now = is.here in
           let on : p.now ≤ t = omega (arith, here, ran.on) in
-          let there : IsPresent keep (record { now = t + 1; ring = visited (due_in (run_in step) step.every) keep (t + 1) before }) new =
-          visits keep (record { now = t + 1; ring = before }) (steps keep (record { now = t; ring = before }) (ran.ran keep p is)) in
-          let same : record { now = t + 1; ring = visited (due_in (run_in step) step.every) keep (t + 1) before }
+          let none : (k : ℕ) → t < k → k < later → due k ≡ false =
+          (λ k low high. ap (λ (d : ℕ → Bool). d k) (sym same_mid) ∙ goes.none k low high) in
+          let visit : IsPresent keep (record { now = later; ring = visited (due_in (run_in step) step.every) keep later before }) new =
+          visits keep (record { now = later; ring = before }) (goes.comes keep (record { now = t; ring = before }) (ran.ran keep p is)) in
+          let same : record { now = later; ring = visited (due_in (run_in step) step.every) keep later before }
           ≡ record { now = new.fore.machine.t; ring = visited_from due keep p.now (new.fore.machine.t - p.now + 1) p.ring } =
-          ap (λ d. let q : Place = record { now = t + 1; ring = visited d keep (t + 1) before } in q) then
-          ∙ ap (λ ring. let q : Place = record { now = t + 1; ring = ring } in q) (sym (next_visit due keep p.now t p.ring on))
-          ∙ ap (λ n. let q : Place = record { now = n; ring = visited_from due keep p.now (n - p.now + 1) p.ring } in q) (sym next) in
-          subst (λ (q : Place). IsPresent keep q new) same there);
+          ap (λ d. let q : Place = record { now = later; ring = visited d keep later before } in q) same_step
+          ∙ ap (λ ring. let q : Place = record { now = later; ring = ring } in q)
+          (sym (later_visit due keep p.now t later p.ring on goes.later none))
+          ∙ ap (λ n. let q : Place = record { now = n; ring = visited_from due keep p.now (n - p.now + 1) p.ring } in q) (sym there) in
+          subst (λ (q : Place). IsPresent keep q new) same visit);
     }
 
 arrived : (t clock end : ℕ) → t ≤ clock → t ≤ end → (clock ≤ t) ⊎ (t ≡ end) → t ≡ min clock end

@@ -1,11 +1,11 @@
 -- Places of a run, by clocks alone.
 use Rattle.std.proofs.Common.{◌≡◌, ℕ, zero, suc, ◌+◌, ◌-◌, ◌<◌, ◌≤◌, Bool, true, false, not, nat_lt, nat_le, ◌⊎◌, inl, inr, List, Option, Some, None}
-use Rattle.std.proofs.Common.{length, if◌then◌else◌, refl, sym, ap, ◌∙◌, arith, subst}
+use Rattle.std.proofs.Common.{◌&&◌, length, if◌then◌else◌, refl, sym, ap, ◌∙◌, arith, subst}
 use Rattle.std.proofs.lemmas.Bool.{cases_lt}
 use Rattle.std.proofs.lemmas.Bool.Decides.{nat_tests}
 use Rattle.std.proofs.lemmas.List.Elements.{filter_passes}
 use Rattle.std.proofs.lemmas.Option.{slice_get_within, get_or_from_slice_get}
-use Rattle.rewind_loop.specs.Places.{Place, last_of, clocks_to, back_to, reached_from, visited, visited_from}
+use Rattle.rewind_loop.specs.Places.{Place, is_that, last_of, with_clock, clocks_to, back_to, reached_from, visited, visited_from}
 
 -- ---- from where a clock is reached
 
@@ -55,9 +55,29 @@ first_visit due keep from to ring here =
     let at : from + zero ≡ from = omega arith in
     ap (λ n. visited_from due keep from n ring) one ∙ ap (λ c. visited due keep c ring) at
 
-pub next_visit : (due : ℕ → Bool) (keep from to : ℕ) (ring : List ℕ) → from ≤ to
-    → visited_from due keep from (to + 1 - from + 1) ring ≡ visited due keep (to + 1) (visited_from due keep from (to - from + 1) ring)
-next_visit due keep from to ring on =
-    let more : to + 1 - from + 1 ≡ suc (to - from + 1) = omega (arith, on) in
-    let at : from + (to - from + 1) ≡ to + 1 = omega (arith, on) in
-    ap (λ n. visited_from due keep from n ring) more ∙ ap (λ c. visited due keep c (visited_from due keep from (to - from + 1) ring)) at
+-- clocks at which none is due change nothing
+none_visited : (due : ℕ → Bool) (keep from count n all : ℕ) (ring : List ℕ) → all ≡ n + count
+    → ((k : ℕ) → count ≤ k → k < all → due (from + k) ≡ false) → visited_from due keep from all ring ≡ visited_from due keep from count ring
+none_visited due keep from count zero all ring is none =
+    let same : all ≡ count = omega (arith, is) in
+    ap (λ m. visited_from due keep from m ring) same
+none_visited due keep from count (suc n) zero ring is none = absurd (omega (arith, is))
+none_visited due keep from count (suc n) (suc all) ring is none =
+    let before : List ℕ = visited_from due keep from all ring in
+    ap (λ d. if d && not (is_that (from + all) (last_of before)) then with_clock keep (from + all) before else before)
+    (none all (omega (arith, is)) (omega arith))
+    ∙ none_visited due keep from count n all ring (omega (arith, is)) (λ k low high. none k low (omega (arith, high)))
+
+pub later_visit : (due : ℕ → Bool) (keep from to later : ℕ) (ring : List ℕ) → from ≤ to → to < later
+    → ((k : ℕ) → to < k → k < later → due k ≡ false)
+    → visited_from due keep from (later - from + 1) ring ≡ visited due keep later (visited_from due keep from (to - from + 1) ring)
+later_visit due keep from to later ring on less none =
+    let count : ℕ = to - from + 1 in
+    let all : ℕ = later - from in
+    let more : later - from + 1 ≡ suc all = omega arith in
+    let at : from + all ≡ later = omega (arith, on, less) in
+    ap (λ m. visited_from due keep from m ring) more
+    ∙ ap (λ c. visited due keep c (visited_from due keep from all ring)) at
+    ∙ ap (λ before. visited due keep later before)
+    (none_visited due keep from count (later - to - 1) all ring (omega (arith, on, less))
+    (λ k low high. none (from + k) (omega (arith, on, low)) (omega (arith, on, less, high))))

@@ -1,2 +1,3 @@
 pub mod Present
 pub mod Places
+pub mod StepsCode

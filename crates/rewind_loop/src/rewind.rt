@@ -1,12 +1,13 @@
 //! The run and its ring of checkpoints, and how clocks are gone to.
 
-ghost use Rattle.std.specs.Prelude.{◌≡◌, ◌≤◌, ◌+◌, ℕ, true, false, [], map, IfOk, OnOk};
+ghost use Rattle.std.specs.Prelude.{◌≡◌, ◌≤◌, ◌<◌, ℕ, true, false, [], map, IfOk, OnOk};
 ghost use Rattle.std.specs.Arc.{arc_value};
 ghost use Rattle.serial_bands.specs.Run.{IsEndOf};
 ghost use Rattle.foreground.specs.Fore.{is_done};
 ghost use Rattle.rewind_loop.specs.Places.{Place, first_place, is_due as due_of, due_in, is_that, last_of, visited};
 ghost use Rattle.rewind_loop.specs.Places.{reached_from, run_to as ran_to, gone_to, arrival_at, arrivals};
 ghost use Rattle.rewind_loop.specs.Present.{IsPresent, run_in, fore_of, told_of};
+ghost use Rattle.rewind_loop.specs.StepsCode.{GoesOn, line_limit};
 
 use crate::arrived::Arrived;
 use band_draw::Direct;
@@ -175,24 +176,34 @@ impl Rewind {
     {
         self.visit()?;
         while self.fore.clocks() < clock && !self.fore.done() {
-            self.advance()?;
+            self.go_on(clock)?;
             self.visit()?;
         }
         Ok(())
     }
 
-    /// One clock.
-    fn advance(&mut self) -> Result<(), OutOfMemory>
+    /// Some clocks of this line, at most up to one above the present clock: none of them but the one that is
+    /// come to can begin a frame, so no other has to be visited.
+    fn go_on(&mut self, clock: u64) -> Result<(), OutOfMemory>
         requires at { (keep : ℕ) × (p : Place) × IsPresent keep p self.old }
         requires running { is_done (fore_of self.old.fore) ≡ false }
+        requires before { self.old.fore.machine.t < clock }
         ensures run { self.new.run ≡ self.old.run }
         ensures every { self.new.every ≡ self.old.every }
-        ensures clock { OnOk result ((keep : ℕ) (p : Place) → IsPresent keep p self.old
-            → IsPresent keep (record p { now = p.now + 1 }) self.new) }
+        ensures goes { OnOk result (GoesOn clock self.old self.new) }
     {
         renew_at_frame(self.alloc, &self.fore.beam(), &mut self.out)?;
-        self.fore.advance(&mut self.raster, &mut self.out)?;
+        let limit = clock.min(self.clock_in_line());
+        self.fore.run_to(limit, &mut self.raster, &mut self.out)?;
         Ok(())
+    }
+
+    /// Clock 226 of this line, or the next clock where that one has come.
+    fn clock_in_line(&self) -> u64
+        ensures { result ≡ line_limit self.now.fore.machine.t self.now.fore.machine.beam.h }
+    {
+        let rest = 226u16.saturating_sub(self.fore.beam().h).max(1);
+        self.fore.clocks().saturating_add(rest as u64)
     }
 
     /// What is told of the present clock, which was reached from another.

@@ -1,32 +1,32 @@
 -- The present clock is visited, and then each one up to the last.
-use Rattle.std.proofs.Common.{◌≡◌, ◌<◌, ◌+◌, ◌-◌, ◌∙◌, inl, inr, sym, arith}
-use Rattle.rewind_loop.proofs.GoLaws.{ran_first, ran_next, ran_at, stepped_at, ran_grows, ran_end}
+use Rattle.std.proofs.Common.{◌≡◌, ◌<◌, ◌-◌, ◌∙◌, inl, inr, sym, arith}
+use Rattle.rewind_loop.proofs.GoLaws.{ran_first, ran_next, ran_at, gone_at, ran_there, ran_end}
 use Rattle.rewind_loop.proofs.rewind.Rewind.run_to.Goals as goal
 
 pub loop-self-init : goal.loop-self-init
 loop-self-init c =
     ran_first c.args.self.now c.visit.new.self c.args.clock c.in_ok-visit.ensures.run c.in_ok-visit.ensures.every c.requires.at c.in_ok-visit.ensures.visits
 
-pub advance-requires-clause-at : goal.advance-requires-clause-at
-advance-requires-clause-at c = ran_at c.args.self.now c.loop-self.self c.args.clock c.loop-self.invariant
+pub go_on-requires-clause-at : goal.go_on-requires-clause-at
+go_on-requires-clause-at c = ran_at c.args.self.now c.loop-self.self c.args.clock c.loop-self.invariant
 
 pub visit-requires-in-loop-self-clause-at : goal.visit-requires-in-loop-self-clause-at
 visit-requires-in-loop-self-clause-at c =
-    stepped_at c.args.self.now c.loop-self.self c.advance.new.self c.args.clock c.loop-self.invariant c.in_ok-advance.ensures.clock
+    gone_at c.args.self.now c.loop-self.self c.go_on.new.self c.args.clock c.loop-self.invariant c.in_ok-go_on.ensures.goes
 
 pub loop-self-smaller : goal.loop-self-smaller
 loop-self-smaller c =
-    let next : c.visit-in-loop-self.new.self.fore.machine.t ≡ c.loop-self.self.fore.machine.t + 1 =
-    ran_grows c.args.self.now c.loop-self.self c.advance.new.self c.visit-in-loop-self.new.self c.args.clock c.loop-self.invariant
-    c.in_ok-advance.ensures.clock c.in_ok-visit-2.ensures.visits in
-    let less : c.loop-self.self.fore.machine.t < c.args.clock = omega (arith, c.clocks.ensures, c.loop-self-test.true) in
-    let smaller : c.args.clock - c.visit-in-loop-self.new.self.fore.machine.t < c.args.clock - c.loop-self.self.fore.machine.t = omega (arith, next, less) in
+    let there : c.visit-in-loop-self.new.self.fore.machine.t ≡ c.go_on.new.self.fore.machine.t =
+    ran_there c.args.self.now c.loop-self.self c.go_on.new.self c.visit-in-loop-self.new.self c.args.clock c.loop-self.invariant
+    c.in_ok-go_on.ensures.goes c.in_ok-visit-2.ensures.visits in
+    let smaller : c.args.clock - c.visit-in-loop-self.new.self.fore.machine.t < c.args.clock - c.loop-self.self.fore.machine.t =
+    omega (arith, there, c.in_ok-go_on.ensures.goes.later, c.in_ok-go_on.ensures.goes.most) in
     smaller
 
 pub loop-self-preserved : goal.loop-self-preserved
 loop-self-preserved c =
-    ran_next c.args.self.now c.loop-self.self c.advance.new.self c.visit-in-loop-self.new.self c.args.clock c.loop-self.invariant
-    (omega (arith, c.clocks.ensures, c.loop-self-test.true)) c.in_ok-advance.ensures.run c.in_ok-advance.ensures.every c.in_ok-advance.ensures.clock
+    ran_next c.args.self.now c.loop-self.self c.go_on.new.self c.visit-in-loop-self.new.self c.args.clock c.loop-self.invariant
+    c.in_ok-go_on.ensures.run c.in_ok-go_on.ensures.every c.in_ok-go_on.ensures.goes
     c.in_ok-visit-2.ensures.run c.in_ok-visit-2.ensures.every c.in_ok-visit-2.ensures.visits
 
 pub returns-else-not-done-clause-runs : goal.returns-else-not-done-clause-runs
