@@ -10,7 +10,10 @@ use Rattle.blit_words.specs.Parity.{is_carry}
 use Rattle.blit_words.proofs.Filling.{carry_more, filled_by_carry}
 use Rattle.blitter_area.specs.declared.data_path.Words.{Words}
 use Rattle.blitter_area.specs.declared.data_path.Past.{Past}
+use Rattle.blitter_area.specs.declared.data_path.Outcome.{Outcome}
+use Rattle.blitter_area.specs.declared.data_path.DataPath.{DataPath}
 use Rattle.blitter_area.specs.Data.{joined_by, mask_words, outcome_filled, outcome_plain, outcome_of}
+use Rattle.blitter_area.specs.PathOf.{IsPathOf, joined_with, mask_with, outcome_with}
 use Rattle.blitter_area.specs.Walk.{IsPast}
 
 -- the inputs of word c of row r
@@ -107,3 +110,29 @@ outcome_carry s ws r c w p inside inputs past filling =
 pub first_carry : (b : Bool) → b ≡ is_carry (one_if b)
 first_carry true = refl
 first_carry false = refl
+
+-- ---- the data path made ready
+
+ready_mask : (d : DataPath) (s : BlitRegs) (c : ℕ) (w : Words) → IsPathOf d s → mask_with d c w ≡ mask_words s c w
+ready_mask d s c w is =
+    ap (λ (n : ℕ). record w { a = masked_word n d.last_mask (d.last_column + 1) c w.a }) is.first_mask
+    ∙ ap (λ (n : ℕ). record w { a = masked_word s.afwm n (d.last_column + 1) c w.a }) is.last_mask
+    ∙ ap (λ (n : ℕ). record w { a = masked_word s.afwm s.alwm n c w.a }) is.last_column
+
+ready_join : (d : DataPath) (s : BlitRegs) (past : Past) (w : Words) → IsPathOf d s → joined_with d past w ≡ joined_by s past w
+unfolding joined_by
+ready_join d s past w is =
+    let lf = is.minterms in
+    let down = is.descending in
+    let a = is.shift_a in
+    let b = is.shift_b in
+    cc
+
+-- it makes of a word what the registers say
+pub ready_outcome : (d : DataPath) (s : BlitRegs) (past : Past) (c : ℕ) (w : Words) → IsPathOf d s → outcome_with d past c w ≡ outcome_of s past c w
+ready_outcome d s past c w is =
+    let made : Bool → Bool → Words → ℕ → Outcome = λ fills exclusive m n. if fills then outcome_filled exclusive past m n else outcome_plain past m n in
+    ap (λ (f : Bool). made f d.exclusive (mask_with d c w) (joined_with d past (mask_with d c w))) is.fills
+    ∙ ap (λ (e : Bool). made (is_filling s) e (mask_with d c w) (joined_with d past (mask_with d c w))) is.exclusive
+    ∙ ap (λ (n : ℕ). made (is_filling s) (is_exclusive s) (mask_with d c w) n) (ready_join d s past (mask_with d c w) is)
+    ∙ ap (λ (m : Words). made (is_filling s) (is_exclusive s) m (joined_by s past m)) (ready_mask d s c w is)

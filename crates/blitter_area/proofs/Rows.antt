@@ -8,7 +8,8 @@ use Rattle.blit_words.specs.declared.blit.BlitRegs.{BlitRegs}
 use Rattle.blit_words.specs.declared.blit.WordAsk.{WordAsk}
 use Rattle.blit_words.specs.declared.blit.WordAsk.TheVariants.{A, B, C, D, Rest}
 use Rattle.blit_words.specs.AreaBlit.{asks_in, code_of, asks_per_word, word_ask, place_of, is_same}
-use Rattle.blitter_area.specs.Rows.{pad_row}
+use Rattle.blitter_area.specs.RowOf.{IsRowOf}
+use Rattle.blitter_area.specs.declared.asks.AskRow.{AskRow}
 
 -- ---- tests of all numbers below one
 
@@ -64,6 +65,12 @@ row_test x code =
 abbrev d_test : WordAsk → ℕ → Bool
 d_test x code = all_below (length (asks_in code)) (writes_last_in x code)
 
+abbrev ends_at_write : ℕ → ℕ → Bool
+ends_at_write code p = not (is_same D (get_or (asks_in code) p Rest)) || nat_eq (suc p) (length (asks_in code))
+
+abbrev end_test : ℕ → Bool
+end_test code = all_below (length (asks_in code)) (ends_at_write code)
+
 abbrev size_test : ℕ → Bool
 size_test code = nat_lt 0 (length (asks_in code)) && nat_lt (length (asks_in code)) 5
 
@@ -78,6 +85,10 @@ rows_pass Rest = refl
 sizes_pass : all_below 16 size_test ≡ true
 unfolding asks_in
 sizes_pass = refl
+
+ends_pass : all_below 16 end_test ≡ true
+unfolding asks_in
+ends_pass = refl
 
 abbrev pub is_input : WordAsk → Bool
 is_input A = true
@@ -134,6 +145,15 @@ writes_last s x p input low writes =
     let here = from_all (length (asks_in (code_of s))) (writes_last_in x (code_of s)) test p low in
     before_from _ _ (or_true _ _ (ap (is_same D) writes) here)
 
+-- and no ask of its word is behind it
+pub write_ends : (s : BlitRegs) (p : ℕ) → p < asks_per_word s → word_ask s p ≡ D → p + 1 ≡ asks_per_word s
+unfolding asks_per_word word_ask
+write_ends s p low writes =
+    let test = from_all 16 end_test ends_pass (code_of s) (code_below s) in
+    let here = from_all (length (asks_in (code_of s))) (ends_at_write (code_of s)) test p low in
+    let same = or_true _ _ (ap (is_same D) writes) here in
+    grind arith
+
 pub some_asks : (s : BlitRegs) → 0 < asks_per_word s
 unfolding asks_per_word
 some_asks s =
@@ -158,19 +178,17 @@ padded_at n [] p = rests n p
 padded_at n (x ∷ l) zero = refl
 padded_at n (x ∷ l) (suc p) = padded_at n l p
 
--- a padded row has the word's asks
-pub row_at : (s : BlitRegs) (row : List WordAsk) (code p : ℕ) (d : WordAsk) → row ≡ pad_row (asks_in code) → code ≡ code_of s → p < 4
-    → get_or row p d ≡ word_ask s p
+-- the kept row has the word's asks
+pub row_at : (s : BlitRegs) (r : AskRow) (p : ℕ) (d : WordAsk) → IsRowOf r s → p < 4 → get_or r.asks p d ≡ word_ask s p
 unfolding word_ask
-row_at s row code p d row_is code_is low =
-    let l : List WordAsk = asks_in code in
-    let e : length row ≡ length l + (4 - length l) =
-    ap length row_is ∙ length-append l (replicate (4 - length l) Rest) ∙ ap (λ (n : ℕ). length l + n) (length-replicate (4 - length l) Rest) in
-    let inside : p < length row = omega arith in
-    get_or_default row p d Rest inside
-    ∙ ap (λ (r : List WordAsk). get_or r p Rest) row_is
+row_at s r p d is low =
+    let l : List WordAsk = asks_in (code_of s) in
+    let e : length r.asks ≡ length l + (4 - length l) =
+    ap length is.asks ∙ length-append l (replicate (4 - length l) Rest) ∙ ap (λ (n : ℕ). length l + n) (length-replicate (4 - length l) Rest) in
+    let inside : p < length r.asks = omega arith in
+    get_or_default r.asks p d Rest inside
+    ∙ ap (λ (k : List WordAsk). get_or k p Rest) is.asks
     ∙ padded_at (4 - length l) l p
-    ∙ ap (λ (n : ℕ). get_or (asks_in n) p Rest) code_is
 
 pub past_row : (s : BlitRegs) (p : ℕ) → 4 ≤ p → word_ask s p ≡ Rest
 unfolding word_ask asks_per_word

@@ -1,25 +1,33 @@
 //! An area blit from ask to ask.
 
 ghost use Rattle.std.specs.Prelude.{◌≡◌, ◌≢◌, ◌<◌, ℕ, List, [], ◌∷◌, ◌++◌, false};
+ghost use Rattle.std.specs.Option.{ForSome};
 ghost use Rattle.blit_words.specs.declared.blit.BlitRegs.{BlitRegs};
-ghost use Rattle.blit_words.specs.Blit.{is_line, height_of, width_of, minterms_of};
-ghost use Rattle.blit_words.specs.AreaBlit.{asks_per_word};
+ghost use Rattle.blit_words.specs.Blit.{is_line, height_of, width_of};
+ghost use Rattle.blit_words.specs.AreaBlit.{word_ask};
 ghost use Rattle.blit_words.specs.Blitter.{blit_ask, is_done as done_of, blit_zero, blit_end};
+ghost use Rattle.blitter_area.specs.Data.{outcome_of};
+ghost use Rattle.blitter_area.specs.PathOf.{IsPathOf};
+ghost use Rattle.blitter_area.specs.RowOf.{IsRowOf};
 
-use crate::asks::{ask_at, asks};
+use crate::asks::AskRow;
 use crate::channel::Pointers;
-use crate::data_path::{Outcome, Past, Words, mix, width};
-use blit_words::{BlitRegs, Minterms, SlotAsk, WordAsk, height, is_set};
+use crate::data_path::{DataPath, Outcome, Past, Words};
+use blit_words::{BlitRegs, SlotAsk, WordAsk, height, is_set};
 
 /// An area blit under way. It stands for its registers at the start and the answers that it was
 /// given: `Stands`.
 ///
 /// It keeps the place in the row of asks, the column and the row of the present word, the pointers
-/// of that word, the data registers, what the word before left, and whether all results were 0.
+/// of that word, the data registers, what the word before left, and whether all results were 0. The
+/// row of asks, the height and the data path are made ready at the start. The outcome of the present
+/// word is ready once its write is the next ask.
 #[derive(Clone, Copy)]
 pub struct AreaBlit {
     pub(crate) start: BlitRegs,
-    pub(crate) minterms: Minterms,
+    pub(crate) asks: AskRow,
+    pub(crate) height: u16,
+    pub(crate) path: DataPath,
     pub(crate) pointers: Pointers,
     pub(crate) words: Words,
     pub(crate) past: Past,
@@ -27,8 +35,12 @@ pub struct AreaBlit {
     pub(crate) row: u16,
     pub(crate) column: u16,
     pub(crate) place: u16,
-    ghost lf_is: { minterms.lf ≡ minterms_of start },
+    pub(crate) ready: Option<Outcome>,
+    ghost asks_are: { IsRowOf asks start },
+    ghost height_is: { height ≡ height_of start },
+    ghost path_is: { IsPathOf path start },
     ghost column_inside: { column < width_of start },
+    ghost ready_is: { ForSome ready (λ outcome. outcome ≡ outcome_of start past column words) },
 }
 
 impl AreaBlit {
@@ -41,7 +53,9 @@ impl AreaBlit {
     {
         AreaBlit {
             start: *r,
-            minterms: Minterms::of(r.con0 % 256),
+            asks: AskRow::of(r),
+            height: height(r),
+            path: DataPath::of(r),
             pointers: Pointers::new(r),
             words: Words {
                 a: r.adat,
@@ -57,6 +71,7 @@ impl AreaBlit {
             row: 0,
             column: 0,
             place: 0,
+            ready: None,
         }
     }
 
@@ -75,15 +90,15 @@ impl AreaBlit {
         ensures shown { result ≡ done_of (shown self.now) }
         ensures ask { ForWhatItStands self.now (λ s ws. result ≡ done_of (blit_ask s ws)) }
     {
-        self.row >= height(&self.start)
+        self.row >= self.height
     }
 
     /// What it does with its next slot, by its own state.
     fn slot_now(&self) -> SlotAsk
         ensures { result ≡ shown self.now }
     {
-        if self.row < height(&self.start) {
-            self.slot_ask(ask_at(&self.start, self.place))
+        if self.row < self.height {
+            self.slot_ask(self.asks.at(self.place))
         } else {
             SlotAsk::Done
         }
@@ -117,10 +132,25 @@ impl AreaBlit {
         requires { shown self.old ≢ SlotAsk.Done }
         ensures { ForWhatItStands self.old (λ s ws. Stands self.new s (ws ++ word ∷ [])) }
     {
-        let ask = ask_at(&self.start, self.place);
+        let ask = self.asks.at(self.place);
+        match ask {
+            WordAsk::D => self.end_word(),
+            WordAsk::A | WordAsk::B | WordAsk::C | WordAsk::Rest => self.take(ask, word),
+        }
+    }
+
+    /// Takes the word that answers the present ask, which is not the write. What was worked out of the
+    /// data registers as they were is dropped.
+    fn take(&mut self, ask: WordAsk, word: u16)
+        requires row { self.old.row < height_of self.old.start }
+        requires ask { ask ≡ word_ask self.old.start self.old.place }
+        ensures { ForWhatItStands self.old (λ s ws. Stands self.new s (ws ++ word ∷ [])) }
+    {
+        self.ready = None;
         self.words.take(ask, word);
-        if self.place < asks(&self.start) - 1 {
+        if self.place < self.asks.last {
             self.place += 1;
+            self.ready = self.outcome_for(self.asks.at(self.place));
         } else {
             self.end_word();
         }
@@ -166,13 +196,20 @@ impl AreaBlit {
     fn outcome(&self) -> Outcome
         ensures { result ≡ outcome_now self.now }
     {
-        mix(
-            &self.start,
-            &self.minterms,
-            &self.words,
-            &self.past,
-            self.column,
-        )
+        match self.ready {
+            Some(outcome) => outcome,
+            None => self.path.mix(&self.words, &self.past, self.column),
+        }
+    }
+
+    /// The outcome of the present word where this is its next ask: a write wants it.
+    fn outcome_for(&self, ask: WordAsk) -> Option<Outcome>
+        ensures { ForSome result (λ outcome. outcome ≡ outcome_now self.now) }
+    {
+        match ask {
+            WordAsk::D => Some(self.outcome()),
+            WordAsk::A | WordAsk::B | WordAsk::C | WordAsk::Rest => None,
+        }
     }
 
     /// All asks of the present word have answers: its result counts, and the next word begins. A
@@ -182,11 +219,12 @@ impl AreaBlit {
         ensures { EndsWord self.old self.new }
     {
         let outcome = self.outcome();
+        self.ready = None;
         self.zero &= outcome.word == 0;
         self.past = outcome.past;
         self.place = 0;
         self.pointers.step_word();
-        if self.column < width(&self.start) - 1 {
+        if self.column < self.path.last_column {
             self.column += 1;
         } else {
             self.column = 0;

@@ -1,10 +1,42 @@
 //! The asks of a word.
 
 ghost use Rattle.std.specs.Prelude.{◌≡◌, ◌/◌, ◌%◌, ◌<◌, ◌≤◌};
-ghost use Rattle.blit_words.specs.AreaBlit.{asks_in, asks_per_word, word_ask};
+ghost use Rattle.blit_words.specs.AreaBlit.{asks_in, asks_per_word};
 ghost use Rattle.blitter_area.specs.Rows.{pad_row};
 
 use blit_words::{BlitRegs, WordAsk};
+
+/// The asks of a word, with rests behind the last, and the place of the last.
+#[derive(Clone, Copy)]
+pub(crate) struct AskRow {
+    asks: [WordAsk; 4],
+    pub(crate) last: u16,
+}
+
+impl AskRow {
+    ghost use Rattle.blitter_area.specs.RowOf.{IsRowOf, AsksAt};
+
+    /// The asks of each word of a blit.
+    pub(crate) fn of(start: &BlitRegs) -> AskRow
+        ensures { IsRowOf result start.now }
+    {
+        AskRow {
+            asks: ask_row(code(start)),
+            last: asks(start) - 1,
+        }
+    }
+
+    /// The ask at a place of a word, from 0.
+    pub(crate) fn at(&self, place: u16) -> WordAsk
+        ensures { AsksAt self.now place result }
+    {
+        if place < 4 {
+            self.asks[place as usize]
+        } else {
+            WordAsk::Rest
+        }
+    }
+}
 
 /// USEA, USEB, USEC and USED of BLTCON0 as one number, from 8 down to 1.
 fn code(start: &BlitRegs) -> u16
@@ -42,23 +74,9 @@ fn ask_row(code: u16) -> [WordAsk; 4]
     }
 }
 
-/// The ask at a place of a word, from 0.
-pub fn ask_at(start: &BlitRegs, place: u16) -> WordAsk
-    ensures { result ≡ word_ask start.now place }
-{
-    let row = ask_row(code(start));
-    match place {
-        0 => row[0],
-        1 => row[1],
-        2 => row[2],
-        3 => row[3],
-        _ => WordAsk::Rest,
-    }
-}
-
 /// How many asks a word has.
 #[tactic(auto, unfolding(blit_words::specs::AreaBlit::asks_in, blit_words::specs::AreaBlit::asks_per_word))]
-pub fn asks(start: &BlitRegs) -> u16
+fn asks(start: &BlitRegs) -> u16
     ensures value { result ≡ asks_per_word start.now }
     ensures some { 2 ≤ result }
     ensures few { result ≤ 4 }

@@ -1,9 +1,9 @@
 //! The way of a word from the inputs to the result.
 
-ghost use Rattle.std.specs.Prelude.{◌≡◌, ◌≤◌, ◌<◌, ℕ, true};
-ghost use Rattle.blit_words.specs.Blit.{width_of, minterms_of};
+ghost use Rattle.std.specs.Prelude.{◌≡◌, ◌≤◌, ◌<◌, ◌+◌, ℕ, true};
+ghost use Rattle.blit_words.specs.Blit.{width_of};
 ghost use Rattle.blit_words.specs.BlitWords.{masked_word};
-ghost use Rattle.blit_words.specs.AreaBlit.{is_filling as fills};
+ghost use Rattle.blit_words.specs.AreaBlit.{is_filling as fills_of};
 
 use blit_words::{BlitRegs, Minterms, WordAsk, fill_word, is_set, shift_input};
 
@@ -47,9 +47,103 @@ pub(crate) struct Outcome {
     pub(crate) past: Past,
 }
 
+/// The way of a word, made ready at a blit's start: minterms, direction and shifts, the masks of A with the
+/// column of the second, and the fill.
+#[derive(Clone, Copy)]
+pub(crate) struct DataPath {
+    pub(crate) minterms: Minterms,
+    pub(crate) descending: bool,
+    pub(crate) shift_a: u16,
+    pub(crate) shift_b: u16,
+    pub(crate) first_mask: u16,
+    pub(crate) last_mask: u16,
+    pub(crate) last_column: u16,
+    pub(crate) fills: bool,
+    pub(crate) exclusive: bool,
+    ghost shift_a_below: { shift_a < 16 },
+    ghost shift_b_below: { shift_b < 16 },
+    ghost last_below: { last_column < 64 },
+}
+
+impl DataPath {
+    ghost use Rattle.blitter_area.specs.PathOf.{IsPathOf, joined_with, outcome_with};
+
+    /// The way of the words of a blit.
+    pub(crate) fn of(start: &BlitRegs) -> DataPath
+        ensures { IsPathOf result start.now }
+    {
+        DataPath {
+            minterms: Minterms::of(start.con0 % 256),
+            descending: is_set(start.con1, 1),
+            shift_a: start.con0 >> 12,
+            shift_b: start.con1 >> 12,
+            first_mask: start.afwm,
+            last_mask: start.alwm,
+            last_column: width(start) - 1,
+            fills: is_filling(start),
+            exclusive: is_set(start.con1, 4),
+        }
+    }
+
+    /// The result of a word in a column of its row, and what the word leaves for the next.
+    pub(crate) fn mix(&self, words: &Words, past: &Past, column: u16) -> Outcome
+        ensures { result ≡ outcome_with self.now past.now column words.now }
+    {
+        let mut masked = *words;
+        masked.a = self.mask(column, words.a);
+        let joined = self.join(&masked, past);
+        if self.fills {
+            let (word, carry) = fill_word(self.exclusive, past.carry, joined);
+            Outcome {
+                word,
+                past: Past {
+                    a: masked.a,
+                    b: masked.b,
+                    carry,
+                },
+            }
+        } else {
+            Outcome {
+                word: joined,
+                past: Past {
+                    a: masked.a,
+                    b: masked.b,
+                    carry: past.carry,
+                },
+            }
+        }
+    }
+
+    /// The word of A under BLTAFWM in the first column of a row and under BLTALWM in the last.
+    fn mask(&self, column: u16, word: u16) -> u16
+        ensures { result ≡ masked_word self.now.first_mask self.now.last_mask
+            (self.now.last_column + 1) column word }
+    {
+        let first = if column == 0 {
+            word & self.first_mask
+        } else {
+            word
+        };
+        if column == self.last_column {
+            first & self.last_mask
+        } else {
+            first
+        }
+    }
+
+    /// The minterm of the inputs, A already masked.
+    fn join(&self, words: &Words, past: &Past) -> u16
+        ensures { result ≡ joined_with self.now past.now words.now }
+    {
+        let a = shift_input(self.descending, self.shift_a, past.a, words.a);
+        let b = shift_input(self.descending, self.shift_b, past.b, words.b);
+        self.minterms.join(a, b, words.c)
+    }
+}
+
 /// The width of a blit in words: bits 5 to 0 of BLTSIZE, 0 meaning 64.
 #[tactic(auto, unfolding(blit_words::specs::Blit::width_of))]
-pub(crate) fn width(start: &BlitRegs) -> u16
+fn width(start: &BlitRegs) -> u16
     ensures value { result ≡ width_of start.now }
     ensures some { 1 ≤ result }
     ensures most { result ≤ 64 }
@@ -58,73 +152,10 @@ pub(crate) fn width(start: &BlitRegs) -> u16
     if words == 0 { 64 } else { words }
 }
 
-/// The word of A under BLTAFWM in the first column of a row and under BLTALWM in the last.
-fn mask(start: &BlitRegs, column: u16, word: u16) -> u16
-    requires { column < width_of start.now }
-    ensures { result ≡ masked_word start.now.afwm start.now.alwm (width_of start.now) column word }
-{
-    let first = if column == 0 { word & start.afwm } else { word };
-    if column == width(start) - 1 {
-        first & start.alwm
-    } else {
-        first
-    }
-}
-
 /// Whether the blit fills: in descending mode alone, with EFE or IFE. That it does so in descending
 /// mode alone is this project's profile.
 fn is_filling(start: &BlitRegs) -> bool
-    ensures { result ≡ fills start.now }
+    ensures { result ≡ fills_of start.now }
 {
     is_set(start.con1, 1) && (is_set(start.con1, 4) || is_set(start.con1, 3))
-}
-
-ghost use Rattle.blitter_area.specs.Data.{joined_by, outcome_of};
-
-/// The minterm of the inputs, A already masked.
-fn join(start: &BlitRegs, minterms: &Minterms, words: &Words, past: &Past) -> u16
-    requires { minterms.now.lf ≡ minterms_of start.now }
-    ensures { result ≡ joined_by start.now past.now words.now }
-{
-    let down = is_set(start.con1, 1);
-    let a = shift_input(down, start.con0 >> 12, past.a, words.a);
-    let b = shift_input(down, start.con1 >> 12, past.b, words.b);
-    minterms.join(a, b, words.c)
-}
-
-/// The result of a word in a column of its row, and what the word leaves for the next.
-pub(crate) fn mix(
-    start: &BlitRegs,
-    minterms: &Minterms,
-    words: &Words,
-    past: &Past,
-    column: u16,
-) -> Outcome
-    requires lf { minterms.now.lf ≡ minterms_of start.now }
-    requires column { column < width_of start.now }
-    ensures { result ≡ outcome_of start.now past.now column words.now }
-{
-    let mut masked = *words;
-    masked.a = mask(start, column, words.a);
-    let joined = join(start, minterms, &masked, past);
-    if is_filling(start) {
-        let (word, carry) = fill_word(is_set(start.con1, 4), past.carry, joined);
-        Outcome {
-            word,
-            past: Past {
-                a: masked.a,
-                b: masked.b,
-                carry,
-            },
-        }
-    } else {
-        Outcome {
-            word: joined,
-            past: Past {
-                a: masked.a,
-                b: masked.b,
-                carry: past.carry,
-            },
-        }
-    }
 }

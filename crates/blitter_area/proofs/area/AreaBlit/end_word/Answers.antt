@@ -4,15 +4,15 @@ use Rattle.blitter_area.specs.declared.data_path.Outcome.{Outcome}
 use Rattle.blitter_area.proofs.Walking.{ended_within, ended_over, height_most}
 use Rattle.blitter_area.proofs.area.AreaBlit.end_word.Goals as goal
 
-pub overflow_add-self-else-self-width : goal.overflow_add-self-else-self-width
-overflow_add-self-else-self-width c =
+pub overflow_add-self-else-self : goal.overflow_add-self-else-self
+overflow_add-self-else-self c =
     let low : c.args.self.now.start.size < 65536 = search rules in
     let most = height_most c.args.self.now.start low in
     let row = c.requires in
     omega (arith, most, row)
 
-pub returns-then-self-width : goal.returns-then-self-width
-returns-then-self-width c = λ s ws h.
+pub returns-then-self : goal.returns-then-self
+returns-then-self c = λ s ws h.
     let b = c.args.self.now in
     let is = c.outcome-outcome.ensures in
     ended_within b _ s ws h (record {
@@ -25,12 +25,12 @@ returns-then-self-width c = λ s ws h.
     })
     refl refl (c.step_word.ensures s b.row b.column h.pointers) (ap (λ (o : Outcome). o.past.carry) is)
 
-pub returns-else-self-width : goal.returns-else-self-width
-returns-else-self-width c = λ s ws h.
+pub returns-else-self : goal.returns-else-self
+returns-else-self c = λ s ws h.
     let b = c.args.self.now in
     let is = c.outcome-outcome.ensures in
     let width = ap width_of h.start in
-    let value = c.width.ensures.value in
+    let value = b.path_is.last_column in
     let inside = b.column_inside in
     let last : b.column + 1 ≡ width_of s = omega (arith, width, value, inside) in
     ended_over b _ s ws h (record {

@@ -1,35 +1,29 @@
-use Rattle.std.proofs.Common.{arith, ◌≡◌, ◌+◌, ap, refl, ◌∙◌}
+use Rattle.std.proofs.Common.{arith, ◌≡◌, ◌<◌, sym, ap, refl, ◌∙◌}
 use Rattle.blit_words.specs.declared.blit.WordAsk.{WordAsk}
-use Rattle.blit_words.specs.AreaBlit.{asks_per_word}
+use Rattle.blit_words.specs.declared.blit.WordAsk.TheVariants.{D}
+use Rattle.blit_words.specs.AreaBlit.{asks_per_word, word_ask}
 use Rattle.blitter_area.specs.Data.{words_with}
-use Rattle.blitter_area.proofs.Walking.{going, answered, answered_all}
+use Rattle.blitter_area.proofs.Rows.{write_ends}
+use Rattle.blitter_area.proofs.Walking.{going, answered_all}
 use Rattle.blitter_area.proofs.area.AreaBlit.give.Goals as goal
 
 pub end_word-requires : goal.end_word-requires
 end_word-requires c = going c.args.self.now c.requires
 
-pub returns-then-self-asks : goal.returns-then-self-asks
-returns-then-self-asks c = λ s ws h.
+pub take-requires : goal.take-requires
+take-requires c =
     let b = c.args.self.now in
-    let asks = ap asks_per_word h.walks.start in
     record {
-      walks = answered b _ s ws c.args.word h (record {
-        start = refl;
-        row = refl;
-        column = refl;
-        pointers = refl;
-        past = refl;
-        zero = refl;
-        words = c.take.ensures ∙ ap (λ (k : WordAsk). words_with k c.args.word b.words) c.ask_at-ask.ensures;
-      });
-      place = omega (arith, asks, c.asks.ensures.value);
+      row = going b c.requires;
+      ask = c.at-ask.ensures b.start b.asks_are;
     }
 
-pub returns-else-self-asks : goal.returns-else-self-asks
-returns-else-self-asks c = λ s ws h.
+pub returns-in-D : goal.returns-in-D
+returns-in-D c = λ s ws h.
     let b = c.args.self.now in
+    let writes : word_ask b.start b.place ≡ D = sym (c.at-ask.ensures b.start b.asks_are) ∙ c.in-D.is in
     let asks = ap asks_per_word h.walks.start in
-    let last : b.place + 1 ≡ asks_per_word b.start = omega (arith, asks, h.place, c.asks.ensures.value) in
+    let low : b.place < asks_per_word b.start = omega (arith, asks, h.place) in
     c.end_word.ensures s _ (answered_all b _ s ws c.args.word h (record {
       start = refl;
       row = refl;
@@ -37,6 +31,6 @@ returns-else-self-asks c = λ s ws h.
       pointers = refl;
       past = refl;
       zero = refl;
-      words = c.take.ensures ∙ ap (λ (k : WordAsk). words_with k c.args.word b.words) c.ask_at-ask.ensures;
+      words = ap (λ (k : WordAsk). words_with k c.args.word b.words) (sym writes);
     })
-    last)
+    (write_ends b.start b.place low writes))

@@ -4,9 +4,7 @@ use Rattle.blitter_area.proofs.Walking.{shows, done_is}
 use Rattle.blitter_area.proofs.area.AreaBlit.is_done.Goals as goal
 
 pub returns-clause-shown : goal.returns-clause-shown
-returns-clause-shown c = done_is c.args.self.now c.height.result c.height.ensures.value
+returns-clause-shown c = let b = c.args.self.now in done_is b b.height b.height_is
 
 pub returns-clause-ask : goal.returns-clause-ask
-returns-clause-ask c = λ s ws h.
-    let b = c.args.self.now in
-    done_is b c.height.result c.height.ensures.value ∙ ap is_done (shows b s ws h)
+returns-clause-ask c = λ s ws h. let b = c.args.self.now in done_is b b.height b.height_is ∙ ap is_done (shows b s ws h)

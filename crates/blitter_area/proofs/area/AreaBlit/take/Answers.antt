@@ -1,0 +1,41 @@
+use Rattle.std.proofs.Common.{arith, ◌≡◌, ◌+◌, ap, refl, ◌∙◌}
+use Rattle.blit_words.specs.declared.blit.WordAsk.{WordAsk}
+use Rattle.blit_words.specs.AreaBlit.{asks_per_word}
+use Rattle.blitter_area.specs.Data.{words_with}
+use Rattle.blitter_area.proofs.Walking.{answered, answered_all}
+use Rattle.blitter_area.proofs.area.AreaBlit.take.Goals as goal
+
+pub returns-then-self : goal.returns-then-self
+returns-then-self c = λ s ws h.
+    let b = c.args.self.now in
+    let asks = ap asks_per_word h.walks.start in
+    let last = b.asks_are.last in
+    record {
+      walks = answered b _ s ws c.args.word h (record {
+        start = refl;
+        row = refl;
+        column = refl;
+        pointers = refl;
+        past = refl;
+        zero = refl;
+        words = c.take.ensures ∙ ap (λ (k : WordAsk). words_with k c.args.word b.words) c.requires.ask;
+      });
+      place = omega (arith, asks, last);
+    }
+
+pub returns-else-self : goal.returns-else-self
+returns-else-self c = λ s ws h.
+    let b = c.args.self.now in
+    let asks = ap asks_per_word h.walks.start in
+    let row = b.asks_are.last in
+    let last : b.place + 1 ≡ asks_per_word b.start = omega (arith, asks, h.place, row) in
+    c.end_word.ensures s _ (answered_all b _ s ws c.args.word h (record {
+      start = refl;
+      row = refl;
+      column = refl;
+      pointers = refl;
+      past = refl;
+      zero = refl;
+      words = c.take.ensures ∙ ap (λ (k : WordAsk). words_with k c.args.word b.words) c.requires.ask;
+    })
+    last)
