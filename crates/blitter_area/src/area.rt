@@ -18,14 +18,15 @@ use blit_words::{BlitRegs, SlotAsk, WordAsk, height, is_set};
 /// An area blit under way. It stands for its registers at the start and the answers that it was
 /// given: `Stands`.
 ///
-/// It keeps the place in the row of asks, the column and the row of the present word, the pointers
-/// of that word, the data registers, what the word before left, and whether all results were 0. The
-/// row of asks, the height and the data path are made ready at the start. The outcome of the present
-/// word is ready once its write is the next ask.
+/// It keeps the present ask and its place in the row of asks, the column and the row of the present
+/// word, the pointers of that word, the data registers, what the word before left, and whether all
+/// results were 0. The row of asks, the height and the data path are made ready at the start. The
+/// outcome of the present word is ready where its write is the present ask.
 #[derive(Clone, Copy)]
 pub struct AreaBlit {
     pub(crate) start: BlitRegs,
     pub(crate) asks: AskRow,
+    pub(crate) ask: WordAsk,
     pub(crate) height: u16,
     pub(crate) path: DataPath,
     pub(crate) pointers: Pointers,
@@ -37,6 +38,7 @@ pub struct AreaBlit {
     pub(crate) place: u16,
     pub(crate) ready: Option<Outcome>,
     ghost asks_are: { IsRowOf asks start },
+    ghost ask_is: { ask ≡ word_ask start place },
     ghost height_is: { height ≡ height_of start },
     ghost path_is: { IsPathOf path start },
     ghost column_inside: { column < width_of start },
@@ -51,9 +53,11 @@ impl AreaBlit {
         requires { is_line r.now ≡ false }
         ensures { Stands result r.now [] }
     {
+        let asks = AskRow::of(r);
         AreaBlit {
             start: *r,
-            asks: AskRow::of(r),
+            asks,
+            ask: asks.at(0),
             height: height(r),
             path: DataPath::of(r),
             pointers: Pointers::new(r),
@@ -85,7 +89,7 @@ impl AreaBlit {
         self.slot_now()
     }
 
-    /// Whether the blit has ended: no ask is left. Unlike `next` it works out no word to write.
+    /// Whether the blit has ended: no ask is left.
     pub fn is_done(&self) -> bool
         ensures shown { result ≡ done_of (shown self.now) }
         ensures ask { ForWhatItStands self.now (λ s ws. result ≡ done_of (blit_ask s ws)) }
@@ -98,7 +102,7 @@ impl AreaBlit {
         ensures { result ≡ shown self.now }
     {
         if self.row < self.height {
-            self.slot_ask(self.asks.at(self.place))
+            self.slot_ask(self.ask)
         } else {
             SlotAsk::Done
         }
@@ -132,25 +136,24 @@ impl AreaBlit {
         requires { shown self.old ≢ SlotAsk.Done }
         ensures { ForWhatItStands self.old (λ s ws. Stands self.new s (ws ++ word ∷ [])) }
     {
-        let ask = self.asks.at(self.place);
-        match ask {
+        match self.ask {
             WordAsk::D => self.end_word(),
-            WordAsk::A | WordAsk::B | WordAsk::C | WordAsk::Rest => self.take(ask, word),
+            WordAsk::A | WordAsk::B | WordAsk::C | WordAsk::Rest => self.take(word),
         }
     }
 
     /// Takes the word that answers the present ask, which is not the write. What was worked out of the
     /// data registers as they were is dropped.
-    fn take(&mut self, ask: WordAsk, word: u16)
-        requires row { self.old.row < height_of self.old.start }
-        requires ask { ask ≡ word_ask self.old.start self.old.place }
+    fn take(&mut self, word: u16)
+        requires { self.old.row < height_of self.old.start }
         ensures { ForWhatItStands self.old (λ s ws. Stands self.new s (ws ++ word ∷ [])) }
     {
         self.ready = None;
-        self.words.take(ask, word);
+        self.words.take(self.ask, word);
         if self.place < self.asks.last {
             self.place += 1;
-            self.ready = self.outcome_for(self.asks.at(self.place));
+            self.ask = self.asks.at(self.place);
+            self.ready = self.outcome_if_asked();
         } else {
             self.end_word();
         }
@@ -193,21 +196,30 @@ impl AreaBlit {
     }
 
     /// The result of the present word, once its inputs have their words, and what it leaves for the next.
+    #[inline(always)]
     fn outcome(&self) -> Outcome
         ensures { result ≡ outcome_now self.now }
     {
         match self.ready {
             Some(outcome) => outcome,
-            None => self.path.mix(&self.words, &self.past, self.column),
+            None => self.mix_inputs(),
         }
     }
 
-    /// The outcome of the present word where this is its next ask: a write wants it.
-    fn outcome_for(&self, ask: WordAsk) -> Option<Outcome>
+    /// The same, worked out from the inputs.
+    #[inline(never)]
+    fn mix_inputs(&self) -> Outcome
+        ensures { result ≡ outcome_now self.now }
+    {
+        self.path.mix(&self.words, &self.past, self.column)
+    }
+
+    /// The outcome of the present word where its write is the present ask.
+    fn outcome_if_asked(&self) -> Option<Outcome>
         ensures { ForSome result (λ outcome. outcome ≡ outcome_now self.now) }
     {
-        match ask {
-            WordAsk::D => Some(self.outcome()),
+        match self.ask {
+            WordAsk::D => Some(self.mix_inputs()),
             WordAsk::A | WordAsk::B | WordAsk::C | WordAsk::Rest => None,
         }
     }
@@ -223,6 +235,7 @@ impl AreaBlit {
         self.zero &= outcome.word == 0;
         self.past = outcome.past;
         self.place = 0;
+        self.ask = self.asks.at(0);
         self.pointers.step_word();
         if self.column < self.path.last_column {
             self.column += 1;

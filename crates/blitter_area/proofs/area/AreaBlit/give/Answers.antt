@@ -11,17 +11,12 @@ pub end_word-requires : goal.end_word-requires
 end_word-requires c = going c.args.self.now c.requires
 
 pub take-requires : goal.take-requires
-take-requires c =
-    let b = c.args.self.now in
-    record {
-      row = going b c.requires;
-      ask = c.at-ask.ensures b.start b.asks_are;
-    }
+take-requires c = going c.args.self.now c.requires
 
 pub returns-in-D : goal.returns-in-D
 returns-in-D c = λ s ws h.
     let b = c.args.self.now in
-    let writes : word_ask b.start b.place ≡ D = sym (c.at-ask.ensures b.start b.asks_are) ∙ c.in-D.is in
+    let writes : word_ask b.start b.place ≡ D = sym b.ask_is ∙ c.in-D.is in
     let asks = ap asks_per_word h.walks.start in
     let low : b.place < asks_per_word b.start = omega (arith, asks, h.place) in
     c.end_word.ensures s _ (answered_all b _ s ws c.args.word h (record {

@@ -9,7 +9,7 @@ returns-then-self c =
     let b = c.args.self.now in
     let height = b.height_is in
     let below : b.row < height_of b.start = omega (arith, height) in
-    c.slot_ask.ensures ∙ ap (shown_ask b b.start) (c.at.ensures b.start b.asks_are) ∙ shown_going b below
+    c.slot_ask.ensures ∙ ap (shown_ask b b.start) b.ask_is ∙ shown_going b below
 
 pub returns-else-self : goal.returns-else-self
 returns-else-self c =

@@ -18,7 +18,7 @@ returns-then-self c = λ s ws h.
         pointers = refl;
         past = refl;
         zero = refl;
-        words = c.take.ensures ∙ ap (λ (k : WordAsk). words_with k c.args.word b.words) c.requires.ask;
+        words = c.take.ensures ∙ ap (λ (k : WordAsk). words_with k c.args.word b.words) b.ask_is;
       });
       place = omega (arith, asks, last);
     }
@@ -36,6 +36,6 @@ returns-else-self c = λ s ws h.
       pointers = refl;
       past = refl;
       zero = refl;
-      words = c.take.ensures ∙ ap (λ (k : WordAsk). words_with k c.args.word b.words) c.requires.ask;
+      words = c.take.ensures ∙ ap (λ (k : WordAsk). words_with k c.args.word b.words) b.ask_is;
     })
     last)
