@@ -418,7 +418,7 @@ impl Chips {
     }
 
     /// What the owner of a slot asks for, for which the side does not ask, where planes and sprites
-    /// ask for this. The word that a blit writes is worked out only where it has the slot.
+    /// ask for this.
     #[inline(always)]
     #[tactic(auto, unfolding(crate::specs::Chips::ask_with, serial_model::specs::Owner::owner_of))]
     fn chips_ask(&self, beam: &Beam, plane: Option<PlaneAsk>, sprite: Option<SpriteAsk>) -> Ask
@@ -607,7 +607,9 @@ impl Chips {
         }
     }
 
-    /// The blit has ended: its pointers and data registers stay, and its interrupt is requested.
+    /// The blit has ended: its pointers and data registers stay, and its interrupt is requested. It
+    /// stands apart, so that a slot within a blit makes no room for it.
+    #[inline(never)]
     fn end_blit(&mut self)
         ensures { (c : ChipsOf) → IsChipsOf self.old c → IsChipsOf self.new (end_if_blit c.blit c) }
     {
