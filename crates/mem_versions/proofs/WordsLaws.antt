@@ -49,10 +49,10 @@ length-memory_of size image fits =
       length-replicate {A = ℕ} (bytes_of size / 2 - length image / 2) 0,
     )
 
--- a memory has whole pages
-pub whole-pages : (size : ChipSize) (image : List ℕ) → length image ≤ bytes_of size → length (memory_of size image) % 256 ≡ 0
-whole-pages Kib512 image fits = ap (λ (n : ℕ). n % 256) (length-memory_of Kib512 image fits)
-whole-pages Mib1 image fits = ap (λ (n : ℕ). n % 256) (length-memory_of Mib1 image fits)
+-- a memory has whole groups of pages
+pub whole-groups : (size : ChipSize) (image : List ℕ) → length image ≤ bytes_of size → length (memory_of size image) % 8192 ≡ 0
+whole-groups Kib512 image fits = ap (λ (n : ℕ). n % 8192) (length-memory_of Kib512 image fits)
+whole-groups Mib1 image fits = ap (λ (n : ℕ). n % 8192) (length-memory_of Mib1 image fits)
 
 -- each size has words
 pub some-words : (size : ChipSize) (count : ℕ) → count ≡ bytes_of size / 2 → 0 < count

@@ -8,8 +8,9 @@ ghost use Rattle.ocs_base.specs.Sizes.{bytes_of, is_chip_size, size_of_bytes};
 ghost use Rattle.mem_versions.specs.declared.write.Write.{Write as WriteValue};
 ghost use Rattle.mem_versions.specs.MemoryAt.{words_after, writes_below, writes_from};
 
+use crate::group::PAGE;
 use crate::history::History;
-use crate::pages::{PAGE, Pages};
+use crate::pages::Pages;
 use crate::view::MemView;
 use crate::write::Write;
 use ocs_base::{Addr, ChipSize, Clock, OutOfMemory};

@@ -6,7 +6,7 @@ ghost use Rattle.mem_versions.specs.declared.write.Write.{Write as WriteValue};
 ghost use Rattle.mem_versions.specs.MemoryAt.{writes_to, page_writes};
 ghost use Rattle.mem_versions.specs.History.{word_before, IsInOrder, AreLower, IsStart, AreStarts};
 
-use crate::pages::PAGE;
+use crate::group::PAGE;
 use crate::steps::Steps;
 use crate::write::Write;
 use ocs_base::OutOfMemory;

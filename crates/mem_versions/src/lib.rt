@@ -3,6 +3,7 @@
 #![tactic(auto)]
 
 pub mod chip;
+mod group;
 mod history;
 pub mod kept;
 mod pages;

@@ -1,25 +1,27 @@
-//! Words in pages that several owners share, copied where a shared page is written.
+//! Words in pages that several owners share, copied where a shared page is written. Pages stand in groups, which
+//! are shared too: one more owner of all is one more of each group.
 
 ghost use Rattle.std.specs.Prelude.{◌≡◌, ◌+◌, ◌*◌, ◌/◌, ◌%◌, ◌^◌, ◌<◌, ◌≤◌, ℕ, length, take, drop, slice_get, slice_index, slice_set, IfOk, OnOk, OnErr, All};
 ghost use Rattle.std.specs.Arc.{arc_value};
 ghost use Rattle.std.specs.List.{flat_map};
 
+use crate::group::{Group, PAGE};
 use ocs_base::OutOfMemory;
 use std::alloc::Global;
 use std::marker::Model;
 use std::sync::Arc;
 
-/// How many words a page has.
-pub const PAGE: usize = 256;
+/// How many words a group of pages has.
+const GROUP: usize = 8192;
 
-/// The words of a page.
-type Page = [u16; 256];
+/// How many pages a group has.
+const PAGES: usize = 32;
 
-/// The words of chip memory, page by page.
+/// The words of chip memory, group by group of pages.
 #[derive(Drop)]
 pub struct Pages {
     alloc: Global,
-    list: Vec<Arc<Page>>,
+    groups: Vec<Arc<Group>>,
 }
 
 impl Model for Pages {
@@ -29,30 +31,30 @@ impl Model for Pages {
 
     ghost Value = { List ℕ };
 
-    ghost view = { λ p. flat_map arc_value p.list.items };
+    ghost view = { λ p. flat_map arc_value p.groups.items };
 
-    ghost invariant = { λ p. (length p.list.items < 2 ^ 56)
-        × All (λ page. length (arc_value page) ≡ 256) p.list.items };
+    ghost invariant = { λ p. (length p.groups.items < 2 ^ 51)
+        × All (λ group. length (arc_value group) ≡ 8192) p.groups.items };
 }
 
 impl Pages {
-    /// The pages of words that fill whole pages.
+    /// The pages of words that fill whole groups.
     pub fn new(alloc: Global, words: &[u16]) -> Result<Pages, OutOfMemory>
-        requires { length words.now % 256 ≡ 0 }
+        requires { length words.now % 8192 ≡ 0 }
         ensures { IfOk result (λ pages. pages ≡ words.now) }
     {
-        let list = page_list(alloc, words)?;
-        Ok(Pages { alloc, list })
+        let groups = group_list(alloc, words)?;
+        Ok(Pages { alloc, groups })
     }
 
     /// One more owner of each page; no word is copied.
     pub fn share(&self) -> Result<Pages, OutOfMemory>
         ensures { IfOk result (λ pages. pages ≡ self.now) }
     {
-        let list = self.list.clone()?;
+        let groups = self.groups.clone()?;
         Ok(Pages {
             alloc: self.alloc,
-            list,
+            groups,
         })
     }
 
@@ -61,8 +63,8 @@ impl Pages {
     pub fn get(&self, place: usize) -> Option<u16>
         ensures { result ≡ slice_get self.now place }
     {
-        match self.list.get(place / PAGE) {
-            Some(page) => Some(page[place % PAGE]),
+        match self.groups.get(place / GROUP) {
+            Some(group) => Some(group.word(place % GROUP)),
             None => None,
         }
     }
@@ -81,7 +83,7 @@ impl Pages {
         ensures words { result.now ≡ take 256 (drop (256 * number) self.now) }
         ensures size { length result.now ≡ 256 }
     {
-        self.list[number].as_slice()
+        self.groups[number / PAGES].page(number % PAGES)
     }
 
     /// How many pages there are.
@@ -89,7 +91,7 @@ impl Pages {
         ensures size { length self.now ≡ 256 * result }
         ensures room { result < 2 ^ 56 }
     {
-        self.list.len()
+        PAGES * self.groups.len()
     }
 
     /// Writes a word at a place; behind the last page nothing is written. After a refusal all is as before.
@@ -98,7 +100,7 @@ impl Pages {
         ensures ok { OnOk result (self.new ≡ slice_set self.old place word) }
         ensures refused { OnErr result (self.new ≡ self.old) }
     {
-        if place / PAGE < self.count() {
+        if place / GROUP < self.groups.len() {
             self.set_held_word(place, word)
         } else {
             Ok(())
@@ -111,69 +113,64 @@ impl Pages {
         ensures ok { OnOk result (self.new ≡ slice_set self.old place word) }
         ensures refused { OnErr result (self.new ≡ self.old) }
     {
-        write_word(self.alloc, &mut self.list[place / PAGE], place % PAGE, word)
+        write_word(
+            self.alloc,
+            &mut self.groups[place / GROUP],
+            place % GROUP,
+            word,
+        )
     }
 }
 
-/// The pages of words, each with one owner.
-fn page_list(alloc: Global, words: &[u16]) -> Result<Vec<Arc<Page>>, OutOfMemory>
-    requires { length words.now % 256 ≡ 0 }
+/// The groups of words, each with one owner.
+fn group_list(alloc: Global, words: &[u16]) -> Result<Vec<Arc<Group>>, OutOfMemory>
+    requires { length words.now % 8192 ≡ 0 }
     ensures words { IfOk result (λ list. flat_map arc_value list.items ≡ words.now) }
-    ensures room { IfOk result (λ list. length list.items < 2 ^ 56) }
-    ensures size { IfOk result (λ list. All (λ page. length (arc_value page) ≡ 256) list.items) }
+    ensures room { IfOk result (λ list. length list.items < 2 ^ 51) }
+    ensures size { IfOk result (λ list. All (λ group. length (arc_value group) ≡ 8192) list.items) }
 {
-    let count = words.len() / PAGE;
+    let count = words.len() / GROUP;
     let mut list = Vec::with_capacity(alloc, count)?;
     for number in 0..count {
-        list.push(Arc::new(alloc, page_of(words, number))?)?;
+        let start = number * GROUP;
+        let group = Group::new(alloc, &words[start..start + GROUP])?;
+        list.push(Arc::new(alloc, group)?)?;
     }
     Ok(list)
 }
 
-/// The words of one page.
-fn page_of(words: &[u16], number: usize) -> Page
-    requires { 256 * number + 256 ≤ length words.now }
-    ensures words { result ≡ take 256 (drop (256 * number) words.now) }
-    ensures size { length result ≡ 256 }
-{
-    let start = number * PAGE;
-    let mut page = [0; PAGE];
-    page.copy_from_slice(&words[start..start + PAGE]);
-    page
-}
-
-/// Writes a word of a page: in place where the page has no other owner, else in a copy of it.
+/// Writes a word of a group: in place where the group has no other owner, else in a copy that shares the other
+/// pages.
 fn write_word(
     alloc: Global,
-    page: &mut Arc<Page>,
+    group: &mut Arc<Group>,
     index: usize,
     word: u16,
 ) -> Result<(), OutOfMemory>
-    requires { index < 256 }
-    ensures ok { OnOk result (arc_value page.new ≡ slice_set (arc_value page.old) index word) }
-    ensures refused { OnErr result (arc_value page.new ≡ arc_value page.old) }
+    requires { index < length (arc_value group.old) }
+    ensures ok { OnOk result (arc_value group.new ≡ slice_set (arc_value group.old) index word) }
+    ensures refused { OnErr result (arc_value group.new ≡ arc_value group.old) }
 {
-    if let Some(words) = Arc::get_mut(page) {
-        words[index] = word;
-        return Ok(());
+    if let Some(own) = Arc::get_mut(group) {
+        return own.set_word(alloc, index, word);
     }
-    *page = changed_copy(alloc, page, index, word)?;
+    *group = changed_copy(alloc, group, index, word)?;
     Ok(())
 }
 
-/// A copy of a page with a word written. It stands apart, so that a write in place pays for no copy.
+/// A copy of a group with a word written. It stands apart, so that a write in place pays for no copy.
 #[cold]
 #[inline(never)]
 fn changed_copy(
     alloc: Global,
-    page: &Page,
+    group: &Group,
     index: usize,
     word: u16,
-) -> Result<Arc<Page>, OutOfMemory>
-    requires { index < 256 }
-    ensures { IfOk result (λ copy. arc_value copy ≡ slice_set page.now index word) }
+) -> Result<Arc<Group>, OutOfMemory>
+    requires { index < length group.now }
+    ensures { IfOk result (λ copy. arc_value copy ≡ slice_set group.now index word) }
 {
-    let mut copy = *page;
-    copy[index] = word;
+    let mut copy = group.share()?;
+    copy.set_word(alloc, index, word)?;
     Ok(Arc::new(alloc, copy)?)
 }

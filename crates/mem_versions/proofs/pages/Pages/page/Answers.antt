@@ -1,25 +1,29 @@
 -- The words of the page stand from its first place on.
-use Rattle.std.proofs.Common.{ℕ, ◌*◌, ◌<◌, List, length, take, drop, ap, ◌∙◌, arith, refl}
+use Rattle.std.proofs.Common.{ℕ, ◌*◌, ◌/◌, ◌%◌, ◌≡◌, ◌<◌, List, length, take, drop, ap, ◌∙◌, arith}
 use Rattle.std.specs.Arc.{arc_value}
-use Rattle.mem_versions.proofs.PagesLaws.{joined-page, page-within}
+use Rattle.mem_versions.proofs.PagesLaws.{length-joined, page-of-group}
 use Rattle.mem_versions.proofs.pages.Pages.page.Goals as goal
+
+pub index-requires : goal.index-requires
+index-requires c =
+    omega (arith, c.requires, ap length c.self.view_is, length-joined 8192 arc_value c.self.inside.groups.items c.self.invariant.1)
+
+pub page-requires : goal.page-requires
+page-requires c =
+    let number = c.args.number in
+    let groups = c.self.inside.groups.items in
+    let within : number / 32 < length groups =
+    omega (arith, c.requires, ap length c.self.view_is, length-joined 8192 arc_value groups c.self.invariant.1) in
+    let size : length c.deref.result.now ≡ 8192 =
+    ap length (c.deref.ensures ∙ ap arc_value c.index.ensures) ∙ c.self.invariant.1 (number / 32) c.index.result.now within in
+    omega arith
 
 pub returns-clause-words : goal.returns-clause-words
 returns-clause-words c =
     let number = c.args.number in
-    let pages = c.self.inside.list.items in
-    let within : number < length pages = page-within arc_value pages c.args.self.now number c.self.invariant.1 c.self.view_is c.requires in
-    c.as_slice.ensures ∙ c.deref.ensures ∙ ap arc_value c.index.ensures
-    ∙ joined-page arc_value pages number (256 * number) c.index.result.now c.self.invariant.1 within refl
-    ∙ ap (λ (words : List ℕ). take 256 (drop (256 * number) words)) c.self.view_is
-
-pub index-requires : goal.index-requires
-index-requires c =
-    omega (arith, page-within arc_value c.self.inside.list.items c.args.self.now c.args.number c.self.invariant.1 c.self.view_is c.requires)
-
-pub returns-clause-size : goal.returns-clause-size
-returns-clause-size c =
-    let number = c.args.number in
-    let pages = c.self.inside.list.items in
-    let within : number < length pages = page-within arc_value pages c.args.self.now number c.self.invariant.1 c.self.view_is c.requires in
-    ap length (c.as_slice.ensures ∙ c.deref.ensures ∙ ap arc_value c.index.ensures) ∙ c.self.invariant.1 number c.index.result.now within
+    let groups = c.self.inside.groups.items in
+    let within : number / 32 < length groups =
+    omega (arith, c.requires, ap length c.self.view_is, length-joined 8192 arc_value groups c.self.invariant.1) in
+    c.page.ensures.words
+    ∙ ap (λ (words : List ℕ). take 256 (drop (256 * (number % 32)) words)) (c.deref.ensures ∙ ap arc_value c.index.ensures)
+    ∙ page-of-group arc_value groups c.args.self.now number c.index.result.now c.self.invariant.1 c.self.view_is within

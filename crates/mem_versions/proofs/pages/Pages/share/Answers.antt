@@ -1,4 +1,4 @@
--- Shared pages have the same words.
+-- Shared groups have the same words.
 use Rattle.std.proofs.Common.{◌≡◌, ◌∙◌, arith}
 use Rattle.std.specs.Arc.{arc_value}
 use Rattle.std.proofs.lemmas.List.Elements.{length_all_zip}
@@ -9,12 +9,12 @@ pub invariant_of-result : goal.invariant_of-result
 invariant_of-result c = (
   omega (
     arith,
-    length_all_zip (λ p q. arc_value q ≡ arc_value p) c.self.inside.list.items c.in_ok-list.list.items c.in_ok-list.ensures.cases.0,
+    length_all_zip (λ p q. arc_value q ≡ arc_value p) c.self.inside.groups.items c.in_ok-groups.groups.items c.in_ok-groups.ensures.cases.0,
     c.self.invariant.0,
   ),
-  ArePages-shared arc_value c.self.inside.list.items c.in_ok-list.list.items c.in_ok-list.ensures.cases.0 c.self.invariant.1,
+  ArePages-shared 8192 arc_value c.self.inside.groups.items c.in_ok-groups.groups.items c.in_ok-groups.ensures.cases.0 c.self.invariant.1,
 )
 
 pub returns : goal.returns
 returns c =
-    joined-shared arc_value c.self.inside.list.items c.in_ok-list.list.items c.in_ok-list.ensures.cases.0 ∙ c.self.view_is
+    joined-shared arc_value c.self.inside.groups.items c.in_ok-groups.groups.items c.in_ok-groups.ensures.cases.0 ∙ c.self.view_is

@@ -4,7 +4,7 @@ use Rattle.std.specs.Arc.{arc_value}
 use Rattle.std.specs.List.{flat_map}
 use Rattle.std.proofs.lemmas.List.Elements.{All-push, All-same}
 use Rattle.mem_versions.proofs.PagesLaws.{joined-push}
-use Rattle.mem_versions.proofs.pages.page_list.Goals as goal
+use Rattle.mem_versions.proofs.group.page_list.Goals as goal
 
 pub loop-number-preserved : goal.loop-number-preserved
 loop-number-preserved c =
@@ -16,7 +16,7 @@ loop-number-preserved c =
     record {
       words =
           ap (flat_map arc_value) grown
-          ∙ joined-push arc_value before page c.args.words.now n c.loop-number.invariant.words (value ∙ c.page_of.ensures.words);
+          ∙ joined-push 256 arc_value before page c.args.words.now n c.loop-number.invariant.words (value ∙ c.page_of.ensures.words);
       count = ap length grown ∙ length-append before (page ∷ []) ∙ ap (λ (k : ℕ). k + 1) c.loop-number.invariant.count;
       size =
           All-same (λ p. length (arc_value p) ≡ 256) c.push.new.self.items (before ++ page ∷ []) grown
