@@ -1,18 +1,19 @@
 -- Laws of writes in order of place and then of happening.
-use Rattle.std.proofs.Common.{◌≡◌, ℕ, ◌+◌, ◌-◌, ◌*◌, ◌/◌, ◌<◌, ◌≤◌, ◌≢◌, Bool, true, false, ◌==◌, ◌&&◌, not, nat_lt, List, length}
-use Rattle.std.proofs.Common.{take, drop, get_or, zero, suc, refl, sym, ap, subst, ◌∙◌, arith, length-take, length-drop, ◌⊎◌, inl, inr}
-use Rattle.std.specs.List.{filter}
+use Rattle.std.proofs.Common.{◌≡◌, ℕ, ◌+◌, ◌-◌, ◌/◌, ◌<◌, ◌≤◌, ◌≢◌, Bool, true, false, ◌==◌, ◌&&◌, not, nat_lt, List, length}
+use Rattle.std.proofs.Common.{take, drop, get_or, zero, suc, refl, sym, ap, subst, ◌∙◌, arith, length-take, length-drop, length-set, get_or-set_other, replicate, ◌⊎◌, inl, inr}
+use Rattle.std.proofs.Math.ListN.{set}
 use Rattle.std.specs.Ordering.{is_lt, nat_cmp}
 use Rattle.std.specs.List.Sorted.{IsNonDecreasingBy, IsSortedByKey, IsStableByKey, ties}
 use Rattle.std.proofs.lemmas.Bool.Decides.{nat_tests}
-use Rattle.std.proofs.lemmas.Bool.{cases_lt}
-use Rattle.std.proofs.lemmas.Grind.{get_or_default_zero}
-use Rattle.std.proofs.lemmas.List.{get_or-take, get_or-drop}
+use Rattle.std.proofs.lemmas.Bool.{cases_lt, cases_eq}
+use Rattle.std.proofs.lemmas.Grind.{get_or-set_at}
+use Rattle.std.proofs.lemmas.List.{get_or-take, get_or-drop, get_or-replicate, length-replicate}
 use Rattle.std.proofs.lemmas.List.Elements.{filter_agree}
 use Rattle.std.proofs.lemmas.List.Sorted.{IsNonDecreasingBy-from_sort, ties_still_rise}
 use Rattle.mem_versions.specs.declared.write.Write.{Write}
 use Rattle.mem_versions.specs.MemoryAt.{writes_to}
-use Rattle.mem_versions.specs.History.{IsInOrder, IsStart, AreStarts}
+use Rattle.mem_versions.specs.declared.history.Part.{Part}
+use Rattle.mem_versions.specs.History.{IsInOrder, IsPart, IsPageEnd}
 use Rattle.mem_versions.proofs.FilterLaws.{filter-middle}
 
 -- one write may stand before another
@@ -81,46 +82,124 @@ IsInOrder-part writes start count order i j d le within =
     let Q : Write → Type 0 = λ w. Precedes (get_or writes (start + i) d) w in
     subst P (sym at_i) (subst Q (sym at_j) (order (start + i) (start + j) d (omega arith) whole))
 
--- the writes from one start to the next are those to the page
-pub page-writes : (writes : List Write) (page start end : ℕ) → IsStart writes page start → IsStart writes (page + 1) end → start ≤ end →
-    take (end - start) (drop start writes) ≡ filter (λ w. w.place / 256 == page) writes
-page-writes writes page start end begin stop order =
-    filter-middle (λ w. w.place / 256 == page) writes start end order
-    (λ k d before within. let low : (get_or writes k d).place < 256 * page = begin.before.lower k d before in apart page (get_or writes k d).place low)
-    (λ k d from upto within.
-    let least : 256 * page ≤ (get_or writes k d).place = begin.higher k d from within in
-    let most : (get_or writes k d).place < 256 * (page + 1) = stop.before.lower k d upto in
-    on page (get_or writes k d).place least most)
-    (λ k d from within. let high : 256 * (page + 1) ≤ (get_or writes k d).place = stop.higher k d from within in beyond page (get_or writes k d).place high)
+-- the writes up to a place are walked over: each page that no further write is to has its part
+pub record AreWalked (writes : List Write) (parts : List Part) (pages upto : ℕ) : Type 0 where
+  pub within : upto ≤ length writes
+  pub count : length parts ≡ pages
+  -- further writes are to higher pages
+  pub higher : (j k : ℕ) (d : Write) → j < upto → upto ≤ k → k < length writes → (get_or writes j d).place / 256 < (get_or writes k d).place / 256
+  pub each : (page : ℕ) (d : Part) → page < pages
+      → ((k : ℕ) (e : Write) → upto ≤ k → k < length writes → (get_or writes k e).place / 256 ≢ page) → IsPart writes page (get_or parts page d)
+
+is-not : (a b : ℕ) → a ≢ b → (a == b) ≡ false
+is-not a b ne = grind (arith, nat_tests)
+
+is-same : (a b : ℕ) → a ≡ b → (a == b) ≡ true
+is-same a b same = grind (arith, nat_tests)
+
+-- before the walk
+pub AreWalked-none : (writes : List Write) (parts : List Part) (pages : ℕ) → parts ≡ replicate pages (record { start = 0; end = 0 })
+    → AreWalked writes parts pages 0
+AreWalked-none writes parts pages are =
+    let none : Part = record { start = 0; end = 0 } in
+    record {
+      within = omega arith;
+      count = ap length are ∙ length-replicate {A = Part} pages none;
+      higher = λ j k d before from within. absurd (omega arith);
+      each = λ page d within nothing.
+          let is : none ≡ get_or parts page d = sym (ap (λ (ps : List Part). get_or ps page d) are ∙ get_or-replicate pages page none d within) in
+          let P : Part → Type 0 = λ part. IsPart writes page part in
+          subst P is (record {
+            order = omega arith;
+            within = omega arith;
+            those =
+                filter-middle (λ w. w.place / 256 == page) writes 0 0 (omega arith)
+                (λ k e before inside. absurd (omega arith))
+                (λ k e from before inside. absurd (omega arith))
+                (λ k e from inside. is-not ((get_or writes k e).place / 256) page (nothing k e from inside));
+          });
+    }
+
+-- the part of a page
+part-here : (writes : List Write) (parts : List Part) (pages page start end : ℕ) → AreWalked writes parts pages start → IsPageEnd writes page start end
+    → IsPart writes page (record { start = start; end = end })
+part-here writes parts pages page start end walked stop =
+    record {
+      order = omega (arith, stop.some);
+      within = stop.within;
+      those =
+          filter-middle (λ w. w.place / 256 == page) writes start end (omega (arith, stop.some))
+          (λ k d before inside.
+          let first : (get_or writes start d).place / 256 ≡ page = stop.same start d (omega arith) stop.some in
+          let lower : (get_or writes k d).place / 256 < (get_or writes start d).place / 256 =
+          walked.higher k start d before (omega arith) (omega (arith, stop.some, stop.within)) in
+          is-not ((get_or writes k d).place / 256) page (omega arith))
+          (λ k d from before inside. is-same ((get_or writes k d).place / 256) page (stop.same k d from before))
+          (λ k d from inside.
+          let above : page < (get_or writes k d).place / 256 = stop.higher k d from inside in
+          is-not ((get_or writes k d).place / 256) page (omega arith));
+    }
+
+-- further writes are to higher pages, behind one page more
+higher-next : (writes : List Write) (parts : List Part) (pages page start end : ℕ) → AreWalked writes parts pages start → IsPageEnd writes page start end
+    → (j k : ℕ) (d : Write) → j < end → end ≤ k → k < length writes → (get_or writes j d).place / 256 < (get_or writes k d).place / 256
+higher-next writes parts pages page start end walked stop j k d before from within = by_cases (cases_lt j start)
   where
-    apart : (page place : ℕ) → place < 256 * page → (place / 256 == page) ≡ false
-    apart page place low = let ne : place / 256 ≢ page = omega arith in grind (arith, nat_tests)
-
-    on : (page place : ℕ) → 256 * page ≤ place → place < 256 * (page + 1) → (place / 256 == page) ≡ true
-    on page place least most = let is : place / 256 ≡ page = omega arith in grind (arith, nat_tests)
-
-    beyond : (page place : ℕ) → 256 * (page + 1) ≤ place → (place / 256 == page) ≡ false
-    beyond page place high = let ne : place / 256 ≢ page = omega arith in grind (arith, nat_tests)
-
--- a page begins where or after the one before it begins
-pub starts-rise : (writes : List Write) (page start end : ℕ) → IsStart writes page start → IsStart writes (page + 1) end → start ≤ end
-starts-rise writes page start end begin stop = by_cases (cases_lt end start)
-  where
-    by_cases : (end < start) ⊎ (start ≤ end) → start ≤ end
-    by_cases (inl less) =
-        let d : Write = record { clock = 0; place = 0; word = 0 } in
-        let low : (get_or writes end d).place < 256 * page = begin.before.lower end d less in
-        let high : 256 * (page + 1) ≤ (get_or writes end d).place = stop.higher end d (omega arith) (omega (arith, begin.before.within)) in
+    by_cases : (j < start) ⊎ (start ≤ j) → (get_or writes j d).place / 256 < (get_or writes k d).place / 256
+    by_cases (inl less) = walked.higher j k d less (omega (arith, stop.some)) within
+    by_cases (inr le) =
+        let here : (get_or writes j d).place / 256 ≡ page = stop.same j d le before in
+        let above : page < (get_or writes k d).place / 256 = stop.higher k d from within in
         omega arith
-    by_cases (inr le) = le
 
--- a start that was read from the table
-pub start-at : (writes : List Write) (starts : List ℕ) (page x : ℕ) → AreStarts writes starts (length starts - 1) → page < length starts →
-    x ≡ get_or starts page x → IsStart writes page x
-start-at writes starts page x are within read =
-    let is : get_or starts page 0 ≡ x = sym (read ∙ get_or_default_zero starts page x within) in
-    let P : ℕ → Type 0 = λ start. IsStart writes page start in
-    subst P is (are.each page (omega arith))
+-- a page that the next writes are not to keeps its part
+part-other : (writes : List Write) (parts : List Part) (pages page start end other : ℕ) (d : Part) → AreWalked writes parts pages start
+    → IsPageEnd writes page start end → other < pages → other ≢ page
+    → ((k : ℕ) (e : Write) → end ≤ k → k < length writes → (get_or writes k e).place / 256 ≢ other) → IsPart writes other (get_or parts other d)
+part-other writes parts pages page start end other d walked stop within differs nothing =
+    walked.each other d within (λ k e from inside. by_cases k e from inside (cases_lt k end))
+  where
+    by_cases : (k : ℕ) (e : Write) → start ≤ k → k < length writes → (k < end) ⊎ (end ≤ k) → (get_or writes k e).place / 256 ≢ other
+    by_cases k e from inside (inl less) = let here : (get_or writes k e).place / 256 ≡ page = stop.same k e from less in omega arith
+    by_cases k e from inside (inr le) = nothing k e le inside
+
+-- a page more, which the memory has
+pub AreWalked-page : (writes : List Write) (parts : List Part) (pages page start end : ℕ) → AreWalked writes parts pages start
+    → IsPageEnd writes page start end → page < pages → AreWalked writes (set parts page (record { start = start; end = end })) pages end
+AreWalked-page writes parts pages page start end walked stop has =
+    let part : Part = record { start = start; end = end } in
+    record {
+      within = stop.within;
+      count = length-set parts page part ∙ walked.count;
+      higher = higher-next writes parts pages page start end walked stop;
+      each = λ other d within nothing. by_cases other d within nothing (cases_eq other page);
+    }
+  where
+    by_cases : (other : ℕ) (d : Part) → other < pages
+        → ((k : ℕ) (e : Write) → end ≤ k → k < length writes → (get_or writes k e).place / 256 ≢ other) → (other ≡ page) ⊎ (other ≢ page)
+        → IsPart writes other (get_or (set parts page (record { start = start; end = end })) other d)
+    by_cases other d within nothing (inl same) =
+        let part : Part = record { start = start; end = end } in
+        let is : part ≡ get_or (set parts page part) other d = sym (get_or-set_at parts page other part d same (omega (arith, walked.count))) in
+        let P : Part → Type 0 = λ q. IsPart writes other q in
+        let Q : ℕ → Type 0 = λ n. IsPart writes n part in
+        subst P is (subst Q (sym same) (part-here writes parts pages page start end walked stop))
+    by_cases other d within nothing (inr differs) =
+        let part : Part = record { start = start; end = end } in
+        let is : get_or parts other d ≡ get_or (set parts page part) other d = sym (get_or-set_other parts page other part d differs) in
+        let P : Part → Type 0 = λ q. IsPart writes other q in
+        subst P is (part-other writes parts pages page start end other d walked stop within differs nothing)
+
+-- and which it has not
+pub AreWalked-above : (writes : List Write) (parts : List Part) (pages page start end : ℕ) → AreWalked writes parts pages start
+    → IsPageEnd writes page start end → pages ≤ page → AreWalked writes parts pages end
+AreWalked-above writes parts pages page start end walked stop above =
+    record {
+      within = stop.within;
+      count = walked.count;
+      higher = higher-next writes parts pages page start end walked stop;
+      each = λ other d within nothing. part-other writes parts pages page start end other d walked stop within (omega arith) nothing;
+    }
 
 -- a write that counts for a place is to its page
 pub same-page : (place clock : ℕ) (w : Write) → ((w.place == place) && nat_lt w.clock clock) ≡ true → (w.place / 256 == place / 256) ≡ true

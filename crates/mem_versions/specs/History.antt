@@ -1,6 +1,7 @@
 -- The writes of a view, in order of place and then of happening.
-use Rattle.std.specs.Prelude.{◌≡◌, ◌+◌, ◌-◌, ◌*◌, ◌≤◌, ◌<◌, ℕ, ◌==◌, ◌&&◌, nat_lt, if◌then◌else◌, List, [], ◌∷◌, length, slice_index, slice_index_or}
+use Rattle.std.specs.Prelude.{◌≡◌, ◌-◌, ◌/◌, ◌≤◌, ◌<◌, ℕ, ◌==◌, ◌&&◌, nat_lt, if◌then◌else◌, List, [], ◌∷◌, length, take, drop, filter, slice_index_or}
 use Rattle.mem_versions.specs.declared.write.Write.{Write}
+use Rattle.mem_versions.specs.declared.history.Part.{Part}
 
 pub record HistoryValue : Type 0 where
   -- how many pages of 256 words the memory has
@@ -20,22 +21,26 @@ IsInOrder writes = (i j : ℕ) (d : Write) → i ≤ j → j < length writes →
     ((slice_index_or writes i d).place ≤ (slice_index_or writes j d).place)
     × ((slice_index_or writes i d).place ≡ (slice_index_or writes j d).place → (slice_index_or writes i d).clock ≤ (slice_index_or writes j d).clock)
 
--- only writes to lower pages stand before a place of the list
-pub record AreLower (writes : List Write) (page start : ℕ) : Type 0 where
-  pub within : start ≤ length writes
-  pub lower : (k : ℕ) (d : Write) → k < start → (slice_index_or writes k d).place < 256 * page
+-- from one place of the list up to another stand the writes to a page
+pub record IsPart (writes : List Write) (page : ℕ) (part : Part) : Type 0 where
+  pub order : part.start ≤ part.end
+  pub within : part.end ≤ length writes
+  pub those : take (part.end - part.start) (drop part.start writes) ≡ filter (λ write. write.place / 256 == page) writes
 
--- at a start the writes to lower pages end, and those to the page begin
-pub record IsStart (writes : List Write) (page start : ℕ) : Type 0 where
-  pub before : AreLower writes page start
-  pub higher : (k : ℕ) (d : Write) → start ≤ k → k < length writes → 256 * page ≤ (slice_index_or writes k d).place
+-- where the writes to each of so many pages stand
+pub record AreParts (writes : List Write) (parts : List Part) (pages : ℕ) : Type 0 where
+  pub count : length parts ≡ pages
+  pub each : (page : ℕ) (d : Part) → page < pages → IsPart writes page (slice_index_or parts page d)
 
--- where the writes to each of so many pages begin, and where those to the last end
-pub record AreStarts (writes : List Write) (starts : List ℕ) (pages : ℕ) : Type 0 where
-  pub count : length starts ≡ pages + 1
-  pub each : (page : ℕ) → page < pages + 1 → IsStart writes page (slice_index starts page)
+-- the writes to a page from a place on end at another, behind which are those to higher pages
+pub record IsPageEnd (writes : List Write) (page start end : ℕ) : Type 0 where
+  pub some : start < end
+  pub within : end ≤ length writes
+  pub same : (k : ℕ) (d : Write) → start ≤ k → k < end → (slice_index_or writes k d).place / 256 ≡ page
+  pub higher : (k : ℕ) (d : Write) → end ≤ k → k < length writes → page < (slice_index_or writes k d).place / 256
 
--- writes in order, and a start for each page and one more, where the writes to the last page end
-pub record IsHistory (writes : List Write) (starts : List ℕ) : Type 0 where
+-- writes in order, and where those to each page stand, if there are any
+pub record IsHistory (writes : List Write) (parts : List Part) (pages : ℕ) : Type 0 where
   pub order : IsInOrder writes
-  pub parted : AreStarts writes starts (length starts - 1)
+  pub parted : (page : ℕ) (d : Part) → page < length parts → IsPart writes page (slice_index_or parts page d)
+  pub none : (page : ℕ) → length parts ≤ page → page < pages → writes ≡ []

@@ -1,10 +1,10 @@
 //! The writes of a view, page by page in order of address and then of happening.
 
-ghost use Rattle.std.specs.Prelude.{◌≡◌, ◌==◌, ◌+◌, ◌-◌, ◌*◌, ◌/◌, ◌^◌, ◌<◌, ◌≤◌, ℕ, length, take, drop, filter, IfOk};
+ghost use Rattle.std.specs.Prelude.{◌≡◌, ◌==◌, ◌+◌, ◌-◌, ◌*◌, ◌/◌, ◌^◌, ◌<◌, ◌≤◌, ℕ, length, take, drop, filter, slice_index_or, IfOk};
 ghost use Rattle.std.specs.List.Sorted.{IsNonDecreasingBy};
 ghost use Rattle.mem_versions.specs.declared.write.Write.{Write as WriteValue};
 ghost use Rattle.mem_versions.specs.MemoryAt.{writes_to, page_writes};
-ghost use Rattle.mem_versions.specs.History.{word_before, IsInOrder, AreLower, IsStart, AreStarts};
+ghost use Rattle.mem_versions.specs.History.{word_before, IsInOrder, IsHistory, AreParts, IsPageEnd};
 
 use crate::group::PAGE;
 use crate::steps::Steps;
@@ -14,12 +14,20 @@ use std::alloc::Global;
 use std::marker::Model;
 use std::sync::ledger::Ledger;
 
-/// Writes in order of place, those to one place in order of happening, and where those to each page
-/// begin.
+/// Writes in order of place, those to one place in order of happening, and where those to each page stand. Where
+/// there are no writes nothing is kept of the pages.
 #[derive(Drop)]
 pub struct History {
     writes: Vec<Write>,
-    starts: Vec<usize>,
+    parts: Vec<Part>,
+    pages: usize,
+}
+
+/// Where the writes to a page stand: from one place of the list up to another.
+#[derive(Clone, Copy)]
+pub(crate) struct Part {
+    pub(crate) start: usize,
+    pub(crate) end: usize,
 }
 
 impl Model for History {
@@ -28,24 +36,27 @@ impl Model for History {
 
     ghost Value = { HistoryValue };
 
-    ghost view = { λ h. record { pages = length h.starts.items - 1; writes = h.writes.items } };
+    ghost view = { λ h. record { pages = h.pages; writes = h.writes.items } };
 
-    ghost invariant = { λ h. IsHistory h.writes.items h.starts.items };
+    ghost invariant = { λ h. IsHistory h.writes.items h.parts.items h.pages };
 }
 
 impl History {
     /// The history of writes that are given in order of happening, to a memory of so many pages.
     pub fn new(alloc: Global, writes: &[Write], pages: usize) -> Result<History, OutOfMemory>
         requires order { IsNonDecreasingBy (λ (write : WriteValue). write.clock) writes.now }
-        requires room { pages < 2 ^ 56 }
         ensures same { IfOk result (λ history. (place : ℕ)
             → writes_to place history.writes ≡ writes_to place writes.now) }
         ensures count { IfOk result (λ history. length history.writes ≡ length writes.now) }
         ensures pages { IfOk result (λ history. history.pages ≡ pages) }
     {
         let writes = sorted_writes(alloc, writes)?;
-        let starts = page_starts(alloc, &writes, pages)?;
-        Ok(History { writes, starts })
+        let parts = kept_parts(alloc, &writes, pages)?;
+        Ok(History {
+            writes,
+            parts,
+            pages,
+        })
     }
 
     /// The word of the last write to a place of a clock below `clock`, or `word` where there is none. A
@@ -73,17 +84,21 @@ impl History {
             ≡ filter (λ write. write.place / 256 == number) self.now.writes }
         ensures order { IsInOrder result.now }
     {
-        part(&self.writes, self.starts[number], self.starts[number + 1])
+        match self.parts.get(number) {
+            Some(part) => part_of(&self.writes, part),
+            None => &[],
+        }
     }
 }
 
 /// The writes from one place of the list to another.
-fn part(writes: &[Write], start: usize, end: usize) -> &[Write]
-    requires order { start ≤ end }
-    requires within { end ≤ length writes.now }
-    ensures { result.now ≡ take (end - start) (drop start writes.now) }
+#[inline(always)]
+fn part_of<'a>(writes: &'a [Write], part: &Part) -> &'a [Write]
+    requires order { part.now.start ≤ part.now.end }
+    requires within { part.now.end ≤ length writes.now }
+    ensures { result.now ≡ take (part.now.end - part.now.start) (drop part.now.start writes.now) }
 {
-    &writes[start..end]
+    &writes[part.start..part.end]
 }
 
 /// The writes in order of place; those to one place stay in order.
@@ -99,34 +114,48 @@ fn sorted_writes(alloc: Global, writes: &[Write]) -> Result<Vec<Write>, OutOfMem
     Ok(list)
 }
 
-/// Where the writes to each of so many pages begin, and where those to the last one end, by one walk.
-fn page_starts(alloc: Global, writes: &[Write], pages: usize) -> Result<Vec<usize>, OutOfMemory>
-    requires order { IsInOrder writes.now }
-    requires room { pages < 2 ^ 56 }
-    ensures { IfOk result (λ starts. AreStarts writes.now starts.items pages) }
+/// Where the writes to each of so many pages stand; nothing where there are no writes.
+fn kept_parts(alloc: Global, writes: &[Write], pages: usize) -> Result<Vec<Part>, OutOfMemory>
+    requires { IsInOrder writes.now }
+    ensures { IfOk result (λ parts. IsHistory writes.now parts.items pages) }
 {
-    let mut starts = Vec::with_capacity(alloc, pages + 1)?;
-    let mut start = 0;
-    for page in 0..pages + 1 {
-        start = page_start(writes, page, start);
-        starts.push(start)?;
+    if writes.is_empty() {
+        return Ok(Vec::new(alloc));
     }
-    Ok(starts)
+    page_parts(alloc, writes, pages)
 }
 
-/// Where the writes to a page begin, from a place before which only writes to lower pages stand.
-fn page_start(writes: &[Write], page: usize, from: usize) -> usize
-    requires order { IsInOrder writes.now }
-    requires page { page < 2 ^ 56 }
-    requires lower { AreLower writes.now page from }
-    ensures { IsStart writes.now page result }
+/// Where the writes to each of so many pages stand, by one walk over the writes.
+fn page_parts(alloc: Global, writes: &[Write], pages: usize) -> Result<Vec<Part>, OutOfMemory>
+    requires { IsInOrder writes.now }
+    ensures { IfOk result (λ parts. AreParts writes.now parts.items pages) }
 {
-    let first = page * PAGE;
-    let mut start = from;
-    while start < writes.len() && (writes[start].place as usize) < first {
-        start += 1;
+    let mut parts = Vec::with_capacity(alloc, pages)?;
+    parts.resize(pages, Part { start: 0, end: 0 })?;
+    let mut start = 0;
+    while start < writes.len() {
+        let page = writes[start].place as usize / PAGE;
+        let end = page_end(writes, page, start);
+        if page < pages {
+            parts[page] = Part { start, end };
+        }
+        start = end;
     }
-    start
+    Ok(parts)
+}
+
+/// Where the writes to a page end, of which the first stands at a place.
+fn page_end(writes: &[Write], page: usize, start: usize) -> usize
+    requires order { IsInOrder writes.now }
+    requires within { start < length writes.now }
+    requires first { (d : WriteValue) → (slice_index_or writes.now start d).place / 256 ≡ page }
+    ensures { IsPageEnd writes.now page start result }
+{
+    let mut end = start + 1;
+    while end < writes.len() && writes[end].place as usize / PAGE == page {
+        end += 1;
+    }
+    end
 }
 
 /// The word of the last of the writes to a place of a clock below `clock`, or `word` where there is

@@ -1,53 +1,31 @@
--- A page's writes stand from its start to that of the next.
+-- A page's writes stand in its part of the list.
 use Rattle.std.specs.List.{filter}
-use Rattle.std.proofs.Common.{◌≡◌, ◌==◌, ◌+◌, ◌-◌, ◌/◌, List, take, drop, ap, sym, subst, ◌∙◌, arith}
+use Rattle.std.proofs.Common.{◌≡◌, ◌==◌, ◌-◌, ◌/◌, ◌<◌, ◌≤◌, List, take, drop, length, get_or, ap, sym, subst, ◌∙◌, arith}
+use Rattle.std.proofs.lemmas.Bool.Decides.{nat_tests}
 use Rattle.mem_versions.specs.declared.write.Write.{Write}
-use Rattle.mem_versions.specs.History.{HistoryValue, IsStart, IsInOrder}
-use Rattle.mem_versions.proofs.OrderLaws.{starts-rise, page-writes, IsInOrder-part, start-at}
+use Rattle.mem_versions.specs.declared.history.Part.{Part}
+use Rattle.mem_versions.specs.History.{HistoryValue, IsPart}
 use Rattle.mem_versions.proofs.history.History.page.Goals as goal
 
-pub part-requires-clause-order : goal.part-requires-clause-order
-part-requires-clause-order c =
-    let writes = c.self.inside.writes.items in
-    let starts = c.self.inside.starts.items in
+pub returns-in-Some-clause-writes : goal.returns-in-Some-clause-writes
+returns-in-Some-clause-writes c =
     let n = c.args.number in
-    let begin : IsStart writes n c.index.result.now =
-    start-at writes starts n c.index.result.now c.self.invariant.parted (omega (arith, ap (λ (h : HistoryValue). h.pages) c.self.view_is)) c.index.ensures in
-    let stop : IsStart writes (n + 1) c.index-2.result.now =
-    start-at writes starts (n + 1) c.index-2.result.now c.self.invariant.parted
-    (omega (arith, ap (λ (h : HistoryValue). h.pages) c.self.view_is)) c.index-2.ensures in
-    starts-rise writes n c.index.result.now c.index-2.result.now begin stop
-
-pub part-requires-clause-within : goal.part-requires-clause-within
-part-requires-clause-within c =
-    let writes = c.self.inside.writes.items in
-    let n = c.args.number in
-    let stop : IsStart writes (n + 1) c.index-2.result.now =
-    start-at writes c.self.inside.starts.items (n + 1) c.index-2.result.now c.self.invariant.parted
-    (omega (arith, ap (λ (h : HistoryValue). h.pages) c.self.view_is)) c.index-2.ensures in
-    rw c.deref.ensures.value stop.before.within
-
-pub returns-clause-writes : goal.returns-clause-writes
-returns-clause-writes c =
-    let writes = c.self.inside.writes.items in
-    let starts = c.self.inside.starts.items in
-    let n = c.args.number in
-    let a = c.index.result.now in
-    let b = c.index-2.result.now in
-    let begin : IsStart writes n a =
-    start-at writes starts n a c.self.invariant.parted (omega (arith, ap (λ (h : HistoryValue). h.pages) c.self.view_is)) c.index.ensures in
-    let stop : IsStart writes (n + 1) b =
-    start-at writes starts (n + 1) b c.self.invariant.parted (omega (arith, ap (λ (h : HistoryValue). h.pages) c.self.view_is)) c.index-2.ensures in
-    c.part.ensures ∙ ap (λ (ws : List Write). take (b - a) (drop a ws)) c.deref.ensures.value
-    ∙ page-writes writes n a b begin stop (starts-rise writes n a b begin stop)
+    let parts = c.self.inside.parts.items in
+    let part = c.in-Some.part.now in
+    let found : n < length c.deref.result.now = grind (arith, nat_tests, c.in-Some.ensures.lookup.0) in
+    let within : n < length parts = omega (arith, found, ap length c.deref.ensures.value) in
+    let is : get_or parts n part ≡ part = sym (c.in-Some.ensures.lookup.1 ∙ ap (λ (ps : List Part). get_or ps n part) c.deref.ensures.value) in
+    let P : Part → Type 0 = λ q. IsPart c.self.inside.writes.items n q in
+    let here : IsPart c.self.inside.writes.items n part = subst P is (c.self.invariant.parted n part within) in
+    c.part_of.ensures ∙ ap (λ (ws : List Write). take (part.end - part.start) (drop part.start ws)) c.deref-in-Some.ensures.value ∙ here.those
     ∙ ap (λ (h : HistoryValue). filter (λ w. w.place / 256 == n) h.writes) c.self.view_is
 
-pub returns-clause-order : goal.returns-clause-order
-returns-clause-order c =
-    let writes = c.self.inside.writes.items in
-    let a = c.index.result.now in
-    let b = c.index-2.result.now in
-    let is : take (b - a) (drop a writes) ≡ c.part.result.now =
-    sym (c.part.ensures ∙ ap (λ (ws : List Write). take (b - a) (drop a ws)) c.deref.ensures.value) in
-    let P : List Write → Type 0 = λ ws. IsInOrder ws in
-    subst P is (IsInOrder-part writes a (b - a) c.self.invariant.order)
+pub returns-in-None-clause-writes : goal.returns-in-None-clause-writes
+returns-in-None-clause-writes c =
+    let n = c.args.number in
+    let parts = c.self.inside.parts.items in
+    let missed : length c.deref.result.now ≤ n = grind (arith, nat_tests, c.in-None.ensures.lookup.0) in
+    let above : length parts ≤ n = omega (arith, missed, ap length c.deref.ensures.value) in
+    let within : n < c.self.inside.pages = omega (arith, c.requires, ap (λ (h : HistoryValue). h.pages) c.self.view_is) in
+    sym (ap (filter (λ w. w.place / 256 == n)) (c.self.invariant.none n above within))
+    ∙ ap (λ (h : HistoryValue). filter (λ w. w.place / 256 == n) h.writes) c.self.view_is
