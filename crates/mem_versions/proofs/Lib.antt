@@ -1,3 +1,4 @@
+pub mod ChangedLaws
 pub mod FilterLaws
 pub mod MemoryLaws
 pub mod OrderLaws

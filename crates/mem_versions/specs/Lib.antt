@@ -4,4 +4,5 @@ pub mod Kept
 pub mod Lending
 pub mod MemView
 pub mod MemoryAt
+pub mod Pages
 pub mod Sound

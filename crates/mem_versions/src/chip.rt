@@ -1,12 +1,13 @@
 //! The chip memory: present words, writes since the last cut, and the count of reads.
 
-ghost use Rattle.std.specs.Prelude.{◌≡◌, ◌+◌, ◌*◌, ◌/◌, ◌%◌, ◌<◌, ◌≤◌, ◌++◌, true, length, take, drop, IfOk, OnOk, OnErr, All};
+ghost use Rattle.std.specs.Prelude.{◌≡◌, ◌+◌, ◌*◌, ◌/◌, ◌%◌, ◌<◌, ◌≤◌, ◌++◌, true, ℕ, [], length, take, drop, slice_index, slice_set, IfOk, OnOk, OnErr, All};
 ghost use Rattle.std.specs.Borrow.{sem};
 ghost use Rattle.std.specs.List.Sorted.{IsNonDecreasingBy};
 ghost use Rattle.ocs_base.specs.Memory.{words, memory_of};
 ghost use Rattle.ocs_base.specs.Sizes.{bytes_of, is_chip_size, size_of_bytes};
 ghost use Rattle.mem_versions.specs.declared.write.Write.{Write as WriteValue};
-ghost use Rattle.mem_versions.specs.MemoryAt.{words_after, writes_below, writes_from};
+ghost use Rattle.mem_versions.specs.MemoryAt.{words_after, writes_below, writes_from, writes_to};
+ghost use Rattle.mem_versions.specs.Chip.{word_index};
 
 use crate::group::PAGE;
 use crate::history::History;
@@ -18,13 +19,13 @@ use std::alloc::{AllocError, AllocFailed, Global};
 use std::marker::Model;
 use std::mem;
 
-/// The chip memory of the machine: 512 KiB or 1 MiB as words, from address 0 on, in pages that its views
-/// share. It keeps each write since the last cut, and counts the words that are read; the count stands
+/// The chip memory of the machine: 512 KiB or 1 MiB as words, from address 0 on. Those of the last cut stand in
+/// pages that views share, the present ones in one piece. It keeps each write since the last cut, and counts the words that are read; the count stands
 /// still at the greatest u64.
 #[derive(Drop)]
 pub struct Chip {
     pub(crate) alloc: Global,
-    pub(crate) words: Pages,
+    pub(crate) words: Vec<u16>,
     pub(crate) base: Pages,
     pub(crate) writes: Vec<Write>,
     pub(crate) last: u64,
@@ -42,12 +43,12 @@ impl Model for Chip {
       last = c.last;
       base = c.base;
       writes = c.writes.items;
-      words = c.words;
+      words = c.words.items;
       newest = c.newest;
       reads = c.reads;
     } };
 
-    ghost invariant = { λ c. IsSound c.base c.words c.writes.items c.newest };
+    ghost invariant = { λ c. IsSound c.base c.words.items c.writes.items c.newest };
 }
 
 impl Chip {
@@ -76,8 +77,8 @@ impl Chip {
         ensures { IfOk result (λ made. made ≡ memory_from (size_of_bytes chip) image.now) }
     {
         let size = ChipSize::of_bytes(chip);
-        let words = Pages::new(alloc, &image_words(alloc, image, size)?)?;
-        let base = words.share()?;
+        let words = image_words(alloc, image, size)?;
+        let base = Pages::new(alloc, &words)?;
         Ok(Chip {
             alloc,
             words,
@@ -95,7 +96,7 @@ impl Chip {
         ensures reads { self.new ≡ after_reads self.old 1 }
     {
         self.reads = self.reads.saturating_add(1);
-        self.words.word(at.value as usize / 2)
+        present_word(&self.words, at)
     }
 
     /// The present words of a page, from address 512 times its number on; 256 more reads.
@@ -106,7 +107,7 @@ impl Chip {
         ensures size { length result.now ≡ 256 }
     {
         self.reads = self.reads.saturating_add(PAGE as u64);
-        self.words.page(number)
+        &self.words[PAGE * number..PAGE * number + PAGE]
     }
 
     /// How many words were read since the memory was made.
@@ -122,7 +123,7 @@ impl Chip {
         ensures some { 0 < result }
         ensures few { result ≤ 2048 }
     {
-        self.words.count()
+        self.base.count()
     }
 
     /// Writes a word at a clock, not below that of the newest write or cut; above the memory no word changes.
@@ -138,10 +139,7 @@ impl Chip {
             place,
             word,
         })?;
-        if let Err(refused) = self.words.set_word(place as usize, word) {
-            self.writes.pop();
-            return Err(refused);
-        }
+        put_word(&mut self.words, place as usize, word);
         self.newest = now.0;
         Ok(())
     }
@@ -160,7 +158,7 @@ impl Chip {
             ≡ after_write self.old now.0 at (with_half (word_at self.old at) high byte)) }
         ensures refused { OnErr result (self.new ≡ self.old) }
     {
-        let word = half_replaced(self.words.word(at.value as usize / 2), high, byte);
+        let word = half_replaced(present_word(&self.words, at), high, byte);
         self.write(now, at, word)
     }
 
@@ -176,7 +174,7 @@ impl Chip {
     {
         let count = count_below(&self.writes, now.0);
         let history = History::new(self.alloc, &self.writes[..count], self.base.count())?;
-        let words = pages_after(&self.base, &self.words, &self.writes, count)?;
+        let words = pages_after(&self.base, &self.words, &self.writes, count, &history)?;
         let base = mem::replace(&mut self.base, words);
         let view = MemView::new(self.last, now.0, base, history);
         remove_first(&mut self.writes, count);
@@ -211,22 +209,68 @@ fn count_below(writes: &[Write], clock: u64) -> usize
 /// The words after the first writes. Where these are all, they are the present words.
 fn pages_after(
     base: &Pages,
-    words: &Pages,
+    words: &[u16],
     writes: &[Write],
     count: usize,
+    history: &History,
 ) -> Result<Pages, OutOfMemory>
     requires within { count ≤ length writes.now }
     requires present { words.now ≡ words_after base.now writes.now }
+    requires same { (place : ℕ) → writes_to place history.now.writes
+        ≡ writes_to place (take count writes.now) }
     ensures { IfOk result (λ after. after ≡ words_after base.now (take count writes.now)) }
 {
     if count == writes.len() {
-        return words.share();
+        return changed_pages(base, words, history.writes());
     }
     let mut after = base.share()?;
     for write in &writes[..count] {
         after.set_word(write.place as usize, write.word)?;
     }
     Ok(after)
+}
+
+/// The pages of words, which share with older pages those that none of the writes is to.
+pub(crate) fn changed_pages(
+    base: &Pages,
+    words: &[u16],
+    writes: &[Write],
+) -> Result<Pages, OutOfMemory>
+    requires size { length words.now ≡ length base.now }
+    requires unchanged { (place : ℕ) → writes_to place writes.now ≡ []
+        → slice_index base.now place ≡ slice_index words.now place }
+    ensures { IfOk result (λ pages. pages ≡ words.now) }
+{
+    let mut after = base.share()?;
+    let count = after.count();
+    let mut last = count;
+    for write in writes {
+        let page = write.place as usize / PAGE;
+        if page != last && page < count {
+            after.set_page(page, &words[PAGE * page..PAGE * page + PAGE])?;
+            last = page;
+        }
+    }
+    Ok(after)
+}
+
+/// The present word at an address, 0 above the memory.
+#[inline(always)]
+fn present_word(words: &[u16], at: Addr) -> u16
+    ensures { result ≡ slice_index words.now (word_index at) }
+{
+    let place = at.value as usize / 2;
+    if place < words.len() { words[place] } else { 0 }
+}
+
+/// Writes a word at a place; above the memory no word changes.
+#[inline(always)]
+fn put_word(words: &mut Vec<u16>, place: usize, word: u16)
+    ensures { words.new.items ≡ slice_set words.old.items place word }
+{
+    if place < words.len() {
+        words[place] = word;
+    }
 }
 
 /// Removes the first writes.

@@ -3,6 +3,7 @@
 ghost use Rattle.std.specs.Prelude.{◌≡◌, ◌+◌, ◌*◌, ◌/◌, ◌%◌, ◌^◌, ◌<◌, ◌≤◌, ℕ, length, take, drop, slice_get, slice_index, slice_set, IfOk, OnOk, OnErr, All};
 ghost use Rattle.std.specs.Arc.{arc_value};
 ghost use Rattle.std.specs.List.{flat_map};
+ghost use Rattle.mem_versions.specs.Pages.{HasPage};
 
 use ocs_base::OutOfMemory;
 use std::alloc::Global;
@@ -77,6 +78,23 @@ impl Group {
         ensures refused { OnErr result (self.new ≡ self.old) }
     {
         write_word(alloc, &mut self.list[place / PAGE], place % PAGE, word)
+    }
+
+    /// Replaces the words of a page by others. After a refusal all is as before.
+    pub fn set_page(
+        &mut self,
+        alloc: Global,
+        number: usize,
+        words: &[u16],
+    ) -> Result<(), OutOfMemory>
+        requires within { 256 * number + 256 ≤ length self.old }
+        requires size { length words.now ≡ 256 }
+        ensures ok { OnOk result (HasPage self.old number words.now self.new) }
+        ensures refused { OnErr result (self.new ≡ self.old) }
+    {
+        let page = Arc::new(alloc, page_of(words, 0))?;
+        self.list[number] = page;
+        Ok(())
     }
 }
 

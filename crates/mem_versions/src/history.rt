@@ -59,6 +59,13 @@ impl History {
         })
     }
 
+    /// The writes, in order of place.
+    pub fn writes(&self) -> &[Write]
+        ensures { result.now ≡ self.now.writes }
+    {
+        &self.writes
+    }
+
     /// The word of the last write to a place of a clock below `clock`, or `word` where there is none. A
     /// step is a look at a kept write.
     pub fn word_before<L: Ledger>(

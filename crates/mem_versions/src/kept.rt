@@ -2,7 +2,7 @@
 
 ghost use Rattle.std.specs.Prelude.{◌≡◌, IfOk};
 
-use crate::chip::Chip;
+use crate::chip::{Chip, changed_pages};
 use crate::pages::Pages;
 use ocs_base::OutOfMemory;
 use std::alloc::Global;
@@ -31,11 +31,12 @@ impl Model for Kept {
 impl Chip {
     ghost use Rattle.mem_versions.specs.Kept.{kept_of, chip_back};
 
-    /// What is to be kept of the memory as it is now; no word is copied.
+    /// What is to be kept of the memory as it is now. No word is copied of pages that were not written since the
+    /// last cut.
     pub fn keep(&self) -> Result<Kept, OutOfMemory>
         ensures { IfOk result (λ kept. kept ≡ kept_of self.now) }
     {
-        let words = self.words.share()?;
+        let words = changed_pages(&self.base, &self.words, &self.writes)?;
         Ok(Kept {
             alloc: self.alloc,
             words,
@@ -44,13 +45,13 @@ impl Chip {
     }
 
     /// A memory of the kept words, with no writes, whose last cut was at the kept clock and of which nothing
-    /// was read; no word is copied.
+    /// was read.
     pub fn back(kept: &Kept) -> Result<Chip, OutOfMemory>
         ensures { IfOk result (λ chip. chip ≡ chip_back kept.now) }
     {
         Ok(Chip {
             alloc: kept.alloc,
-            words: kept.words.share()?,
+            words: kept.words.copied()?,
             base: kept.words.share()?,
             writes: Vec::new(kept.alloc),
             last: kept.clock,

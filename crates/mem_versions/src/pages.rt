@@ -1,9 +1,10 @@
 //! Words in pages that several owners share, copied where a shared page is written. Pages stand in groups, which
 //! are shared too: one more owner of all is one more of each group.
 
-ghost use Rattle.std.specs.Prelude.{◌≡◌, ◌+◌, ◌*◌, ◌/◌, ◌%◌, ◌^◌, ◌<◌, ◌≤◌, ℕ, length, take, drop, slice_get, slice_index, slice_set, IfOk, OnOk, OnErr, All};
+ghost use Rattle.std.specs.Prelude.{◌≡◌, ◌+◌, ◌*◌, ◌/◌, ◌%◌, ◌^◌, ◌<◌, ◌≤◌, ℕ, length, take, drop, slice_get, slice_set, IfOk, OnOk, OnErr, All};
 ghost use Rattle.std.specs.Arc.{arc_value};
 ghost use Rattle.std.specs.List.{flat_map};
+ghost use Rattle.mem_versions.specs.Pages.{HasPage};
 
 use crate::group::{Group, PAGE};
 use ocs_base::OutOfMemory;
@@ -69,14 +70,6 @@ impl Pages {
         }
     }
 
-    /// The word at a place; 0 behind the last page.
-    #[inline(always)]
-    pub fn word(&self, place: usize) -> u16
-        ensures { result ≡ slice_index self.now place }
-    {
-        self.get(place).unwrap_or(0)
-    }
-
     /// The words of a page.
     pub fn page(&self, number: usize) -> &[u16]
         requires { 256 * number + 256 ≤ length self.now }
@@ -105,6 +98,32 @@ impl Pages {
         } else {
             Ok(())
         }
+    }
+
+    /// Replaces the words of a page by others. After a refusal all is as before.
+    pub fn set_page(&mut self, number: usize, words: &[u16]) -> Result<(), OutOfMemory>
+        requires within { 256 * number + 256 ≤ length self.old }
+        requires size { length words.now ≡ 256 }
+        ensures ok { OnOk result (HasPage self.old number words.now self.new) }
+        ensures refused { OnErr result (self.new ≡ self.old) }
+    {
+        replace_page(
+            self.alloc,
+            &mut self.groups[number / PAGES],
+            number % PAGES,
+            words,
+        )
+    }
+
+    /// The words in one piece, with no other owner.
+    pub fn copied(&self) -> Result<Vec<u16>, OutOfMemory>
+        ensures { IfOk result (λ list. list.items ≡ self.now) }
+    {
+        let mut list = Vec::with_capacity(self.alloc, PAGE * self.count())?;
+        for number in 0..self.count() {
+            list.extend_from_slice(self.page(number))?;
+        }
+        Ok(list)
     }
 
     /// Writes a word at a place that a page has. After a refusal all is as before.
@@ -155,6 +174,28 @@ fn write_word(
         return own.set_word(alloc, index, word);
     }
     *group = changed_copy(alloc, group, index, word)?;
+    Ok(())
+}
+
+/// Replaces a page of a group: in place where the group has no other owner, else in a copy that shares the other
+/// pages.
+fn replace_page(
+    alloc: Global,
+    group: &mut Arc<Group>,
+    number: usize,
+    words: &[u16],
+) -> Result<(), OutOfMemory>
+    requires within { 256 * number + 256 ≤ length (arc_value group.old) }
+    requires size { length words.now ≡ 256 }
+    ensures ok { OnOk result (HasPage (arc_value group.old) number words.now (arc_value group.new)) }
+    ensures refused { OnErr result (arc_value group.new ≡ arc_value group.old) }
+{
+    if let Some(own) = Arc::get_mut(group) {
+        return own.set_page(alloc, number, words);
+    }
+    let mut copy = group.share()?;
+    copy.set_page(alloc, number, words)?;
+    *group = Arc::new(alloc, copy)?;
     Ok(())
 }
 

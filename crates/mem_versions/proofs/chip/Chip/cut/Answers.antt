@@ -13,9 +13,9 @@ invariant_of-self c =
     let writes = c.self.inside.writes.items in
     let count = c.count_below-count.result in
     let later : c.self.inside.newest ≤ c.args.now.0 = omega (arith, ap (λ (v : ChipValue). v.newest) c.self.view_is) in
-    IsSound-cut base c.self.inside.words c.replace-base.new.dest writes c.remove_first.new.writes.items c.self.inside.newest c.args.now.0 count
+    IsSound-cut base c.self.inside.words.items c.replace-base.new.dest writes c.remove_first.new.writes.items c.self.inside.newest c.args.now.0 count
     c.self.invariant later
-    (c.replace-base.ensures.after ∙ c.in_ok-words.ensures ∙ ap (λ (ws : List Write). words_after base (take count ws)) c.deref-3.ensures.value)
+    (c.replace-base.ensures.after ∙ c.in_ok-words.ensures ∙ ap (λ (ws : List Write). words_after base (take count ws)) c.deref-4.ensures.value)
     c.remove_first.ensures
 
 pub returns-clause-view : goal.returns-clause-view
