@@ -68,6 +68,7 @@ impl History {
 
     /// The word of the last write to a place of a clock below `clock`, or `word` where there is none. A
     /// step is a look at a kept write.
+    #[inline(always)]
     pub fn word_before<L: Ledger>(
         &self,
         place: u32,
@@ -81,10 +82,14 @@ impl History {
             ≤ 2 * page_writes (place / 256) self.now.writes + 1 }
     {
         let writes = self.page(place as usize / PAGE);
+        if writes.is_empty() {
+            return word;
+        }
         last_before(writes, place, clock, word, steps)
     }
 
     /// The writes to a page.
+    #[inline(always)]
     fn page(&self, number: usize) -> &[Write]
         requires { number < self.now.pages }
         ensures writes { result.now
@@ -166,7 +171,9 @@ fn page_end(writes: &[Write], page: usize, start: usize) -> usize
 }
 
 /// The word of the last of the writes to a place of a clock below `clock`, or `word` where there is
-/// none, found by halving. A step is a look at a write.
+/// none, found by halving. A step is a look at a write. It stands apart, so that the look at a page without
+/// writes stays short.
+#[inline(never)]
 fn last_before<L: Ledger>(
     writes: &[Write],
     place: u32,

@@ -59,6 +59,7 @@ impl MemView {
 
     /// The word at an address at the start of a clock that the view covers: all writes of clocks below
     /// it are made, and none other. It is 0 above the memory.
+    #[inline(always)]
     pub fn at(&self, c: Clock, a: Addr) -> u16
         requires { Covers self.now c.0 }
         ensures { result ≡ word_then self.now c.0 a }
@@ -66,6 +67,7 @@ impl MemView {
         self.at_uncounted::<Brand>(c, a, Blank::new(1))
     }
 
+    #[inline(always)]
     fn at_uncounted<L: Ledger>(&self, c: Clock, a: Addr, blank: Blank) -> u16
         requires covered { Covers self.now c.0 }
         requires name { blank.name ≡ L.name }
@@ -78,6 +80,7 @@ impl MemView {
 
     /// The same; a step is a look at a kept write. It takes at most as many steps as the number of the
     /// view's writes to that page has binary digits.
+    #[inline(always)]
     pub fn at_counted<L: Ledger>(&self, c: Clock, a: Addr, steps: &mut Steps<L>) -> u16
         requires { Covers self.now c.0 }
         ensures word { result ≡ word_then self.now c.0 a }
