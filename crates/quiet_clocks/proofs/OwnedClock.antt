@@ -60,7 +60,7 @@ clock_of_wish b c ask unit wish =
     clock_of_fetch b.h c.registers (fetched_plane b.h c.registers (last_unit (units_now b c))) ask
     (fetched_plane-is b.h c.registers (last_unit (units_now b c)) (units_at-is b c.registers c.units unit)) wish
 
-plane_has : (side : SideAsk) (b : Beam) (c : Chips) (ask : PlaneAsk) → IsLastUnit (last_unit c.units) → IsInTime b side → plane_wish b c ≡ Some ask
+pub plane_has : (side : SideAsk) (b : Beam) (c : Chips) (ask : PlaneAsk) → IsLastUnit (last_unit c.units) → IsInTime b side → plane_wish b c ≡ Some ask
     → ask_at side b c ≡ A.Plane ask
 unfolding ask_at
 plane_has side b c ask unit time wish =

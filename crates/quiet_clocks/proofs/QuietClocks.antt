@@ -41,7 +41,7 @@ timer_on : (t n : ℕ) (cia : CiaState) → HasNoUnderflow (ticks_in t (suc n)) 
     → (if (t + n) % 5 == 0 then after_tick (ticks_on (ticks_in t n) cia) else ticks_on (ticks_in t n) cia) ≡ ticks_on (ticks_in t (suc n)) cia
 timer_on t n cia far = tick_if ((t + n) % 5 == 0) t n cia refl far
 
-timers_on : (b : Beam) (t n : ℕ) (processors : ℕ → Processor) (c : Chips)
+pub timers_on : (b : Beam) (t n : ℕ) (processors : ℕ → Processor) (c : Chips)
     → HasNoUnderflow (ticks_in t (suc n)) c.cia_a → HasNoUnderflow (ticks_in t (suc n)) c.cia_b
     → tick_timers (t + n) (later_chips b t n processors c)
     ≡ record (later_chips b t n processors c) { cia_a = ticks_on (ticks_in t (suc n)) c.cia_a; cia_b = ticks_on (ticks_in t (suc n)) c.cia_b }
@@ -70,7 +70,7 @@ place_after system end lace b =
 within_line : (system : System) (lace : Bool) (b : Beam) → is_line_end system b ≡ false → next_place system lace b ≡ record b { h = b.h + 1 }
 within_line system lace b inner = ap (λ end. place_after system end lace b) inner
 
-next_later : (system : System) (lace : Bool) (n : ℕ) (b : Beam) → b.h + suc n ≤ 226
+pub next_later : (system : System) (lace : Bool) (n : ℕ) (b : Beam) → b.h + suc n ≤ 226
     → next_place system lace (later_beam n b) ≡ later_beam (suc n) b
 next_later system lace n b last =
     let e : b.h + n + 1 ≡ b.h + suc n = omega arith in
@@ -78,7 +78,7 @@ next_later system lace n b last =
 
 -- ---- fewer clocks
 
-fewer_in : (t m n : ℕ) → m ≤ n → ticks_in t m ≤ ticks_in t n
+pub fewer_in : (t m n : ℕ) → m ≤ n → ticks_in t m ≤ ticks_in t n
 fewer_in t m n le = omega arith
 
 pub fewer_are_quiet : FewerAreQuiet
@@ -116,7 +116,7 @@ calm_later b t n processors c calm = record {
   wish = calm.wish;
 }
 
-not_start : (n : ℕ) (b : Beam) → 0 < b.h → is_line_start (later_beam n b) ≡ false
+pub not_start : (n : ℕ) (b : Beam) → 0 < b.h → is_line_start (later_beam n b) ≡ false
 not_start n b inner = grind (arith, nat_tests)
 
 next_is_quiet : (system : System) (events : List At) (n : ℕ) (s : State) (processors : ℕ → Processor) → IsQuietSpan events s (suc n) processors
@@ -134,7 +134,7 @@ next_is_quiet system events n s processors span = record {
 }
 
 -- a state that has these parts beside its picture
-same_but_picture : (x : State) (t : ℕ) (beam : Beam) (memory : List ℕ) (chips : Chips) (side : SideValue) (trace : List TraceLine)
+pub same_but_picture : (x : State) (t : ℕ) (beam : Beam) (memory : List ℕ) (chips : Chips) (side : SideValue) (trace : List TraceLine)
     → x.t ≡ t → x.beam ≡ beam → x.memory ≡ memory → x.chips ≡ chips → x.side ≡ side → x.trace ≡ trace
     → x ≡ record x { t = t; beam = beam; memory = memory; chips = chips; side = side; trace = trace }
 same_but_picture x t beam memory chips side trace at place words has beside told =
@@ -145,7 +145,7 @@ same_but_picture x t beam memory chips side trace at place words has beside told
     ∙ ap (λ (a : SideValue). record x { t = t; beam = beam; memory = memory; chips = chips; side = a }) beside
     ∙ ap (λ a. record x { t = t; beam = beam; memory = memory; chips = chips; side = side; trace = a }) told
 
-not_none : (n : ℕ) → (suc n == 0) ≡ false
+pub not_none : (n : ℕ) → (suc n == 0) ≡ false
 not_none n = grind (arith, nat_tests)
 
 chips_later : (n : ℕ) (s : State) (processors : ℕ → Processor)
@@ -184,7 +184,7 @@ quiet_later system events n s x processors span is =
     (ap (λ (y : State). y.trace) is)
 
 -- no clock
-chips_now : (s : State) (processors : ℕ → Processor) → processors 0 ≡ s.chips.processor → s.chips ≡ later_chips s.beam s.t 0 processors s.chips
+pub chips_now : (s : State) (processors : ℕ → Processor) → processors 0 ≡ s.chips.processor → s.chips ≡ later_chips s.beam s.t 0 processors s.chips
 unfolding later_units
 chips_now s processors begin =
     let none : 0 ≡ ticks_in s.t 0 = omega arith in

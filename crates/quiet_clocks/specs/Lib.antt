@@ -6,3 +6,4 @@ pub mod QuietClocks
 pub mod Plan
 pub mod OwnedClock
 pub mod IdleClocks
+pub mod FetchClocks

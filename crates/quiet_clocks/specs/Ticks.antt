@@ -1,5 +1,5 @@
 -- Ticks of a CIA's timers one behind the other, among which neither timer underflows.
-use Rattle.std.specs.Prelude.{◌≡◌, ◌≤◌, ℕ, zero, suc, ◌+◌, ◌-◌, ◌/◌, ◌%◌, Bool, true, false, not, ◌||◌, ◌==◌, nat_le, if◌then◌else◌}
+use Rattle.std.specs.Prelude.{◌≡◌, ◌≤◌, ℕ, zero, suc, ◌+◌, ◌-◌, ◌/◌, ◌%◌, true, false, ◌==◌}
 use Rattle.irq_cia.specs.Cia.{after_tick}
 use Rattle.irq_cia.specs.Ticks.{HasNoUnderflow, ticks_on}
 use Rattle.irq_cia.specs.declared.cia.CiaState.{CiaState}

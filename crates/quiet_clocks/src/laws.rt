@@ -11,6 +11,8 @@ ghost use Rattle.quiet_clocks.specs.IdleClocks.{IdleIsCalm, LastLater, UnitStays
 ghost use Rattle.quiet_clocks.specs.Plan.{PlanNext, PlanKept, WriteKeepsFetches};
 ghost use Rattle.quiet_clocks.specs.Plan.{FetchKeepsFetches, SpriteKeepsFetches, PlanSays, PlanSpan};
 ghost use Rattle.quiet_clocks.specs.OwnedClock.{PlaneTick, CopperHas, BlitterHas, ProcessorHas};
+ghost use Rattle.quiet_clocks.specs.FetchClocks.{PlanesHave, FetchTick, FetchMakes};
+ghost use Rattle.quiet_clocks.specs.FetchClocks.{FetchSpan, FewerFetchClocks, EachIsFetchClock, FetchingLater};
 
 /// Ticks of a CIA's timers among which neither underflows: each timer that counts goes down by their
 /// number, and nothing else of the CIA changes. The last three laws count the ticks among clocks.
@@ -90,4 +92,22 @@ pub fn owned_clock()
     ensures copper { CopperHas }
     ensures blitter { BlitterHas }
     ensures processor { ProcessorHas }
+{}
+
+/// A clock at which everybody but the bitplanes rests: the state after it is one in closed form, whether or
+/// not a plane is fetched, and its access makes the fetch alone.
+pub fn fetch_clock()
+    ensures has { PlanesHave }
+    ensures tick { FetchTick }
+    ensures makes { FetchMakes }
+{}
+
+/// Such clocks of a line one behind the other: the state after them in closed form, but for picture,
+/// collisions and pixel bytes, which are those of the clocks one by one. The registers go from clock to
+/// clock with the planes' pointers, and need the last unit of the line alone.
+pub fn fetch_clocks()
+    ensures span { FetchSpan }
+    ensures fewer { FewerFetchClocks }
+    ensures each { EachIsFetchClock }
+    ensures last { FetchingLater }
 {}
