@@ -35,9 +35,9 @@ use Rattle.quiet_clocks.specs.QuietClocks.{clocks, later_beam, later_side, later
 use Rattle.quiet_clocks.specs.OwnedClock.{fetched_state}
 use Rattle.quiet_clocks.specs.FetchClocks.{IsAtRest, PlanesHave, IsFetchClock, made_by_plane, state_with_fetch, fetch_state, FetchTick, FetchMakes}
 use Rattle.quiet_clocks.specs.FetchClocks.{Planes, planes_after, planes_on, planes_of_chips, Fetching, fetching_after, fetching_on, fetching_of, FetchingLater}
-use Rattle.quiet_clocks.specs.FetchClocks.{fetched_later, state_fetched_later, IsFetchSpan, FetchSpan, FewerFetchClocks, EachIsFetchClock}
+use Rattle.quiet_clocks.specs.FetchClocks.{fetched_later, state_fetched_later, IsFetchSpan, FetchSpan, FewerFetchClocks, EachIsFetchClock, StillIsAtRest}
 use Rattle.quiet_clocks.proofs.PlainClock.{before_plain}
-use Rattle.quiet_clocks.proofs.QuietClock.{nobody_asks, quiet_tick}
+use Rattle.quiet_clocks.proofs.QuietClock.{nobody_asks, quiet_tick, still_copper, still_steps, still_blit}
 use Rattle.quiet_clocks.proofs.QuietClocks.{timers_on, next_later, not_start, fewer_in, same_but_picture, not_none, chips_now}
 use Rattle.quiet_clocks.proofs.OwnedClock.{plane_has, plane_tick}
 use Rattle.quiet_clocks.proofs.Ticks.{fewer_ticks}
@@ -154,6 +154,16 @@ fetch_makes system events s after clock =
     ∙ ap (λ (a : Ask). made_by_ask a (answer_to a s.beam (shown_at system s).clx (shown_at system s).chips s.memory) (shown_at system s).chips)
     (planes_have (asked_by_side s) s.beam (tick_timers s.t s.chips) clock.side clock.unit (rest_at s.t s.beam s.chips clock.rest))
     ∙ made_with (plane_wish s.beam s.chips) _ (shown_at system s).chips
+
+pub still_is_at_rest : StillIsAtRest
+still_is_at_rest b c still = record {
+  kinds = still.kinds;
+  sprite = still.sprite;
+  copper = still_copper b c still.copper;
+  steps = still_steps b c still.copper;
+  blit = still_blit c still.blit;
+  wish = still.wish;
+}
 
 -- ---- what the fetches keep
 

@@ -1,5 +1,5 @@
 -- Clocks of a line at which everybody but the bitplanes rests: at each of them at most a plane is fetched.
-use Rattle.std.specs.Prelude.{◌≡◌, ◌<◌, ◌≤◌, ℕ, zero, suc, ◌+◌, Bool, List, [], Option, Some, None}
+use Rattle.std.specs.Prelude.{◌≡◌, ◌⊎◌, ◌<◌, ◌≤◌, ℕ, zero, suc, ◌+◌, Bool, false, List, [], Option, Some, None}
 use Rattle.std.specs.Option.{option_map}
 use Rattle.ocs_base.specs.declared.beam.Beam.{Beam}
 use Rattle.ocs_base.specs.declared.script.At.{At}
@@ -16,7 +16,7 @@ use Rattle.serial_model.specs.Made.{word_of, touch_of}
 use Rattle.serial_model.specs.Picture.{step_of, after_step, touch_if_any}
 use Rattle.serial_model.specs.PlaneFetch.{fetched_plane, last_unit, last_unit_at, units_at, ask_for_plane, plane_ask, move_planes, move_if_fetched, IsLastUnit}
 use Rattle.serial_model.specs.Processor.{Processor, processor_wish}
-use Rattle.serial_model.specs.Registers.{Registers, dmacon_of}
+use Rattle.serial_model.specs.Registers.{Registers, dmacon_of, blitter_dma}
 use Rattle.serial_model.specs.Side.{bits_of_side, ask_of_side}
 use Rattle.serial_model.specs.SpriteFetch.{sprite_ask}
 use Rattle.serial_model.specs.State.{Chips, State}
@@ -24,7 +24,7 @@ use Rattle.serial_model.specs.Tick.{tick}
 use Rattle.irq_cia.specs.Ticks.{HasNoUnderflow}
 use Rattle.quiet_clocks.specs.Ticks.{ticks_in}
 use Rattle.quiet_clocks.specs.PlainClock.{IsPlain, AsksNothingNew, asked_by_side}
-use Rattle.quiet_clocks.specs.QuietClock.{TurnsTo, quiet_chips, quiet_state}
+use Rattle.quiet_clocks.specs.QuietClock.{TurnsTo, CopperIsStill, quiet_chips, quiet_state}
 use Rattle.quiet_clocks.specs.QuietClocks.{clocks, later_beam, later_side, later_chips}
 
 -- ---- one clock
@@ -167,6 +167,29 @@ pub record IsFetchSpan (events : List At) (s : State) (n : ℕ) (processors : �
   pub turns : (k : ℕ) → k < n → TurnsTo s.chips.irq (processors k) (processors (suc k))
   pub timers_a : HasNoUnderflow (ticks_in s.t n) s.chips.cia_a
   pub timers_b : HasNoUnderflow (ticks_in s.t n) s.chips.cia_b
+
+-- what is known of the chips by which the next n clocks are such, where no side is, the clocks lie within the line, and no event
+-- of the script is due
+pub record AreResting (b : Beam) (t n : ℕ) (processors : ℕ → Processor) (c : Chips) : Type 0 where
+  pub begin : processors 0 ≡ c.processor
+  pub unit : IsLastUnit (last_unit c.units)
+  pub lines : AsksNothingNew 0 c
+  pub rest : (k : ℕ) → k < n → IsAtRest (later_beam k b) (record c { processor = processors k })
+  pub turns : (k : ℕ) → k < n → TurnsTo c.irq (processors k) (processors (suc k))
+  pub timers_a : HasNoUnderflow (ticks_in t n) c.cia_a
+  pub timers_b : HasNoUnderflow (ticks_in t n) c.cia_b
+
+-- what tells that everybody but the planes rests: what sprites read stays and no sprite asks, the Copper is still, the blitter is
+-- without DMA or blit, and the processor asks for nothing
+pub record IsStillBesidePlanes (b : Beam) (c : Chips) : Type 0 where
+  pub kinds : kinds_now b c ≡ c.kinds
+  pub sprite : (taken : Bool) → sprite_ask b.h c.registers c.kinds taken ≡ None
+  pub copper : CopperIsStill b c
+  pub blit : (blitter_dma c.registers ≡ false) ⊎ (c.blit ≡ None)
+  pub wish : processor_wish c.processor ≡ None
+
+abbrev pub StillIsAtRest : Type 0
+StillIsAtRest = (b : Beam) (c : Chips) → IsStillBesidePlanes b c → IsAtRest b c
 
 -- n such clocks
 abbrev pub FetchSpan : Type 0

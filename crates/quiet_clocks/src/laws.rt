@@ -11,7 +11,7 @@ ghost use Rattle.quiet_clocks.specs.IdleClocks.{IdleIsCalm, LastLater, UnitStays
 ghost use Rattle.quiet_clocks.specs.Plan.{PlanNext, PlanKept, WriteKeepsFetches};
 ghost use Rattle.quiet_clocks.specs.Plan.{FetchKeepsFetches, SpriteKeepsFetches, PlanSays, PlanSpan};
 ghost use Rattle.quiet_clocks.specs.OwnedClock.{PlaneTick, CopperHas, BlitterHas, ProcessorHas};
-ghost use Rattle.quiet_clocks.specs.FetchClocks.{PlanesHave, FetchTick, FetchMakes};
+ghost use Rattle.quiet_clocks.specs.FetchClocks.{PlanesHave, FetchTick, FetchMakes, StillIsAtRest};
 ghost use Rattle.quiet_clocks.specs.FetchClocks.{FetchSpan, FewerFetchClocks, EachIsFetchClock, FetchingLater};
 
 /// Ticks of a CIA's timers among which neither underflows: each timer that counts goes down by their
@@ -95,11 +95,13 @@ pub fn owned_clock()
 {}
 
 /// A clock at which everybody but the bitplanes rests: the state after it is one in closed form, whether or
-/// not a plane is fetched, and its access makes the fetch alone.
+/// not a plane is fetched, and its access makes the fetch alone. The last law names tests that tell that they
+/// rest.
 pub fn fetch_clock()
     ensures has { PlanesHave }
     ensures tick { FetchTick }
     ensures makes { FetchMakes }
+    ensures still { StillIsAtRest }
 {}
 
 /// Such clocks of a line one behind the other: the state after them in closed form, but for picture,
