@@ -69,6 +69,7 @@ impl Fetcher {
     pub fn step(&mut self, beam: &Beam, regs: &mut Regs) -> Option<PlaneAsk>
         ensures units { (units : List ℕ) → self.old ≡ last_unit units →
             self.new ≡ last_unit (units_at beam.now regs.old units) }
+        ensures last { self.new ≡ last_unit_at beam.now regs.old self.old }
         ensures begun { IsLastUnit self.new }
         ensures ask { result ≡ plane_ask beam.now.h regs.old self.new }
         ensures moved { regs.new ≡ move_planes beam.now.h self.new regs.old }
@@ -97,13 +98,19 @@ impl Fetcher {
         }
     }
 
-    /// Whether a unit runs, or ends with this clock, whose planes leave hardly two clocks in a row free: then
-    /// it does not pay to look for such. Nothing hangs on the answer but how fast a run is.
-    #[inline(always)]
-    pub fn is_dense(&self, beam: &Beam, regs: &Regs) -> bool {
-        match self.last {
-            Some(start) if start <= beam.h && beam.h - start <= 8 => has_many_planes(regs),
-            _ => false,
+    /// Where a unit runs at this clock, how many clocks there are, from this one on and at most so many, up to
+    /// the end of the line's last unit by DDFSTOP; else none. Nothing hangs on it but how fast a run is.
+    pub fn before_last_fetch(&self, beam: &Beam, regs: &Regs, most: u16) -> u16
+        requires { 0 < beam.now.h }
+        ensures most { result ≤ most }
+        ensures begun { IsLastUnit self.now }
+    {
+        match unit_now(self.last, beam, regs) {
+            Some(start) if start <= beam.h && beam.h - start < 8 => {
+                let end = fetch_end(regs).max(start).saturating_add(8);
+                most.min(end.saturating_sub(beam.h))
+            }
+            _ => 0,
         }
     }
 
@@ -154,14 +161,6 @@ fn begins_first(beam: &Beam, regs: &Regs) -> bool
     ensures { result ≡ first_begins beam.now regs.now }
 {
     has_dma(regs) && beam.h <= 0xd8 && beam.h == fetch_start(regs) && is_window_line(beam.v, regs)
-}
-
-/// Whether a unit has three planes or more, or two in high resolution. Nothing hangs on it but how fast a run
-/// is.
-#[inline(always)]
-fn has_many_planes(regs: &Regs) -> bool {
-    let con0 = regs.word(Reg::masked(BPLCON0));
-    con0 / 0x1000 % 8 >= if con0 >= 0x8000 { 2 } else { 3 }
 }
 
 /// Whether any plane is fetched in a unit.

@@ -9,3 +9,4 @@ pub mod QuietLaws
 mod WriteLaws
 mod LateLaws
 mod StartLaws
+pub mod FetchLaws

@@ -49,7 +49,7 @@ planes_of k b now c is fetches =
     subst (λ (r : Registers). FetchesNothing k b r (last_unit c.units)) (sym is.registers)
     (subst (λ (l : Option ℕ). FetchesNothing k b now.registers l) (sym is.last) fetches)
 
-sprites_of : (b : Beam) (now : WorkingChips) (c : Chips) → IsChipsOf now c → ReadsNothing b now.registers now.kinds → ReadsNothing b c.registers c.kinds
+pub sprites_of : (b : Beam) (now : WorkingChips) (c : Chips) → IsChipsOf now c → ReadsNothing b now.registers now.kinds → ReadsNothing b c.registers c.kinds
 sprites_of b now c is reads =
     subst (λ (r : Registers). ReadsNothing b r c.kinds) (sym is.registers)
     (subst (λ (kinds : List SpriteKind). ReadsNothing b now.registers kinds) (sym is.kinds) reads)
@@ -81,19 +81,19 @@ still_with b registers busy copper (inl off) = inl (off_runs (b.h % 2 == 0) (cop
 still_with b registers busy copper (inr (inl odd)) = inl (ap (λ even. even && copper_dma registers) odd)
 still_with b registers busy copper (inr (inr rests)) = inr rests
 
-copper_of : (b : Beam) (now : WorkingChips) (c : Chips) → IsChipsOf now c → IsCopperIdle b now → CopperIsStill b c
+pub copper_of : (b : Beam) (now : WorkingChips) (c : Chips) → IsChipsOf now c → IsCopperIdle b now → CopperIsStill b c
 copper_of b now c is idle =
     subst (λ (r : Registers). StillWith b r (is_some c.blit) c.copper) (sym is.registers)
     (subst (λ (copper : CopperState). StillWith b now.registers (is_some c.blit) copper) (sym is.copper)
     (subst (λ busy. StillWith b now.registers busy now.copper) (same_busy now.blit c.blit is.blit)
     (still_with b now.registers (is_some now.blit) now.copper idle)))
 
-blit_of : (now : WorkingChips) (c : Chips) → IsChipsOf now c → (blitter_dma now.registers ≡ false) ⊎ (now.blit ≡ None)
+pub blit_of : (now : WorkingChips) (c : Chips) → IsChipsOf now c → (blitter_dma now.registers ≡ false) ⊎ (now.blit ≡ None)
     → (blitter_dma c.registers ≡ false) ⊎ (c.blit ≡ None)
 blit_of now c is (inl off) = inl (ap (λ (r : Registers). blitter_dma r) is.registers ∙ off)
 blit_of now c is (inr none) = inr (same_none now.blit c.blit is.blit none)
 
-lines_of : (now : WorkingChips) (c : Chips) → IsChipsOf now c → AsksNothingNew 0 (plain_chips now) → AsksNothingNew 0 c
+pub lines_of : (now : WorkingChips) (c : Chips) → IsChipsOf now c → AsksNothingNew 0 (plain_chips now) → AsksNothingNew 0 c
 lines_of now c is lines =
     subst (λ (irq : Interrupts). AsksNothingNew 0 (record c { irq = irq })) (sym is.irq)
     (subst (λ (cia : CiaState). AsksNothingNew 0 (record c { irq = now.irq; cia_a = cia })) (sym is.cia_a)
@@ -108,27 +108,27 @@ idle_at : (b : Beam) (t n k : ℕ) (now : WorkingChips) (c : Chips) → AreIdle 
 unfolding later_units
 idle_at b t n k now c idle is below =
     let fetches : FetchesNothing k b c.registers (last_unit c.units) = planes_of k b now c is (idle.planes k below) in
-    let reads : ReadsNothing (later_beam k b) c.registers c.kinds = sprites_of (later_beam k b) now c is (idle.sprites k below) in
+    let reads : ReadsNothing (later_beam k b) c.registers c.kinds = sprites_of (later_beam k b) now c is (idle.rest.sprites k below) in
     record {
       kinds = reads.stay;
       sprite = reads.ask;
       plane = ap (λ (last : Option ℕ). fetched_plane (b.h + k) c.registers last) (last_later (suc k) b c.registers c.units) ∙ fetches;
-      copper = copper_of (later_beam k b) now c is (idle.copper k below);
-      blit = blit_of now c is idle.blit;
-      wish = (idle.processor c.processor is.processor k below).1;
+      copper = copper_of (later_beam k b) now c is (idle.rest.copper k below);
+      blit = blit_of now c is idle.rest.blit;
+      wish = (idle.rest.processor c.processor is.processor k below).1;
     }
 
 are_quiet : (b : Beam) (t n : ℕ) (now : WorkingChips) (c : Chips) → AreIdle b t n now → IsChipsOf now c
     → AreQuiet b t n (λ k. waited now.processor k c.processor) c
 are_quiet b t n now c idle is = record {
   begin = waited_none now.processor c.processor;
-  lines = lines_of now c is idle.lines;
+  lines = lines_of now c is idle.rest.lines;
   calm = λ k below. idle_is_calm (later_beam k b) (chips_at b now c k) (idle_at b t n k now c idle is below);
   turns = λ k below.
       subst (λ (irq : Interrupts). TurnsTo irq (waited now.processor k c.processor) (waited now.processor (suc k) c.processor)) (sym is.irq)
-      (idle.processor c.processor is.processor k below).0;
-  timers_a = subst (λ (cia : CiaState). HasNoUnderflow (ticks_in t n) cia) (sym is.cia_a) idle.timers_a;
-  timers_b = subst (λ (cia : CiaState). HasNoUnderflow (ticks_in t n) cia) (sym is.cia_b) idle.timers_b;
+      (idle.rest.processor c.processor is.processor k below).0;
+  timers_a = subst (λ (cia : CiaState). HasNoUnderflow (ticks_in t n) cia) (sym is.cia_a) idle.rest.timers_a;
+  timers_b = subst (λ (cia : CiaState). HasNoUnderflow (ticks_in t n) cia) (sym is.cia_b) idle.rest.timers_b;
 }
 
 -- and the chips behind them

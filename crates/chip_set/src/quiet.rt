@@ -1,6 +1,6 @@
 //! Clocks at which no chip does anything but wait, passed over at once.
 
-ghost use Rattle.std.specs.Prelude.{◌≡◌, ◌⊎◌, ◌≤◌, ◌<◌, ◌+◌, ℕ, false, true, is_some};
+ghost use Rattle.std.specs.Prelude.{◌≡◌, ◌⊎◌, ◌≤◌, ◌<◌, ◌+◌, ℕ, false, true, is_some, IfSome};
 ghost use Rattle.serial_model.specs.Registers.{blitter_dma, copper_dma};
 ghost use Rattle.serial_model.specs.State.{Chips as ChipsOf};
 ghost use Rattle.irq_cia.specs.Ticks.{HasNoUnderflow};
@@ -9,10 +9,15 @@ ghost use Rattle.quiet_clocks.specs.PlainClock.{AsksNothingNew};
 ghost use Rattle.quiet_clocks.specs.QuietClocks.{later_beam};
 ghost use Rattle.quiet_clocks.specs.Ticks.{ticks_in};
 ghost use Rattle.chip_set.specs.Chips.{IsChipsOf, plain_chips};
-ghost use Rattle.chip_set.specs.Quiet.{PassesQuiet, AreIdle, AreLater, IsCopperIdle};
+ghost use Rattle.serial_model.specs.PlaneFetch.{IsLastUnit};
+ghost use Rattle.chip_set.specs.Chips.{IsPlane};
+ghost use Rattle.quiet_clocks.specs.FetchClocks.{fetching_after, ask_of_fetching};
+ghost use Rattle.chip_set.specs.Quiet.{PassesQuiet, AreIdle, AreAtRest, AreLater, HasRested, IsCopperIdle};
+ghost use Rattle.chip_set.specs.Quiet.{fetching_in, with_fetching};
 
 use crate::chips::Chips;
 use crate::turn::{EXTER, PORTS};
+use bitplane_dma::PlaneAsk;
 use ocs_base::Beam;
 
 impl Chips {
@@ -35,24 +40,80 @@ impl Chips {
         clocks
     }
 
-    /// Whether a glance tells that it does not pay to look for quiet clocks here: a blit is under way, a
-    /// unit of many planes runs, the processor does not wait for time to pass, or the Copper fetches. Nothing
-    /// hangs on the answer but how fast a run is.
+    /// Whether a glance tells that it does not pay to look for quiet clocks here: a blit is under way, the
+    /// processor does not wait for time to pass, or the Copper fetches. Nothing hangs on the answer but how
+    /// fast a run is.
     #[inline(always)]
-    pub fn is_busy(&self, beam: &Beam) -> bool {
+    pub fn is_busy(&self) -> bool {
         self.blit.is_some()
-            || self.fetcher.is_dense(beam, &self.registers)
             || self.processor.quiet(&self.irq) == 0
             || self.copper.wants().is_some() && self.has_copper_dma()
     }
 
+    /// For how many clocks of this line, from this one on and at most so many, everybody but the planes only
+    /// waits, up to the end of the line's last unit at most. Nothing hangs on the answer but how fast a run is.
+    pub fn fetch_clocks(&self, beam: &Beam, t: u64, most: u16) -> u16
+        requires inner { 0 < beam.now.h }
+        requires room { beam.now.h + most ≤ 226 }
+        ensures most { result ≤ most }
+        ensures rest { 0 < result → AreAtRest beam.now t result self.now }
+        ensures begun { IsLastUnit self.now.last }
+    {
+        let fetches = self.fetcher.before_last_fetch(beam, &self.registers, most);
+        if fetches == 0 {
+            return 0;
+        }
+        self.rest_clocks(beam, t, fetches)
+    }
+
+    /// The planes' part of a clock: the plane that is fetched at it, if one is, whose pointer has moved then.
+    #[inline(always)]
+    pub fn fetch_plane(&mut self, beam: &Beam) -> Option<PlaneAsk>
+        requires begun { IsLastUnit self.old.last }
+        ensures ask { result ≡ ask_of_fetching beam.now (fetching_in self.old) }
+        ensures able { IfSome result (λ ask. IsPlane ask.plane) }
+        ensures moved { self.new
+            ≡ with_fetching (fetching_after beam.now (fetching_in self.old)) self.old }
+        ensures next { IsLastUnit self.new.last }
+    {
+        self.fetcher.step(beam, &mut self.registers)
+    }
+
+    /// The part of everybody else, for so many clocks from clock `t` on at which they only wait.
+    pub fn rest(&mut self, t: u64, clocks: u16)
+        requires few { clocks ≤ 226 }
+        requires counts { CanCount clocks self.old.processor }
+        requires timers_a { HasNoUnderflow (ticks_in t clocks) self.old.cia_a }
+        requires timers_b { HasNoUnderflow (ticks_in t clocks) self.old.cia_b }
+        ensures { HasRested t clocks self.old self.new }
+    {
+        self.processor.skip(clocks as u32);
+        self.missed = 0;
+        let ticks = ticks_among(t, clocks);
+        self.cia_a.skip(ticks);
+        self.cia_b.skip(ticks);
+    }
+
     /// For how many clocks, from this one on and at most so many, they only wait, as far as that is known.
-    /// Who asks most often is asked first.
     fn idle_clocks(&self, beam: &Beam, t: u64, most: u16) -> u16
         requires inner { 0 < beam.now.h }
         requires room { beam.now.h + most ≤ 226 }
         ensures most { result ≤ most }
         ensures idle { 0 < result → AreIdle beam.now t result self.now }
+    {
+        let planes = self.fetcher.quiet(beam, &self.registers, most);
+        if planes == 0 {
+            return 0;
+        }
+        self.rest_clocks(beam, t, planes)
+    }
+
+    /// The same of everybody but the planes. Who asks most often is asked first.
+    fn rest_clocks(&self, beam: &Beam, t: u64, most: u16) -> u16
+        requires inner { 0 < beam.now.h }
+        requires room { beam.now.h + most ≤ 226 }
+        ensures most { result ≤ most }
+        ensures rest { 0 < result → AreAtRest beam.now t result self.now }
     {
         if !self.has_blitter_rest() {
             return 0;
@@ -61,11 +122,7 @@ impl Chips {
         if waits == 0 || !self.asks_nothing_new() {
             return 0;
         }
-        let planes = self.fetcher.quiet(beam, &self.registers, waits);
-        if planes == 0 {
-            return 0;
-        }
-        let copper = self.copper_rest(beam, planes);
+        let copper = self.copper_rest(beam, waits);
         if copper == 0 {
             return 0;
         }
@@ -138,11 +195,7 @@ impl Chips {
         ensures { AreLater beam.now t clocks self.old self.new }
     {
         self.fetcher.skip(beam, &self.registers, clocks);
-        self.processor.skip(clocks as u32);
-        self.missed = 0;
-        let ticks = ticks_among(t, clocks);
-        self.cia_a.skip(ticks);
-        self.cia_b.skip(ticks);
+        self.rest(t, clocks);
     }
 }
 

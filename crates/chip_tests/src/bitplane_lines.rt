@@ -221,21 +221,23 @@ fn units_begin_among_clocks_passed_over(rt: HostRuntime) {
     assert_eq!(rt; found, [63, 63, 63, 103, 215, 0]);
 }
 
-/// Whether a unit of many planes runs at clock `h` or ends with it, with this word of BPLCON0.
-fn is_dense(con0: u16, h: u16) -> bool {
-    let mut regs = registers_of_planes(con0);
-    fetcher_at(h, &mut regs).is_dense(&place(h), &regs)
+/// How many clocks there are from clock `h` to the end of the last unit, at most 100.
+fn before_last_fetch(h: u16) -> u16
+    requires { 0 < h }
+{
+    let mut regs = registers_of_planes(0x1000);
+    fetcher_at(h, &mut regs).before_last_fetch(&place(h), &regs, 100)
 }
 
-/// Six planes in low resolution and four in high leave no two clocks in a row free, and one leaves seven.
+/// The last unit is that of clock 208, which ends before clock 216. No unit runs before clock 56.
 #[test]
-fn units_of_many_planes(rt: HostRuntime) {
+fn clocks_before_the_last_fetch(rt: HostRuntime) {
     let found = [
-        is_dense(0x6000, 50),
-        is_dense(0x6000, 60),
-        is_dense(0xc000, 60),
-        is_dense(0x1000, 60),
-        is_dense(0x6000, 220),
+        before_last_fetch(50),
+        before_last_fetch(60),
+        before_last_fetch(150),
+        before_last_fetch(215),
+        before_last_fetch(216),
     ];
-    assert_eq!(rt; found, [false, true, true, false, false]);
+    assert_eq!(rt; found, [0, 100, 66, 1, 0]);
 }
