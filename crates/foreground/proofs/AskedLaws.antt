@@ -1,12 +1,12 @@
 -- A clock once its chips have asked for the slot.
-use Rattle.std.proofs.Common.{◌≡◌, ◌<◌, ℕ, ◌+◌, ap, subst, sym, ◌∙◌, refl}
+use Rattle.std.proofs.Common.{◌≡◌, ℕ, ◌+◌, ap, subst, sym, ◌∙◌, refl}
 use Rattle.out_files.specs.OutFiles.{OutFilesValue}
 use Rattle.serial_model.specs.declared.bus.Ask.{Ask}
 use Rattle.serial_model.specs.declared.bus.SideAsk.TheVariants as S
 use Rattle.serial_model.specs.Bus.{ask_at}
 use Rattle.serial_model.specs.Cias.{time_chips}
 use Rattle.serial_model.specs.Registers.{dmacon_of}
-use Rattle.serial_model.specs.Side.{SideValue, no_side, tick_side, bits_of_side, ask_of_side}
+use Rattle.serial_model.specs.Side.{no_side, tick_side, bits_of_side, ask_of_side}
 use Rattle.serial_model.specs.State.{Chips, State}
 use Rattle.serial_model.specs.Events.{due_events, touches_of}
 use Rattle.serial_model.specs.Tick.{ask_of, start_clock, count_timers}
@@ -19,7 +19,7 @@ use Rattle.foreground.specs.Script.{MakesEvents}
 use Rattle.foreground.specs.MachineSteps.{AsksInTime}
 use Rattle.foreground.specs.Clock.{Rises}
 use Rattle.foreground.specs.Fore.{ForeValue, IsUnderway}
-use Rattle.foreground.specs.Steps.{IsBefore, IsLoggedBefore, KeepsClock, HasAskedNow, AccessesPart, HasBegunClock, BeginsClock, ReachesAccess, ReachesAsk}
+use Rattle.foreground.specs.Steps.{IsBefore, IsLoggedBefore, KeepsClock, HasAskedNow, AccessesPart, HasBegunClock, BeginsClock, ReachesAsk}
 use Rattle.foreground.specs.Steps.{HasScriptBehind, RunsEvents, MakesAskedAccess, MakesItsAccess, reads_more}
 use Rattle.foreground.proofs.AccessLaws.{asks_of, HasAskedOf-by}
 use Rattle.foreground.proofs.AdvanceLaws.{before_access_of, rises_in_clock, rises_at_refusal}

@@ -1,18 +1,15 @@
 -- A clock with which the open band goes on: what holds once the chips have asked.
-use Rattle.std.proofs.Common.{◌≡◌, ◌<◌, ℕ, ◌+◌, Result, Ok, Err, OnOk, ap, subst, sym, ◌∙◌}
+use Rattle.std.proofs.Common.{◌≡◌, ◌<◌, ℕ, Result, Ok, Err, OnOk, ap, subst, sym, ◌∙◌}
 use Rattle.out_files.specs.OutFiles.{OutFilesValue}
 use Rattle.serial_model.specs.declared.bus.Ask.{Ask}
 use Rattle.serial_model.specs.State.{State}
 use Rattle.serial_model.specs.Tick.{ask_of}
-use Rattle.serial_bands.specs.BusReads.{bus_reads, reads_of_ask}
 use Rattle.band_log.specs.Raster.{RasterValue}
 use Rattle.foreground.specs.Machine.{MachineValue, IsMachineOf, HasAskedOf, IsSamePlace}
-use Rattle.foreground.specs.Clock.{IsLogged, Rises}
-use Rattle.foreground.specs.Fore.{ForeValue, IsUnderway}
-use Rattle.foreground.specs.Steps.{IsBefore, IsLoggedBefore, KeepsClock, HasAskedNow, AccessesPart, HasBegunClock, BeginsClock, ReachesAccess, reads_more}
-use Rattle.foreground.proofs.MadeLaws.{before_view, asked_now, logged_once_asked, reads_of_access}
-use Rattle.foreground.proofs.BeginLaws.{rises_same}
-use Rattle.foreground.proofs.AdvanceLaws.{before_access_of, rises_in_clock, rises_at_refusal}
+use Rattle.foreground.specs.Clock.{IsLogged}
+use Rattle.foreground.specs.Fore.{ForeValue}
+use Rattle.foreground.specs.Steps.{IsBefore, IsLoggedBefore, KeepsClock, HasAskedNow, AccessesPart}
+use Rattle.foreground.proofs.MadeLaws.{before_view, asked_now, logged_once_asked}
 
 -- the foreground as its fields are seen
 pub before_seen : (g f : ForeValue) → g ≡ f → f.log.band.from < f.machine.t → g.log.band.from < g.machine.t

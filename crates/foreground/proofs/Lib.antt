@@ -30,3 +30,4 @@ pub mod SumLaws
 pub mod QuietLaws
 pub mod QuietRuns
 pub mod AskedLaws
+pub mod FetchLaws

@@ -25,9 +25,9 @@ use Rattle.chip_set.proofs.ClxLaws.{clx_read}
 use Rattle.band_log.specs.Raster.{RasterValue}
 use Rattle.foreground.specs.Out.{Gives, GivesLines}
 use Rattle.foreground.specs.Machine.{MachineValue, IsMachineOf, HasMade, HasAskedOf, MakesAccess, IsSamePlace, StaysInPlace, StoresMade}
-use Rattle.foreground.specs.Log.{IsLogOf, IsBandOf, IsShown, with_access_touch}
+use Rattle.foreground.specs.Log.{IsLogOf, IsBandOf, with_access_touch}
 use Rattle.foreground.specs.Gathered.{Fits, tinted_range}
-use Rattle.foreground.specs.Clock.{AreLeftFrom, IsLogged, IsBeforeAccess, IsBehindAccess, HasGiven, HasGivenPart, access_state, accessed_state}
+use Rattle.foreground.specs.Clock.{AreLeftFrom, IsLogged, IsBehindAccess, HasGiven, HasGivenPart, access_state, accessed_state}
 use Rattle.foreground.specs.Fore.{ForeValue}
 use Rattle.foreground.specs.Steps.{IsBefore, IsLoggedBefore, HasReadByAccess, HasMadeAccess, MakesItsAccess}
 use Rattle.foreground.specs.Steps.{MakesAskedAccess, HasAskedNow, StandsBeforeRead, ReadsBits, AccessesPart, reads_more}

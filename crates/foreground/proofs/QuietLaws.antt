@@ -102,7 +102,7 @@ calm_later b t n processors c calm = record {
   wish = calm.wish;
 }
 
-not_start : (n : ℕ) (b : Beam) → 0 < b.h → is_line_start (later_beam n b) ≡ false
+pub not_start : (n : ℕ) (b : Beam) → 0 < b.h → is_line_start (later_beam n b) ≡ false
 not_start n b inner = grind (arith, nat_tests)
 
 later_asks_none : (system : System) (events : List At) (s : State) (n k : ℕ) (processors : ℕ → Processor) → IsQuietSpan events s n processors → k < n
@@ -115,7 +115,7 @@ later_asks_none system events s n k processors span low =
 -- ---- the machine
 
 -- chips without a side that pass over clocks
-none_later : (k : ℕ) (b : Beam) (dmacon : ℕ) (side : SideValue) → side ≡ no_side → later_side k b dmacon side ≡ no_side
+pub none_later : (k : ℕ) (b : Beam) (dmacon : ℕ) (side : SideValue) → side ≡ no_side → later_side k b dmacon side ≡ no_side
 none_later k b dmacon side none = ap (λ (x : SideValue). later_side k b dmacon x) none ∙ no_side_stays k b dmacon
 
 span_of_chips : (events : List At) (s : State) (n : ℕ) (processors : ℕ → Processor) → 0 < s.beam.h → s.beam.h + n ≤ 226 → s.side ≡ no_side
@@ -137,7 +137,7 @@ span_of_chips events s n processors inner last none due are =
       timers_b = are.timers_b;
     }
 
-abbrev moved : MachineValue → WorkingChips → ℕ → MachineValue
+abbrev pub moved : MachineValue → WorkingChips → ℕ → MachineValue
 moved m chips n = record m { t = m.t + n; beam = later_beam n m.beam; chips = chips }
 
 stands_later : (system : System) (events : List At) (m : MachineValue) (chips : WorkingChips) (n : ℕ) (s : State) (processors : ℕ → Processor)
@@ -237,15 +237,15 @@ read_before_later run c n (suc k) processors span low unread =
     ap (λ j. has_read_before run j) e
     ∙ read_none run (c + k) (made_free run (c + k) (access_later run c n k processors span (omega (arith, low))))
 
-none_of : (a b c : Bool) → a ≡ false → b ≡ false → c ≡ false → (a || (b || c)) ≡ false
+pub none_of : (a b c : Bool) → a ≡ false → b ≡ false → c ≡ false → (a || (b || c)) ≡ false
 none_of true b c place unread before = place
 none_of false true c place unread before = unread
 none_of false false c place unread before = before
 
-no_place : (height k : ℕ) (b : Beam) → 0 < b.h → is_band_place height (later_beam k b) ≡ false
+pub no_place : (height k : ℕ) (b : Beam) → 0 < b.h → is_band_place height (later_beam k b) ≡ false
 no_place height k b inner = grind (arith, nat_tests)
 
-reads_no_bits : (events : List At) → events ≡ [] → has_clx_read events ≡ false
+pub reads_no_bits : (events : List At) → events ≡ [] → has_clx_read events ≡ false
 unfolding has_clx_read
 reads_no_bits events none = ap (λ es. has_clx_read es) none
 
@@ -281,7 +281,7 @@ pub record IsKept (run : RunValue) (c first : ℕ) (chip : ChipValue) (log : Log
   pub cut : has_read_before run c ≡ true → log.band.from ≡ c
   pub time : chip.newest ≤ c
 
-not_touched : (c : ℕ) (log : Log) → with_script_touches c (touches_of []) log ≡ log
+pub not_touched : (c : ℕ) (log : Log) → with_script_touches c (touches_of []) log ≡ log
 unfolding touches_of with_script_touches
 not_touched c log = refl
 
@@ -304,13 +304,13 @@ log_stays run c log chip is none =
     subst (λ l. IsLogOf run (c + 1) l chip) (log_same c log (made_at run c) none.made)
     (log_accessed run c (with_waiting log) chip chip shown range refl refl writes)
 
-no_cut : (run : RunValue) (c : ℕ) → made_at run c ≡ M.Nothing → has_read_before run (c + 1) ≡ false
+pub no_cut : (run : RunValue) (c : ℕ) → made_at run c ≡ M.Nothing → has_read_before run (c + 1) ≡ false
 no_cut run c made = ap (λ k. has_read_before run k) (add-one c) ∙ read_none run c made
 
-not_both : (b : Bool) → b ≡ true → b ≡ false → ⊥
+pub not_both : (b : Bool) → b ≡ true → b ≡ false → ⊥
 not_both b one other = true≢false (sym one ∙ other)
 
-kept_next : (run : RunValue) (c first : ℕ) (chip : ChipValue) (log : Log) (clx : ℕ) (seen : RasterValue) → IsKept run c first chip log clx seen
+pub kept_next : (run : RunValue) (c first : ℕ) (chip : ChipValue) (log : Log) (clx : ℕ) (seen : RasterValue) → IsKept run c first chip log clx seen
     → MakesNothing run c → IsKept run (c + 1) first chip (with_waiting log) clx seen
 kept_next run c first chip log clx seen is none = record {
   logged = log_stays run c log chip is.logged none;
@@ -322,7 +322,7 @@ kept_next run c first chip log clx seen is none = record {
   time = omega (arith, is.time);
 }
 
-waits_no_more : (log : Log) → with_waiting (with_waiting log) ≡ with_waiting log
+pub waits_no_more : (log : Log) → with_waiting (with_waiting log) ≡ with_waiting log
 waits_no_more log =
     ap (λ es. record (with_waiting log) { band = record (with_waiting log).band { events = es } }) (append-nil (with_waiting log).band.events)
 
@@ -367,10 +367,10 @@ script_next run b next script on none =
       same = λ later screen from. script.same later screen (omega (arith, from));
     }
 
-on_later : (n : ℕ) (b : Beam) → IsOnScreen b → b.h + n < 228 → IsOnScreen (later_beam n b)
+pub on_later : (n : ℕ) (b : Beam) → IsOnScreen b → b.h + n < 228 → IsOnScreen (later_beam n b)
 on_later n b on low = record { line = on.line; clock = low }
 
-script_later : (run : RunValue) (b : Beam) (n next : ℕ) → HasScript run b next → IsOnScreen b → b.h + n < 228
+pub script_later : (run : RunValue) (b : Beam) (n next : ℕ) → HasScript run b next → IsOnScreen b → b.h + n < 228
     → ((k : ℕ) → k < n → due_events (later_beam k b) run.script.events ≡ []) → HasScript run (later_beam n b) next
 script_later run b zero next script on low none =
     let e : b.h ≡ b.h + 0 = omega arith in
@@ -387,7 +387,7 @@ script_later run b (suc n) next script on low none =
 abbrev pub passed_on : ForeValue → MachineValue → ForeValue
 passed_on f m = record f { machine = m; log = with_waiting f.log }
 
-kept_of : (f : ForeValue) (first : ℕ) (seen : RasterValue) → IsUnderway f first seen
+pub kept_of : (f : ForeValue) (first : ℕ) (seen : RasterValue) → IsUnderway f first seen
     → IsKept f.run f.machine.t first f.machine.chip f.log f.clx seen
 kept_of f first seen is = record {
   logged = is.at.logged;
@@ -397,7 +397,7 @@ kept_of f first seen is = record {
   time = is.at.time;
 }
 
-unread_before : (f : ForeValue) (first : ℕ) (seen : RasterValue) → IsUnderway f first seen → f.log.band.from < f.machine.t
+pub unread_before : (f : ForeValue) (first : ℕ) (seen : RasterValue) → IsUnderway f first seen → f.log.band.from < f.machine.t
     → has_read_before f.run f.machine.t ≡ false
 unread_before f first seen is before = by_test (has_read_before f.run f.machine.t) refl
   where
@@ -588,9 +588,3 @@ pub due_none : (run : RunValue) (b : Beam) (next n : ℕ) → HasScript run b ne
     → (k : ℕ) → k < n → due_events (later_beam k b) run.script.events ≡ []
 due_none run b next n script on room none k low =
     script.same (later_beam k b) (on_later k b on (omega (arith, low, room))) (omega arith) ∙ none k low
-
-pub passes_none_now : (f g : ForeValue) (m : MachineValue) (limit : ℕ) → g ≡ f → m ≡ g.machine → f.machine.t < limit
-    → HasPassed limit f (record g { machine = m })
-passes_none_now f g m limit view same before =
-    subst (λ (x : MachineValue). HasPassed limit f (record g { machine = x })) (sym same)
-    (subst (λ (x : ForeValue). HasPassed limit f x) (sym view) (passes_none f limit before))

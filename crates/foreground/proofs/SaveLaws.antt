@@ -16,8 +16,8 @@ use Rattle.serial_bands.specs.declared.event.Event.{Event}
 use Rattle.serial_bands.specs.Gathering.{IsGathered}
 use Rattle.serial_bands.proofs.BandOrder.{bands_order}
 use Rattle.serial_bands.proofs.Gathering.{gathered_more}
-use Rattle.band_log.specs.Raster.{RasterValue, Takes}
-use Rattle.foreground.specs.Checkpoint.{CheckpointOf, IsCheckpointOf, checkpoint_of, fore_from, log_from}
+use Rattle.band_log.specs.Raster.{RasterValue}
+use Rattle.foreground.specs.Checkpoint.{CheckpointOf, IsCheckpointOf, checkpoint_of, log_from}
 use Rattle.foreground.specs.Clock.{AreLeftFrom}
 use Rattle.foreground.specs.Cuts.{StandsAtEnd, HasEnded, EndsAtRead, EndsPartAtRead}
 use Rattle.foreground.specs.Fore.{ForeOf, ForeValue, IsUnderway, GivesPart, over}

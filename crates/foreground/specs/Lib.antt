@@ -14,3 +14,4 @@ pub mod RunTo
 pub mod Checkpoint
 pub mod Save
 pub mod Quiet
+pub mod Fetches

@@ -9,6 +9,7 @@ mod begin;
 mod checkpoint;
 mod clock;
 mod cuts;
+mod fetches;
 mod fore;
 mod gather;
 pub mod laws;

@@ -65,7 +65,7 @@ impl<S: Side> Fore<S> {
         if !due || h == 0 || 226 <= h || self.machine.t <= self.log.band.from {
             return Ok(false);
         }
-        if self.machine.chips.is_busy(&self.machine.beam) {
+        if self.machine.chips.is_busy() {
             self.lookout.note(self.machine.t, 0);
             return Ok(false);
         }
@@ -97,10 +97,10 @@ impl<S: Side> Fore<S> {
     {
         let most = self.most_clocks(limit);
         let passed = self.machine.pass_quiet(most);
-        self.lookout.note(self.machine.t, passed);
         if passed == 0 {
-            return Ok(false);
+            return self.pass_fetches(limit, most);
         }
+        self.lookout.note(self.machine.t, passed);
         match self.log.take_waiting() {
             Ok(()) => Ok(true),
             Err(refusal) => {

@@ -81,10 +81,10 @@ fn chips_pass_over_quiet_clocks(rt: HostRuntime) {
 #[test]
 fn chips_at_work_are_busy(rt: HostRuntime) {
     let found = [
-        chips_after(false, &[]).is_busy(&place(10)),
-        chips_after(true, &[]).is_busy(&place(10)),
-        chips_after(false, &COPPER).is_busy(&place(10)),
-        chips_after(false, &BLIT).is_busy(&place(10)),
+        chips_after(false, &[]).is_busy(),
+        chips_after(true, &[]).is_busy(),
+        chips_after(false, &COPPER).is_busy(),
+        chips_after(false, &BLIT).is_busy(),
     ];
     assert_eq!(rt; found, [false, true, true, true]);
 }

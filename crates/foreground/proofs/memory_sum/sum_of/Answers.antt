@@ -1,5 +1,5 @@
 -- A turn adds a page and counts its words.
-use Rattle.std.proofs.Common.{ℕ, ◌≡◌, ◌≤◌, ◌*◌, ◌+◌, List, take, drop, ap, ◌∙◌, arith}
+use Rattle.std.proofs.Common.{ℕ, ◌≡◌, ◌*◌, List, take, drop, ap, ◌∙◌, arith}
 use Rattle.out_files.proofs.WordsLaws.{reads-more, words-read}
 use Rattle.foreground.proofs.SumLaws.{sum-more}
 use Rattle.foreground.proofs.memory_sum.sum_of.Goals as goal

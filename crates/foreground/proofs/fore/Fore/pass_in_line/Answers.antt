@@ -1,13 +1,8 @@
 use Rattle.std.proofs.Common.{ap, arith}
 use Rattle.foreground.specs.Fore.{over}
 use Rattle.foreground.specs.Machine.{machine_over}
-use Rattle.foreground.proofs.QuietLaws.{passes_none_now, passes_now}
+use Rattle.foreground.proofs.QuietLaws.{passes_now}
 use Rattle.foreground.proofs.fore.Fore.pass_in_line.Goals as goal
-
-pub returns-then-passed-eq0-clause-passed : goal.returns-then-passed-eq0-clause-passed
-returns-then-passed-eq0-clause-passed g c =
-    passes_none_now (over g.S.Side.seen c.args.self.now) _ _ c.args.limit (ap (over g.S.Side.seen) c.self.view_is)
-    (ap (machine_over g.S.Side.seen) (c.pass_quiet-passed.ensures.none c.if-passed-eq0.true)) c.requires.before
 
 pub returns-in-Ok-clause-passed : goal.returns-in-Ok-clause-passed
 returns-in-Ok-clause-passed g c =

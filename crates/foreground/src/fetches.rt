@@ -1,0 +1,121 @@
+//! Clocks at which everybody but the bitplanes rests, made one behind the other.
+
+ghost use Rattle.std.specs.Prelude.{◌≡◌, ◌≤◌, ◌<◌, ◌+◌, ◌^◌, ℕ, true, false, [], IfOk, OnOk, OnErr};
+ghost use Rattle.serial_model.specs.Events.{due_events};
+ghost use Rattle.serial_model.specs.PlaneFetch.{IsLastUnit};
+ghost use Rattle.serial_model.specs.Side.{no_side};
+ghost use Rattle.quiet_clocks.specs.FetchClocks.{ask_of_fetching};
+ghost use Rattle.quiet_clocks.specs.QuietClocks.{later_beam};
+ghost use Rattle.chip_set.specs.Quiet.{AreAtRest, fetching_in};
+ghost use Rattle.band_log.specs.Raster.{RasterValue};
+ghost use Rattle.foreground.specs.Log.{with_waiting};
+ghost use Rattle.foreground.specs.Fore.{over, IsUnderway, is_done};
+ghost use Rattle.foreground.specs.Quiet.{HasPassed};
+ghost use Rattle.foreground.specs.Fetches.{with_fetch, with_fetches};
+ghost use Rattle.foreground.specs.Fetches.{clock_of_planes, clocks_of_planes, HasFetched};
+
+use crate::fore::Fore;
+use crate::log::Log;
+use crate::machine::Machine;
+use ocs_base::OutOfMemory;
+use serial_model::{PlaneAsk, Side, Touch};
+
+impl<S: Side> Fore<S> {
+    /// Passes over at most so many clocks of this line, of a run without a side, if a unit of bitplane fetch
+    /// runs and everybody else is known to rest: as many calls of `advance` would log as much. The answer
+    /// says whether there were any. Memory may be wanted.
+    #[inline(never)]
+    pub(crate) fn pass_fetches(&mut self, limit: u64, most: u16) -> Result<bool, OutOfMemory>
+        requires underway { (first : ℕ) × (seen : RasterValue) × IsUnderway
+            (over S.seen self.old) first seen }
+        requires running { is_done (over S.seen self.old) ≡ false }
+        requires before { self.old.machine.t < limit }
+        requires inner { 0 < self.old.machine.beam.h }
+        requires open { self.old.log.band.from < self.old.machine.t }
+        requires side { S.seen self.old.machine.side ≡ no_side }
+        requires line { self.old.machine.beam.h + most ≤ 226 }
+        requires limit { self.old.machine.t + most ≤ limit }
+        requires due { (k : ℕ) → k < most → due_events (later_beam k self.old.machine.beam)
+            self.old.run.script.events ≡ [] }
+        ensures passed { OnOk result (HasPassed limit (over S.seen self.old)
+            (over S.seen self.new)) }
+        ensures some { IfOk result (λ some. some ≡ true → self.old.machine.t < self.new.machine.t) }
+        ensures none { IfOk result (λ some. some ≡ false → self.new ≡ self.old) }
+        ensures run { (over S.seen self.new).run ≡ (over S.seen self.old).run }
+        ensures reads { self.new.machine.chip.reads ≡ self.old.machine.chip.reads }
+        ensures spent { OnErr result (self.new.spent ≡ true) }
+    {
+        let machine = &self.machine;
+        let clocks = machine.chips.fetch_clocks(&machine.beam, machine.t, most);
+        let until = machine.t.saturating_add(clocks as u64);
+        self.lookout.note(until, clocks);
+        if clocks == 0 {
+            return Ok(false);
+        }
+        match fetch_in_line(&mut self.machine, &mut self.log, clocks) {
+            Ok(()) => Ok(true),
+            Err(refusal) => {
+                self.spent = true;
+                Err(refusal)
+            }
+        }
+    }
+}
+
+/// So many clocks of this line, at each of which a plane is fetched at most, while everybody else waits. The
+/// write that waited is an event of the band.
+fn fetch_in_line<S>(machine: &mut Machine<S>, log: &mut Log, clocks: u16) -> Result<(), OutOfMemory>
+    requires line { machine.old.beam.h + clocks ≤ 226 }
+    requires count { machine.old.t + clocks < 2 ^ 64 }
+    requires begun { IsLastUnit machine.old.chips.last }
+    requires rest { AreAtRest machine.old.beam machine.old.t clocks machine.old.chips }
+    ensures machine { OnOk result (HasFetched clocks machine.old machine.new) }
+    ensures log { OnOk result (log.new ≡ with_fetches clocks machine.old.beam machine.old.t
+        (fetching_in machine.old.chips) (with_waiting log.old)) }
+    ensures chip { machine.new.chip ≡ machine.old.chip }
+{
+    log.take_waiting()?;
+    let t = machine.t;
+    fetch_planes(machine, log, clocks)?;
+    machine.chips.rest(t, clocks);
+    Ok(())
+}
+
+/// The planes' part of so many clocks.
+#[inline(always)]
+fn fetch_planes<S>(machine: &mut Machine<S>, log: &mut Log, clocks: u16) -> Result<(), OutOfMemory>
+    requires line { machine.old.beam.h + clocks ≤ 226 }
+    requires count { machine.old.t + clocks < 2 ^ 64 }
+    requires begun { IsLastUnit machine.old.chips.last }
+    ensures machine { OnOk result (machine.new ≡ clocks_of_planes clocks machine.old) }
+    ensures log { OnOk result (log.new ≡ with_fetches clocks machine.old.beam machine.old.t
+        (fetching_in machine.old.chips) log.old) }
+    ensures chip { machine.new.chip ≡ machine.old.chip }
+{
+    let mut passed = 0;
+    while passed < clocks {
+        fetch_plane(machine, log)?;
+        passed += 1;
+    }
+    Ok(())
+}
+
+/// The planes' part of one clock: the plane that is fetched at it, if one is, and the beam's advance.
+#[inline(always)]
+fn fetch_plane<S>(machine: &mut Machine<S>, log: &mut Log) -> Result<(), OutOfMemory>
+    requires line { machine.old.beam.h < 226 }
+    requires count { machine.old.t + 1 < 2 ^ 64 }
+    requires begun { IsLastUnit machine.old.chips.last }
+    ensures machine { OnOk result (machine.new ≡ clock_of_planes machine.old) }
+    ensures log { OnOk result (log.new ≡ with_fetch machine.old.t
+        (ask_of_fetching machine.old.beam (fetching_in machine.old.chips)) log.old) }
+    ensures next { IsLastUnit machine.new.chips.last }
+    ensures chip { machine.new.chip ≡ machine.old.chip }
+{
+    if let Some(PlaneAsk { plane, at }) = machine.chips.fetch_plane(&machine.beam) {
+        log.note_access(machine.t, &Some(Touch::Plane { plane, at }))?;
+    }
+    machine.beam.h += 1;
+    machine.t += 1;
+    Ok(())
+}
