@@ -158,6 +158,20 @@ fn one_timer(rt: HostRuntime) {
     }
 }
 
+/// Timer A counts from a latch of 3, with its mask bit set: the line is active after the fourth tick, until
+/// ICR is read.
+#[test]
+fn an_underflow_under_its_mask(rt: HostRuntime) {
+    let mut cia = make_cia(&[(4, 0x03), (5, 0x00), (13, 0x81), (14, 0x11)]);
+    tick(&mut cia, 3);
+    assert_eq!(rt; cia.line(), false);
+    tick(&mut cia, 1);
+    assert_eq!(rt; cia.line(), true);
+    assert_eq!(rt; read(&mut cia, 13), 0x81);
+    assert_eq!(rt; read(&mut cia, 13), 0x00);
+    assert_eq!(rt; cia.line(), false);
+}
+
 /// Timer A from a latch of 1 underflows every second tick; timer B has a latch of 3.
 #[test]
 fn cascade(rt: HostRuntime) {

@@ -1,5 +1,7 @@
 //! Single loads; the positions are worked by hand from the clock of the write and the scrolls.
 
+ghost use Rattle.std.specs.Prelude.{◌≤◌};
+
 use planes::{Loads, plane_bits, plane_span};
 
 #[test]
@@ -58,6 +60,31 @@ fn a_span_of_positions(rt: HostRuntime) {
         bits,
         [0, 0, 0, 0, 1, 1, 1, 1, 1, 1, 1, 1, 0, 0, 0, 0, 0, 0, 0, 0]
     );
+}
+
+/// Whether 32 positions from one on are given at once as they are given one by one.
+fn is_each_position(loads: &Loads, from: u16) -> bool
+    requires { from ≤ 320 }
+{
+    let mut bits = [7; 32];
+    plane_span(loads, from, 1, &mut bits);
+    for i in 0..32 {
+        if bits[i] != plane_bits(loads, from + i as u16, 1) {
+            return false;
+        }
+    }
+    true
+}
+
+/// The first word of a line, loaded at clock 63 with a scroll of 15, begins at position 288; the second one
+/// 32 positions later.
+#[test]
+fn a_span_is_its_positions(rt: HostRuntime) {
+    let mut loads = Loads::new();
+    loads.load(63, &[0; 6], 0x000f, false);
+    loads.load(71, &[0x8000, 0, 0, 0, 0, 0], 0x000f, false);
+    assert!(rt; is_each_position(&loads, 288));
+    assert!(rt; is_each_position(&loads, 320));
 }
 
 #[test]
