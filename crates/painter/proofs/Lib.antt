@@ -3,6 +3,7 @@ pub mod Spreading
 pub mod OnceTable
 pub mod TwiceTable
 pub mod Loading
+pub mod Pairs
 pub mod Modifying
 pub mod Colours
 pub mod Beginning

@@ -20,3 +20,7 @@ pub record IsLineOf (line : Line) (loads : List Load) : Type 0 where
 -- the bits of the six planes, plane p as bit p - 1
 abbrev pub row_bits : Line → ℕ → ℕ
 row_bits line x = slice_index line.odd.shown x + 2 * slice_index line.even.shown x
+
+-- from position x on the bits of each two positions are the same
+abbrev pub ArePaired : Line → ℕ → Type 0
+ArePaired line x = (column : ℕ) → row_bits line (x + 2 * column) ≡ row_bits line (x + 2 * column + 1)

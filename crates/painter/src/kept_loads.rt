@@ -26,6 +26,7 @@ fn row_of(loads: &Loads, first: u8) -> Row
     Row {
         shown: bytes_of(loads, first),
         end: 1024,
+        paired: false,
     }
 }
 

@@ -17,7 +17,7 @@ pub struct Line {
 }
 
 impl Line {
-    ghost use Rattle.painter.specs.Line.{IsLineOf, row_bits};
+    ghost use Rattle.painter.specs.Line.{IsLineOf, ArePaired, row_bits};
 
     /// A line with no load.
     pub fn new() -> Line
@@ -47,9 +47,10 @@ impl Line {
         let [one, two, three, four, five, six] = *latches;
         let odd = spread(hires, one, three, five);
         let even = spread(hires, two, four, six);
-        self.odd.lay(start_at(h, con1, hires), odd.as_flattened());
+        self.odd
+            .lay(start_at(h, con1, hires), odd.as_flattened(), !hires);
         self.even
-            .lay(start_at(h, con1 / 16, hires), even.as_flattened());
+            .lay(start_at(h, con1 / 16, hires), even.as_flattened(), !hires);
     }
 
     /// Whether no load was laid at a high-resolution position or behind it, and so none shows a bit
@@ -71,6 +72,14 @@ impl Line {
         ((end + 3) / 4).saturating_sub(h as usize) as u16
     }
 
+    /// Whether from a high-resolution position on each two positions are known to show the same: those
+    /// of the low-resolution columns, where no load was in high resolution.
+    pub fn is_paired_from(&self, x: usize) -> bool
+        ensures { result ≡ true → ArePaired self.now x }
+    {
+        (x % 2 == 0) & self.odd.paired & self.even.paired
+    }
+
     /// The bits of all six planes at a high-resolution position, plane p as bit p - 1.
     pub fn bits(&self, x: usize) -> usize
         requires { x ≤ 1023 }
@@ -87,6 +96,7 @@ fn start_at(h: u16, scroll: u16, hires: bool) -> usize
     requires { h ≤ 227 }
     ensures value { result ≡ 4 * h + 6 + 2 * delay hires (scroll % 16) }
     ensures room { result ≤ 992 }
+    ensures even { result % 2 ≡ 0 }
 {
     let delay = if hires { scroll % 8 } else { scroll % 16 };
     4 * h as usize + 6 + 2 * delay as usize

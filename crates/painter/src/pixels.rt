@@ -1,9 +1,10 @@
 //! Two pixels of one low-resolution column.
 
-ghost use Rattle.std.specs.Prelude.{◌≡◌, ◌≤◌, ◌+◌, ◌*◌, ◌++◌, ℕ, length, slice_index, slice_set, take};
+ghost use Rattle.std.specs.Prelude.{◌≡◌, ◌≤◌, ◌+◌, ◌*◌, ◌++◌, ℕ, true, length, slice_index, slice_set, take};
 ghost use Rattle.serial_model.specs.Picture.{colour_bytes};
 ghost use Rattle.painter.specs.Held.{IsHeld};
 ghost use Rattle.painter.specs.Pixels.{ink_at, modified_at, modified_along, modified_pixels, all_modified};
+ghost use Rattle.painter.specs.Line.{row_bits, ArePaired};
 ghost use Rattle.painter.specs.SpanCode.{bytes_of_clocks, ink_pixels};
 
 use crate::ham::{bytes_of, modify, modify_again};
@@ -67,6 +68,64 @@ pub fn show_modified(
     second
 }
 
+/// The same where the bits of both positions are the same, and so make the same colour.
+#[inline(always)]
+fn show_pair(
+    inks: &Inks,
+    line: &Line,
+    held: Held,
+    x: usize,
+    at: usize,
+    into: &mut [[u8; 3]; 4],
+) -> Held
+    requires place { at ≤ 2 }
+    requires room { x ≤ 1022 }
+    requires pair { row_bits line.now x ≡ row_bits line.now (x + 1) }
+    ensures pixels { (colour : ℕ) → IsHeld held colour
+        → (let first = modified_at inks.now line.now x colour in
+        into.new ≡ slice_set (slice_set into.old at (colour_bytes first))
+        (at + 1) (colour_bytes (modified_at inks.now line.now (x + 1) first))) }
+    ensures held { (colour : ℕ) → IsHeld held colour
+        → (let first = modified_at inks.now line.now x colour in
+        IsHeld result (modified_at inks.now line.now (x + 1) first)) }
+{
+    let name = inks.name(line.bits(x));
+    let first = modify(name, held, inks);
+    let second = modify_again(name, name, first, inks);
+    into[at] = bytes_of(first);
+    into[at + 1] = bytes_of(second);
+    second
+}
+
+/// The same of positions whose bits may be known to be the same.
+#[inline(always)]
+fn show_two(
+    inks: &Inks,
+    line: &Line,
+    paired: bool,
+    held: Held,
+    x: usize,
+    at: usize,
+    into: &mut [[u8; 3]; 4],
+) -> Held
+    requires place { at ≤ 2 }
+    requires room { x ≤ 1022 }
+    requires pair { paired ≡ true → row_bits line.now x ≡ row_bits line.now (x + 1) }
+    ensures pixels { (colour : ℕ) → IsHeld held colour
+        → (let first = modified_at inks.now line.now x colour in
+        into.new ≡ slice_set (slice_set into.old at (colour_bytes first))
+        (at + 1) (colour_bytes (modified_at inks.now line.now (x + 1) first))) }
+    ensures held { (colour : ℕ) → IsHeld held colour
+        → (let first = modified_at inks.now line.now x colour in
+        IsHeld result (modified_at inks.now line.now (x + 1) first)) }
+{
+    if paired {
+        show_pair(inks, line, held, x, at, into)
+    } else {
+        show_modified(inks, line, held, x, at, into)
+    }
+}
+
 /// A pixel inside the display window where no colour is held: the ink that its bits name.
 #[inline(always)]
 pub fn ink_bytes(inks: &Inks, line: &Line, x: usize) -> [u8; 3]
@@ -76,12 +135,18 @@ pub fn ink_bytes(inks: &Inks, line: &Line, x: usize) -> [u8; 3]
     *inks.bytes(inks.name(line.bits(x)))
 }
 
-/// The four such pixels from a position on.
+/// The four such pixels from a position on, which may be known to be paired.
 #[inline(always)]
-fn ink_clock(inks: &Inks, line: &Line, x: usize) -> [[u8; 3]; 4]
-    requires { x ≤ 1020 }
+fn ink_clock(inks: &Inks, line: &Line, paired: bool, x: usize) -> [[u8; 3]; 4]
+    requires place { x ≤ 1020 }
+    requires pairs { paired ≡ true → ArePaired line.now x }
     ensures { result ≡ ink_pixels inks.now line.now x }
 {
+    if paired {
+        let first = ink_bytes(inks, line, x);
+        let second = ink_bytes(inks, line, x + 2);
+        return [first, first, second, second];
+    }
     [
         ink_bytes(inks, line, x),
         ink_bytes(inks, line, x + 1),
@@ -98,23 +163,32 @@ pub fn put_inks(room: &mut [u8], at: usize, inks: &Inks, line: &Line, x: usize, 
         ++ bytes_of_clocks (λ k. ink_pixels inks.now line.now (x + 4 * k)) count }
     ensures size { length room.new ≡ length room.old }
 {
+    let paired = line.is_paired_from(x);
     for clock in 0..count {
-        let pixels = ink_clock(inks, line, x + 4 * clock as usize);
+        let pixels = ink_clock(inks, line, paired, x + 4 * clock as usize);
         put(room, at + 12 * clock as usize, &pixels);
     }
 }
 
 /// The four pixels from a position on, inside the display window, in hold-and-modify; the last is held.
 #[inline(always)]
-fn modified_clock(inks: &Inks, line: &Line, held: Held, x: usize, into: &mut [[u8; 3]; 4]) -> Held
-    requires { x ≤ 1020 }
+fn modified_clock(
+    inks: &Inks,
+    line: &Line,
+    paired: bool,
+    held: Held,
+    x: usize,
+    into: &mut [[u8; 3]; 4],
+) -> Held
+    requires place { x ≤ 1020 }
+    requires pairs { paired ≡ true → ArePaired line.now x }
     ensures pixels { (colour : ℕ) → IsHeld held colour
         → into.new ≡ modified_pixels inks.now line.now x colour }
     ensures held { (colour : ℕ) → IsHeld held colour
         → IsHeld result (modified_along inks.now line.now x colour 4) }
 {
-    let second = show_modified(inks, line, held, x, 0, into);
-    show_modified(inks, line, second, x + 2, 2, into)
+    let second = show_two(inks, line, paired, held, x, 0, into);
+    show_two(inks, line, paired, second, x + 2, 2, into)
 }
 
 /// Puts so many clocks of such pixels into a room, from a position on; the last pixel is held.
@@ -136,10 +210,12 @@ pub fn put_modified(
         → IsHeld result (modified_along inks.now line.now x colour (4 * count)) }
     ensures size { length room.new ≡ length room.old }
 {
+    let paired = line.is_paired_from(x);
     let mut last = held;
     for clock in 0..count {
         let mut pixels = [[0; 3]; 4];
-        last = modified_clock(inks, line, last, x + 4 * clock as usize, &mut pixels);
+        let here = x + 4 * clock as usize;
+        last = modified_clock(inks, line, paired, last, here, &mut pixels);
         put(room, at + 12 * clock as usize, &pixels);
     }
     last

@@ -1,7 +1,7 @@
 //! What the planes of one parity show along a line.
 
-ghost use Rattle.std.specs.Prelude.{◌≡◌, ◌≤◌, ◌+◌, ℕ, true, nat_le, length, slice_index};
-ghost use Rattle.painter.specs.Row.{laid, cut_off};
+ghost use Rattle.std.specs.Prelude.{◌≡◌, ◌≤◌, ◌+◌, ◌%◌, ℕ, true, nat_le, length, slice_index};
+ghost use Rattle.painter.specs.Row.{laid, cut_off, IsPaired};
 
 /// How many high-resolution positions a row has: a line has 908, or 912 with NTSC, and a load may
 /// begin 36 after.
@@ -17,9 +17,13 @@ pub struct Row {
     pub shown: [u8; 1024],
     /// From here on nothing is shown.
     pub end: usize,
+    /// Whether only low-resolution loads were laid, so that the two positions of each low-resolution
+    /// column show the same. Only speed hangs on where that is not known.
+    pub paired: bool,
     pub ghost few: { (x : ℕ) → slice_index shown x ≤ 21 },
     pub ghost within: { end ≤ 1024 },
     pub ghost blank: { (x : ℕ) → end ≤ x → slice_index shown x ≡ 0 },
+    pub ghost pairs: { paired ≡ true → IsPaired shown },
 }
 
 impl Row {
@@ -31,6 +35,7 @@ impl Row {
         Row {
             shown: [0; PLACES],
             end: 0,
+            paired: true,
         }
     }
 
@@ -41,13 +46,17 @@ impl Row {
     {
         wipe(&mut self.shown, 0, self.end);
         self.end = 0;
+        self.paired = true;
     }
 
-    /// Shows these bytes from a position on, and nothing after them.
-    pub fn lay(&mut self, start: usize, bytes: &[u8])
+    /// Shows these bytes from a position on, and nothing after them. Those of a low-resolution load
+    /// come in pairs.
+    pub fn lay(&mut self, start: usize, bytes: &[u8], paired: bool)
         requires room { start ≤ 992 }
+        requires even { start % 2 ≡ 0 }
         requires size { length bytes.now ≡ 32 }
         requires few { (x : ℕ) → slice_index bytes.now x ≤ 21 }
+        requires pairs { paired ≡ true → IsPaired bytes.now }
         ensures shown { (x : ℕ) →
             slice_index self.new.shown x ≡ laid self.old.shown start bytes.now x }
         ensures end { self.new.end ≡ start + 32 }
@@ -55,6 +64,7 @@ impl Row {
         wipe(&mut self.shown, start + WIDTH, self.end);
         self.shown[start..start + WIDTH].copy_from_slice(bytes);
         self.end = start + WIDTH;
+        self.paired = self.paired & paired;
     }
 
     /// Whether no bytes were laid at a position or behind it, and so nothing is shown there.

@@ -1,6 +1,7 @@
 use Rattle.std.proofs.Common.{arith}
 use Rattle.painter.specs.Line.{Shows}
 use Rattle.painter.proofs.KeptLoads.{row_few, row_ends}
+use Rattle.painter.proofs.Pairs.{none_paired}
 use Rattle.painter.proofs.kept_loads.row_of.Goals as goal
 
 pub invariant_of-result : goal.invariant_of-result
@@ -8,6 +9,7 @@ invariant_of-result c = record {
   few = row_few c.args.first c.bytes_of.result c.args.loads.now c.bytes_of.ensures.long c.bytes_of.ensures.bytes;
   within = omega arith;
   blank = row_ends c.bytes_of.result c.bytes_of.ensures.long;
+  pairs = none_paired c.bytes_of.result;
 }
 
 pub returns : goal.returns

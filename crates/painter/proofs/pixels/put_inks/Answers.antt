@@ -1,6 +1,7 @@
 use Rattle.std.proofs.Common.{◌≡◌, ◌∙◌, ◌+◌, ◌*◌, ◌++◌, ℕ, take, subst, refl, arith}
 use Rattle.painter.specs.SpanCode.{bytes_of_clocks, ink_pixels}
 use Rattle.painter.proofs.Clocks.{none_put, one_put}
+use Rattle.painter.proofs.Pairs.{later_pairs}
 use Rattle.painter.proofs.pixels.put_inks.Goals as goal
 
 pub loop-clock-init : goal.loop-clock-init
@@ -8,6 +9,10 @@ loop-clock-init c = record {
   bytes = none_put c.args.at (λ (k : ℕ). ink_pixels c.args.inks.now c.args.line.now (c.args.x + 4 * k)) c.args.room.now;
   size = refl;
 }
+
+pub ink_clock-pixels-requires-clause-pairs : goal.ink_clock-pixels-requires-clause-pairs
+ink_clock-pixels-requires-clause-pairs c paired =
+    later_pairs c.args.line.now c.args.x c.loop-clock.clock (c.is_paired_from-paired.ensures paired)
 
 pub put-requires : goal.put-requires
 put-requires c = omega (arith, c.requires.room, c.loop-clock.invariant.size, c.loop-clock-test.true)

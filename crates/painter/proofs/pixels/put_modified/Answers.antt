@@ -4,6 +4,7 @@ use Rattle.painter.specs.Pixels.{modified_along, all_modified}
 use Rattle.painter.specs.SpanCode.{bytes_of_clocks}
 use Rattle.painter.proofs.Clocks.{none_put, one_put}
 use Rattle.painter.proofs.Modifying.{none_along, clock_more}
+use Rattle.painter.proofs.Pairs.{later_pairs}
 use Rattle.painter.proofs.pixels.put_modified.Goals as goal
 
 pub loop-clock-init : goal.loop-clock-init
@@ -12,6 +13,10 @@ loop-clock-init c = record {
   held = λ colour is. subst (IsHeld c.args.held) (none_along c.args.inks.now c.args.line.now c.args.x colour) is;
   size = refl;
 }
+
+pub modified_clock-last-requires-clause-pairs : goal.modified_clock-last-requires-clause-pairs
+modified_clock-last-requires-clause-pairs c paired =
+    later_pairs c.args.line.now c.args.x c.loop-clock.clock (c.is_paired_from-paired.ensures paired)
 
 pub put-requires : goal.put-requires
 put-requires c = omega (arith, c.requires.room, c.loop-clock.invariant.size, c.loop-clock-test.true)

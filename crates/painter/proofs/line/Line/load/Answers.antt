@@ -2,6 +2,7 @@ use Rattle.std.proofs.Common.{◌≡◌, ◌≤◌, ◌∙◌, ℕ, Bool, List, 
 use Rattle.planes.specs.declared.load.Load.{Load}
 use Rattle.planes.specs.PlaneBit.{load_of}
 use Rattle.painter.specs.Words.{spread_bits}
+use Rattle.painter.proofs.Pairs.{spread_paired}
 use Rattle.painter.proofs.Loading.{spread_at, spread_few, laid_shows}
 use Rattle.painter.proofs.line.Line.load.Goals as goal
 
@@ -13,6 +14,12 @@ lay-requires-clause-few c x = few_of _ _ _ _ _ x (c.as_flattened.ensures.value �
 
 pub lay-requires-2-clause-few : goal.lay-requires-2-clause-few
 lay-requires-2-clause-few c x = few_of _ _ _ _ _ x (c.as_flattened-2.ensures.value ∙ c.spread-even.ensures)
+
+pub lay-requires-clause-pairs : goal.lay-requires-clause-pairs
+lay-requires-clause-pairs c low = spread_paired _ _ _ _ _ (c.as_flattened.ensures.value ∙ c.spread-odd.ensures) low
+
+pub lay-requires-2-clause-pairs : goal.lay-requires-2-clause-pairs
+lay-requires-2-clause-pairs c low = spread_paired _ _ _ _ _ (c.as_flattened-2.ensures.value ∙ c.spread-even.ensures) low
 
 pub returns : goal.returns
 returns c loads is =

@@ -1,4 +1,4 @@
-use Rattle.std.proofs.Common.{ℕ, arith}
+use Rattle.std.proofs.Common.{ℕ, ◌+◌, ◌*◌, ◌∙◌, sym, arith}
 use Rattle.painter.proofs.Rows.{zeros}
 use Rattle.painter.proofs.row.Row.new.Goals as goal
 
@@ -7,4 +7,5 @@ invariant_of-result c = record {
   few = λ (x : ℕ). omega (arith, zeros 1024 x);
   within = omega arith;
   blank = λ (x : ℕ) h. zeros 1024 x;
+  pairs = λ is (column : ℕ). zeros 1024 (2 * column) ∙ sym (zeros 1024 (2 * column + 1));
 }
