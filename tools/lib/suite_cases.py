@@ -2,10 +2,8 @@
 from __future__ import annotations
 
 import hashlib
-import lzma
 import os
 import re
-import shlex
 from dataclasses import dataclass, field
 from typing import Iterator
 
@@ -14,8 +12,10 @@ from faults import BadFile, quoted
 # the files that a run may write, in the order in which they are told
 KINDS = ("frames", "trace", "memory", "audio")
 USUAL_COMMAND = "OCS run IMAGE SCRIPT FRAMES TRACE MEMORY 20 0"
-# bytes that are read at once; to compare few enough that they stay near the processor
-PIECE, COMPARED = 1 << 20, 1 << 16
+# bytes that are read at once
+PIECE = 1 << 20
+# bytes of a file that is small
+SMALL = 1 << 16
 SUM_LINE = re.compile(r"([0-9a-f]{64})  (\w+)")
 STATUS_LINE = re.compile(r"# status (\d{1,3})")
 SAID = "# said "
@@ -41,6 +41,8 @@ class Case:
         if "command" not in self.files:
             return USUAL_COMMAND.split()
         place = os.path.join(self.folder, "command")
+        import shlex
+
         try:
             words = shlex.split(read_text(place), comments=True)
         except ValueError as fault:
@@ -77,12 +79,25 @@ class Golden:
         return "\n".join([*lines, *(f"{value}  {kind}" for kind, value in self.sums.items())]) + "\n"
 
 
+def read_bytes(place: str) -> bytes:
+    """A small file, which is read by fewer calls than `open` makes."""
+    file = os.open(place, os.O_RDONLY)
+    try:
+        data = piece = os.read(file, SMALL)
+        while len(piece) == SMALL:
+            piece = os.read(file, SMALL)
+            data += piece
+        return data
+    except OSError as fault:
+        raise OSError(fault.errno, fault.strerror, place) from None
+    finally:
+        os.close(file)
+
+
 def read_text(place: str) -> str:
     """A small text file."""
-    with open(place, "rb", buffering=0) as file:
-        data = file.read()
     try:
-        return data.decode("utf-8")
+        return read_bytes(place).decode("utf-8")
     except UnicodeDecodeError:
         raise BadFile(place, "is not UTF-8") from None
 
@@ -131,7 +146,19 @@ def cases_in(folder: str, before: str, out: int | None) -> Iterator[Case]:
 
 def pieces(place: str) -> Iterator[bytes]:
     """The bytes of a file, piece by piece; what ends in .xz is unpacked on the way."""
-    with lzma.open(place) if place.endswith(".xz") else open(place, "rb") as file:
+    if place.endswith(".xz"):
+        yield from unpacked_pieces(place)
+        return
+    with open(place, "rb") as file:
+        while piece := file.read(PIECE):
+            yield piece
+
+
+def unpacked_pieces(place: str) -> Iterator[bytes]:
+    """The bytes of a file that xz has packed, piece by piece."""
+    import lzma
+
+    with lzma.open(place) as file:
         try:
             while piece := file.read(PIECE):
                 yield piece
@@ -152,12 +179,3 @@ def sum_of(place: str) -> str:
     for piece in pieces(place):
         total.update(piece)
     return total.hexdigest()
-
-
-def same_bytes(left: str, right: str) -> bool:
-    """Whether two files of one size have the same bytes."""
-    with open(left, "rb", buffering=0) as one, open(right, "rb", buffering=0) as other:
-        while piece := one.read(COMPARED):
-            if piece != other.read(COMPARED):
-                return False
-    return True

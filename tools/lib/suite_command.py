@@ -3,15 +3,17 @@ from __future__ import annotations
 
 import functools
 import os
-import select
 import signal
 import time
 from dataclasses import dataclass
+from typing import NoReturn
 
 from faults import BadFile
 
 # of a command's text so many bytes are read
 MOST_READ = 1 << 16
+# no timer is set for more seconds
+LONGEST = 10**8
 # what a process of a suite leaves aside, and a command does not
 SIGNALS = (signal.SIGINT, signal.SIGPIPE, signal.SIGXFSZ)
 
@@ -63,16 +65,30 @@ def start(words: list[str], folder: str, said: int) -> int:
         os.close(before)
 
 
+class TimeIsOver(Exception):
+    """A command's time is over."""
+
+
+def tell_time(*unused: object) -> NoReturn:
+    raise TimeIsOver
+
+
 def wait(process: int, limit: float) -> tuple[int, bool, float]:
     """Waits until a process ends, or ends it when its time is over; gives its status, whether it ended in time, and the
-    seconds of processors.
+    seconds of processors. The process stays until it is asked for these, so that no other one has its number.
     """
-    handle, in_time = os.pidfd_open(process), False
+    in_time = False
+    signal.signal(signal.SIGALRM, tell_time)
     try:
-        in_time = bool(select.select([handle], [], [], limit)[0])
+        signal.setitimer(signal.ITIMER_REAL, min(limit, LONGEST))
+        os.waitid(os.P_PID, process, os.WEXITED | os.WNOWAIT)
+        signal.setitimer(signal.ITIMER_REAL, 0)
+        in_time = True
+    except TimeIsOver:
+        pass
     finally:
-        os.close(handle)
         if not in_time:
+            signal.setitimer(signal.ITIMER_REAL, 0)
             os.killpg(process, signal.SIGKILL)
         _, status, used = os.wait4(process, 0)
     return os.waitstatus_to_exitcode(status), in_time, used.ru_utime + used.ru_stime

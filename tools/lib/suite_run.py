@@ -1,16 +1,16 @@
 """Runs the cases of a suite, and compares what they give with what they must give."""
 from __future__ import annotations
 
+import contextlib
 import json
-import lzma
 import os
-import shutil
 import signal
 from dataclasses import dataclass, field
 
 from faults import BadFile
-from suite_cases import KINDS, Case, Golden, read_golden, read_text, same_bytes, sum_of, unpack
+from suite_cases import KINDS, Case, Golden, read_bytes, read_golden, sum_of, unpack
 from suite_command import run_command
+from suite_pieces import Pieces, sums_of_pieces
 
 PASSED, ACCEPTED, DIFFERS, NEW, FAILED = "passed", "accepted", "differs", "new", "failed"
 GOOD = (PASSED, ACCEPTED)
@@ -23,11 +23,12 @@ NAMES = {kind.upper(): kind for kind in KINDS}
 
 @dataclass
 class Stored:
-    """A file that a passing run left: its sum, and by what it is known to be the same file still."""
+    """A file that a passing run left: its sum and those of its pieces, and by what it is known to be the same file still."""
 
     sum: str
     size: int
     time: int
+    pieces: list[str]
 
 
 @dataclass
@@ -46,9 +47,17 @@ class Result:
 
 
 @dataclass
+class Known:
+    """What is known of a case before it runs: its last result, and the bytes of its golden; None where there is none."""
+
+    before: Result | None
+    golden: bytes | None
+
+
+@dataclass
 class Suite:
-    """How cases are run: the program, the folder of what comes out, seconds a case may take, bytes it may leave; and
-    whether what comes out is accepted, and kept whole.
+    """How cases are run: the program, the folder of what comes out, seconds a case may take, bytes it may leave; whether
+    what comes out is accepted, and kept whole; and pieces of files at hand.
     """
 
     program: str
@@ -57,6 +66,7 @@ class Suite:
     most_stored: int
     accepts: bool = False
     keeps: bool = False
+    pieces: Pieces = field(default_factory=Pieces)
 
     def place(self, case: Case, *names: str) -> str:
         """A file or folder of what comes out of a case."""
@@ -66,19 +76,27 @@ class Suite:
 def read_result(suite: Suite, case: Case) -> Result | None:
     """The case's last result; None where there is none that can be read."""
     try:
-        with open(suite.place(case, RESULT), "rb", buffering=0) as file:
-            data = json.loads(file.read())
+        data = json.loads(read_bytes(suite.place(case, RESULT)).decode("ascii"))
         data["stored"] = {kind: Stored(**one) for kind, one in data["stored"].items()}
         return Result(**data)
     except (OSError, ValueError, TypeError, KeyError, AttributeError):
         return None
 
 
+def known_of(suite: Suite, case: Case) -> Known:
+    """What is known of a case. A golden that cannot be read is None here, and told where it is looked at."""
+    golden = None
+    if "golden" in case.files:
+        with contextlib.suppress(OSError):
+            golden = read_bytes(os.path.join(case.folder, "golden"))
+    return Known(read_result(suite, case), golden)
+
+
 def read_stored(suite: Suite, case: Case) -> dict[str, Stored]:
     """What is known of the stored files where the result is gone: who plans by files removes it before a run."""
     try:
-        with open(suite.place(case, "passed", STORED), "rb") as file:
-            return {kind: Stored(**one) for kind, one in json.loads(file.read()).items()}
+        data = json.loads(read_bytes(suite.place(case, "passed", STORED)))
+        return {kind: Stored(**one) for kind, one in data.items()}
     except (OSError, ValueError, TypeError, AttributeError):
         return {}
 
@@ -101,15 +119,15 @@ def write_json(place: str, data: object) -> None:
     os.replace(place + ".new", place)
 
 
-def run_case(suite: Suite, case: Case) -> Result:
+def run_case(suite: Suite, case: Case, known: Known) -> Result:
     """Runs a case and compares it; whatever is wrong with it is in the result, which is written too."""
-    before = read_result(suite, case)
+    before = known.before
     result = Result(case.name, stored=dict(before.stored) if before else read_stored(suite, case))
     try:
         clear(suite.place(case, "now"))
         run_program(suite, case, result)
         if result.verdict != FAILED:
-            judge(suite, case, result)
+            judge(suite, case, result, known.golden)
     except (BadFile, OSError) as fault:
         result.verdict, result.said = FAILED, [fault_text(fault)]
     try:
@@ -151,7 +169,9 @@ def ready(suite: Suite, case: Case, name: str) -> str:
     made = suite.place(case, name)
     if not os.path.exists(made) or os.stat(made).st_mtime_ns != os.stat(place).st_mtime_ns:
         unpack(place, made)
-        shutil.copystat(place, made)
+        from shutil import copystat
+
+        copystat(place, made)
     return made
 
 
@@ -184,13 +204,15 @@ def run_program(suite: Suite, case: Case, result: Result) -> None:
         result.verdict = DIFFERS
 
 
-def judge(suite: Suite, case: Case, result: Result) -> None:
-    """Compares what came out with what must come out, and keeps or removes it."""
+def judge(suite: Suite, case: Case, result: Result, text: bytes | None) -> None:
+    """Compares what came out with what must come out, by the bytes of the golden at once where that can be, and keeps or
+    removes it.
+    """
     came = files_in(suite, case, "now")
     kept = {kind: old for kind, old in result.stored.items() if is_as_stored(suite.place(case, "passed", kind), old)}
     result.sums = {kind: sum_by_store(suite, case, kind, size, kept.get(kind)) for kind, size in came.items()}
     golden = None
-    if met_at_once(case, result):
+    if met_at_once(case, result, text):
         result.verdict = PASSED
     else:
         golden = golden_of(case)
@@ -203,20 +225,13 @@ def judge(suite: Suite, case: Case, result: Result) -> None:
 
 def files_in(suite: Suite, case: Case, folder: str) -> dict[str, int]:
     """The files of a run that are in a folder of what comes out, with their bytes."""
-    found = {}
-    for kind in KINDS:
-        try:
-            found[kind] = os.stat(suite.place(case, folder, kind)).st_size
-        except FileNotFoundError:
-            pass
-    return found
+    names = os.listdir(suite.place(case, folder))
+    return {kind: os.stat(suite.place(case, folder, kind)).st_size for kind in KINDS if kind in names}
 
 
-def met_at_once(case: Case, result: Result) -> bool:
+def met_at_once(case: Case, result: Result, golden: bytes | None) -> bool:
     """Whether the golden says exactly what came, word for word; where not, it may still be met."""
-    if "golden" not in case.files or "kept" in case.files:
-        return False
-    return read_text(os.path.join(case.folder, "golden")) == came_of(result).text()
+    return "kept" not in case.files and golden == came_of(result).text().encode("utf-8")
 
 
 def came_of(result: Result) -> Golden:
@@ -267,7 +282,7 @@ def is_as_stored(place: str, stored: Stored) -> bool:
 def sum_by_store(suite: Suite, case: Case, kind: str, size: int, kept: Stored | None) -> str:
     """The SHA-256 of a file: that of the stored one where both have the same bytes, which is quicker to find out."""
     place = suite.place(case, "now", kind)
-    if kept and size == kept.size and same_bytes(place, suite.place(case, "passed", kind)):
+    if kept and size == kept.size and suite.pieces.are_same(place, size, suite.place(case, "passed", kind), kept.pieces):
         return kept.sum
     return sum_of(place)
 
@@ -303,7 +318,7 @@ def move(place: str, to: str, sum: str) -> Stored:
     """Moves a file of a passing run; gives what is known of it then."""
     os.replace(place, to)
     found = os.stat(to)
-    return Stored(sum, found.st_size, found.st_mtime_ns)
+    return Stored(sum, found.st_size, found.st_mtime_ns, sums_of_pieces(to))
 
 
 def remove(place: str) -> None:
@@ -335,6 +350,9 @@ def keep_file(suite: Suite, case: Case, kind: str, result: Result) -> None:
         remove(os.path.join(folder, name))
     if kind not in result.sums:
         return
+    import lzma
+    import shutil
+
     os.makedirs(folder, exist_ok=True)
     place = os.path.join(folder, kind + ".xz")
     with open(suite.place(case, "now", kind), "rb") as file, lzma.open(place + ".new", "wb") as packed:

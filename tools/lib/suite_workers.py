@@ -1,24 +1,26 @@
-"""Processes that run the cases of a suite, each one case after another. The first process hands out the cases' numbers, a few
-more than run at once, so that none waits for its next one."""
+"""Processes that run the cases of a suite, each one case after another. The first process hands out the cases' numbers, as many
+at once as a pipe holds. What passed is written into memory that all share, and read at the end; the rest comes at once."""
 from __future__ import annotations
 
-import itertools
+import fcntl
+import gc
 import os
-import pickle
 import select
 import signal
+import struct
 import sys
-import traceback
 from dataclasses import dataclass
 from typing import Callable, Iterator, NoReturn
 
 from suite_cases import Case
-from suite_run import Result, Suite, run_case
+from suite_run import PASSED, Known, Result, Suite, known_of, run_case
 
 # bytes of a case's number, and of a result's length
 NUMBER = 4
-# numbers that lie ready beside those of the cases that run
-READY = 4
+# a case that passed: its number, its seconds by the clock, and those of the processor
+PASS = struct.Struct("<Idd")
+# of so many cases it is read at once, before the first runs, what is known: that takes less than between two runs
+MOST_KNOWN = 5000
 
 
 @dataclass(frozen=True)
@@ -33,15 +35,15 @@ class Numbers:
     """The numbers of the cases, which are handed out through a pipe; it is closed when none is left."""
 
     def __init__(self, count: int) -> None:
-        self.left: Iterator[int] = iter(range(count))
+        self.left = b"".join(number.to_bytes(NUMBER, "little") for number in range(count))
         self.taken, self.handed = os.pipe()
         self.open = True
 
-    def hand_out(self, most: int) -> None:
-        numbers = [number.to_bytes(NUMBER, "little") for number in itertools.islice(self.left, most)]
-        if numbers:
-            os.write(self.handed, b"".join(numbers))
-        elif self.open:
+    def hand_out(self) -> None:
+        """Hands out numbers, where the pipe has room for some; closes it behind the last."""
+        os.write(self.handed, self.left[: select.PIPE_BUF])
+        self.left = self.left[select.PIPE_BUF :]
+        if not self.left:
             self.close()
 
     def close(self) -> None:
@@ -49,20 +51,40 @@ class Numbers:
         os.close(self.handed)
 
 
+class Passes:
+    """The cases that passed, in memory that all processes append to: what one wrote stays when it is ended."""
+
+    def __init__(self) -> None:
+        self.file = os.memfd_create("passes")
+        fcntl.fcntl(self.file, fcntl.F_SETFL, os.O_APPEND)
+
+    def add(self, number: int, result: Result) -> None:
+        os.write(self.file, PASS.pack(number, result.seconds, result.program))
+
+    def results(self, cases: list[Case]) -> Iterator[Result]:
+        size = os.fstat(self.file).st_size // PASS.size * PASS.size
+        for number, seconds, program in PASS.iter_unpack(os.pread(self.file, size, 0)):
+            yield Result(cases[number].name, PASSED, seconds=seconds, program=program)
+
+
 def interrupt(*unused: object) -> NoReturn:
     raise KeyboardInterrupt
 
 
 def results_of(suite: Suite, cases: list[Case], jobs: int) -> Iterator[Result]:
-    """The results of cases as they come, so many run at once. Where this is left before, nothing runs on."""
+    """The results of cases, so many run at once: what did not pass as it comes, and then the rest. Where this is left before,
+    nothing runs on.
+    """
     signal.signal(signal.SIGTERM, interrupt)
-    numbers = Numbers(len(cases))
+    numbers, passes = Numbers(len(cases)), Passes()
+    known = [known_of(suite, case) for case in cases[:MOST_KNOWN]]
+    gc.freeze()
     workers: list[Worker] = []
     try:
         while len(workers) < min(jobs, len(cases)):
-            workers.append(begin(numbers, lambda results: work(suite, cases, numbers.taken, results)))
-        numbers.hand_out(len(workers) + READY)
+            workers.append(begin(numbers, lambda results: work(suite, cases, known, numbers.taken, passes, results)))
         yield from results_in(workers, numbers)
+        yield from passes.results(cases)
     finally:
         for worker in workers:
             os.kill(worker.process, signal.SIGTERM)
@@ -83,6 +105,8 @@ def begin(numbers: Numbers, run: Callable[[int], None]) -> Worker:
     except (SystemExit, KeyboardInterrupt):
         pass
     except BaseException:
+        import traceback
+
         traceback.print_exc()
     finally:
         # what the first process has to do at its end is not done here
@@ -90,16 +114,22 @@ def begin(numbers: Numbers, run: Callable[[int], None]) -> Worker:
 
 
 def results_in(workers: list[Worker], numbers: Numbers) -> Iterator[Result]:
-    """What comes through the pipes, until all are closed; for each result one more number is handed out."""
+    """What comes through the pipes, until all are closed; numbers are handed out whenever there is room for some."""
     poll, running = select.poll(), len(workers)
     for worker in workers:
         poll.register(worker.results, select.POLLIN)
+    poll.register(numbers.handed, select.POLLOUT)
     while running:
         for pipe, _ in poll.poll():
+            if numbers.open and pipe == numbers.handed:
+                poll.unregister(pipe)
+                numbers.hand_out()
+                if numbers.open:
+                    poll.register(pipe, select.POLLOUT)
+                continue
             data = message(pipe)
             if data:
-                numbers.hand_out(1)
-                yield pickle.loads(data)
+                yield unpickled(data)
             else:
                 poll.unregister(pipe)
                 running -= 1
@@ -112,6 +142,12 @@ def message(pipe: int) -> bytes:
     return data if len(data) == length else b""
 
 
+def unpickled(data: bytes) -> Result:
+    import pickle
+
+    return pickle.loads(data)
+
+
 def read(pipe: int, count: int) -> bytes:
     """So many bytes, or those that come before the pipe's end."""
     data = b""
@@ -120,12 +156,24 @@ def read(pipe: int, count: int) -> bytes:
     return data
 
 
-def work(suite: Suite, cases: list[Case], taken: int, results: int) -> None:
+def work(suite: Suite, cases: list[Case], known: list[Known], taken: int, passes: Passes, results: int) -> None:
     """Runs the cases whose numbers come. The first process alone answers the keyboard, and ends the others."""
     signal.signal(signal.SIGINT, signal.SIG_IGN)
     signal.signal(signal.SIGTERM, lambda *unused: sys.exit())
-    with open(results, "wb") as pipe:
-        while number := os.read(taken, NUMBER):
-            data = pickle.dumps(run_case(suite, cases[int.from_bytes(number, "little")]))
-            pipe.write(len(data).to_bytes(NUMBER, "little") + data)
-            pipe.flush()
+    while data := os.read(taken, NUMBER):
+        number = int.from_bytes(data, "little")
+        case = cases[number]
+        result = run_case(suite, case, known[number] if number < len(known) else known_of(suite, case))
+        if result.verdict == PASSED:
+            passes.add(number, result)
+        else:
+            send(result, results)
+
+
+def send(result: Result, results: int) -> None:
+    """Writes a result into a pipe, with its length before it."""
+    import pickle
+
+    data = pickle.dumps(result)
+    with open(results, "wb", closefd=False) as pipe:
+        pipe.write(len(data).to_bytes(NUMBER, "little") + data)
