@@ -12,6 +12,8 @@ ADF_BYTES = CYLINDERS * HEADS * TRACK_BYTES
 
 def check_disk(path: str) -> None:
     """BadFile where a file is not as long as the image of a disk."""
+    if os.path.isdir(path):
+        raise BadFile(path, "is a directory")
     size = os.path.getsize(path)
     if size != ADF_BYTES:
         raise BadFile(path, f"has {size:,} bytes: a disk has {ADF_BYTES:,}")

@@ -8,6 +8,8 @@ import sys
 from typing import Callable, NoReturn
 
 UNUSABLE = 2
+# signals that end a tool, which takes away first what it has made beside: a terminal that closes is SIGHUP
+ENDING = (signal.SIGTERM, signal.SIGHUP)
 QUOTED = 32
 
 
@@ -16,6 +18,18 @@ class BadFile(Exception):
 
     def __init__(self, path: str, wrong: str) -> None:
         super().__init__(f"{path}: {wrong}")
+
+
+class Ended(KeyboardInterrupt):
+    """A signal that ends the tool."""
+
+    def __init__(self, number: int) -> None:
+        super().__init__()
+        self.number = signal.Signals(number)
+
+
+def end_tidily(number: int, *unused: object) -> NoReturn:
+    raise Ended(number)
 
 
 def plural(count: int, word: str) -> str:
@@ -41,7 +55,12 @@ def stop(tool: str, fault: Exception) -> NoReturn:
 
 
 def run_tool(tool: str, main: Callable[[], None]) -> None:
-    """Runs a tool. What stops it is said in one line; after an interrupt nothing is said, and it ends by that signal."""
+    """Runs a tool. What stops it is said in one line; after an interrupt or a signal that ends it nothing is said, and it
+    ends by that signal.
+    """
+    for number in ENDING:
+        if signal.getsignal(number) == signal.SIG_DFL:
+            signal.signal(number, end_tidily)
     if sys.stdout is None:
         sys.stdout = open(os.devnull, "w", encoding="utf-8")
     # names of files are bytes: they are said as they are
@@ -49,6 +68,8 @@ def run_tool(tool: str, main: Callable[[], None]) -> None:
     try:
         main()
         sys.stdout.flush()
+    except Ended as ended:
+        end_by(ended.number)
     except KeyboardInterrupt:
         end_by(signal.SIGINT)
     except BrokenPipeError:

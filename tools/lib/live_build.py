@@ -2,12 +2,13 @@
 from __future__ import annotations
 
 import os
+import re
 import shutil
 import subprocess
 from dataclasses import dataclass, field
 
 from copper_text import read_copper
-from faults import BadFile
+from faults import BadFile, plural
 from frames import System
 from program import TOP
 from script_reader import USUAL_CHIP, head_lines
@@ -18,6 +19,9 @@ GCC = """-m68000 -O2 -ffreestanding -fno-pic -fomit-frame-pointer -fno-tree-loop
 -Wl,--build-id=none""".split()
 COPPER_ENDS, ASSEMBLER_ENDS = (".copper", ".txt"), (".s", ".S", ".asm")
 MOST_TOLD = 20
+LEAST_IMAGE = 8
+# a text has none of these bytes; of a file so many are looked at
+CONTROLS, LOOKED_AT = re.compile(rb"[^\t\n\r\x20-\xff]"), 1 << 16
 
 
 @dataclass
@@ -38,13 +42,30 @@ class Source:
         return [self.path, *([self.script] if self.script else []), *self.read]
 
 
+def is_copper(path: str) -> bool:
+    """Whether a file is a text for Copper lists: by its name's end, else where it is a text at all, as no image is."""
+    end = os.path.splitext(path)[1]
+    if end in COPPER_ENDS or end in (*ASSEMBLER_ENDS, ".c"):
+        return end in COPPER_ENDS
+    with open(path, "rb") as file:
+        data = file.read(LOOKED_AT)
+    return bool(data) and not CONTROLS.search(data)
+
+
+def check_size(path: str) -> None:
+    """BadFile where a file is too short for an image, or of an odd size."""
+    size = os.path.getsize(path)
+    if size < LEAST_IMAGE or size % 2:
+        raise BadFile(path, f"is no image: it has {plural(size, 'byte')}, and an image an even number from {LEAST_IMAGE} on")
+
+
 def build(source: Source, folder: str) -> tuple[str, str]:
     """Makes image and script in a folder; gives their places. BadFile says what is wrong with the source."""
     end = os.path.splitext(source.path)[1]
     image, made = os.path.join(folder, "image"), os.path.join(folder, "script")
     text = "\n".join([*head_lines("on", source.frames, source.system, source.chip), "end"]) + "\n"
     source.read = []
-    if end in COPPER_ENDS:
+    if is_copper(source.path):
         copper = read_copper(source.path)
         source.read = copper.files
         write(image, copper.image())
@@ -55,6 +76,7 @@ def build(source: Source, folder: str) -> tuple[str, str]:
         compile_c(source, folder, image)
     else:
         shutil.copyfile(source.path, image)
+        check_size(source.path)
     if source.script:
         return image, source.script
     write(made, text.encode("ascii"))

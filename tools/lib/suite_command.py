@@ -3,17 +3,15 @@ from __future__ import annotations
 
 import functools
 import os
+import select
 import signal
 import time
 from dataclasses import dataclass
-from typing import NoReturn
 
 from faults import BadFile
 
 # of a command's text so many bytes are read
 MOST_READ = 1 << 16
-# no timer is set for more seconds
-LONGEST = 10**8
 # what a process of a suite leaves aside, and a command does not
 SIGNALS = (signal.SIGINT, signal.SIGPIPE, signal.SIGXFSZ)
 
@@ -32,9 +30,9 @@ class Ended:
 
 
 @functools.cache
-def environment() -> dict[str, str]:
-    """What a command has of the environment, read once: that takes longer than a command's start."""
-    return dict(os.environ)
+def environment() -> dict[bytes, bytes]:
+    """What a command has of the environment, read once and as it is handed on."""
+    return dict(os.environb)
 
 
 def run_command(words: list[str], folder: str, limit: float) -> Ended:
@@ -65,30 +63,16 @@ def start(words: list[str], folder: str, said: int) -> int:
         os.close(before)
 
 
-class TimeIsOver(Exception):
-    """A command's time is over."""
-
-
-def tell_time(*unused: object) -> NoReturn:
-    raise TimeIsOver
-
-
 def wait(process: int, limit: float) -> tuple[int, bool, float]:
     """Waits until a process ends, or ends it when its time is over; gives its status, whether it ended in time, and the
-    seconds of processors. The process stays until it is asked for these, so that no other one has its number.
+    seconds of processors.
     """
-    in_time = False
-    signal.signal(signal.SIGALRM, tell_time)
+    handle, in_time = os.pidfd_open(process), False
     try:
-        signal.setitimer(signal.ITIMER_REAL, min(limit, LONGEST))
-        os.waitid(os.P_PID, process, os.WEXITED | os.WNOWAIT)
-        signal.setitimer(signal.ITIMER_REAL, 0)
-        in_time = True
-    except TimeIsOver:
-        pass
+        in_time = bool(select.select([handle], [], [], limit)[0])
     finally:
+        os.close(handle)
         if not in_time:
-            signal.setitimer(signal.ITIMER_REAL, 0)
             os.killpg(process, signal.SIGKILL)
         _, status, used = os.wait4(process, 0)
     return os.waitstatus_to_exitcode(status), in_time, used.ru_utime + used.ru_stime

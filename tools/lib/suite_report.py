@@ -4,11 +4,9 @@ from __future__ import annotations
 import os
 import re
 
-from compare_page import fill_page
 from faults import BadFile, plural
 from page import escaped, fill, json_text
 from suite_cases import Case
-from suite_differences import comparison
 from suite_run import DIFFERS, FAILED, GOOD, NEW, Result, Suite, expected, golden_of
 
 PAGE, XML = "report.html", "junit.xml"
@@ -44,7 +42,7 @@ def page(suite: Suite, cases: list[Case], results: list[Result]) -> str:
         })
     differing = sum(result.verdict == DIFFERS for result in results)
     note = f"Of {plural(differing, 'case')} that differ the first {MOST_PICTURES} are shown." if differing > pictures else ""
-    data = {"cases": rows, "page": fill_page(**MARKS)}
+    data = {"cases": rows, "page": comparing_page() if pictures else ""}
     bad = sum(result.verdict not in GOOD for result in results)
     places = {
         "title": escaped(f"{os.path.basename(os.path.dirname(suite.out))}: {plural(len(results), 'case')}"),
@@ -56,8 +54,17 @@ def page(suite: Suite, cases: list[Case], results: list[Result]) -> str:
     return fill("suite.html", ("common.css", "suite.css"), ("suite.js",), places)
 
 
+def comparing_page() -> str:
+    """The page of a comparison, into which a case's data are put when it is looked at."""
+    from compare_page import fill_page
+
+    return fill_page(**MARKS)
+
+
 def shown_of(suite: Suite, case: Case, result: Result) -> dict[str, object] | None:
     """What the page of a case's comparison reads; None where its files cannot be compared."""
+    from suite_differences import comparison
+
     try:
         golden = golden_of(case)
         if golden is None:

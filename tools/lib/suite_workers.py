@@ -10,7 +10,7 @@ import signal
 import struct
 import sys
 from dataclasses import dataclass
-from typing import Callable, Iterator, NoReturn
+from typing import Callable, Iterator
 
 from suite_cases import Case
 from suite_run import PASSED, Known, Result, Suite, known_of, run_case
@@ -67,18 +67,16 @@ class Passes:
             yield Result(cases[number].name, PASSED, seconds=seconds, program=program)
 
 
-def interrupt(*unused: object) -> NoReturn:
-    raise KeyboardInterrupt
-
-
 def results_of(suite: Suite, cases: list[Case], jobs: int) -> Iterator[Result]:
     """The results of cases, so many run at once: what did not pass as it comes, and then the rest. Where this is left before,
     nothing runs on.
     """
-    signal.signal(signal.SIGTERM, interrupt)
     numbers, passes = Numbers(len(cases)), Passes()
+    # what is made here stays: nothing of it is looked for to be thrown away
+    gc.disable()
     known = [known_of(suite, case) for case in cases[:MOST_KNOWN]]
     gc.freeze()
+    gc.enable()
     workers: list[Worker] = []
     try:
         while len(workers) < min(jobs, len(cases)):

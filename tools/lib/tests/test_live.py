@@ -3,11 +3,13 @@ from __future__ import annotations
 
 import os
 import shutil
+import signal
 import subprocess
 import time
 import unittest
 import urllib.error
 import urllib.request
+from unittest import mock
 
 from browser import Browser, BrowserFault, find_browser
 from faults import BadFile
@@ -86,6 +88,27 @@ class LiveTest(Tools):
         self.wait_for(address, "0 44 100 W 180 1234 C")
         self.write("data", b"\x56\x78")
         self.wait_for(address, "0 44 100 W 180 5678 C")
+
+    def test_a_text_of_any_name(self) -> None:
+        """It is a Copper list, with a script of its own: none that is beside it."""
+        self.write("script", "ocs 1\ncpu on\nframes 1\nend\n")
+        self.write("bars", "# red\nmove COLOR00 f00\n")
+        address = self.start("bars")
+        self.wait_for(address, "0 44 100 W 180 0f00 C")
+        self.write("bars", "")
+        self.wait_for(address, "bars: is no image: it has 0 bytes, and an image an even number from 8 on")
+
+    def test_what_ends_it_leaves_nothing(self) -> None:
+        self.write("list.copper", "move COLOR00 f00\n")
+        made = self.place("made")
+        os.mkdir(made)
+        for number in (signal.SIGTERM, signal.SIGHUP, signal.SIGINT):
+            with mock.patch.dict(os.environ, TMPDIR=made):
+                self.wait_for(self.start("list.copper"), "0 44 100 W 180 0f00 C")
+            self.assertEqual(len(os.listdir(made)), 1)
+            self.live.send_signal(number)
+            self.assertEqual(self.live.wait(timeout=SECONDS), -number)
+            self.assertEqual(os.listdir(made), [])
 
     def test_an_image_and_its_script(self) -> None:
         self.write("image", bytes(0x102) + b"\x0a\xbc")

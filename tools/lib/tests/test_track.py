@@ -123,6 +123,7 @@ class TrackTest(Tools):
         refusals = {
             ("absent.adf", "0", "0", "t"): "absent.adf: no such file or directory",
             ("short.adf", "0", "0", "kept", "--force"): "short.adf: has 1,000 bytes: a disk has 901,120",
+            (".", "0", "0", "kept", "--force"): ".: is a directory",
             ("a.adf", "80", "0", "t"): "argument CYLINDER: '80' is not a number from 0 to 79",
             ("a.adf", "0", "2", "t"): "argument HEAD: '2' is not a number from 0 to 1",
             ("a.adf", "0", "0", "kept"): "kept: is there already; --force overwrites it",
