@@ -7,10 +7,11 @@ import shutil
 import subprocess
 import tempfile
 import time
+from typing import Callable, Sequence
 
 from frames import NTSC, PAL, System
 from script_reader import USUAL_CHIP
-from uae_boot import boot_rom
+from uae_boot import Poke, boot_rom
 
 PROGRAMS = {"fs-uae": "fs-uae", "Xvfb": "xvfb", "xdotool": "xdotool"}
 SETTINGS = """[fs-uae]
@@ -31,6 +32,7 @@ window_width = 720
 window_height = 568
 keyboard_key_f11 = action_screenshot
 {keys}
+{more}
 """
 # the ROM that fs-uae brings along, in place of a Kickstart
 INTERNAL = "internal"
@@ -58,13 +60,13 @@ def absent_programs() -> str:
 
 
 class FsUae:
-    """A machine in fs-uae on a display of its own, with an image that a ROM of ours starts, or with a disk that a Kickstart
-    boots; used in a `with`.
+    """A machine in fs-uae on a display of its own, with an image that a ROM of ours starts, after pokes where there are any,
+    or with a disk that a Kickstart boots; used in a `with`. `more` are further lines of its settings.
     """
 
     def __init__(
         self, image: bytes | None = None, disk: str | None = None, kickstart: str = INTERNAL, system: System = PAL,
-        chip: int = USUAL_CHIP,
+        chip: int = USUAL_CHIP, pokes: Sequence[Poke] = (), more: str = "",
     ) -> None:
         if absent_programs():
             raise EmulatorFault(absent_programs())
@@ -73,14 +75,14 @@ class FsUae:
         if image is not None:
             kickstart = os.path.join(self.folder, "boot.rom")
             with open(kickstart, "wb") as file:
-                file.write(boot_rom(image, chip))
+                file.write(boot_rom(image, chip, pokes))
         for name in ("states", "pictures"):
             os.mkdir(os.path.join(self.folder, name))
         keys = "\n".join(f"keyboard_key_f{slot} = action_save_state_{slot}" for slot in range(1, SLOTS + 1))
         drive = f"floppy_drive_0 = {disk}" if disk else ""
         self.settings = os.path.join(self.folder, "machine.fs-uae")
         with open(self.settings, "w", encoding="utf-8", errors="surrogateescape") as file:
-            told = {"kickstart": kickstart, "disk": drive, "ntsc": int(system == NTSC), "chip": chip // 1024}
+            told = {"kickstart": kickstart, "disk": drive, "ntsc": int(system == NTSC), "chip": chip // 1024, "more": more}
             file.write(SETTINGS.format(folder=self.folder, keys=keys, **told))
 
     def __enter__(self) -> FsUae:
@@ -124,15 +126,15 @@ class FsUae:
                 process.wait()
         shutil.rmtree(self.folder, ignore_errors=True)
 
-    def wait_for(self, what: str, seconds: float, holds) -> None:
-        """Waits until something holds."""
+    def wait_for(self, what: str, seconds: float, holds: Callable[[], bool], step: float = 0.1) -> None:
+        """Waits until something holds, and looks each so many seconds."""
         end = time.monotonic() + seconds
         while not holds():
             if self.started[-1].poll() is not None:
                 raise EmulatorFault("fs-uae ended")
             if time.monotonic() > end:
                 raise EmulatorFault(f"fs-uae: {what} did not come in {seconds} seconds")
-            time.sleep(0.1)
+            time.sleep(step)
 
     def has_window(self) -> bool:
         words = ["xdotool", "search", "--name", "FS-UAE"]
@@ -158,11 +160,20 @@ class FsUae:
 
     def save(self, slot: int) -> bytes:
         """Saves the state at the begin of the next field; gives the save state's bytes."""
-        place = os.path.join(self.folder, "states", f"Saved State {slot}.uss")
+        place = self.state_place(slot)
         self.press(f"F{slot}")
-        self.wait_for(f"save state {slot}", SAVE_SECONDS, lambda: is_whole(place))
+        self.wait_for(f"save state {slot}", SAVE_SECONDS, lambda: is_whole(place), 0.01)
         with open(place, "rb") as file:
             return file.read()
+
+    def state_place(self, slot: int) -> str:
+        """Where the state of a slot is saved."""
+        return os.path.join(self.folder, "states", f"Saved State {slot}.uss")
+
+    @property
+    def process(self) -> int:
+        """The number of the emulator's process."""
+        return self.started[-1].pid
 
 
 def is_whole(place: str) -> bool:
