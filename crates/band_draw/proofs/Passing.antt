@@ -23,11 +23,11 @@ use Rattle.serial_bands.specs.Spans.{AreQuiet, fetched}
 use Rattle.serial_bands.specs.declared.event.Event.{Event}
 use Rattle.serial_bands.proofs.NextClock.{events_by_place}
 use Rattle.serial_bands.proofs.Spans.{drawing_goes_on_quietly}
-use Rattle.band_draw.specs.Ahead.{IsFetched}
+use Rattle.band_draw.specs.AheadCode.{IsFetched}
 use Rattle.band_draw.specs.BandPainter.{IsBandPainterOf}
-use Rattle.band_draw.specs.Due.{IsLeft}
+use Rattle.band_draw.specs.DueCode.{IsLeft}
 use Rattle.band_draw.specs.Given.{IsSpanGiven}
-use Rattle.band_draw.specs.Progress.{IsSource, IsSamePlace, IsAt}
+use Rattle.band_draw.specs.ProgressCode.{IsSource, IsSamePlace, IsAt}
 use Rattle.band_draw.specs.declared.band_painter.BandPainter.{BandPainter}
 use Rattle.band_draw.specs.declared.progress.Progress.{Progress}
 use Rattle.band_draw.proofs.Fetching.{on_line, placed, place_on_line, stays_on_line}

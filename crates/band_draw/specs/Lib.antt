@@ -1,8 +1,8 @@
-pub mod Sound
+pub mod SoundCode
 pub mod BandPainter
 pub mod Touched
-pub mod Due
+pub mod DueCode
 pub mod Given
-pub mod Progress
-pub mod Ahead
+pub mod ProgressCode
+pub mod AheadCode
 pub mod Direct

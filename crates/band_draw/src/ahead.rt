@@ -8,8 +8,8 @@ ghost use Rattle.serial_bands.specs.Run.{run_over};
 ghost use Rattle.serial_bands.specs.Spans.{IsBehind};
 ghost use Rattle.serial_bands.specs.declared.event.Event.TheVariants.{Plane as PlaneFetch};
 ghost use Rattle.band_draw.specs.BandPainter.{Paints};
-ghost use Rattle.band_draw.specs.Progress.{IsSource};
-ghost use Rattle.band_draw.specs.Ahead.{IsPlaced, IsFetched, first_clock};
+ghost use Rattle.band_draw.specs.ProgressCode.{IsSource};
+ghost use Rattle.band_draw.specs.AheadCode.{IsPlaced, IsFetched, first_clock};
 
 use crate::progress::Progress;
 use band_log::{Event, Run};

@@ -3,7 +3,7 @@
 ghost use Rattle.std.specs.Prelude.{◌≡◌, ◌≤◌, ◌<◌, ◌+◌, ◌*◌, ◌^◌, ℕ, length, take, drop};
 ghost use Rattle.serial_bands.specs.DrawnTo.{IsDrawnTo};
 ghost use Rattle.serial_bands.specs.Run.{run_over};
-ghost use Rattle.band_draw.specs.Progress.{IsSource, IsAt, IsEnded};
+ghost use Rattle.band_draw.specs.ProgressCode.{IsSource, IsAt, IsEnded};
 
 use crate::band_painter::BandPainter;
 use crate::clock::{behind, next_place, part, show_clock, touch_access};

@@ -35,8 +35,8 @@ pub struct BusCpu {
 impl BusCpu {
     ghost use Rattle.cpu_bus.specs.Bus.{IsProcessorOf, GoesOn, wish_shown};
 
-    /// The processor at reset, with a chip memory of this size on its bus; it begins the reset where it is `on`,
-    /// and else does nothing at all.
+    /// The processor at reset, with a chip memory of this size on its bus; it begins the reset where it is
+    /// `on`, and else does nothing at all.
     pub fn reset(chip: ChipSize, on: bool) -> BusCpu
         ensures { IsProcessorOf result (reset_processor chip on) }
     {

@@ -2,6 +2,6 @@ pub mod Bands
 pub mod Hands
 pub mod Parts
 pub mod Crew
-pub mod Tasks
-pub mod Totals
+pub mod TasksCode
+pub mod TotalsCode
 pub mod Crewed

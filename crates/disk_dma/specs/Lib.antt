@@ -1,3 +1,3 @@
 pub mod Track
-pub mod Queue
+pub mod QueueCode
 pub mod Disk

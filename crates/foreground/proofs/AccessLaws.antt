@@ -24,7 +24,7 @@ use Rattle.chip_set.specs.Chips.{WorkingChips, IsChipsOf, HasAsked, HasAccessed,
 use Rattle.chip_set.proofs.ClxLaws.{clx_read, clx_alone}
 use Rattle.foreground.specs.Machine.{MachineValue, IsMachineOf, Start, HasTold, Stands, HasAskedOf}
 use Rattle.foreground.specs.Machine.{MakesAccess, StaysInPlace, StoresMade, more_reads, reads_after}
-use Rattle.foreground.specs.MachineSteps.{chip_after, word_given, reads_by_side, GivesSide, Does}
+use Rattle.foreground.specs.MachineStepsCode.{chip_after, word_given, reads_by_side, GivesSide, Does}
 use Rattle.foreground.proofs.ToldLaws.{told_same}
 use Rattle.foreground.proofs.StepLaws.{wish_in, Makes-does, same_place}
 

@@ -16,7 +16,7 @@ use Rattle.chip_set.specs.Chips.{WorkingChips, IsChipsOf, HasAsked}
 use Rattle.foreground.specs.Log.{with_script_touches}
 use Rattle.foreground.specs.Machine.{MachineValue, IsMachineOf, HasAskedOf, MakesQuietly, KeepsPlace}
 use Rattle.foreground.specs.Script.{MakesEvents}
-use Rattle.foreground.specs.MachineSteps.{AsksInTime}
+use Rattle.foreground.specs.MachineStepsCode.{AsksInTime}
 use Rattle.foreground.specs.Clock.{Rises}
 use Rattle.foreground.specs.Fore.{ForeValue, IsUnderway}
 use Rattle.foreground.specs.Steps.{IsBefore, IsLoggedBefore, KeepsClock, HasAskedNow, AccessesPart, HasBegunClock, BeginsClock, ReachesAsk}

@@ -18,7 +18,7 @@ use Rattle.band_log.specs.Raster.{RasterValue}
 use Rattle.foreground.specs.Log.{IsLogOf, with_begin, with_waiting}
 use Rattle.foreground.specs.Gathered.{Fits}
 use Rattle.foreground.specs.Clock.{HasBegun, Rises}
-use Rattle.foreground.specs.Cuts.{StandsBefore, HasEnded, EndsAtLine, EndsPart}
+use Rattle.foreground.specs.CutsCode.{StandsBefore, HasEnded, EndsAtLine, EndsPart}
 use Rattle.foreground.specs.Fore.{ForeValue, IsUnderway, is_done, looked_up}
 use Rattle.foreground.specs.Machine.{MachineValue, IsMachineOf}
 use Rattle.foreground.specs.Steps.{HasBegunClock, BeginsClock, BeginsPart, HasReadByScript, ReadsBits, ReadsPart, StandsBeforeRead}

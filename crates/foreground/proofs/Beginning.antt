@@ -46,7 +46,7 @@ use Rattle.serial_model.proofs.Standing.{stands_for_itself, stands_on, stands_cl
 use Rattle.serial_bands.proofs.Storing.{view_has_memory}
 use Rattle.serial_model.specs.Keeps.{Keeps}
 use Rattle.band_log.specs.declared.job.Job.{Job}
-use Rattle.foreground.specs.Cuts.{IsClockBefore}
+use Rattle.foreground.specs.CutsCode.{IsClockBefore}
 use Rattle.foreground.specs.declared.band.OpenBand.{OpenBand}
 use Rattle.foreground.specs.declared.log.Log.{Log}
 use Rattle.foreground.specs.Gathered.{IsClosing}

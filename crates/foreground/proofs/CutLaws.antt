@@ -13,7 +13,7 @@ use Rattle.band_log.specs.Raster.{RasterValue}
 use Rattle.foreground.specs.Log.{IsLogOf, IsCut, IsJobOf, blank_after}
 use Rattle.foreground.specs.Gathered.{Fits, IsClosing, HasGathered, HasGatheredPart, HasGatheredTo, HasSubmitted, GathersAll, GathersPart, Submits}
 use Rattle.foreground.specs.Clock.{AreLeftFrom, HasGiven, HasGivenPart, Rises}
-use Rattle.foreground.specs.Cuts.{StandsBefore, HasEndedAll, EndsAtLine, EndsAtRead, EndsAll, EndsPart, EndsPartAtRead, IsClockBefore}
+use Rattle.foreground.specs.CutsCode.{StandsBefore, HasEndedAll, EndsAtLine, EndsAtRead, EndsAll, EndsPart, EndsPartAtRead, IsClockBefore}
 use Rattle.foreground.specs.Fore.{ForeValue}
 use Rattle.foreground.specs.declared.band.OpenBand.{OpenBand}
 use Rattle.foreground.specs.declared.log.Log.{Log}

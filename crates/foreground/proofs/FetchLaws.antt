@@ -42,11 +42,11 @@ use Rattle.quiet_clocks.proofs.FetchClocks.{fetch_makes, planes_have, fetch_span
 use Rattle.quiet_clocks.proofs.PlainClock.{before_plain}
 use Rattle.quiet_clocks.proofs.QuietClocks.{clocks_of_run}
 use Rattle.foreground.specs.Clock.{IsAt}
-use Rattle.foreground.specs.Fetches.{with_fetch, with_fetches, clock_of_planes, clocks_of_planes}
+use Rattle.foreground.specs.FetchesCode.{with_fetch, with_fetches, clock_of_planes, clocks_of_planes}
 use Rattle.foreground.specs.Fore.{ForeValue, HasScript, IsUnderway, is_done}
 use Rattle.foreground.specs.Log.{IsLogOf, IsShown, with_waiting, with_script_touches, with_access_touch}
 use Rattle.foreground.specs.Machine.{MachineValue, IsMachineOf}
-use Rattle.foreground.specs.Quiet.{HasPassed}
+use Rattle.foreground.specs.QuietCode.{HasPassed}
 use Rattle.foreground.specs.RunTo.{RunsOn}
 use Rattle.foreground.specs.declared.log.Log.{Log}
 use Rattle.foreground.specs.declared.machine.Machine.{Machine}

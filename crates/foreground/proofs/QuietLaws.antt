@@ -51,7 +51,7 @@ use Rattle.foreground.specs.Fore.{ForeValue, HasScript, IsUnderway, is_done}
 use Rattle.foreground.specs.Gathered.{Fits}
 use Rattle.foreground.specs.Log.{IsLogOf, IsShown, with_waiting, with_script_touches, with_access_touch}
 use Rattle.foreground.specs.Machine.{MachineValue, IsMachineOf}
-use Rattle.foreground.specs.Quiet.{PassesClocks, PassesOver, HasPassed}
+use Rattle.foreground.specs.QuietCode.{PassesClocks, PassesOver, HasPassed}
 use Rattle.foreground.specs.RunTo.{RunsOn}
 use Rattle.foreground.specs.Script.{IsLeft}
 use Rattle.foreground.specs.declared.log.Log.{Log}

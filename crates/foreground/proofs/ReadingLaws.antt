@@ -24,7 +24,7 @@ use Rattle.band_log.specs.Raster.{RasterValue}
 use Rattle.foreground.specs.Log.{IsEnding}
 use Rattle.foreground.specs.Gathered.{Fits, HasGatheredTo, GathersAll, GathersPart}
 use Rattle.foreground.specs.Clock.{access_state}
-use Rattle.foreground.specs.Cuts.{StandsAtEnd, HasEnded, EndsAtRead, EndsPartAtRead, IsClockBefore}
+use Rattle.foreground.specs.CutsCode.{StandsAtEnd, HasEnded, EndsAtRead, EndsPartAtRead, IsClockBefore}
 use Rattle.foreground.specs.Fore.{ForeValue, IsUnderway}
 use Rattle.foreground.specs.Steps.{IsLoggedBefore, StandsBeforeRead, ReadsBits, ReadsPart, BeginsPart, AccessesPart}
 use Rattle.foreground.proofs.Logging.{log_read, read_begins, log_ends}

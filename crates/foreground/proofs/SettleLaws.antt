@@ -11,7 +11,7 @@ use Rattle.serial_bands.proofs.WholeRun.{end_begins}
 use Rattle.band_log.specs.Raster.{RasterValue}
 use Rattle.foreground.specs.Log.{IsLogOf}
 use Rattle.foreground.specs.Gathered.{Fits, HasGatheredTo, GathersAll, GathersPart}
-use Rattle.foreground.specs.Cuts.{StandsAtEnd, HasEndedAll, EndsAll, EndsPartAtRead}
+use Rattle.foreground.specs.CutsCode.{StandsAtEnd, HasEndedAll, EndsAll, EndsPartAtRead}
 use Rattle.foreground.specs.Fore.{ForeValue, IsUnderway, is_done, HasSettled, Settles, GivesPart}
 use Rattle.foreground.specs.Machine.{IsMachineOf}
 use Rattle.foreground.specs.declared.log.Log.{Log}

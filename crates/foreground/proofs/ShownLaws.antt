@@ -18,7 +18,7 @@ use Rattle.foreground.specs.Fore.{ForeValue, IsUnderway}
 use Rattle.foreground.specs.declared.log.Log.{Log}
 use Rattle.foreground.specs.Log.{size_to, IsEnding}
 use Rattle.foreground.specs.Machine.{IsSamePlace}
-use Rattle.foreground.specs.ShownCount.{shown_before, shown_behind}
+use Rattle.foreground.specs.ShownCountCode.{shown_before, shown_behind}
 
 -- at the start of a clock
 pub shown_at : (run : RunValue) (c : ℕ) → length (state_of run c).shown ≡ shown_before run.script.system (beam_at run c)

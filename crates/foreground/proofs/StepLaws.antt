@@ -30,7 +30,7 @@ use Rattle.serial_model.specs.Write.{write_chips, write_lof, lof_of}
 use Rattle.chip_set.specs.Chips.{IsChipsOf}
 use Rattle.foreground.specs.Out.{Gives}
 use Rattle.foreground.specs.Machine.{MachineValue, IsMachineOf, Start, Stands, Makes, MakesQuietly, MakesEvent, IsSamePlace, KeepsPlace}
-use Rattle.foreground.specs.MachineSteps.{WritesRegister, chip_after, Does}
+use Rattle.foreground.specs.MachineStepsCode.{WritesRegister, chip_after, Does}
 use Rattle.foreground.proofs.OutLaws.{gives_nothing, gives_line}
 use Rattle.foreground.proofs.ToldLaws.{told_same, told_more}
 use Rattle.foreground.proofs.WriteLaws.{lof_open}

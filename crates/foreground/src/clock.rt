@@ -10,7 +10,7 @@ ghost use Rattle.chip_set.specs.Chips.{CanAsk, IsBlitAsk, kept_wish};
 ghost use Rattle.band_log.specs.Raster.{RasterValue};
 ghost use Rattle.foreground.specs.Out.{GivesLines};
 ghost use Rattle.foreground.specs.Machine.{KeepsPlace};
-ghost use Rattle.foreground.specs.MachineSteps.{AsksInTime};
+ghost use Rattle.foreground.specs.MachineStepsCode.{AsksInTime};
 ghost use Rattle.foreground.specs.Log.{with_script_touches};
 ghost use Rattle.foreground.specs.Script.{IsMachine, MakesEvents};
 ghost use Rattle.foreground.specs.Clock.{Rises};

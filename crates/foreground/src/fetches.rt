@@ -10,9 +10,9 @@ ghost use Rattle.chip_set.specs.Quiet.{AreAtRest, fetching_in};
 ghost use Rattle.band_log.specs.Raster.{RasterValue};
 ghost use Rattle.foreground.specs.Log.{with_waiting};
 ghost use Rattle.foreground.specs.Fore.{over, IsUnderway, is_done};
-ghost use Rattle.foreground.specs.Quiet.{HasPassed};
-ghost use Rattle.foreground.specs.Fetches.{with_fetch, with_fetches};
-ghost use Rattle.foreground.specs.Fetches.{clock_of_planes, clocks_of_planes, HasFetched};
+ghost use Rattle.foreground.specs.QuietCode.{HasPassed};
+ghost use Rattle.foreground.specs.FetchesCode.{with_fetch, with_fetches};
+ghost use Rattle.foreground.specs.FetchesCode.{clock_of_planes, clocks_of_planes, HasFetched};
 
 use crate::fore::Fore;
 use crate::log::Log;

@@ -12,7 +12,7 @@ ghost use Rattle.serial_bands.specs.RightJob.{event_at as event_of};
 ghost use Rattle.serial_bands.specs.Shadows.{IsInRange};
 ghost use Rattle.serial_bands.specs.Fetches.{fetches_in};
 ghost use Rattle.serial_model.specs.Keeps.{Keeps};
-ghost use Rattle.foreground.specs.Cuts.{IsClockBefore};
+ghost use Rattle.foreground.specs.CutsCode.{IsClockBefore};
 ghost use Rattle.foreground.specs.Gathered.{IsClosing};
 ghost use Rattle.foreground.specs.Log.{IsLogOf, IsEnding, IsCut, IsJobOf, with_waiting, with_begin};
 ghost use Rattle.foreground.specs.Log.{with_script_touch, with_access_touch, with_write_at, blank_after};

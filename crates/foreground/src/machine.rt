@@ -14,7 +14,7 @@ ghost use Rattle.chip_set.specs.AskLaws.{is_clx_ask};
 ghost use Rattle.chip_set.specs.Chips.{CanAsk, CanDo, IsBlitAsk, kept_wish};
 ghost use Rattle.foreground.specs.Machine.{machine_over, IsMachineOf, IsReset, Makes, MakesQuietly, MakesEvent, MakesAccess};
 ghost use Rattle.foreground.specs.Machine.{HasAskedOf, StoresMade, StaysInPlace, KeepsPlace, reads_after};
-ghost use Rattle.foreground.specs.MachineSteps.{WritesRegister, AsksInTime, GivesSide, Does};
+ghost use Rattle.foreground.specs.MachineStepsCode.{WritesRegister, AsksInTime, GivesSide, Does};
 
 use chip_set::Chips;
 use mem_versions::Chip;

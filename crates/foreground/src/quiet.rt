@@ -9,7 +9,7 @@ ghost use Rattle.band_log.specs.Raster.{RasterValue};
 ghost use Rattle.foreground.specs.Machine.{machine_over};
 ghost use Rattle.foreground.specs.Script.{IsLeft};
 ghost use Rattle.foreground.specs.Fore.{over, HasScript, IsUnderway, is_done};
-ghost use Rattle.foreground.specs.Quiet.{PassesOver, HasPassed};
+ghost use Rattle.foreground.specs.QuietCode.{PassesOver, HasPassed};
 
 use crate::fore::Fore;
 use crate::machine::Machine;

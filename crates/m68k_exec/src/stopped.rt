@@ -11,8 +11,8 @@ use crate::state::{Cpu, Step};
 use crate::status::mask;
 
 impl Cpu {
-    /// Whether STOP has stopped it, so that nothing but an interrupt wakes it: from right behind its last word
-    /// on, and between any two of the clocks that it then waits.
+    /// Whether STOP has stopped it, so that nothing but an interrupt wakes it: from right behind its last
+    /// word on, and between any two of the clocks that it then waits.
     pub fn is_stopped(&self) -> bool
         ensures { (r : CpuRegs) (u : Under) (ws : List ℕ) → Stands self.now r u ws
             → result ≡ stands_stopped u ws }

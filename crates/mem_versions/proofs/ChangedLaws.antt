@@ -10,7 +10,7 @@ use Rattle.std.proofs.lemmas.List.{take_more, get_or_past, get_or-take, get_or-d
 use Rattle.std.proofs.lemmas.List.Elements.{filter-append, All-set}
 use Rattle.mem_versions.specs.declared.write.Write.{Write}
 use Rattle.mem_versions.specs.MemoryAt.{words_after, writes_to}
-use Rattle.mem_versions.specs.Pages.{HasPage}
+use Rattle.mem_versions.specs.PagesCode.{HasPage}
 use Rattle.mem_versions.proofs.PagesLaws.{ArePages, length-joined, get_or-joined}
 
 -- the lists of a list's pages, once one is replaced

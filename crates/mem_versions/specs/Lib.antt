@@ -1,8 +1,8 @@
 pub mod Chip
-pub mod History
+pub mod HistoryCode
 pub mod Kept
 pub mod Lending
 pub mod MemView
 pub mod MemoryAt
-pub mod Pages
+pub mod PagesCode
 pub mod Sound

@@ -26,7 +26,7 @@ use Rattle.foreground.specs.RunTo.{HasRunOn, RunsOn, HasCome}
 use Rattle.ocs_run.specs.Audio.{audio_text, sampled, IsHeard, with_audio, grown_audio, MayHaveMade, MayHaveGrown, IsFourth, IsFourthName}
 use Rattle.ocs_run.specs.Prefix.{IsPartOf, LeavesPrefixesOver, LeavesFiles}
 use Rattle.ocs_run.specs.Run.{HasFilesOver, HasAllFiles}
-use Rattle.ocs_run.specs.Underway.{CanRun, IsFresh, IsWritten, EndsFromStart}
+use Rattle.ocs_run.specs.UnderwayCode.{CanRun, IsFresh, IsWritten, EndsFromStart}
 use Rattle.ocs_run.specs.declared.audio.Recording.{Recording}
 use Rattle.ocs_run.proofs.RunLaws.{HasFiles-run, begins_created}
 use Rattle.ocs_run.proofs.PrefixLaws.{LeavesPrefixes-all, LeavesPrefixes-whole, one_end}

@@ -32,8 +32,8 @@ use Rattle.foreground.specs.RunTo.{HasRunOn, RunsOn, HasCome}
 use Rattle.foreground.specs.Gathered.{tinted_range}
 use Rattle.ocs_run.specs.Prefix.{LeavesPrefixesOver}
 use Rattle.ocs_run.specs.Run.{HasFilesOver, HasRun, HasParts, HasEndParts}
-use Rattle.ocs_run.specs.Underway.{IsUnderway, CanRun, Runs, IsStopped, IsFresh, IsEmpty, Ends, IsCut}
-use Rattle.ocs_run.specs.Underway.{IsSettledRun, IsWritten, StartsRun, EndsFromStart, IsCutFromStart}
+use Rattle.ocs_run.specs.UnderwayCode.{IsUnderway, CanRun, Runs, IsStopped, IsFresh, IsEmpty, Ends, IsCut}
+use Rattle.ocs_run.specs.UnderwayCode.{IsSettledRun, IsWritten, StartsRun, EndsFromStart, IsCutFromStart}
 use Rattle.ocs_run.proofs.PrefixLaws.{LeavesPrefixes-parts, LeavesPrefixes-end, LeavesPrefixes-all}
 
 -- what a run has shown at a clock are the bytes of its clocks

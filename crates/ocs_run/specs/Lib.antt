@@ -1,4 +1,4 @@
-pub mod Asked
+pub mod AskedCode
 pub mod Audio
 pub mod Command
 pub mod Fault
@@ -13,6 +13,6 @@ pub mod SceneAnswers
 pub mod SceneSummary
 pub mod Texts
 pub mod Top
-pub mod Underway
+pub mod UnderwayCode
 pub mod Verdict
 pub mod Words

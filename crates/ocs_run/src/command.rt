@@ -5,7 +5,7 @@ ghost use Rattle.crew.specs.Crew.{side_seen};
 ghost use Rattle.ocs_base.specs.Image.{is_image, fits_chip};
 ghost use Rattle.ocs_base.specs.Limits.{IsRunnable};
 ghost use Rattle.ocs_base.specs.Sizes.{bytes_of};
-ghost use Rattle.ocs_run.specs.Asked.{value_of, extra_value, AreApart, IsHeight};
+ghost use Rattle.ocs_run.specs.AskedCode.{value_of, extra_value, AreApart, IsHeight};
 ghost use Rattle.ocs_run.specs.Command.{OrderAnswers, out_names, IsOutOf, RunAnswers, KeepsSaid};
 ghost use Rattle.ocs_run.specs.Inputs.{ReadableTrack};
 ghost use Rattle.serial_model.specs.Side.{FitsSide};

@@ -3,7 +3,7 @@
 ghost use Rattle.std.specs.Prelude.{◌≡◌, ◌≤◌, true, IfOk};
 ghost use Rattle.ocs_base.specs.Image.{is_image, fits_chip};
 ghost use Rattle.ocs_base.specs.Limits.{IsRunnable};
-ghost use Rattle.ocs_run.specs.Asked.{rewind_value, HasRanges};
+ghost use Rattle.ocs_run.specs.AskedCode.{rewind_value, HasRanges};
 ghost use Rattle.ocs_run.specs.RewindAnswers.{RewindAnswers};
 ghost use Rattle.ocs_run.specs.RewindText.{AreLines};
 

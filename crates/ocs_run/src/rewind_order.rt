@@ -2,7 +2,7 @@
 
 ghost use Rattle.std.specs.Prelude.{◌≡◌, map, string_bytes, Some, None, IfSome, MatchOption};
 ghost use Rattle.ocs_run.specs.RewindOrder.{rewind_order_of, every_of, keep_of, clock_of, clocks_of};
-ghost use Rattle.ocs_run.specs.Asked.{IsRewindOrder, HasRanges};
+ghost use Rattle.ocs_run.specs.AskedCode.{IsRewindOrder, HasRanges};
 
 use crate::order::are_names;
 use arrayvec::ArrayVec;

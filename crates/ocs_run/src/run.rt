@@ -16,7 +16,7 @@ ghost use Rattle.ocs_run.specs.Audio.{IsHeard, IsFourthName};
 ghost use Rattle.ocs_run.specs.Fault.{IsRunFault};
 ghost use Rattle.ocs_run.specs.Prefix.{LeavesFiles};
 ghost use Rattle.ocs_run.specs.Run.{HasAllFiles};
-ghost use Rattle.ocs_run.specs.Underway.{fore_of, run_of, CanRun, Runs, IsStopped, IsFresh, Ends, IsCut, EndsFromStart, IsCutFromStart};
+ghost use Rattle.ocs_run.specs.UnderwayCode.{fore_of, run_of, CanRun, Runs, IsStopped, IsFresh, Ends, IsCut, EndsFromStart, IsCutFromStart};
 
 use crate::audio::{Recording, create_audio, listen, write_audio};
 use crate::fault::Fault;

@@ -4,7 +4,7 @@ ghost use Rattle.std.specs.Prelude.{◌≡◌, IfOk, IfErr};
 ghost use Rattle.crew.specs.Crew.{side_seen};
 ghost use Rattle.ocs_base.specs.Sizes.{bytes_of};
 ghost use Rattle.ocs_io.specs.Place.{OnlyReads, KeepsNames};
-ghost use Rattle.ocs_run.specs.Asked.{extra_value};
+ghost use Rattle.ocs_run.specs.AskedCode.{extra_value};
 ghost use Rattle.ocs_run.specs.Inputs.{ReadableTrack, IsSideOf, IsSideFault};
 ghost use Rattle.serial_model.specs.Side.{FitsSide};
 

@@ -1,4 +1,4 @@
 pub mod OutFiles
 pub mod Answers
-pub mod Pieces
+pub mod PiecesCode
 pub mod Together

@@ -11,8 +11,8 @@ use Rattle.planes.specs.declared.load.Load.{Load}
 use Rattle.planes.specs.PlaneBit.{start_of, shown_load, word_bit, load_bit, plane_bit}
 use Rattle.planes.proofs.Showing.{later, shown-append, one_there, one_not}
 use Rattle.planes.proofs.Searching.{word_bit-lt}
-use Rattle.painter.specs.Words.{three_bits, spread_bits}
-use Rattle.painter.specs.Row.{laid}
+use Rattle.painter.specs.WordsCode.{three_bits, spread_bits}
+use Rattle.painter.specs.RowCode.{laid}
 use Rattle.painter.specs.Line.{three_planes, Shows}
 
 -- past bit 0 a word shows 0

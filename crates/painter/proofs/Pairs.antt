@@ -9,9 +9,9 @@ use Rattle.painter.specs.declared.line.Line.{Line}
 use Rattle.painter.specs.Inks.{InkRegisters, ink, ink_number}
 use Rattle.painter.specs.Line.{row_bits, ArePaired}
 use Rattle.painter.specs.Pixels.{ink_at}
-use Rattle.painter.specs.Row.{laid, IsPaired}
+use Rattle.painter.specs.RowCode.{laid, IsPaired}
 use Rattle.painter.specs.SpanCode.{ink_pixels}
-use Rattle.painter.specs.Words.{spread_bits}
+use Rattle.painter.specs.WordsCode.{spread_bits}
 use Rattle.painter.proofs.Loading.{spread_at}
 
 -- bytes of which nothing is known

@@ -1,9 +1,9 @@
-pub mod Words
-pub mod Row
+pub mod WordsCode
+pub mod RowCode
 pub mod Line
-pub mod Held
+pub mod HeldCode
 pub mod Inks
-pub mod Window
+pub mod WindowCode
 pub mod Pixels
 pub mod SpriteState
 pub mod Runs

@@ -2,7 +2,7 @@
 
 ghost use Rattle.std.specs.Prelude.{◌≡◌, ◌<◌, ℕ};
 ghost use Rattle.priority_ham.specs.PixelColour.{modified};
-ghost use Rattle.painter.specs.Held.{IsHeld, held_bytes};
+ghost use Rattle.painter.specs.HeldCode.{IsHeld, held_bytes};
 ghost use Rattle.serial_model.specs.Picture.{colour_bytes};
 
 use crate::held::Held;

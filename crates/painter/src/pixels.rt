@@ -2,7 +2,7 @@
 
 ghost use Rattle.std.specs.Prelude.{◌≡◌, ◌≤◌, ◌+◌, ◌*◌, ◌++◌, ℕ, true, length, slice_index, slice_set, take};
 ghost use Rattle.serial_model.specs.Picture.{colour_bytes};
-ghost use Rattle.painter.specs.Held.{IsHeld};
+ghost use Rattle.painter.specs.HeldCode.{IsHeld};
 ghost use Rattle.painter.specs.Pixels.{ink_at, modified_at, modified_along, modified_pixels, all_modified};
 ghost use Rattle.painter.specs.Line.{row_bits, ArePaired};
 ghost use Rattle.painter.specs.SpanCode.{bytes_of_clocks, ink_pixels};

@@ -17,8 +17,8 @@ use std::marker::Model;
 const DMACON: usize = offset::DMACON as usize;
 
 /// The kept words of the custom registers (Hardware Reference Manual, register summary), by half their
-/// offset from DFF000. An offset without a register keeps 0 (profile). Pointers are addresses of a chip memory
-/// of this size.
+/// offset from DFF000. An offset without a register keeps 0 (profile). Pointers are addresses of a chip
+/// memory of this size.
 #[derive(Drop)]
 pub struct Regs {
     size: ChipSize,
@@ -129,8 +129,8 @@ impl Regs {
     }
 
     /// The address in a pointer: its bits above 15 are the word at `high`, and bits 15 to 1 are those of the
-    /// next register's word (Hardware Reference Manual, pointer registers). Bit 0 of BLTAPTL is kept, but is no
-    /// part of the address.
+    /// next register's word (Hardware Reference Manual, pointer registers). Bit 0 of BLTAPTL is kept, but is
+    /// no part of the address.
     #[tactic(auto, using(crate::proofs::TableLaws::low_follows))]
     pub fn pointer(&self, high: Reg) -> Addr
         requires { is_pointer_high high.offset ≡ true }
@@ -143,9 +143,9 @@ impl Regs {
         )
     }
 
-    /// A pointer gets an address, which is to have the span of the chip memory: the register at `high` its bits
-    /// above 15, and the next one bits 15 to 0, of which bit 0 is 0. This is no write on the bus, so a busy
-    /// blitter does not close it.
+    /// A pointer gets an address, which is to have the span of the chip memory: the register at `high` its
+    /// bits above 15, and the next one bits 15 to 0, of which bit 0 is 0. This is no write on the bus, so a
+    /// busy blitter does not close it.
     #[tactic(auto, using(crate::proofs::TableLaws::low_follows))]
     pub fn set_pointer(&mut self, high: Reg, to: Addr)
         requires { is_pointer_high high.offset ≡ true }

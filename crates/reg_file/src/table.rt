@@ -2,7 +2,7 @@
 
 ghost use Rattle.std.specs.Prelude.{◌≡◌, ◌==◌, ◌%◌, unwrap_or, if◌then◌else◌};
 ghost use Rattle.serial_model.specs.RegisterTable.{reading_at, writing_at, kept_bits_at};
-ghost use Rattle.reg_file.specs.Table.{is_pointer_word, pointer_writing as pointer_writing_of, whole_word_in};
+ghost use Rattle.reg_file.specs.TableCode.{is_pointer_word, pointer_writing as pointer_writing_of, whole_word_in};
 
 use ocs_base::Reg;
 use serial_model::{Reading, Writing};
@@ -64,8 +64,8 @@ fn pointer_writing(reg: Reg) -> Writing
     }
 }
 
-/// The bits of a written word that a register keeps; 0 where there is none to keep, and for the high word of a
-/// pointer, whose bits go by the size of chip memory.
+/// The bits of a written word that a register keeps; 0 where there is none to keep, and for the high word
+/// of a pointer, whose bits go by the size of chip memory.
 pub fn kept_bits(reg: Reg) -> u16
     ensures { result ≡ kept_bits_at reg.offset }
 {
@@ -101,8 +101,8 @@ fn whole_word(writing: Writing) -> u16
     }
 }
 
-/// The bits that one word of a pointer keeps whatever the size of chip memory: none of the high word, which lies
-/// at a multiple of 4, and 15 to 1 of the low word.
+/// The bits that one word of a pointer keeps whatever the size of chip memory: none of the high word, which
+/// lies at a multiple of 4, and 15 to 1 of the low word.
 fn pointer_bits(reg: Reg) -> u16
     ensures { result ≡ (if reg.offset % 4 == 0 then 0 else 65534) }
 {

@@ -1,7 +1,7 @@
 -- What is appended step by step.
 use Rattle.std.proofs.Common.{◌≡◌, ℕ, ◌+◌, ◌<◌, Bool, true, false, List, [], ◌∷◌, ◌++◌, length, take, get_or}
 use Rattle.std.proofs.Common.{flat_map, codes, decimal, refl, sym, ap, subst, ◌∙◌, append_assoc, append-nil}
-use Rattle.script_read.specs.Extends.{Extends}
+use Rattle.script_read.specs.ExtendsCode.{Extends}
 use Rattle.std.proofs.lemmas.List.{take_more}
 use Rattle.std.proofs.lemmas.Grind.{flat_map-append}
 use Rattle.ocs_io.specs.Numbers.{hex_text}

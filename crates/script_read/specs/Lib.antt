@@ -4,8 +4,8 @@ pub mod Words
 pub mod Versions
 pub mod Grammar
 pub mod Verdict
-pub mod Cut
+pub mod CutCode
 pub mod Canonical
-pub mod Extends
+pub mod ExtendsCode
 pub mod Printable
 pub mod Said

@@ -3,7 +3,7 @@
 ghost use Rattle.std.specs.Prelude.{◌≡◌, ◌^◌, ◌<◌, false, IfSome};
 ghost use Rattle.ocs_base.specs.Systems.{lines};
 ghost use Rattle.script_read.specs.Words.{below, hex_number, register_named, poke_of, peek_of, joy_of, fire_of, key_of, act_of, event_of};
-ghost use Rattle.script_read.specs.Cut.{words_left};
+ghost use Rattle.script_read.specs.CutCode.{words_left};
 
 use crate::parts::{event_words, one_word, two_words};
 use ocs_base::{Act, At, Reg, System};

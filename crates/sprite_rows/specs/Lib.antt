@@ -1,5 +1,5 @@
 pub mod WordValues
 pub mod Laid
-pub mod PairFront
+pub mod PairFrontCode
 pub mod PairCollision
 pub mod LineValues

@@ -3,7 +3,7 @@ use Rattle.std.specs.Arc.{arc_value}
 use Rattle.mem_versions.specs.MemView.{word_then}
 use Rattle.serial_bands.specs.RightJob.{IsRightJob}
 use Rattle.serial_bands.specs.Run.{run_over}
-use Rattle.band_draw.specs.Progress.{IsSource, IsAt, IsEnded}
+use Rattle.band_draw.specs.ProgressCode.{IsSource, IsAt, IsEnded}
 use Rattle.band_draw.proofs.Beginning.{job_screen, job_eight, job_source}
 use Rattle.band_draw.proofs.band.draw.Goals as goal
 

@@ -1,5 +1,5 @@
 use Rattle.std.proofs.Common.{◌∙◌, ap, arith, refl}
-use Rattle.foreground.specs.Fetches.{with_fetches, clock_of_planes}
+use Rattle.foreground.specs.FetchesCode.{with_fetches, clock_of_planes}
 use Rattle.foreground.proofs.FetchLaws.{no_clock_of_planes, one_clock_more, fetch_noted}
 use Rattle.foreground.proofs.fetches.fetch_planes.Goals as goal
 

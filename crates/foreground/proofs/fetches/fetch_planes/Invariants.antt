@@ -1,7 +1,7 @@
 use Rattle.std.proofs.Common.{◌≡◌, ◌≤◌, ◌-◌}
 use Rattle.serial_model.specs.PlaneFetch.{IsLastUnit}
 use Rattle.chip_set.specs.Quiet.{fetching_in}
-use Rattle.foreground.specs.Fetches.{with_fetches, clocks_of_planes}
+use Rattle.foreground.specs.FetchesCode.{with_fetches, clocks_of_planes}
 use Rattle.foreground.proofs.fetches.fetch_planes.Given as goal
 
 -- the planes' part of the clocks passed was made

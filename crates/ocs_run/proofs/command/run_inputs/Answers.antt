@@ -2,7 +2,7 @@ use Rattle.std.proofs.Common.{ap, refl}
 use Rattle.crew.specs.Crew.{side_seen}
 use Rattle.run_side.specs.declared.side.RunSide.{RunSide}
 use Rattle.serial_bands.specs.Run.{RunOf}
-use Rattle.ocs_run.specs.Asked.{value_of}
+use Rattle.ocs_run.specs.AskedCode.{value_of}
 use Rattle.ocs_run.specs.Command.{RunAnswers}
 use Rattle.ocs_run.proofs.OrderLaws.{RunAnswers-run, RunAnswers-wanting}
 use Rattle.ocs_run.proofs.VerdictLaws.{by_err}

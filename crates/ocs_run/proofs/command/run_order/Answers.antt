@@ -1,6 +1,6 @@
 use Rattle.std.proofs.Common.{arith, subst, ◌∙◌}
 use Rattle.crew.specs.Crew.{side_seen}
-use Rattle.ocs_run.specs.Asked.{value_of, extra_value}
+use Rattle.ocs_run.specs.AskedCode.{value_of, extra_value}
 use Rattle.ocs_run.specs.Command.{OrderAnswers}
 use Rattle.ocs_run.specs.Inputs.{IsSideOf}
 use Rattle.ocs_run.proofs.OrderLaws.{input_fault, side_fault, order_ended}

@@ -1,5 +1,5 @@
 use Rattle.std.proofs.Common.{◌≡◌, ◌∙◌, sym}
-use Rattle.ocs_run.specs.Underway.{fore_of}
+use Rattle.ocs_run.specs.UnderwayCode.{fore_of}
 use Rattle.ocs_run.proofs.KeptLaws.{OnlyWrites-more, KeepsNames-more, AreGrowable-kept}
 use Rattle.ocs_run.proofs.RunLaws.{on_err, cause_err, fewer_left, stop-advance}
 use Rattle.ocs_run.proofs.RunLaws.{stop-flush, IsUnderway-ran, IsUnderway-flushed, CanRun-ran, mark_ran, names_ran}

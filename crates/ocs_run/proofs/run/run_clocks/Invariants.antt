@@ -2,7 +2,7 @@ use Rattle.std.proofs.Common.{◌≡◌, ◌-◌, ◌*◌}
 use Rattle.ocs_io.specs.Place.{OnlyWrites, KeepsNames}
 use Rattle.out_files.specs.Answers.{AreGrowable}
 use Rattle.ocs_run.specs.Audio.{IsHeard}
-use Rattle.ocs_run.specs.Underway.{fore_of, CanRun, Runs}
+use Rattle.ocs_run.specs.UnderwayCode.{fore_of, CanRun, Runs}
 use Rattle.ocs_run.proofs.run.run_clocks.Given as goal
 
 abbrev pub invariant-loop-fore : goal.invariant-loop-fore

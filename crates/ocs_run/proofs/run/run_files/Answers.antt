@@ -9,7 +9,7 @@ use Rattle.out_files.specs.OutFiles.{OutFilesValue}
 use Rattle.ocs_run.specs.Audio.{IsFourthName}
 use Rattle.ocs_run.specs.Prefix.{LeavesFiles}
 use Rattle.ocs_run.specs.Run.{HasAllFiles}
-use Rattle.ocs_run.specs.Underway.{run_of, fore_of, IsFresh}
+use Rattle.ocs_run.specs.UnderwayCode.{run_of, fore_of, IsFresh}
 use Rattle.ocs_run.proofs.AudioLaws.{LeavesFiles-none, LeavesFiles-made, LeavesFiles-empty}
 use Rattle.ocs_run.proofs.AudioLaws.{Begins-audio, IsAllButAudio-run, HasAllFiles-run, LeavesFiles-run}
 use Rattle.ocs_run.proofs.FaultLaws.{fault_err}

@@ -1,5 +1,5 @@
 use Rattle.std.proofs.Common.{◌≡◌, ◌∙◌, ap}
-use Rattle.ocs_run.specs.Underway.{fore_of}
+use Rattle.ocs_run.specs.UnderwayCode.{fore_of}
 use Rattle.ocs_run.proofs.AudioLaws.{IsHeard-same}
 use Rattle.ocs_run.proofs.KeptLaws.{OnlyWrites-more, KeepsNames-more, AreGrowable-kept}
 use Rattle.ocs_run.proofs.RunLaws.{on_err, cause_err, IsCut-clocks, IsCut-settle, IsCut-flush}

@@ -1,5 +1,5 @@
 use Rattle.std.proofs.Math.Nat.{div-div-eq-div-mul}
-use Rattle.painter.specs.Words.{spread_bits}
+use Rattle.painter.specs.WordsCode.{spread_bits}
 use Rattle.painter.proofs.words.spread.Goals as goal
 
 pub returns-then-hires : goal.returns-then-hires

@@ -1,6 +1,6 @@
 use Rattle.std.proofs.Common.{◌≡◌, Bool, true, false, not, Some, None, refl, sym, ap, ◌∙◌, bytes_eq}
 use Rattle.ocs_base.specs.Systems.{lines}
-use Rattle.script_read.specs.Cut.{words_left}
+use Rattle.script_read.specs.CutCode.{words_left}
 use Rattle.script_read.specs.Words.{below, act_of}
 use Rattle.script_read.proofs.EventLaws.{event-read, event-other}
 use Rattle.script_read.proofs.event.read_event.Goals as goal

@@ -1,6 +1,6 @@
 use Rattle.std.proofs.Common.{ap, subst, sym}
 use Rattle.foreground.specs.Fore.{over}
-use Rattle.foreground.specs.Quiet.{HasPassed}
+use Rattle.foreground.specs.QuietCode.{HasPassed}
 use Rattle.foreground.proofs.QuietLaws.{passes_none}
 use Rattle.foreground.proofs.fore.Fore.pass_quiet.Goals as goal
 

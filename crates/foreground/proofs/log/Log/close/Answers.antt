@@ -4,7 +4,7 @@ use Rattle.std.proofs.lemmas.List.{length-replicate}
 use Rattle.std.specs.Arc.{arc_value}
 use Rattle.ocs_base.specs.Script.{ScriptValue}
 use Rattle.foreground.specs.Log.{IsCut, blank_after, size_to}
-use Rattle.foreground.specs.ShownCount.{shown_before}
+use Rattle.foreground.specs.ShownCountCode.{shown_before}
 use Rattle.foreground.proofs.Beginning.{ended_job}
 use Rattle.foreground.proofs.Cutting.{log_cuts, number_fits}
 use Rattle.foreground.proofs.ShownLaws.{ended_size}

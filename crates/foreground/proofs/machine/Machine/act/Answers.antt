@@ -1,7 +1,7 @@
 use Rattle.foreground.specs.Machine.{machine_over}
 use Rattle.std.proofs.Common.{refl, sym, subst}
 use Rattle.serial_model.specs.Events.{made_by_act}
-use Rattle.foreground.specs.MachineSteps.{Does}
+use Rattle.foreground.specs.MachineStepsCode.{Does}
 use Rattle.foreground.proofs.StepLaws.{Makes-happened, KeepsPlace-happened}
 use Rattle.foreground.proofs.machine.Machine.act.Goals as goal
 

@@ -1,7 +1,7 @@
 use Rattle.foreground.specs.Machine.{machine_over}
 use Rattle.std.proofs.Common.{sym, subst, ap}
 use Rattle.serial_model.specs.Made.{is_clx_read}
-use Rattle.foreground.specs.MachineSteps.{Does}
+use Rattle.foreground.specs.MachineStepsCode.{Does}
 use Rattle.foreground.proofs.machine.Machine.carry_out.Goals as goal
 
 pub returns-in_ok-write-in-Wrote-clause-does : goal.returns-in_ok-write-in-Wrote-clause-does

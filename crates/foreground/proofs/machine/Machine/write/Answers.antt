@@ -1,7 +1,7 @@
 use Rattle.foreground.specs.Machine.{machine_over}
 use Rattle.std.proofs.Common.{OnOk, sym, subst}
 use Rattle.serial_model.specs.declared.bus.Made.TheVariants as M
-use Rattle.foreground.specs.MachineSteps.{Does}
+use Rattle.foreground.specs.MachineStepsCode.{Does}
 use Rattle.foreground.proofs.StepLaws.{Does-quietly}
 use Rattle.foreground.proofs.machine.Machine.write.Goals as goal
 

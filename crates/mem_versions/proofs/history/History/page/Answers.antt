@@ -4,7 +4,7 @@ use Rattle.std.proofs.Common.{◌≡◌, ◌==◌, ◌-◌, ◌/◌, ◌<◌, �
 use Rattle.std.proofs.lemmas.Bool.Decides.{nat_tests}
 use Rattle.mem_versions.specs.declared.write.Write.{Write}
 use Rattle.mem_versions.specs.declared.history.Part.{Part}
-use Rattle.mem_versions.specs.History.{HistoryValue, IsPart}
+use Rattle.mem_versions.specs.HistoryCode.{HistoryValue, IsPart}
 use Rattle.mem_versions.proofs.history.History.page.Goals as goal
 
 pub returns-in-Some-clause-writes : goal.returns-in-Some-clause-writes

@@ -1,7 +1,7 @@
 use Rattle.std.proofs.Common.{◌≡◌, ◌≤◌, ◌∙◌, ℕ, Bool, List, slice_index, sym, ap, subst}
 use Rattle.planes.specs.declared.load.Load.{Load}
 use Rattle.planes.specs.PlaneBit.{load_of}
-use Rattle.painter.specs.Words.{spread_bits}
+use Rattle.painter.specs.WordsCode.{spread_bits}
 use Rattle.painter.proofs.Pairs.{spread_paired}
 use Rattle.painter.proofs.Loading.{spread_at, spread_few, laid_shows}
 use Rattle.painter.proofs.line.Line.load.Goals as goal

@@ -12,7 +12,7 @@ use Rattle.serial_bands.specs.BandShown.{bytes_from, IsRightDrawn}
 use Rattle.serial_bands.specs.RightJob.{HasMemory}
 use Rattle.serial_bands.specs.DrawnTo.{IsDrawnTo}
 use Rattle.band_draw.specs.BandPainter.{IsBandPainterOf}
-use Rattle.band_draw.specs.Due.{IsLeft}
+use Rattle.band_draw.specs.DueCode.{IsLeft}
 use Rattle.band_draw.specs.declared.progress.Progress.{Progress}
 
 -- what a band is drawn from: no other begins within it, and a view has the run's memory at each of its clocks
