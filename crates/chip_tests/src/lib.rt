@@ -1,5 +1,5 @@
-//! Tests of the crates of the clock loop: numbers and addresses, beam, registers, slots, Copper and fetches, a
-//! module a crate.
+//! Tests of the crates of the clock loop: numbers and addresses, beam, registers, slots, Copper and fetches,
+//! a module a crate.
 //!
 //! A crate with tests is proved twice, so these crates have none of their own, and this one has nothing else.
 #![tactic(auto)]
