@@ -48,10 +48,13 @@ class Result:
 
 @dataclass
 class Known:
-    """What is known of a case before it runs: its last result, and the bytes of its golden; None where there is none."""
+    """What is known of a case before it runs: its last result, the bytes of its golden, and the words of its run; None where
+    there is none, or where to find out is a part of the run.
+    """
 
     before: Result | None
     golden: bytes | None
+    words: list[str] | None
 
 
 @dataclass
@@ -89,7 +92,8 @@ def known_of(suite: Suite, case: Case) -> Known:
     if "golden" in case.files:
         with contextlib.suppress(OSError):
             golden = read_bytes(os.path.join(case.folder, "golden"))
-    return Known(read_result(suite, case), golden)
+    simple = case.files.isdisjoint(("command", "image.xz", "script.xz")) and case.files.issuperset(("image", "script"))
+    return Known(read_result(suite, case), golden, words_of(suite, case) if simple else None)
 
 
 def read_stored(suite: Suite, case: Case) -> dict[str, Stored]:
@@ -125,7 +129,7 @@ def run_case(suite: Suite, case: Case, known: Known) -> Result:
     result = Result(case.name, stored=dict(before.stored) if before else read_stored(suite, case))
     try:
         clear(suite.place(case, "now"))
-        run_program(suite, case, result)
+        run_program(suite, case, known.words or words_of(suite, case), result)
         if result.verdict != FAILED:
             judge(suite, case, result, known.golden)
     except (BadFile, OSError) as fault:
@@ -189,9 +193,8 @@ def words_of(suite: Suite, case: Case) -> list[str]:
     return made
 
 
-def run_program(suite: Suite, case: Case, result: Result) -> None:
+def run_program(suite: Suite, case: Case, words: list[str], result: Result) -> None:
     """Runs a case's command in its folder; puts status, times and what was said into the result."""
-    words = words_of(suite, case)
     ended = run_command(words, case.folder, suite.limit)
     lines = ended.text.splitlines()
     result.status, result.seconds, result.program = ended.status, ended.seconds, ended.processor

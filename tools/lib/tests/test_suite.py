@@ -13,6 +13,7 @@ import unittest
 import xml.etree.ElementTree as trees
 
 from runs import TOOLS, Tools, frame
+from suite_pieces import MOST, PIECE, Pieces, sums_of_pieces
 
 # a program of the same words as ours: what it gives is told by its image's first bytes
 PROGRAM = """#!/usr/bin/env python3
@@ -50,6 +51,37 @@ def wanted(colour: bytes, word: int) -> dict[str, str]:
         "memory": image + bytes(524288 - len(image)),
     }
     return {kind: hashlib.sha256(text).hexdigest() for kind, text in texts.items()}
+
+
+class PiecesTest(Tools):
+    """Files that are compared by pieces."""
+
+    def is_same(self, pieces: Pieces, now: bytes, before: bytes) -> bool:
+        stored, place = self.write("stored", before), self.write("now", now)
+        return pieces.are_same(place, len(now), stored, sums_of_pieces(stored))
+
+    def test_any_byte_counts(self) -> None:
+        pieces = Pieces()
+        for size in (0, 1, PIECE - 1, PIECE, PIECE + 1, 3 * PIECE, 3 * PIECE + 7):
+            data = bytearray(size)
+            for _ in range(2):
+                self.assertTrue(self.is_same(pieces, bytes(data), bytes(data)), size)
+            for at in {0, size // 2, size - 1} if size else ():
+                data[at] = 1
+                self.assertFalse(self.is_same(pieces, bytes(data), bytes(size)), (size, at))
+                self.assertFalse(self.is_same(pieces, bytes(size), bytes(data)), (size, at))
+                data[at] = 0
+
+    def test_other_sizes(self) -> None:
+        for now, before in ((0, 1), (1, 0), (PIECE, PIECE + 1), (PIECE + 1, PIECE), (PIECE, 2 * PIECE), (9, 10)):
+            self.assertFalse(self.is_same(Pieces(), bytes(now), bytes(before)), (now, before))
+
+    def test_more_pieces_than_are_kept(self) -> None:
+        pieces = Pieces()
+        data = b"".join(number.to_bytes(4, "big") * (PIECE // 4) for number in range(MOST + 9))
+        for _ in range(3):
+            self.assertTrue(self.is_same(pieces, data, data))
+            self.assertEqual(len(pieces.kept), MOST)
 
 
 class SuiteTest(Tools):
@@ -124,6 +156,25 @@ class SuiteTest(Tools):
         self.assertEqual((cases.get("tests"), cases.get("failures"), cases.get("errors")), ("2", "1", "0"))
         self.assertIn(place, cases.find("testcase[@name='one']/failure").get("message"))
         self.assertEqual(len(cases.find("testcase[@name='two']")), 0)
+
+    def test_cases_that_share_most_of_their_memory(self) -> None:
+        """A difference in any of them is seen, and in no other."""
+        names = [f"case {number}" for number in range(3)]
+        for number, name in enumerate(names):
+            self.write(f"cases/{name}/image", bytes(199_998) + bytes([number, 0]))
+            self.write(f"cases/{name}/script", "")
+        self.assertEqual(self.suite("--accept", "--jobs", "1")[0], 0)
+        self.assertEqual(self.suite("--jobs", "1")[0], 0)
+        for name in names:
+            image = self.bytes_of(f"cases/{name}/image")
+            for at in (8, 70_000, 199_999):
+                changed = bytearray(image)
+                changed[at] = 255
+                self.write(f"cases/{name}/image", bytes(changed))
+                said = self.suite("--jobs", "1")[1]
+                self.assertEqual(said[0], f"differs   {name}: memory: first at byte {at:05x}: 00 and ff; 1 byte")
+                self.assertTrue(said[1].startswith("3 cases: 2 pass, 1 differ; "), said)
+            self.write(f"cases/{name}/image", image)
 
     def test_ntsc(self) -> None:
         """Row 74 is line 94; a case that becomes PAL differs in its system."""
