@@ -4,7 +4,7 @@ ghost use Rattle.std.specs.Prelude.{◌≡◌, [], IfErr, OnOk};
 ghost use Rattle.ocs_io.specs.Place.{Rose, OnlyWrites, KeepsNames};
 ghost use Rattle.ocs_io.specs.Answers.{GrowsIfOk};
 ghost use Rattle.out_files.specs.Answers.{NamesFile};
-ghost use Rattle.out_files.specs.Pieces.{MakeAnswers, GiveAnswers};
+ghost use Rattle.out_files.specs.PiecesCode.{MakeAnswers, GiveAnswers};
 
 use crate::fault::{OutFile, WriteFault};
 use ocs_io::Place;
