@@ -23,32 +23,32 @@ class Pieces:
     def __init__(self) -> None:
         self.kept: dict[str, bytearray] = {}
         self.room = bytearray(PIECE)
+        self.rooms = [self.room]
 
     def are_same(self, place: str, size: int, stored: str, sums: list[str]) -> bool:
         """Whether a file of so many bytes has those of the stored one, whose pieces have these sums."""
         file = os.open(place, os.O_RDONLY)
         try:
             for number, sum in enumerate(sums):
-                wanted = self.kept.pop(sum, None) or self.stored_piece(stored, number)
-                self.keep(sum, wanted)
-                count = os.readv(file, [self.room])
+                wanted = self.kept.pop(sum, None)
+                if wanted is None:
+                    wanted = self.new_piece(stored, number)
+                # it is the one that was of use last
+                self.kept[sum] = wanted
+                count = os.readv(file, self.rooms)
                 if (self.room if count == PIECE else self.room[:count]) != wanted:
                     return False
             return len(sums) == -(-size // PIECE)
         finally:
             os.close(file)
 
-    def stored_piece(self, stored: str, number: int) -> bytearray:
-        """A piece as it stands in the stored file."""
+    def new_piece(self, stored: str, number: int) -> bytearray:
+        """A piece as it stands in the stored file; there is room to keep it then."""
+        if len(self.kept) == MOST:
+            del self.kept[next(iter(self.kept))]
         piece, file = bytearray(PIECE), os.open(stored, os.O_RDONLY)
         try:
             count = os.preadv(file, [piece], number * PIECE)
         finally:
             os.close(file)
         return piece if count == PIECE else piece[:count]
-
-    def keep(self, sum: str, piece: bytearray) -> None:
-        """Keeps a piece as the one that was of use last."""
-        if len(self.kept) == MOST:
-            del self.kept[next(iter(self.kept))]
-        self.kept[sum] = piece

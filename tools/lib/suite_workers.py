@@ -19,6 +19,8 @@ from suite_run import PASSED, Known, Result, Suite, known_of, run_case
 NUMBER = 4
 # a case that passed: its number, its seconds by the clock, and those of the processor
 PASS = struct.Struct("<Idd")
+# a case makes some hundred things that Python counts, and none that it has to look for
+SELDOM = 100_000
 # of so many cases it is read at once, before the first runs, what is known: that takes less than between two runs
 MOST_KNOWN = 5000
 
@@ -77,6 +79,7 @@ def results_of(suite: Suite, cases: list[Case], jobs: int) -> Iterator[Result]:
     known = [known_of(suite, case) for case in cases[:MOST_KNOWN]]
     gc.freeze()
     gc.enable()
+    gc.set_threshold(SELDOM)
     workers: list[Worker] = []
     try:
         while len(workers) < min(jobs, len(cases)):
