@@ -1,5 +1,5 @@
 -- The rows of asks, read off the table: where a channel has its ask, and that D has the last.
-use Rattle.std.proofs.Common.{arith, ◌≡◌, inl, inr, ℕ, zero, suc, ◌+◌, ◌-◌, ◌<◌, ◌≤◌, Bool, true, false, not, ◌&&◌, ◌||◌, nat_eq}
+use Rattle.std.proofs.Common.{arith, ◌≡◌, ◌≢◌, inl, inr, ℕ, zero, suc, ◌+◌, ◌-◌, ◌<◌, ◌≤◌, Bool, true, false, not, ◌&&◌, ◌||◌, nat_eq}
 use Rattle.std.proofs.Common.{nat_lt, List, [], ◌∷◌, ◌++◌, length, replicate, get_or, Option, Some, None, sym, ap, ◌∙◌, refl}
 use Rattle.std.proofs.lemmas.Bool.{ltb-true, cases_lt}
 use Rattle.std.proofs.lemmas.List.{length-append, length-replicate, get_or_default, get_or_past}
@@ -71,6 +71,9 @@ ends_at_write code p = not (is_same D (get_or (asks_in code) p Rest)) || nat_eq 
 abbrev end_test : ℕ → Bool
 end_test code = all_below (length (asks_in code)) (ends_at_write code)
 
+abbrev first_test : ℕ → Bool
+first_test code = not (is_same D (get_or (asks_in code) 0 Rest))
+
 abbrev size_test : ℕ → Bool
 size_test code = nat_lt 0 (length (asks_in code)) && nat_lt (length (asks_in code)) 5
 
@@ -85,6 +88,10 @@ rows_pass Rest = refl
 sizes_pass : all_below 16 size_test ≡ true
 unfolding asks_in
 sizes_pass = refl
+
+first_pass : all_below 16 first_test ≡ true
+unfolding asks_in
+first_pass = refl
 
 ends_pass : all_below 16 end_test ≡ true
 unfolding asks_in
@@ -153,6 +160,15 @@ write_ends s p low writes =
     let here = from_all (length (asks_in (code_of s))) (ends_at_write (code_of s)) test p low in
     let same = or_true _ _ (ap (is_same D) writes) here in
     grind arith
+
+not_true : (b : Bool) → b ≡ true → not b ≡ true → ⊥
+not_true true is h = cc
+not_true false is h = cc
+
+-- no word begins with its write
+pub first_reads : (s : BlitRegs) → word_ask s 0 ≢ D
+unfolding word_ask
+first_reads s writes = not_true _ (ap (is_same D) writes) (from_all 16 first_test first_pass (code_of s) (code_below s))
 
 pub some_asks : (s : BlitRegs) → 0 < asks_per_word s
 unfolding asks_per_word

@@ -1,8 +1,9 @@
 //! An area blit from ask to ask.
 
 ghost use Rattle.std.specs.Prelude.{◌≡◌, ◌≢◌, ◌<◌, ℕ, List, [], ◌∷◌, ◌++◌, false};
-ghost use Rattle.std.specs.Option.{ForSome};
 ghost use Rattle.blit_words.specs.declared.blit.BlitRegs.{BlitRegs};
+ghost use Rattle.blit_words.specs.declared.blit.WordAsk.{WordAsk};
+ghost use Rattle.blit_words.specs.declared.blit.WordAsk.TheVariants.{D};
 ghost use Rattle.blit_words.specs.Blit.{is_line, height_of, width_of};
 ghost use Rattle.blit_words.specs.AreaBlit.{word_ask};
 ghost use Rattle.blit_words.specs.Blitter.{blit_ask, is_done as done_of, blit_zero, blit_end};
@@ -36,13 +37,13 @@ pub struct AreaBlit {
     pub(crate) row: u16,
     pub(crate) column: u16,
     pub(crate) place: u16,
-    pub(crate) ready: Option<Outcome>,
+    pub(crate) ready: Outcome,
     ghost asks_are: { IsRowOf asks start },
     ghost ask_is: { ask ≡ word_ask start place },
     ghost height_is: { height ≡ height_of start },
     ghost path_is: { IsPathOf path start },
     ghost column_inside: { column < width_of start },
-    ghost ready_is: { ForSome ready (λ outcome. outcome ≡ outcome_of start past column words) },
+    ghost ready_is: { ask ≡ D → ready ≡ outcome_of start past column words },
 }
 
 impl AreaBlit {
@@ -54,6 +55,11 @@ impl AreaBlit {
         ensures { Stands result r.now [] }
     {
         let asks = AskRow::of(r);
+        let past = Past {
+            a: 0,
+            b: 0,
+            carry: is_set(r.con1, 2),
+        };
         AreaBlit {
             start: *r,
             asks,
@@ -66,16 +72,12 @@ impl AreaBlit {
                 b: r.bdat,
                 c: r.cdat,
             },
-            past: Past {
-                a: 0,
-                b: 0,
-                carry: is_set(r.con1, 2),
-            },
+            past,
             zero: true,
             row: 0,
             column: 0,
             place: 0,
-            ready: None,
+            ready: Outcome { word: 0, past },
         }
     }
 
@@ -102,17 +104,17 @@ impl AreaBlit {
         ensures { result ≡ shown self.now }
     {
         if self.row < self.height {
-            self.slot_ask(self.ask)
+            self.slot_ask()
         } else {
             SlotAsk::Done
         }
     }
 
-    /// What one of the asks of the present word does with its slot.
-    fn slot_ask(&self, ask: WordAsk) -> SlotAsk
-        ensures { result ≡ shown_ask self.now self.now.start ask }
+    /// What the present ask does with its slot.
+    fn slot_ask(&self) -> SlotAsk
+        ensures { result ≡ shown_ask self.now self.now.start self.now.ask }
     {
-        match ask {
+        match self.ask {
             WordAsk::A => SlotAsk::Read {
                 at: self.pointers.a.at,
             },
@@ -124,7 +126,7 @@ impl AreaBlit {
             },
             WordAsk::D => SlotAsk::Write {
                 at: self.pointers.d.at,
-                word: self.outcome().word,
+                word: self.ready.word,
             },
             WordAsk::Rest => SlotAsk::Rest,
         }
@@ -137,25 +139,25 @@ impl AreaBlit {
         ensures { ForWhatItStands self.old (λ s ws. Stands self.new s (ws ++ word ∷ [])) }
     {
         match self.ask {
-            WordAsk::D => self.end_word(),
+            WordAsk::D => self.end_word(self.ready),
             WordAsk::A | WordAsk::B | WordAsk::C | WordAsk::Rest => self.take(word),
         }
     }
 
-    /// Takes the word that answers the present ask, which is not the write. What was worked out of the
-    /// data registers as they were is dropped.
+    /// Takes the word that answers the present ask, which is not the write.
     fn take(&mut self, word: u16)
-        requires { self.old.row < height_of self.old.start }
+        requires row { self.old.row < height_of self.old.start }
+        requires reads { self.old.ask ≢ D }
         ensures { ForWhatItStands self.old (λ s ws. Stands self.new s (ws ++ word ∷ [])) }
     {
-        self.ready = None;
         self.words.take(self.ask, word);
         if self.place < self.asks.last {
+            let next = self.asks.at(self.place + 1);
+            self.ready = self.outcome_for(next);
+            self.ask = next;
             self.place += 1;
-            self.ask = self.asks.at(self.place);
-            self.ready = self.outcome_if_asked();
         } else {
-            self.end_word();
+            self.end_word(self.mix_inputs());
         }
     }
 
@@ -196,17 +198,6 @@ impl AreaBlit {
     }
 
     /// The result of the present word, once its inputs have their words, and what it leaves for the next.
-    #[inline(always)]
-    fn outcome(&self) -> Outcome
-        ensures { result ≡ outcome_now self.now }
-    {
-        match self.ready {
-            Some(outcome) => outcome,
-            None => self.mix_inputs(),
-        }
-    }
-
-    /// The same, worked out from the inputs.
     #[inline(never)]
     fn mix_inputs(&self) -> Outcome
         ensures { result ≡ outcome_now self.now }
@@ -214,24 +205,23 @@ impl AreaBlit {
         self.path.mix(&self.words, &self.past, self.column)
     }
 
-    /// The outcome of the present word where its write is the present ask.
-    fn outcome_if_asked(&self) -> Option<Outcome>
-        ensures { ForSome result (λ outcome. outcome ≡ outcome_now self.now) }
+    /// What is to be ready for an ask: the outcome of the present word for its write.
+    fn outcome_for(&self, ask: WordAsk) -> Outcome
+        ensures { ask ≡ D → result ≡ outcome_now self.now }
     {
-        match self.ask {
-            WordAsk::D => Some(self.mix_inputs()),
-            WordAsk::A | WordAsk::B | WordAsk::C | WordAsk::Rest => None,
+        match ask {
+            WordAsk::D => self.mix_inputs(),
+            WordAsk::A | WordAsk::B | WordAsk::C | WordAsk::Rest => self.ready,
         }
     }
 
     /// All asks of the present word have answers: its result counts, and the next word begins. A
     /// row begins with the carry FCI.
-    fn end_word(&mut self)
-        requires { self.old.row < height_of self.old.start }
+    fn end_word(&mut self, outcome: Outcome)
+        requires row { self.old.row < height_of self.old.start }
+        requires outcome { outcome ≡ outcome_now self.old }
         ensures { EndsWord self.old self.new }
     {
-        let outcome = self.outcome();
-        self.ready = None;
         self.zero &= outcome.word == 0;
         self.past = outcome.past;
         self.place = 0;

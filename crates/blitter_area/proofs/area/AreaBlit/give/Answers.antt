@@ -8,10 +8,15 @@ use Rattle.blitter_area.proofs.Walking.{going, answered_all}
 use Rattle.blitter_area.proofs.area.AreaBlit.give.Goals as goal
 
 pub end_word-requires : goal.end_word-requires
-end_word-requires c = going c.args.self.now c.requires
+end_word-requires c =
+    let b = c.args.self.now in
+    record {
+      row = going b c.requires;
+      outcome = b.ready_is c.in-D.is;
+    }
 
-pub take-requires : goal.take-requires
-take-requires c = going c.args.self.now c.requires
+pub take-requires-clause-row : goal.take-requires-clause-row
+take-requires-clause-row c = going c.args.self.now c.requires
 
 pub returns-in-D : goal.returns-in-D
 returns-in-D c = λ s ws h.
