@@ -19,9 +19,9 @@ use std::alloc::{AllocError, AllocFailed, Global};
 use std::marker::Model;
 use std::mem;
 
-/// The chip memory of the machine: 512 KiB or 1 MiB as words, from address 0 on. The present words stand in one
-/// piece, those of the last cut in pages that its views share. It keeps each write since the last cut, and counts
-/// the words that are read; the count stands still at the greatest u64.
+/// The chip memory of the machine: 512 KiB or 1 MiB as words, from address 0 on. The present words
+/// stand in one piece, those of the last cut in pages that its views share. It keeps each write since
+/// the last cut, and counts the words that are read; the count stands still at the greatest u64.
 #[derive(Drop)]
 pub struct Chip {
     pub(crate) alloc: Global,
@@ -126,8 +126,8 @@ impl Chip {
         self.base.count()
     }
 
-    /// Writes a word at a clock, not below that of the newest write or cut; above the memory no word changes.
-    /// Every view stays as it was. After a refusal all is as before.
+    /// Writes a word at a clock, not below that of the newest write or cut; above the memory no word
+    /// changes. Every view stays as it was. After a refusal all is as before.
     pub fn write(&mut self, now: Clock, at: Addr, word: u16) -> Result<(), OutOfMemory>
         requires { self.old.newest ≤ now.0 }
         ensures ok { OnOk result (self.new ≡ after_write self.old now.0 at word) }
@@ -162,10 +162,10 @@ impl Chip {
         self.write(now, at, word)
     }
 
-    /// Begins a new version at a clock, not below that of the newest write or cut, and gives a view of
-    /// the clocks from the last cut to this one. Pages that were not written since are shared, those that were
-    /// are copied; but where a write of this very clock was made the writes before it are made again. After a
-    /// refusal all is as before.
+    /// Begins a new version at a clock, not below that of the newest write or cut, and gives a view
+    /// of the clocks from the last cut to this one. Pages that were not written since are shared,
+    /// those that were are copied; but where a write of this very clock was made the writes before it
+    /// are made again. After a refusal all is as before.
     pub fn cut(&mut self, now: Clock) -> Result<MemView, OutOfMemory>
         requires { self.old.newest ≤ now.0 }
         ensures view { IfOk result (IsViewOf self.old now.0) }

@@ -14,8 +14,8 @@ use std::alloc::Global;
 use std::marker::Model;
 use std::sync::ledger::Ledger;
 
-/// Writes in order of place, those to one place in order of happening, and where those to each page stand. Where
-/// there are no writes nothing is kept of the pages.
+/// Writes in order of place, those to one place in order of happening, and where those to each page
+/// stand. Where there are no writes nothing is kept of the pages.
 #[derive(Drop)]
 pub struct History {
     writes: Vec<Write>,

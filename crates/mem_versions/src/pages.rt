@@ -1,5 +1,5 @@
-//! Words in pages that several owners share, copied where a shared page is written. Pages stand in groups, which
-//! are shared too: one more owner of all is one more of each group.
+//! Words in pages that several owners share, copied where a shared page is written. Pages stand in
+//! groups, which are shared too: one more owner of all is one more of each group.
 
 ghost use Rattle.std.specs.Prelude.{◌≡◌, ◌+◌, ◌*◌, ◌/◌, ◌%◌, ◌^◌, ◌<◌, ◌≤◌, ℕ, length, take, drop, slice_get, slice_set, IfOk, OnOk, OnErr, All};
 ghost use Rattle.std.specs.Arc.{arc_value};
@@ -158,8 +158,8 @@ fn group_list(alloc: Global, words: &[u16]) -> Result<Vec<Arc<Group>>, OutOfMemo
     Ok(list)
 }
 
-/// Writes a word of a group: in place where the group has no other owner, else in a copy that shares the other
-/// pages.
+/// Writes a word of a group: in place where the group has no other owner, else in a copy that shares
+/// the other pages.
 fn write_word(
     alloc: Global,
     group: &mut Arc<Group>,
@@ -177,8 +177,8 @@ fn write_word(
     Ok(())
 }
 
-/// Replaces a page of a group: in place where the group has no other owner, else in a copy that shares the other
-/// pages.
+/// Replaces a page of a group: in place where the group has no other owner, else in a copy that
+/// shares the other pages.
 fn replace_page(
     alloc: Global,
     group: &mut Arc<Group>,
