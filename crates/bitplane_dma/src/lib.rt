@@ -9,17 +9,22 @@
 ghost use Rattle.std.specs.Prelude.{◌≡◌, ◌<◌, ◌≤◌, ◌+◌, false, IfSome, Some, None, List, ℕ, Option};
 ghost use Rattle.serial_model.specs.PlaneFetch.{units_at, last_unit, last_unit_at, plane_ask, move_planes, IsLastUnit};
 ghost use Rattle.serial_model.specs.PlaneFetch.{begins_unit, is_running, fetches_plane, high_resolution, begins_first as first_begins, has_next as next_follows, plane_dma};
+ghost use Rattle.serial_model.specs.PlaneFetch.{ask_for_plane, plane_pointer, move_pointer};
 ghost use Rattle.serial_model.specs.PlaneFetch.{fetch_start as start_of, fetch_end as end_of, fetched_plane};
 ghost use Rattle.serial_model.specs.PlaneFetch.{slot_plane as plane_of_slot, added_bytes as bytes_added, modulo_bytes as bytes_of};
-ghost use Rattle.serial_model.specs.Registers.{kept_word};
+ghost use Rattle.serial_model.specs.Registers.{kept_word, Registers};
 ghost use Rattle.quiet_clocks.specs.Plan.{unit_on};
 ghost use Rattle.quiet_clocks.specs.QuietClocks.{later_beam};
 ghost use Rattle.bitplane_dma.specs.Quiet.{FetchesNothing};
+ghost use Rattle.bitplane_dma.specs.Rules.{rules_of};
 ghost use Rattle.serial_model.specs.Window.{is_window_line as in_window};
+
+mod rules;
 
 use ocs_base::offset::{BPL1MOD, BPL2MOD, BPLCON0, DDFSTOP, DDFSTRT, DIWSTOP, DIWSTRT, DMACON};
 use ocs_base::{Addr, Beam, Reg};
 use reg_file::Regs;
+pub use rules::FetchRules;
 pub use serial_model::PlaneAsk;
 use std::marker::Model;
 
@@ -79,6 +84,21 @@ impl Fetcher {
         fetch(beam.h, start, regs)
     }
 
+    /// The same of a clock behind a line's first, by what decides the fetches of the line.
+    #[inline(always)]
+    pub fn step_by(&mut self, rules: &FetchRules, beam: &Beam, regs: &mut Regs) -> Option<PlaneAsk>
+        requires inner { 0 < beam.now.h }
+        requires rules { rules.now ≡ rules_of beam.now.v regs.old }
+        ensures last { self.new ≡ last_unit_at beam.now regs.old self.old }
+        ensures begun { IsLastUnit self.new }
+        ensures ask { result ≡ plane_ask beam.now.h regs.old self.new }
+        ensures moved { regs.new ≡ move_planes beam.now.h self.new regs.old }
+    {
+        self.begin_by(rules, beam);
+        let start = self.last?;
+        fetch_by(rules, beam.h, start, regs)
+    }
+
     /// For how many clocks of this line, from this one on and at most so many, the planes need no slot, while
     /// the registers stay: no plane is fetched. There may be more such clocks behind them.
     #[tactic(auto, using(crate::proofs::Quiet::quiet_off, crate::proofs::Quiet::quiet_in_unit, crate::proofs::Quiet::quiet_between))]
@@ -122,6 +142,24 @@ impl Fetcher {
         ensures { self.new ≡ unit_on clocks beam.now regs.now self.old }
     {
         self.last = unit_after(self.last, beam, regs, clocks);
+    }
+
+    /// Begins a unit where one begins at this clock, which is not a line's first.
+    #[inline(always)]
+    fn begin_by(&mut self, rules: &FetchRules, beam: &Beam)
+        requires inner { 0 < beam.now.h }
+        requires rules { (regs : Registers) × (rules.now ≡ rules_of beam.now.v regs) }
+        ensures last { (regs : Registers) → rules.now ≡ rules_of beam.now.v regs
+            → self.new ≡ last_unit_at beam.now regs self.old }
+        ensures begun { IsLastUnit self.new }
+    {
+        let last = self.last;
+        if beam.h % 4 != 0 {
+            return;
+        }
+        if rules.begins(beam.h, last) {
+            self.last = Some(beam.h);
+        }
     }
 
     /// Begins a unit where one begins at this clock. All begin at multiples of four.
@@ -326,11 +364,34 @@ fn fetch(h: u16, start: u16, regs: &mut Regs) -> Option<PlaneAsk>
     ensures moved { regs.new ≡ move_planes h (Some start) regs.old }
 {
     let plane = plane_at(h, start, regs)?;
+    let bytes = added_bytes(h, start, plane, regs);
+    Some(fetch_word(plane, bytes, regs))
+}
+
+/// The same by what decides the fetches of the line.
+#[inline(always)]
+fn fetch_by(rules: &FetchRules, h: u16, start: u16, regs: &mut Regs) -> Option<PlaneAsk>
+    requires rules { (v : ℕ) × (rules.now ≡ rules_of v regs.old) }
+    ensures ask { result ≡ plane_ask h regs.old (Some start) }
+    ensures moved { regs.new ≡ move_planes h (Some start) regs.old }
+{
+    let plane = rules.plane(h, start)?;
+    let bytes = rules.bytes(h, start, plane);
+    Some(fetch_word(plane, bytes, regs))
+}
+
+/// A plane's pointer moves on by a word and so many bytes more; what it was is where the word is.
+#[inline(always)]
+fn fetch_word(plane: u8, bytes: u32, regs: &mut Regs) -> PlaneAsk
+    requires plane { (1 ≤ plane) × (plane ≤ 6) }
+    requires below { bytes < 1048576 }
+    ensures ask { result ≡ ask_for_plane regs.old plane }
+    ensures moved { regs.new ≡ move_pointer (plane_pointer plane) bytes regs.old }
+{
     let high = Reg::masked(0xdc + 4 * plane as u16);
     let at = regs.pointer(high);
-    let bytes = added_bytes(h, start, plane, regs);
     regs.set_pointer(high, Addr::sized(at.size, at.raw() + 2 + bytes));
-    Some(PlaneAsk { plane, at })
+    PlaneAsk { plane, at }
 }
 
 /// The plane that is fetched at clock `h`, if one is.

@@ -1,5 +1,5 @@
 -- Clocks at which everybody but the planes only waits.
-use Rattle.std.proofs.Common.{◌≡◌, ◌<◌, ℕ, suc, ◌==◌, false, Option, arith, ap, subst, sym, ◌∙◌}
+use Rattle.std.proofs.Common.{◌≡◌, ◌<◌, ℕ, suc, ◌==◌, false, Option, Some, None, IfSome, arith, ap, subst, sym, ◌∙◌}
 use Rattle.std.proofs.lemmas.Bool.Decides.{nat_tests}
 use Rattle.cpu_bus.specs.Quiet.{waited}
 use Rattle.cpu_bus.proofs.QuietLaws.{waited_none}
@@ -7,9 +7,12 @@ use Rattle.irq_cia.specs.Interrupts.{Interrupts}
 use Rattle.irq_cia.specs.Ticks.{HasNoUnderflow, ticks_on}
 use Rattle.irq_cia.specs.declared.cia.CiaState.{CiaState}
 use Rattle.ocs_base.specs.declared.beam.Beam.{Beam}
-use Rattle.serial_model.specs.PlaneFetch.{last_unit, IsLastUnit}
+use Rattle.serial_model.specs.PlaneFetch.{last_unit, fetched_plane, ask_for_plane, plane_ask, IsLastUnit}
 use Rattle.serial_model.specs.Registers.{Registers}
 use Rattle.serial_model.specs.State.{Chips}
+use Rattle.serial_model.specs.declared.fetch.PlaneAsk.{PlaneAsk}
+use Rattle.serial_model.proofs.FetchLaws.{IsFetch, fetched_plane-is}
+use Rattle.std.specs.Option.{option_map}
 use Rattle.sprite_dma.specs.Quiet.{ReadsNothing}
 use Rattle.quiet_clocks.specs.QuietClock.{TurnsTo}
 use Rattle.quiet_clocks.specs.QuietClocks.{later_beam}
@@ -17,9 +20,21 @@ use Rattle.quiet_clocks.specs.Ticks.{ticks_in}
 use Rattle.quiet_clocks.specs.FetchClocks.{IsStillBesidePlanes, AreResting, Fetching, fetching_on, fetching_of, planes_on, planes_of_chips, fetched_later}
 use Rattle.quiet_clocks.proofs.FetchClocks.{still_is_at_rest, fetching_later}
 use Rattle.quiet_clocks.proofs.PlainClock.{else_of}
-use Rattle.chip_set.specs.Chips.{WorkingChips, IsChipsOf}
+use Rattle.chip_set.specs.Chips.{WorkingChips, IsChipsOf, IsPlane}
 use Rattle.chip_set.specs.Quiet.{AreAtRest, HaveFetched, FetchesPass, fetching_in, with_fetching}
 use Rattle.chip_set.proofs.QuietLaws.{sprites_of, copper_of, blit_of, lines_of}
+
+-- a plane that is asked for is one of six
+can_ask : (registers : Registers) (h : ℕ) (found : Option ℕ) → IfSome found (IsFetch h)
+    → IfSome (option_map (λ plane. ask_for_plane registers plane) found) (λ ask. IsPlane ask.plane)
+can_ask registers h None within = tt
+can_ask registers h (Some plane) within = record { first = within.first; last = within.most }
+
+pub one_of_six : (h : ℕ) (registers : Registers) (last : Option ℕ) (ask : Option PlaneAsk) → IsLastUnit last → ask ≡ plane_ask h registers last
+    → IfSome ask (λ ask. IsPlane ask.plane)
+one_of_six h registers last ask begun asks =
+    subst (λ (a : Option PlaneAsk). IfSome a (λ ask. IsPlane ask.plane)) (sym asks)
+    (can_ask registers h (fetched_plane h registers last) (fetched_plane-is h registers last begun))
 
 -- a clock among them
 still_at : (b : Beam) (t n k : ℕ) (now : WorkingChips) (c : Chips) → AreAtRest b t n now → IsChipsOf now c → k < n

@@ -9,4 +9,5 @@ mod quiet;
 mod turn;
 
 pub use asks::is_clx_ask;
+pub use bitplane_dma::FetchRules;
 pub use chips::Chips;

@@ -3,6 +3,7 @@
 ghost use Rattle.std.specs.Prelude.{◌≡◌, ◌⊎◌, ◌≤◌, ◌<◌, ◌+◌, ℕ, false, true, is_some, IfSome};
 ghost use Rattle.serial_model.specs.Registers.{blitter_dma, copper_dma};
 ghost use Rattle.serial_model.specs.State.{Chips as ChipsOf};
+ghost use Rattle.bitplane_dma.specs.Rules.{rules_of};
 ghost use Rattle.irq_cia.specs.Ticks.{HasNoUnderflow};
 ghost use Rattle.cpu_bus.specs.Quiet.{RestsFor, CanCount};
 ghost use Rattle.quiet_clocks.specs.PlainClock.{AsksNothingNew};
@@ -17,7 +18,7 @@ ghost use Rattle.chip_set.specs.Quiet.{fetching_in, with_fetching};
 
 use crate::chips::Chips;
 use crate::turn::{EXTER, PORTS};
-use bitplane_dma::PlaneAsk;
+use bitplane_dma::{FetchRules, PlaneAsk};
 use ocs_base::Beam;
 
 impl Chips {
@@ -66,17 +67,28 @@ impl Chips {
         self.rest_clocks(beam, t, fetches)
     }
 
-    /// The planes' part of a clock: the plane that is fetched at it, if one is, whose pointer has moved then.
+    /// What decides the fetches of the beam's line, by the registers as they are now.
+    pub fn fetch_rules(&self, beam: &Beam) -> FetchRules
+        ensures { result ≡ rules_of beam.now.v self.now.registers }
+    {
+        FetchRules::of(beam, &self.registers)
+    }
+
+    /// The planes' part of a clock behind a line's first, by what decides the fetches of the line: the plane
+    /// that is fetched at it, if one is, whose pointer has moved then. The rules stay right.
     #[inline(always)]
-    pub fn fetch_plane(&mut self, beam: &Beam) -> Option<PlaneAsk>
+    pub fn fetch_plane(&mut self, rules: &FetchRules, beam: &Beam) -> Option<PlaneAsk>
+        requires inner { 0 < beam.now.h }
         requires begun { IsLastUnit self.old.last }
+        requires rules { rules.now ≡ rules_of beam.now.v self.old.registers }
         ensures ask { result ≡ ask_of_fetching beam.now (fetching_in self.old) }
         ensures able { IfSome result (λ ask. IsPlane ask.plane) }
         ensures moved { self.new
             ≡ with_fetching (fetching_after beam.now (fetching_in self.old)) self.old }
         ensures next { IsLastUnit self.new.last }
+        ensures same { rules.now ≡ rules_of beam.now.v self.new.registers }
     {
-        self.fetcher.step(beam, &mut self.registers)
+        self.fetcher.step_by(rules, beam, &mut self.registers)
     }
 
     /// The part of everybody else, for so many clocks from clock `t` on at which they only wait.

@@ -6,6 +6,7 @@ ghost use Rattle.serial_model.specs.PlaneFetch.{IsLastUnit};
 ghost use Rattle.serial_model.specs.Side.{no_side};
 ghost use Rattle.quiet_clocks.specs.FetchClocks.{ask_of_fetching};
 ghost use Rattle.quiet_clocks.specs.QuietClocks.{later_beam};
+ghost use Rattle.bitplane_dma.specs.Rules.{rules_of};
 ghost use Rattle.chip_set.specs.Quiet.{AreAtRest, fetching_in};
 ghost use Rattle.band_log.specs.Raster.{RasterValue};
 ghost use Rattle.foreground.specs.Log.{with_waiting};
@@ -17,6 +18,7 @@ ghost use Rattle.foreground.specs.FetchesCode.{clock_of_planes, clocks_of_planes
 use crate::fore::Fore;
 use crate::log::Log;
 use crate::machine::Machine;
+use chip_set::FetchRules;
 use ocs_base::OutOfMemory;
 use serial_model::{PlaneAsk, Side, Touch};
 
@@ -65,6 +67,7 @@ impl<S: Side> Fore<S> {
 /// So many clocks of this line, at each of which a plane is fetched at most, while everybody else waits. The
 /// write that waited is an event of the band.
 fn fetch_in_line<S>(machine: &mut Machine<S>, log: &mut Log, clocks: u16) -> Result<(), OutOfMemory>
+    requires inner { 0 < machine.old.beam.h }
     requires line { machine.old.beam.h + clocks ≤ 226 }
     requires count { machine.old.t + clocks < 2 ^ 64 }
     requires begun { IsLastUnit machine.old.chips.last }
@@ -84,6 +87,7 @@ fn fetch_in_line<S>(machine: &mut Machine<S>, log: &mut Log, clocks: u16) -> Res
 /// The planes' part of so many clocks.
 #[inline(always)]
 fn fetch_planes<S>(machine: &mut Machine<S>, log: &mut Log, clocks: u16) -> Result<(), OutOfMemory>
+    requires inner { 0 < machine.old.beam.h }
     requires line { machine.old.beam.h + clocks ≤ 226 }
     requires count { machine.old.t + clocks < 2 ^ 64 }
     requires begun { IsLastUnit machine.old.chips.last }
@@ -92,27 +96,37 @@ fn fetch_planes<S>(machine: &mut Machine<S>, log: &mut Log, clocks: u16) -> Resu
         (fetching_in machine.old.chips) log.old) }
     ensures chip { machine.new.chip ≡ machine.old.chip }
 {
+    let rules = machine.chips.fetch_rules(&machine.beam);
     let mut passed = 0;
     while passed < clocks {
-        fetch_plane(machine, log)?;
+        fetch_plane(&rules, machine, log)?;
         passed += 1;
     }
     Ok(())
 }
 
-/// The planes' part of one clock: the plane that is fetched at it, if one is, and the beam's advance.
+/// The planes' part of one clock, by what decides the fetches of the line: the plane that is fetched at it,
+/// if one is, and the beam's advance.
 #[inline(always)]
-fn fetch_plane<S>(machine: &mut Machine<S>, log: &mut Log) -> Result<(), OutOfMemory>
+fn fetch_plane<S>(
+    rules: &FetchRules,
+    machine: &mut Machine<S>,
+    log: &mut Log,
+) -> Result<(), OutOfMemory>
+    requires inner { 0 < machine.old.beam.h }
     requires line { machine.old.beam.h < 226 }
+    requires rules { rules.now ≡ rules_of machine.old.beam.v machine.old.chips.registers }
     requires count { machine.old.t + 1 < 2 ^ 64 }
     requires begun { IsLastUnit machine.old.chips.last }
     ensures machine { OnOk result (machine.new ≡ clock_of_planes machine.old) }
     ensures log { OnOk result (log.new ≡ with_fetch machine.old.t
         (ask_of_fetching machine.old.beam (fetching_in machine.old.chips)) log.old) }
     ensures next { IsLastUnit machine.new.chips.last }
+    ensures same { OnOk result (rules.now
+        ≡ rules_of machine.new.beam.v machine.new.chips.registers) }
     ensures chip { machine.new.chip ≡ machine.old.chip }
 {
-    if let Some(PlaneAsk { plane, at }) = machine.chips.fetch_plane(&machine.beam) {
+    if let Some(PlaneAsk { plane, at }) = machine.chips.fetch_plane(rules, &machine.beam) {
         log.note_access(machine.t, &Some(Touch::Plane { plane, at }))?;
     }
     machine.beam.h += 1;

@@ -10,6 +10,7 @@ loop-passed-init g c = record {
   machine = no_clock_of_planes c.args.machine.now;
   log = refl;
   begun = c.requires.begun;
+  rules = c.fetch_rules-rules.ensures;
 }
 
 pub loop-passed-preserved : goal.loop-passed-preserved
@@ -20,4 +21,5 @@ loop-passed-preserved g c = record {
   log = fetch_noted c.loop-passed.passed c.args.machine.now _ c.args.log.now _ _ c.loop-passed.invariant.machine c.loop-passed.invariant.log
       c.in_ok-fetch_plane.ensures.log;
   begun = c.fetch_plane.ensures.next;
+  rules = c.in_ok-fetch_plane.ensures.same;
 }

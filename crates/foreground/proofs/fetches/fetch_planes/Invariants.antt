@@ -1,5 +1,6 @@
 use Rattle.std.proofs.Common.{◌≡◌, ◌≤◌, ◌-◌}
 use Rattle.serial_model.specs.PlaneFetch.{IsLastUnit}
+use Rattle.bitplane_dma.specs.Rules.{rules_of}
 use Rattle.chip_set.specs.Quiet.{fetching_in}
 use Rattle.foreground.specs.FetchesCode.{with_fetches, clocks_of_planes}
 use Rattle.foreground.proofs.fetches.fetch_planes.Given as goal
@@ -11,6 +12,7 @@ invariant-loop-passed g l = record {
   machine : l.machine ≡ clocks_of_planes l.passed l.initial.machine;
   log : l.log ≡ with_fetches l.passed l.initial.machine.beam l.initial.machine.t (fetching_in l.initial.machine.chips) l.initial.log;
   begun : IsLastUnit l.machine.chips.last;
+  rules : l.rules ≡ rules_of l.machine.beam.v l.machine.chips.registers;
 }
 
 abbrev pub decreases-loop-passed : goal.decreases-loop-passed

@@ -1,0 +1,112 @@
+//! What decides the fetches of a line, read from the registers once.
+
+ghost use Rattle.std.specs.Prelude.{◌≡◌, ◌≤◌, ◌<◌, IfSome};
+ghost use Rattle.bitplane_dma.specs.Rules.{rules_of, first_unit, planes_by, begins_by, plane_by, bytes_by};
+
+use crate::{fetch_end, fetch_start, has_dma, is_window_line, modulo_bytes, slot_plane};
+use ocs_base::offset::{BPL1MOD, BPL2MOD, BPLCON0};
+use ocs_base::{Beam, Reg};
+use reg_file::Regs;
+
+/// What decides at which clocks of a line which plane is fetched, and what is added to its pointer, by the
+/// registers as they were when it was made. A fetch of a plane leaves it right.
+#[derive(Clone, Copy)]
+pub struct FetchRules {
+    /// Where the line's first unit begins; None where it has none.
+    first: Option<u16>,
+    /// The clock from which on no unit is followed by another.
+    end: u16,
+    /// Whether units fetch as in high resolution.
+    high: bool,
+    /// How many planes are fetched.
+    planes: u16,
+    /// The kept words of BPL1MOD and BPL2MOD.
+    odd: u16,
+    even: u16,
+}
+
+impl FetchRules {
+    /// Those of the beam's line, by the registers as they are now.
+    pub fn of(beam: &Beam, regs: &Regs) -> FetchRules
+        ensures { result ≡ rules_of beam.now.v regs.now }
+    {
+        FetchRules {
+            first: first_of_line(beam, regs),
+            end: fetch_end(regs).min(0xd1),
+            high: regs.word(Reg::masked(BPLCON0)) >= 0x8000,
+            planes: planes_in_unit(regs),
+            odd: regs.word(Reg::masked(BPL1MOD)),
+            even: regs.word(Reg::masked(BPL2MOD)),
+        }
+    }
+
+    /// Whether a unit begins at clock `h`, which is not a line's first, where the last one began at `last`.
+    #[inline(always)]
+    pub(crate) fn begins(&self, h: u16, last: Option<u16>) -> bool
+        ensures { result ≡ begins_by self.now h last }
+    {
+        if let Some(start) = last {
+            if start <= h && h - start < 8 {
+                return false;
+            }
+            if start <= h && h - start == 8 && start < self.end {
+                return true;
+            }
+        }
+        self.first == Some(h)
+    }
+
+    /// The plane that is fetched at clock `h`, if one is, where the last unit began at `start`.
+    #[inline(always)]
+    pub(crate) fn plane(&self, h: u16, start: u16) -> Option<u8>
+        ensures plane { result ≡ plane_by self.now h start }
+        ensures in_range { IfSome result (λ plane. (1 ≤ plane) × (plane ≤ 6)) }
+        ensures behind { IfSome result (λ plane. start ≤ h) }
+    {
+        if h < start || h - start >= 8 {
+            return None;
+        }
+        let plane = slot_plane(self.high, h - start);
+        if plane >= 1 && plane as u16 <= self.planes {
+            Some(plane)
+        } else {
+            None
+        }
+    }
+
+    /// How many bytes a plane's fetch at clock `h` adds to its pointer beside the word's two.
+    #[inline(always)]
+    pub(crate) fn bytes(&self, h: u16, start: u16, plane: u8) -> u32
+        requires { start ≤ h }
+        ensures value { result ≡ bytes_by self.now h start plane }
+        ensures below { result < 1048576 }
+    {
+        if self.high && h - start < 4 || start < self.end {
+            return 0;
+        }
+        modulo_bytes(if plane % 2 == 1 { self.odd } else { self.even })
+    }
+}
+
+/// Where a line's first unit begins, if it has one.
+fn first_of_line(beam: &Beam, regs: &Regs) -> Option<u16>
+    ensures { result ≡ first_unit beam.now.v regs.now }
+{
+    let start = fetch_start(regs);
+    if has_dma(regs) && start <= 0xd8 && is_window_line(beam.v, regs) {
+        Some(start)
+    } else {
+        None
+    }
+}
+
+/// How many planes a unit fetches; none without DMA.
+fn planes_in_unit(regs: &Regs) -> u16
+    ensures { result ≡ planes_by regs.now }
+{
+    let con0 = regs.word(Reg::masked(BPLCON0));
+    if !has_dma(regs) {
+        return 0;
+    }
+    (con0 / 0x1000 % 8).min(if con0 >= 0x8000 { 4 } else { 6 })
+}
