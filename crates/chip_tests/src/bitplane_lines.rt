@@ -2,7 +2,7 @@
 
 ghost use Rattle.std.specs.Prelude.{◌≡◌, ◌≤◌, ◌<◌, ◌+◌};
 
-use bitplane_dma::Fetcher;
+use bitplane_dma::{FetchRules, Fetcher};
 use ocs_base::{Beam, Reg};
 use reg_file::Regs;
 
@@ -240,4 +240,31 @@ fn clocks_before_the_last_fetch(rt: HostRuntime) {
         before_last_fetch(216),
     ];
     assert_eq!(rt; found, [0, 100, 66, 1, 0]);
+}
+
+/// The low word of plane 1's pointer behind a line, from 1000 (hexadecimal) on, where each clock goes by what
+/// decides the line's fetches; BPL1MOD is 6.
+fn pointer_by_rules(con0: u16) -> u16 {
+    let mut regs = registers_of_planes(con0);
+    let _modulo = regs.poke(Reg::masked(0x108), 6, false);
+    let _pointer = regs.poke(Reg::masked(0x0e2), 0x1000, false);
+    let mut fetcher = Fetcher::new();
+    for h in 1..227 {
+        let rules = FetchRules::of(&place(h), &regs);
+        let _ask = fetcher.step_by(&rules, &place(h), &mut regs);
+    }
+    regs.word(Reg::masked(0x0e2))
+}
+
+/// Twenty units fetch plane 1 once in low resolution, and twice in high; without planes it stays.
+#[test]
+fn a_line_by_its_rules(rt: HostRuntime) {
+    let found = [
+        pointer_by_rules(0x0000),
+        pointer_by_rules(0x1000),
+        pointer_by_rules(0x6000),
+        pointer_by_rules(0x9000),
+        pointer_by_rules(0xc000),
+    ];
+    assert_eq!(rt; found, [0x1000, 0x102e, 0x102e, 0x1056, 0x1056]);
 }

@@ -162,3 +162,37 @@ fn a_run_to_a_clock_stands_where_single_clocks_do(rt: HostRuntime) -> Result<(),
     assert_eq!(rt; found, [(300, 1, 73, [0x0280, 0x0f00, 0x0123]); 2]);
     Ok(())
 }
+
+/// A run of two planes in low resolution from DDFSTRT 38 to DDFSTOP D0, with a modulo of 6 bytes for plane 1.
+fn fetching_run(alloc: Global) -> Result<Arc<Run<NoSide>>, Fail> {
+    run_of(
+        alloc,
+        &[0; 8],
+        "at 0 0 1 poke 08e 0081\nat 0 0 2 poke 090 f4c1\nat 0 0 3 poke 092 0038\n\
+        at 0 0 4 poke 094 00d0\nat 0 0 5 poke 108 0006\nat 0 0 6 poke 0e2 1000\n\
+        at 0 0 7 poke 0e6 2000\nat 0 0 8 poke 100 2000\nat 0 0 9 poke 096 8300\n",
+        20,
+    )
+}
+
+/// The clocks that were done, and the low words of the pointers of planes 1 and 2.
+fn clocks_and_pointers(fore: &Fore<NoSide>) -> (u64, [u16; 2]) {
+    let regs = fore.regs();
+    let words = [0x0e2, 0x0e6].map(|offset| regs.word(Reg::masked(offset)));
+    (fore.clocks(), words)
+}
+
+/// Line 0 has twenty units, of 40 bytes a plane. Up to clock 73 of line 1 plane 2 is fetched at clocks 59 and
+/// 67, and plane 1 at clocks 63 and 71.
+#[test]
+fn planes_are_fetched_where_single_clocks_fetch_them(rt: HostRuntime) -> Result<(), Fail> {
+    let alloc = rt.alloc();
+    let mut found = [(0, [0; 2]); 2];
+    for (place, singly) in [(0, false), (1, true)] {
+        let mut raster = Direct::new(alloc)?;
+        let fore = run_clocks(alloc, fetching_run(alloc)?, &mut raster, singly)?;
+        found[place] = clocks_and_pointers(&fore);
+    }
+    assert_eq!(rt; found, [(300, [0x1032, 0x202c]); 2]);
+    Ok(())
+}
