@@ -5,8 +5,10 @@ use Rattle.std.proofs.lemmas.Bool.Decides.{nat_tests}
 use Rattle.irq_cia.specs.Bits.{has_bits}
 use Rattle.ocs_base.specs.declared.beam.Beam.{Beam}
 use Rattle.priority_ham.specs.PlaneCount.{is_hires, planes_of}
-use Rattle.serial_model.specs.PlaneFetch.{fetch_start, fetch_end, plane_dma, high_resolution, is_in_unit, is_running, has_next, begins_next, begins_first, begins_unit}
-use Rattle.serial_model.specs.PlaneFetch.{slot_plane, fetched_plane, is_last_fetch, added_bytes, modulo_bytes, move_planes, move_if_fetched, move_pointer, plane_pointer, plane_ask, ask_for_plane, IsLastUnit}
+use Rattle.serial_model.specs.PlaneFetch.{fetch_start, fetch_end, plane_dma, high_resolution, is_in_unit}
+use Rattle.serial_model.specs.PlaneFetch.{is_running, has_next, begins_next, begins_first, begins_unit}
+use Rattle.serial_model.specs.PlaneFetch.{slot_plane, fetched_plane, is_last_fetch, added_bytes, modulo_bytes, move_planes}
+use Rattle.serial_model.specs.PlaneFetch.{move_if_fetched, move_pointer, plane_pointer, plane_ask, ask_for_plane, IsLastUnit}
 use Rattle.std.specs.Option.{option_map}
 use Rattle.serial_model.specs.declared.fetch.PlaneAsk.{PlaneAsk}
 use Rattle.serial_model.specs.Registers.{Registers, kept_word}

@@ -118,8 +118,8 @@ impl Fetcher {
         }
     }
 
-    /// Where a unit runs at this clock, how many clocks there are, from this one on and at most so many, up to
-    /// the end of the line's last unit by DDFSTOP; else none. Nothing hangs on it but how fast a run is.
+    /// Where a unit runs at this clock, how many clocks there are, from this one on and at most so many, up
+    /// to the end of the line's last unit by DDFSTOP; else none. Nothing hangs on it but how fast a run is.
     pub fn before_last_fetch(&self, beam: &Beam, regs: &Regs, most: u16) -> u16
         requires { 0 < beam.now.h }
         ensures most { result ≤ most }

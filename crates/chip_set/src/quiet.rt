@@ -52,7 +52,8 @@ impl Chips {
     }
 
     /// For how many clocks of this line, from this one on and at most so many, everybody but the planes only
-    /// waits, up to the end of the line's last unit at most. Nothing hangs on the answer but how fast a run is.
+    /// waits, up to the end of the line's last unit at most. Nothing hangs on the answer but how fast a run
+    /// is.
     pub fn fetch_clocks(&self, beam: &Beam, t: u64, most: u16) -> u16
         requires inner { 0 < beam.now.h }
         requires room { beam.now.h + most ≤ 226 }
