@@ -250,8 +250,9 @@ fn pointer_by_rules(con0: u16) -> u16 {
     let _pointer = regs.poke(Reg::masked(0x0e2), 0x1000, false);
     let mut fetcher = Fetcher::new();
     for h in 1..227 {
-        let rules = FetchRules::of(&place(h), &regs);
-        let _ask = fetcher.step_by(&rules, &place(h), &mut regs);
+        let here = place(h);
+        let rules = FetchRules::of(&here, &regs);
+        let _ask = fetcher.step_by(&rules, &here, &mut regs);
     }
     regs.word(Reg::masked(0x0e2))
 }
