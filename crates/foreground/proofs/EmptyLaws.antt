@@ -25,7 +25,7 @@ none_due : (run : RunValue) (b : Beam) (next : ℕ) → IsOnScreen b → HasScri
 none_due run b next on script is =
     script.same b on (omega arith) ∙ ap (λ events. due_events b events) (left_none run.script.events next is) ∙ none_of_none b
 
-none_happen : (clx : ℕ) (m : MachineValue) (out : OutFilesValue) → MakesEvents clx [] m out m out
+pub none_happen : (clx : ℕ) (m : MachineValue) (out : OutFilesValue) → MakesEvents clx [] m out m out
 unfolding do_events
 none_happen clx m out start s read stands = stands
 
@@ -36,7 +36,7 @@ no_events clx f out on script is =
     subst (λ events. MakesEvents clx events f.machine out f.machine out) (sym (none_due f.run f.machine.beam f.next on script is))
     (none_happen clx f.machine out)
 
-none_touched : (c : ℕ) (log : Log) → log ≡ with_script_touches c (touches_of []) log
+pub none_touched : (c : ℕ) (log : Log) → log ≡ with_script_touches c (touches_of []) log
 unfolding touches_of with_script_touches
 none_touched c log = refl
 

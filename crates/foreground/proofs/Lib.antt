@@ -31,3 +31,4 @@ pub mod QuietLaws
 pub mod QuietRuns
 pub mod AskedLaws
 pub mod FetchLaws
+pub mod LineLaws

@@ -348,7 +348,7 @@ not_first b e events none = by_test (is_due b e) refl
     by_test true is = absurd (omega (arith, ap length (sym (due_events-more b e events is) ∙ none)))
     by_test false is = is
 
-left_next : (b : Beam) (left : List At) → IsOnScreen b → IsLeft (place_of b) left → due_events b left ≡ [] → IsLeft (place_of b + 1) left
+pub left_next : (b : Beam) (left : List At) → IsOnScreen b → IsLeft (place_of b) left → due_events b left ≡ [] → IsLeft (place_of b + 1) left
 left_next b [] on queue none = record { system = queue.system; frames = queue.frames; queue = IsQueue-empty queue.system queue.frames (place_of b + 1) }
 left_next b (e ∷ events) on queue none = record {
   system = queue.system;

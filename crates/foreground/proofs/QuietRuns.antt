@@ -14,7 +14,7 @@ use Rattle.foreground.proofs.BeginLaws.{begins_no_part}
 use Rattle.foreground.proofs.CutLaws.{rises_none}
 use Rattle.foreground.proofs.RunToLaws.{one_more, rises_within, part_behind}
 
-runs_more : (f0 f1 f2 : ForeValue) (s0 s1 s2 : RasterValue) (o0 o1 o2 : OutFilesValue) → RunsOn f0 f1 s0 s1 o0 o1 → RunsOn f1 f2 s1 s2 o1 o2
+pub runs_more : (f0 f1 f2 : ForeValue) (s0 s1 s2 : RasterValue) (o0 o1 o2 : OutFilesValue) → RunsOn f0 f1 s0 s1 o0 o1 → RunsOn f1 f2 s1 s2 o1 o2
     → f1.run ≡ f0.run → RunsOn f0 f2 s0 s2 o0 o2
 runs_more f0 f1 f2 s0 s1 s2 o0 o1 o2 runs more run first is =
     let one : HasRunOn f0 f1 first s0 s1 o0 o1 = runs first is in

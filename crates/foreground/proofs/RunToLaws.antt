@@ -60,7 +60,7 @@ can_go_on f1 f2 s1 s2 o1 o2 advances fresh can not =
     (one.until, one.stands)
 
 -- counts of reads: of two rises, and of one within a greater one
-rises_twice : (l1 h1 l2 h2 a b d : ℕ) → Rises l1 h1 a b → Rises l2 h2 b d → Rises (l1 + l2) (h1 + h2) a d
+pub rises_twice : (l1 h1 l2 h2 a b d : ℕ) → Rises l1 h1 a b → Rises l2 h2 b d → Rises (l1 + l2) (h1 + h2) a d
 rises_twice l1 h1 l2 h2 a b d one two =
     let low : min (a + l1) (2 ^ 64 - 1) ≤ b = one.least_rise in
     let lower : min (b + l2) (2 ^ 64 - 1) ≤ d = two.least_rise in

@@ -15,3 +15,4 @@ pub mod Checkpoint
 pub mod Save
 pub mod QuietCode
 pub mod FetchesCode
+pub mod LineCode

@@ -92,7 +92,7 @@ impl<S: Side> Fore<S> {
 
     /// The third and the fourth, and the ask of the slot's owner.
     #[inline(always)]
-    fn ask(&mut self) -> Ask
+    pub(crate) fn ask(&mut self) -> Ask
         ensures asks { AsksInTime result (over S.seen self.old).machine
             (over S.seen self.new).machine }
         ensures able { CanAsk result }
@@ -175,7 +175,7 @@ impl<S: Side> Fore<S> {
 
     /// Fifth step: the access, once the chips have asked.
     #[inline(always)]
-    fn access<Q: Raster<S>>(
+    pub(crate) fn access<Q: Raster<S>>(
         &mut self,
         ask: &Ask,
         raster: &mut Q,
@@ -225,6 +225,9 @@ impl<S: Side> Fore<S> {
             Ask::Free => self.make_access(&Ask::Free, out),
             Ask::Plane { ask } => self.make_access(&Ask::Plane { ask }, out),
             Ask::Sprite { ask } => self.make_access(&Ask::Sprite { ask }, out),
+            Ask::Copper { at } => self.make_access(&Ask::Copper { at }, out),
+            Ask::Blit { ask } => self.make_access(&Ask::Blit { ask }, out),
+            Ask::Processor { ask } => self.make_access(&Ask::Processor { ask }, out),
             other => self.make_access(&other, out),
         }
     }
@@ -282,7 +285,7 @@ impl<S: Side> Fore<S> {
 
     /// The last two steps.
     #[inline(always)]
-    fn end_clock(&mut self, out: &mut OutFiles) -> Result<(), OutOfMemory>
+    pub(crate) fn end_clock(&mut self, out: &mut OutFiles) -> Result<(), OutOfMemory>
         requires screen { IsOnScreen self.old.machine.beam }
         requires frame { self.old.machine.beam.frame + 1 < 2 ^ 32 }
         requires count { self.old.machine.t + 1 < 2 ^ 64 }

@@ -13,6 +13,7 @@ mod fetches;
 mod fore;
 mod gather;
 pub mod laws;
+mod line;
 mod log;
 mod lookout;
 mod machine;

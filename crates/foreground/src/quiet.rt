@@ -113,7 +113,7 @@ impl<S: Side> Fore<S> {
     /// How many clocks from this one on are in this line, before the clock `limit` and before the next event
     /// of the script; nothing hangs on it but how fast a run is.
     #[inline(always)]
-    fn most_clocks(&self, limit: u64) -> u16
+    pub(crate) fn most_clocks(&self, limit: u64) -> u16
         requires script { HasScript (over S.seen self.now).run self.now.machine.beam self.now.next }
         requires screen { IsOnScreen self.now.machine.beam }
         requires before { self.now.machine.t < limit }

@@ -46,6 +46,7 @@ impl<S: Side> Fore<S> {
         while self.machine.t < limit && !self.done() {
             if !self.pass_quiet(limit)? {
                 self.advance(raster, out)?;
+                self.run_in_line(limit, raster, out)?;
             }
         }
         Ok(())

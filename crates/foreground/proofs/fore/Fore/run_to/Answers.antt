@@ -4,7 +4,8 @@ use Rattle.ocs_io.proofs.MapLaws.{on_err}
 use Rattle.foreground.specs.Fore.{over, GivesPart}
 use Rattle.foreground.specs.RunTo.{RisesInSome}
 use Rattle.foreground.proofs.RunToLaws.{runs_none, runs_then, part_behind, can_go_on, no_reads, reads_then, few_behind, below_view, fresh_view}
-use Rattle.foreground.proofs.QuietRuns.{runs_passed, can_go_behind, reads_passed, part_passed, few_passed}
+use Rattle.foreground.proofs.LineLaws.{can_go_then, reads_twice, few_twice}
+use Rattle.foreground.proofs.QuietRuns.{runs_more, runs_passed, can_go_behind, reads_passed, part_passed, few_passed}
 use Rattle.foreground.proofs.fore.Fore.run_to.Goals as goal
 
 pub loop-self-init : goal.loop-self-init
@@ -41,34 +42,51 @@ advance-requires-clause-fits g c =
     can_go_behind (of c.loop-self.self) (of c.pass_quiet.new.self) c.args.limit _ c.loop-self.out c.in_ok-pass_quiet.ensures.passed
     c.loop-self.invariant.fresh c.loop-self.invariant.able
 
-pub loop-self-preserved-in_ok-advance : goal.loop-self-preserved-in_ok-advance
-loop-self-preserved-in_ok-advance g c =
+pub run_in_line-requires-clause-fits : goal.run_in_line-requires-clause-fits
+run_in_line-requires-clause-fits g c =
     let of = over g.S.Side.seen in
     let here = c.pass_quiet.new.self in
+    let passed = c.in_ok-pass_quiet.ensures.passed in
+    can_go_on (of here) (of c.advance.new.self) _ _ _ _ c.in_ok-advance.ensures.clock (passed.spent ∙ c.loop-self.invariant.fresh)
+    (can_go_behind (of c.loop-self.self) (of here) c.args.limit _ c.loop-self.out passed c.loop-self.invariant.fresh c.loop-self.invariant.able)
+
+pub loop-self-preserved-in_ok-run_in_line : goal.loop-self-preserved-in_ok-run_in_line
+loop-self-preserved-in_ok-run_in_line g c =
+    let of = over g.S.Side.seen in
+    let f0 = of c.args.self.now in
+    let here = c.pass_quiet.new.self in
+    let mid = of c.advance.new.self in
     let passed = c.in_ok-pass_quiet.ensures.passed in
     let before : here.machine.t < c.args.limit =
     below_view _ here c.args.limit (sym (c.in_ok-pass_quiet.ensures.none c.if-not-branch.true))
     (below_view _ c.loop-self.self c.args.limit c.self-in-loop-self.view_is c.loop-self-test.true) in
-    let run = c.pass_quiet.ensures.run ∙ c.loop-self.invariant.run in
-    let on : c.args.self.now.machine.t ≤ here.machine.t = omega (arith, c.loop-self.invariant.on, passed.on) in
+    let run0 = c.pass_quiet.ensures.run ∙ c.loop-self.invariant.run in
+    let on0 : c.args.self.now.machine.t ≤ here.machine.t = omega (arith, c.loop-self.invariant.on, passed.on) in
     let fresh = passed.spent ∙ c.loop-self.invariant.fresh in
     let able =
     can_go_behind (of c.loop-self.self) (of here) c.args.limit _ c.loop-self.out passed c.loop-self.invariant.fresh c.loop-self.invariant.able in
     let count : c.advance.new.self.machine.t ≡ here.machine.t + 1 = c.in_ok-advance.ensures.count in
+    let runs = runs_then f0 (of here) mid _ _ _ _ _ _
+    (runs_passed f0 (of c.loop-self.self) (of here) c.args.limit _ _ _ _ c.loop-self.invariant.runs passed c.loop-self.invariant.run)
+    c.in_ok-advance.ensures.clock run0 count in
+    let run = c.advance.ensures.run ∙ run0 in
+    let on : c.args.self.now.machine.t ≤ c.advance.new.self.machine.t = omega (arith, on0, count) in
+    let low : c.advance.new.self.machine.t ≤ c.args.limit = omega (arith, before, count) in
+    let reads = reads_then f0 (of here) mid _ run0 on0 fresh able
+    (reads_passed f0 (of c.loop-self.self) (of here) c.args.limit c.loop-self.invariant.run
+    c.loop-self.invariant.on passed c.pass_quiet.ensures.reads c.loop-self.invariant.reads)
+    c.in_ok-advance.ensures.reads count in
+    let last = of c.run_in_line.new.self in
+    let more = c.in_ok-run_in_line.ensures in
     record {
-      able = can_go_on (of here) (of c.advance.new.self) _ _ _ _ c.in_ok-advance.ensures.clock fresh able;
-      runs = runs_then (of c.args.self.now) (of here) (of c.advance.new.self) _ _ _ _ _ _
-          (runs_passed (of c.args.self.now) (of c.loop-self.self) (of here) c.args.limit _ _ _ _ c.loop-self.invariant.runs passed
-          c.loop-self.invariant.run)
-          c.in_ok-advance.ensures.clock run count;
-      run = c.advance.ensures.run ∙ run;
-      on = omega (arith, on, count);
-      most = omega (arith, before, count);
-      reads = reads_then (of c.args.self.now) (of here) (of c.advance.new.self) _ run on fresh able
-          (reads_passed (of c.args.self.now) (of c.loop-self.self) (of here) c.args.limit c.loop-self.invariant.run
-          c.loop-self.invariant.on passed c.pass_quiet.ensures.reads c.loop-self.invariant.reads)
-          c.in_ok-advance.ensures.reads count;
-      fresh = c.in_ok-advance.ensures.fresh;
+      able = can_go_then mid last _ _ _ _ more.clocks c.in_ok-advance.ensures.fresh
+          (can_go_on (of here) mid _ _ _ _ c.in_ok-advance.ensures.clock fresh able);
+      runs = runs_more f0 mid last _ _ _ _ _ _ runs more.clocks run;
+      run = c.run_in_line.ensures.run ∙ run;
+      on = omega (arith, on, more.on);
+      most = omega (arith, low, more.most);
+      reads = reads_twice f0 mid last run on more.on reads more.reads;
+      fresh = more.fresh;
     }
 
 pub returns-in_err-pass_quiet-clause-part : goal.returns-in_err-pass_quiet-clause-part
@@ -119,6 +137,67 @@ returns-in_err-advance-clause-few g c =
     (passed.spent ∙ c.loop-self.invariant.fresh) able
     (reads_passed (of c.args.self.now) (of c.loop-self.self) (of here) c.args.limit c.loop-self.invariant.run
     c.loop-self.invariant.on passed c.pass_quiet.ensures.reads c.loop-self.invariant.reads) c.in_err-advance.ensures.few)
+
+pub returns-in_err-run_in_line-clause-part : goal.returns-in_err-run_in_line-clause-part
+returns-in_err-run_in_line-clause-part g c =
+    let of = over g.S.Side.seen in
+    let f0 = of c.args.self.now in
+    let here = c.pass_quiet.new.self in
+    let mid = of c.advance.new.self in
+    let passed = c.in_ok-pass_quiet.ensures.passed in
+    let before : here.machine.t < c.args.limit =
+    below_view _ here c.args.limit (sym (c.in_ok-pass_quiet.ensures.none c.if-not-branch.true))
+    (below_view _ c.loop-self.self c.args.limit c.self-in-loop-self.view_is c.loop-self-test.true) in
+    let run0 = c.pass_quiet.ensures.run ∙ c.loop-self.invariant.run in
+    let on0 : c.args.self.now.machine.t ≤ here.machine.t = omega (arith, c.loop-self.invariant.on, passed.on) in
+    let fresh = passed.spent ∙ c.loop-self.invariant.fresh in
+    let able =
+    can_go_behind (of c.loop-self.self) (of here) c.args.limit _ c.loop-self.out passed c.loop-self.invariant.fresh c.loop-self.invariant.able in
+    let count : c.advance.new.self.machine.t ≡ here.machine.t + 1 = c.in_ok-advance.ensures.count in
+    let runs = runs_then f0 (of here) mid _ _ _ _ _ _
+    (runs_passed f0 (of c.loop-self.self) (of here) c.args.limit _ _ _ _ c.loop-self.invariant.runs passed c.loop-self.invariant.run)
+    c.in_ok-advance.ensures.clock run0 count in
+    let run = c.advance.ensures.run ∙ run0 in
+    let on : c.args.self.now.machine.t ≤ c.advance.new.self.machine.t = omega (arith, on0, count) in
+    let low : c.advance.new.self.machine.t ≤ c.args.limit = omega (arith, before, count) in
+    let reads = reads_then f0 (of here) mid _ run0 on0 fresh able
+    (reads_passed f0 (of c.loop-self.self) (of here) c.args.limit c.loop-self.invariant.run
+    c.loop-self.invariant.on passed c.pass_quiet.ensures.reads c.loop-self.invariant.reads)
+    c.in_ok-advance.ensures.reads count in
+    let seen = g.Q.Raster.seen in
+    on_err c.from_residual-in_err-run_in_line.result
+    (c.args.self.now.spent ≡ false → GivesPart f0 (seen c.args.raster.now) (seen c.run_in_line.new.raster) c.args.out.now c.run_in_line.new.out)
+    (λ fresh. part_behind f0 mid _ _ _ _ _ _ runs c.in_err-run_in_line.ensures.part run)
+
+pub returns-in_err-run_in_line-clause-few : goal.returns-in_err-run_in_line-clause-few
+returns-in_err-run_in_line-clause-few g c =
+    let of = over g.S.Side.seen in
+    let f0 = of c.args.self.now in
+    let here = c.pass_quiet.new.self in
+    let mid = of c.advance.new.self in
+    let passed = c.in_ok-pass_quiet.ensures.passed in
+    let before : here.machine.t < c.args.limit =
+    below_view _ here c.args.limit (sym (c.in_ok-pass_quiet.ensures.none c.if-not-branch.true))
+    (below_view _ c.loop-self.self c.args.limit c.self-in-loop-self.view_is c.loop-self-test.true) in
+    let run0 = c.pass_quiet.ensures.run ∙ c.loop-self.invariant.run in
+    let on0 : c.args.self.now.machine.t ≤ here.machine.t = omega (arith, c.loop-self.invariant.on, passed.on) in
+    let fresh = passed.spent ∙ c.loop-self.invariant.fresh in
+    let able =
+    can_go_behind (of c.loop-self.self) (of here) c.args.limit _ c.loop-self.out passed c.loop-self.invariant.fresh c.loop-self.invariant.able in
+    let count : c.advance.new.self.machine.t ≡ here.machine.t + 1 = c.in_ok-advance.ensures.count in
+    let runs = runs_then f0 (of here) mid _ _ _ _ _ _
+    (runs_passed f0 (of c.loop-self.self) (of here) c.args.limit _ _ _ _ c.loop-self.invariant.runs passed c.loop-self.invariant.run)
+    c.in_ok-advance.ensures.clock run0 count in
+    let run = c.advance.ensures.run ∙ run0 in
+    let on : c.args.self.now.machine.t ≤ c.advance.new.self.machine.t = omega (arith, on0, count) in
+    let low : c.advance.new.self.machine.t ≤ c.args.limit = omega (arith, before, count) in
+    let reads = reads_then f0 (of here) mid _ run0 on0 fresh able
+    (reads_passed f0 (of c.loop-self.self) (of here) c.args.limit c.loop-self.invariant.run
+    c.loop-self.invariant.on passed c.pass_quiet.ensures.reads c.loop-self.invariant.reads)
+    c.in_ok-advance.ensures.reads count in
+    on_err c.from_residual-in_err-run_in_line.result
+    (RisesInSome c.args.limit f0.run c.args.self.now.machine.t c.args.self.now.machine.chip.reads c.run_in_line.new.self.machine.chip.reads)
+    (few_twice f0 mid (of c.run_in_line.new.self) c.args.limit run on low reads c.in_err-run_in_line.ensures.few)
 
 pub returns-else-not-done-clause-come : goal.returns-else-not-done-clause-come
 returns-else-not-done-clause-come g c = record {
