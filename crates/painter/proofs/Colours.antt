@@ -1,6 +1,6 @@
 -- Inks against the colours of the playfields.
 use Rattle.std.proofs.Common.{◌≡◌, ℕ, zero, ◌+◌, ◌-◌, ◌/◌, ◌%◌, ◌^◌, ◌≤◌, ◌<◌, ◌==◌, Bool, true, false, not, ◌&&◌}
-use Rattle.std.proofs.Common.{nat_lt, min, List, [], ◌∷◌, slice_index, replicate, refl, sym, ◌∙◌, ap, arith}
+use Rattle.std.proofs.Common.{nat_le, nat_lt, min, List, [], ◌∷◌, slice_index, replicate, refl, sym, ◌∙◌, ap, arith}
 use Rattle.std.specs.Bool.{if◌then◌else◌}
 use Rattle.std.proofs.Math.Pow.{pow_mono}
 use Rattle.std.proofs.lemmas.List.{get_or-replicate}
@@ -8,9 +8,9 @@ use Rattle.std.proofs.lemmas.Bool.Decides.{nat_tests}
 use Rattle.serial_model.specs.Picture.{colour_bytes}
 use Rattle.priority_ham.specs.PlaneCount.{planes_of, is_hires, is_hold_and_modify, is_dual_playfield}
 use Rattle.priority_ham.specs.PixelColour.{Mode, DualPlayfield, HoldAndModify, ExtraHalfBrite, Plain, colour_in, dual_number, value_of_two}
-use Rattle.priority_ham.specs.PixelColour.{value_of_one, is_two_chosen, half_brite, modified, playfield_colour, red, green, blue, colour_of}
+use Rattle.priority_ham.specs.PixelColour.{hides, playfield_value, priority_code, value_of_one, is_two_chosen, half_brite, modified, playfield_colour, red, green, blue, colour_of}
 use Rattle.priority_ham.proofs.Within.{below, at_most_six}
-use Rattle.painter.specs.Inks.{ink, ink_number, counted_bits, is_held, halved, HasTables}
+use Rattle.painter.specs.Inks.{ink, ink_number, counted_bits, first_hidden, is_held, halved, HasTables}
 use Rattle.painter.proofs.Rows.{zeros}
 
 black_by : (n : ℕ) (b : Bool) → (if b then slice_index (replicate 32 0) n else halved (slice_index (replicate 32 0) (n - 32))) ≡ zero
@@ -21,12 +21,27 @@ no_planes : (bits : ℕ) → 0 ≡ bits % 1
 no_planes bits = omega arith
 
 -- the tables at reset
-pub reset_tables : HasTables (replicate 32 0) 0 0 (replicate 64 (0 ∷ 0 ∷ 0 ∷ [])) (replicate 64 0) (replicate 4 (0 ∷ 0 ∷ 0 ∷ []))
+pub reset_tables : HasTables (replicate 32 0) 0 0 (replicate 64 (0 ∷ 0 ∷ 0 ∷ [])) (replicate 64 0) (replicate 64 4) (replicate 4 (0 ∷ 0 ∷ 0 ∷ []))
 reset_tables = record {
   bytes = λ n h. get_or-replicate 64 n (0 ∷ 0 ∷ 0 ∷ []) [] h ∙ sym (ap colour_bytes (black_by n (nat_lt n 32)));
   numbers = λ bits h. zeros 64 bits ∙ no_planes bits;
+  pairs = λ bits h. get_or-replicate 64 bits 4 0 h
+      ∙ ap (λ (n : ℕ). if n == 0 then 4 else priority_code 0 0 (counted_bits 0 bits)) (no_planes bits);
   backdrop = refl;
 }
+
+-- the first pair that is hidden tells which are
+hidden_by_value : (value code pair : ℕ) → pair ≤ 3 → (none : Bool) →
+    nat_le (if none then 4 else code) pair ≡ (not none && nat_le code pair)
+hidden_by_value value code pair few true = grind (arith, nat_tests)
+hidden_by_value value code pair few false = refl
+
+pub hidden_first : (con0 con2 bits pair : ℕ) → pair ≤ 3 →
+    nat_le (first_hidden con0 con2 bits) pair ≡ hides con0 con2 (counted_bits con0 bits) pair
+hidden_first con0 con2 bits pair few =
+    let counted = counted_bits con0 bits in
+    hidden_by_value (playfield_value con0 con2 counted) (priority_code con0 con2 counted) pair few
+    (playfield_value con0 con2 counted == 0)
 
 -- the first 32 inks are the colours
 pub ink_low : (palette : List ℕ) (n : ℕ) → n < 32 → ink palette n ≡ slice_index palette n

@@ -13,6 +13,7 @@ pub mod Ors
 pub mod Showing
 pub mod Overlays
 pub mod Covering
+pub mod Fills
 pub mod Registers
 pub mod KeptLoads
 pub mod RunningLaws

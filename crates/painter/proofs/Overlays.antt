@@ -224,6 +224,14 @@ pub attached_same : (now : Painter) (p : Denise) → IsPainterOf now p → attac
 attached_same now p stands = rw (stands.ctl) refl
 
 -- the sprite in front over the two pixels of a column, and none
+-- the bits of the line's rows, of as many planes as BPLCON0 says
+pub counted_same : (x bits : ℕ) (now : Painter) (p : Denise) → IsPainterOf now p → x < 1024 → bits ≡ row_bits now.line x →
+    counted_bits now.inks.con0 bits ≡ shown_bits x p
+counted_same x bits now p stands within is =
+    ap (λ (n : ℕ). counted_bits n bits) (sym stands.con0)
+    ∙ ap (counted_bits p.con0) is
+    ∙ row_counted now.line p.loads x p.con0 stands.line within
+
 pub covered_some : (column at first second : ℕ) (now : Painter) (p : Denise) (sprite : SpritePixel) (into left right : List (List ℕ)) →
     IsPainterOf now p → first ≡ shown_bits (2 * column) p → second ≡ shown_bits (2 * column + 1) p →
     front_pixel (sprite_values column p.runs) (attached_pairs p) ≡ Some sprite →

@@ -1,8 +1,8 @@
 -- Inks: the colours that the bits of the planes name.
-use Rattle.std.specs.Prelude.{◌≡◌, ℕ, ◌-◌, ◌/◌, ◌%◌, ◌^◌, ◌<◌, ◌&&◌, Bool, not, nat_lt, if◌then◌else◌, List, [], slice_index, slice_index_or, replicate}
+use Rattle.std.specs.Prelude.{◌≡◌, ℕ, ◌-◌, ◌/◌, ◌%◌, ◌^◌, ◌<◌, ◌==◌, ◌&&◌, Bool, not, nat_lt, if◌then◌else◌, List, [], slice_index, slice_index_or, replicate}
 use Rattle.serial_model.specs.Picture.{colour_bytes}
 use Rattle.priority_ham.specs.PlaneCount.{planes_of, is_hires, is_hold_and_modify, is_dual_playfield}
-use Rattle.priority_ham.specs.PixelColour.{red, green, blue, colour_of, dual_number}
+use Rattle.priority_ham.specs.PixelColour.{red, green, blue, colour_of, dual_number, playfield_value, priority_code}
 
 -- the registers that give a pixel of the playfields its colour
 pub record InkRegisters : Type 0 where
@@ -30,6 +30,11 @@ abbrev pub ink_number : ℕ → ℕ → ℕ → ℕ
 ink_number con0 con2 bits =
     if is_dual_playfield con0 then dual_number con2 (counted_bits con0 bits) else counted_bits con0 bits
 
+-- the first pair of sprites that the playfields hide, 4 where they hide none of the four
+abbrev pub first_hidden : ℕ → ℕ → ℕ → ℕ
+first_hidden con0 con2 bits =
+    if playfield_value con0 con2 (counted_bits con0 bits) == 0 then 4 else priority_code con0 con2 (counted_bits con0 bits)
+
 -- whether a pixel may hold the colour of the pixel before
 abbrev pub is_held : ℕ → Bool
 is_held con0 = is_hold_and_modify con0 && not (is_dual_playfield con0) && not (is_hires con0)
@@ -39,7 +44,8 @@ abbrev pub backdrop : List ℕ → List (List ℕ)
 backdrop palette = replicate 4 (colour_bytes (slice_index palette 0))
 
 -- the tables say what the registers do
-pub record HasTables (palette : List ℕ) (con0 con2 : ℕ) (rgb : List (List ℕ)) (names : List ℕ) (pixels : List (List ℕ)) : Type 0 where
+pub record HasTables (palette : List ℕ) (con0 con2 : ℕ) (rgb : List (List ℕ)) (names hidden : List ℕ) (pixels : List (List ℕ)) : Type 0 where
   pub bytes : (n : ℕ) → n < 64 → slice_index_or rgb n [] ≡ colour_bytes (ink palette n)
   pub numbers : (bits : ℕ) → bits < 64 → slice_index names bits ≡ ink_number con0 con2 bits
+  pub pairs : (bits : ℕ) → bits < 64 → slice_index hidden bits ≡ first_hidden con0 con2 bits
   pub backdrop : pixels ≡ replicate 4 (slice_index_or rgb 0 [])

@@ -2,9 +2,10 @@
 
 ghost use Rattle.std.specs.Prelude.{◌≡◌, ◌≤◌, ◌<◌, ◌%◌, ◌/◌, ℕ, slice_set};
 ghost use Rattle.serial_model.specs.Picture.{colour_bytes};
-ghost use Rattle.painter.specs.Inks.{ink, ink_number, halved, is_held, backdrop};
+ghost use Rattle.painter.specs.Inks.{ink, ink_number, counted_bits, halved, is_held, backdrop};
+ghost use Rattle.priority_ham.specs.PixelColour.{hides};
 
-use crate::names::names_by;
+use crate::names::{hidden_by, names_by};
 use std::marker::Model;
 
 /// The registers that give the playfields' pixels their colours, with tables of what they say.
@@ -17,6 +18,8 @@ pub struct Inks {
     con2: u16,
     rgb: [[u8; 3]; 64],
     names: [u8; 64],
+    /// By the bits of the planes: the first pair of sprites that they hide, 4 for none.
+    hidden: [u8; 64],
     /// Four pixels of COLOR00.
     backdrop: [[u8; 3]; 4],
 }
@@ -28,7 +31,7 @@ impl Model for Inks {
 
     ghost view = { λ s. record { palette = s.palette; con0 = s.con0; con2 = s.con2 } };
 
-    ghost invariant = { λ s. HasTables s.palette s.con0 s.con2 s.rgb s.names s.backdrop };
+    ghost invariant = { λ s. HasTables s.palette s.con0 s.con2 s.rgb s.names s.hidden s.backdrop };
 }
 
 impl Inks {
@@ -44,6 +47,7 @@ impl Inks {
             con2: 0,
             rgb: [[0; 3]; 64],
             names: [0; 64],
+            hidden: [4; 64],
             backdrop: [[0; 3]; 4],
         }
     }
@@ -53,8 +57,7 @@ impl Inks {
         ensures { result ≡ record { palette = palette.now; con0 = con0; con2 = con2 } }
     {
         let mut inks = Inks::reset();
-        inks.set_con0(con0);
-        inks.set_con2(con2);
+        inks.set_controls(con0, con2);
         for number in 0..32 {
             inks.put_colour(number, palette[number]);
         }
@@ -88,16 +91,24 @@ impl Inks {
     pub fn set_con0(&mut self, word: u16)
         ensures { self.new ≡ record self.old { con0 = word } }
     {
-        self.con0 = word;
-        self.names = names_by(word, self.con2);
+        self.set_controls(word, self.con2);
     }
 
     /// A write to BPLCON2.
     pub fn set_con2(&mut self, word: u16)
         ensures { self.new ≡ record self.old { con2 = word } }
     {
-        self.con2 = word;
-        self.names = names_by(self.con0, word);
+        self.set_controls(self.con0, word);
+    }
+
+    /// BPLCON0 and BPLCON2 become these.
+    fn set_controls(&mut self, con0: u16, con2: u16)
+        ensures { self.new ≡ record self.old { con0 = con0; con2 = con2 } }
+    {
+        self.con0 = con0;
+        self.con2 = con2;
+        self.names = names_by(con0, con2);
+        self.hidden = hidden_by(con0, con2);
     }
 
     /// COLOR00 to COLOR31.
@@ -136,6 +147,17 @@ impl Inks {
         ensures few { result < 64 }
     {
         self.names[bits]
+    }
+
+    /// Whether a pixel of the playfields, by the bits of the six planes, hides a pair of sprites.
+    #[inline(always)]
+    pub fn hides(&self, bits: usize, pair: u8) -> bool
+        requires planes { bits < 64 }
+        requires four { pair ≤ 3 }
+        ensures { result ≡ hides self.now.con0 self.now.con2
+            (counted_bits self.now.con0 bits) pair }
+    {
+        self.hidden[bits] <= pair
     }
 
     /// Four pixels of COLOR00.

@@ -556,8 +556,8 @@ impl Painter {
             → into.new ≡ covered_column column at into.old p }
     {
         if let Some(sprite) = self.sprites.front_pixel(column, attached) {
-            let first = self.planes_at(2 * column as usize);
-            let second = self.planes_at(2 * column as usize + 1);
+            let first = self.line.bits(2 * column as usize);
+            let second = self.line.bits(2 * column as usize + 1);
             cover(&self.inks, sprite, first, at, into);
             cover(&self.inks, sprite, second, at + 1, into);
         }

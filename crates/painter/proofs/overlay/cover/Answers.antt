@@ -2,27 +2,28 @@ use Rattle.std.proofs.Common.{◌≡◌, ◌∙◌, [], slice_index_or, slice_se
 use Rattle.serial_model.specs.Picture.{colour_bytes}
 use Rattle.std.proofs.lemmas.List.{set-get_or}
 use Rattle.priority_ham.specs.PixelColour.{hides}
+use Rattle.painter.specs.Inks.{counted_bits}
 use Rattle.painter.proofs.Colours.{ink_low}
 use Rattle.painter.proofs.Overlays.{hidden_is, shown_is}
 use Rattle.painter.proofs.overlay.cover.Goals as goal
 
-pub returns-then-not-is_sprite_hidden : goal.returns-then-not-is_sprite_hidden
-returns-then-not-is_sprite_hidden c =
+pub returns-then-not-hides : goal.returns-then-not-hides
+returns-then-not-hides c =
     let inks = c.args.inks.now in
     let before = slice_index_or c.args.into.now c.args.at [] in
-    let seen : hides c.args.inks.now.con0 c.args.inks.now.con2 c.args.bits c.args.sprite.pair ≡ false =
-    rw (← c.con0.ensures, ← c.con2.ensures) (sym c.is_sprite_hidden.ensures ∙ c.if-not-is_sprite_hidden.true) in
+    let seen : hides c.args.inks.now.con0 c.args.inks.now.con2 (counted_bits c.args.inks.now.con0 c.args.bits) c.args.sprite.pair ≡ false =
+    sym c.hides.ensures ∙ c.if-not-hides.true in
     ap (slice_set c.args.into.now c.args.at)
     (c.bytes.ensures
     ∙ ap colour_bytes (ink_low inks.palette c.args.sprite.colour (omega arith))
-    ∙ sym (shown_is inks.con0 inks.con2 c.args.bits c.args.sprite before inks.palette seen))
+    ∙ sym (shown_is inks.con0 inks.con2 (counted_bits inks.con0 c.args.bits) c.args.sprite before inks.palette seen))
 
-pub returns-else-not-is_sprite_hidden : goal.returns-else-not-is_sprite_hidden
-returns-else-not-is_sprite_hidden c =
+pub returns-else-not-hides : goal.returns-else-not-hides
+returns-else-not-hides c =
     let inks = c.args.inks.now in
     let before = slice_index_or c.args.into.now c.args.at [] in
-    let unseen : hides c.args.inks.now.con0 c.args.inks.now.con2 c.args.bits c.args.sprite.pair ≡ true =
-    rw (← c.con0.ensures, ← c.con2.ensures) (sym c.is_sprite_hidden.ensures ∙ c.if-not-is_sprite_hidden.false) in
+    let unseen : hides c.args.inks.now.con0 c.args.inks.now.con2 (counted_bits c.args.inks.now.con0 c.args.bits) c.args.sprite.pair ≡ true =
+    sym c.hides.ensures ∙ c.if-not-hides.false in
     sym (ap (slice_set c.args.into.now c.args.at)
-    (hidden_is inks.con0 inks.con2 c.args.bits c.args.sprite before inks.palette unseen)
+    (hidden_is inks.con0 inks.con2 (counted_bits inks.con0 c.args.bits) c.args.sprite before inks.palette unseen)
     ∙ set-get_or c.args.into.now c.args.at [])

@@ -18,13 +18,12 @@ loop-number-init c =
     let reset : c.reset-inks.result ≡ black = c.reset-inks.ensures in
     record {
       long =
-          ap (λ (i : InkRegisters). length i.palette) c.set_con2.ensures
-          ∙ ap (λ (i : InkRegisters). length i.palette) c.set_con0.ensures
+          ap (λ (i : InkRegisters). length i.palette) c.set_controls.ensures
           ∙ ap (λ (i : InkRegisters). length i.palette) reset
           ∙ length-replicate {A = ℕ} 32 0;
       taken = λ k below. absurd (omega (arith, below));
-      con0 = ap (λ (i : InkRegisters). i.con0) c.set_con2.ensures ∙ ap (λ (i : InkRegisters). i.con0) c.set_con0.ensures;
-      con2 = ap (λ (i : InkRegisters). i.con2) c.set_con2.ensures;
+      con0 = ap (λ (i : InkRegisters). i.con0) c.set_controls.ensures;
+      con2 = ap (λ (i : InkRegisters). i.con2) c.set_controls.ensures;
     }
 
 pub loop-number-preserved : goal.loop-number-preserved
