@@ -1,5 +1,5 @@
 -- Sprites over the pixels of clocks inside the display window.
-use Rattle.std.proofs.Common.{◌≡◌, ℕ, ◌+◌, ◌*◌, true, List, Option, length, bit_or, bit_and, refl, ◌∙◌, ap, subst}
+use Rattle.std.proofs.Common.{◌≡◌, ℕ, ◌+◌, ◌*◌, true, List, Option, length, bit_or, bit_and, refl, sym, ◌∙◌, ap, subst}
 use Rattle.sprites.specs.declared.runs.Start.{Start}
 use Rattle.collisions.specs.Collision.{collision_bits}
 use Rattle.serial_model.specs.declared.picture.Denise.{Denise}
@@ -8,7 +8,7 @@ use Rattle.serial_model.specs.Window.{is_inside}
 use Rattle.painter.specs.declared.painter.Painter.{Painter}
 use Rattle.painter.specs.Overlay.{with_runs, shown_bits, covered_column, covered_collisions, clock_over}
 use Rattle.painter.specs.Painter.{IsPainterOf}
-use Rattle.painter.specs.SpriteState.{runs_in}
+use Rattle.painter.specs.SpriteState.{IsSteady}
 use Rattle.painter.proofs.Overlays.{after_first, after_second, same_runs_stand, runs_same, runs_of, inside_same}
 use Rattle.painter.proofs.Overlays.{clock_changed, clock_gathered, column_inside, bits_inside}
 use Rattle.painter.proofs.Ors.{or_reached, or_both}
@@ -31,20 +31,16 @@ column_reached column clx reach now p stands within held =
     (or_both reach _ _ (all p.clxcon (shown_bits (2 * column) p)) (all p.clxcon (shown_bits (2 * column + 1) p)))
 
 -- a clock at which no words begin
-pub record IsSteady (h : ℕ) (now : Painter) : Type 0 where
-  pub first : runs_in (2 * h) now.sprites ≡ now.sprites.runs
-  pub second : runs_in (2 * h + 1) now.sprites ≡ now.sprites.runs
-
-pub steady_first : (h : ℕ) (now : Painter) (p : Denise) → IsPainterOf now p → IsSteady h now → IsPainterOf now (after_first h p)
+pub steady_first : (h : ℕ) (now : Painter) (p : Denise) → IsPainterOf now p → IsSteady h now.sprites → IsPainterOf now (after_first h p)
 steady_first h now p stands is = same_runs_stand now p (runs_at (2 * h) p p.runs) stands (runs_same (2 * h) now p stands ∙ is.first)
 
-pub steady_second : (h : ℕ) (now : Painter) (p : Denise) → IsPainterOf now p → IsSteady h now → IsPainterOf now (after_second h p)
+pub steady_second : (h : ℕ) (now : Painter) (p : Denise) → IsPainterOf now p → IsSteady h now.sprites → IsPainterOf now (after_second h p)
 steady_second h now p stands is =
     let one : IsPainterOf now (after_first h p) = steady_first h now p stands is in
     same_runs_stand now (after_first h p) (runs_at (2 * h + 1) (after_first h p) (runs_at (2 * h) p p.runs)) one
     (runs_same (2 * h + 1) now (after_first h p) one ∙ is.second)
 
-pub steady_runs : (h : ℕ) (now : Painter) (p : Denise) → IsPainterOf now p → IsSteady h now → IsPainterOf now (with_runs (runs_after h 2 p) p)
+pub steady_runs : (h : ℕ) (now : Painter) (p : Denise) → IsPainterOf now p → IsSteady h now.sprites → IsPainterOf now (with_runs (runs_after h 2 p) p)
 steady_runs h now p stands is =
     subst (λ (runs : List (Option Start)). IsPainterOf now (with_runs runs p)) (runs_of h p).both (steady_second h now p stands is)
 
@@ -66,3 +62,7 @@ steady_bits v h old between new now p stands first second one two =
     clock_gathered v h p old between new
     (one ∙ ap (bit_or old) (bits_inside v (2 * h) (after_first h p) (inside_same v (2 * h) now p stands ∙ first)))
     (two ∙ ap (bit_or between) (bits_inside v (2 * h + 1) (after_second h p) (inside_same v (2 * h + 1) now p stands ∙ second)))
+
+-- it leaves the words that run as they are
+pub steady_same : (h : ℕ) (old new : Painter) → new.sprites ≡ old.sprites → IsSteady h old.sprites → IsSteady h new.sprites
+steady_same h old new same is = subst (λ s. IsSteady h s) (sym same) is

@@ -98,3 +98,8 @@ pub record IsIdle (h : ℕ) (s : SpriteRegisters) : Type 0 where
   pub first : runs_in (2 * h) s ≡ s.runs
   pub second : runs_in (2 * h + 1) s ≡ s.runs
   pub values : (x : ℕ) → 2 * h ≤ x → sprite_values x s.runs ≡ replicate 8 0
+
+-- nothing begins at a clock: the words that run stay
+pub record IsSteady (h : ℕ) (s : SpriteRegisters) : Type 0 where
+  pub first : runs_in (2 * h) s ≡ s.runs
+  pub second : runs_in (2 * h + 1) s ≡ s.runs

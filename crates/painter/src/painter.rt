@@ -359,6 +359,7 @@ impl Painter {
         ensures held { (p : DeniseValue) → IsPainterOf self.old p
             → IsPainterOf self.new (with_held (held_after v h 4 p) p) }
         ensures window { self.new.window ≡ self.old.window }
+        ensures sprites { self.new.sprites ≡ self.old.sprites }
     {
         if self.line.is_blank_from(4 * h as usize) {
             self.show_backdrop(into);
@@ -415,6 +416,7 @@ impl Painter {
         ensures held { (p : DeniseValue) → IsPainterOf self.old p
             → IsPainterOf self.new (with_held (held_after v h 4 p) p) }
         ensures window { self.new.window ≡ self.old.window }
+        ensures sprites { self.new.sprites ≡ self.old.sprites }
     {
         let x = 2 * (2 * h) as usize;
         let next = 2 * (2 * h + 1) as usize;

@@ -2,9 +2,10 @@
 
 ghost use Rattle.std.specs.Prelude.{ℕ, bit_or, ◌≡◌, ◌≤◌, ◌<◌, ◌+◌, ◌*◌, true, length, take};
 ghost use Rattle.ocs_base.specs.Systems.{is_visible};
-ghost use Rattle.serial_model.specs.Picture.{runs_after, clock_collisions};
+ghost use Rattle.serial_model.specs.Picture.{clock_collisions};
 ghost use Rattle.serial_model.specs.Window.{is_inside};
-ghost use Rattle.painter.specs.Overlay.{with_runs, clock_over};
+ghost use Rattle.painter.specs.Overlay.{clock_over};
+ghost use Rattle.painter.specs.SpriteState.{IsSteady, attached_in};
 ghost use Rattle.painter.specs.Span.{IsSpan};
 
 use crate::painter::Painter;
@@ -40,16 +41,136 @@ impl Painter {
         ensures place { result ≡ filled + 12 * count }
         ensures size { length room.new ≡ length room.old }
     {
-        let mut at = filled;
-        for shown in 0..count {
-            at = self.show_over(system, v, h + shown, room, at, clx);
+        let mut shown = 0;
+        while shown < count {
+            let at = filled + 12 * shown as usize;
+            shown += self.show_next(system, v, h + shown, count - shown, room, at, clx);
         }
-        at
+        filled + 12 * count as usize
     }
 
-    /// The picture step of one such clock.
+    /// The picture steps of the next of so many such clocks, at least one: those before the next words
+    /// begin, or the one at which they do.
+    fn show_next(
+        &mut self,
+        system: System,
+        v: u16,
+        h: u16,
+        count: u16,
+        room: &mut [u8],
+        at: usize,
+        clx: &mut u16,
+    ) -> u16
+        requires place { h + count ≤ 228 }
+        requires some { 1 ≤ count }
+        requires first { (k : ℕ) → k < count → is_inside v (2 * (h + k))
+            self.old.window.diwstrt self.old.window.diwstop ≡ true }
+        requires second { (k : ℕ) → k < count → is_inside v (2 * (h + k) + 1)
+            self.old.window.diwstrt self.old.window.diwstop ≡ true }
+        requires seen { (k : ℕ) → k < count → is_visible system v (h + k) ≡ true }
+        requires room { at + 12 * count ≤ length room.old }
+        ensures given { (p : DeniseValue) → IsPainterOf self.old p → IsSpan system v h result p
+            self.new (take at room.old) (take (at + 12 * result) room.new) clx.old clx.new }
+        ensures some { 1 ≤ result }
+        ensures most { result ≤ count }
+        ensures window { self.new.window ≡ self.old.window }
+        ensures size { length room.new ≡ length room.old }
+    {
+        let steady = self.sprites.steady_clocks(h, count);
+        if steady > 0 {
+            self.show_steady(system, v, h, steady, room, at, clx);
+            return steady;
+        }
+        self.show_beginning(system, v, h, room, at, clx);
+        1
+    }
+
+    /// The picture steps of so many such clocks at which no words begin.
+    fn show_steady(
+        &mut self,
+        system: System,
+        v: u16,
+        h: u16,
+        count: u16,
+        room: &mut [u8],
+        filled: usize,
+        clx: &mut u16,
+    )
+        requires place { h + count ≤ 228 }
+        requires first { (k : ℕ) → k < count → is_inside v (2 * (h + k))
+            self.old.window.diwstrt self.old.window.diwstop ≡ true }
+        requires second { (k : ℕ) → k < count → is_inside v (2 * (h + k) + 1)
+            self.old.window.diwstrt self.old.window.diwstop ≡ true }
+        requires seen { (k : ℕ) → k < count → is_visible system v (h + k) ≡ true }
+        requires steady { (k : ℕ) → k < count → IsSteady (h + k) self.old.sprites }
+        requires room { filled + 12 * count ≤ length room.old }
+        ensures given { (p : DeniseValue) → IsPainterOf self.old p → IsSpan system v h count p
+            self.new (take filled room.old) (take (filled + 12 * count) room.new)
+            clx.old clx.new }
+        ensures window { self.new.window ≡ self.old.window }
+        ensures size { length room.new ≡ length room.old }
+    {
+        let attached = self.sprites.attached_pairs();
+        for shown in 0..count {
+            let at = filled + 12 * shown as usize;
+            self.show_steady_clock(system, v, h + shown, attached, room, at, clx);
+        }
+    }
+
+    /// The picture step of one of them, where these pairs are attached.
     #[inline(always)]
-    fn show_over(
+    fn show_steady_clock(
+        &mut self,
+        system: System,
+        v: u16,
+        h: u16,
+        attached: u8,
+        room: &mut [u8],
+        at: usize,
+        clx: &mut u16,
+    )
+        requires place { h ≤ 227 }
+        requires first { is_inside v (2 * h) self.old.window.diwstrt
+            self.old.window.diwstop ≡ true }
+        requires second { is_inside v (2 * h + 1) self.old.window.diwstrt
+            self.old.window.diwstop ≡ true }
+        requires seen { is_visible system v h ≡ true }
+        requires steady { IsSteady h self.old.sprites }
+        requires attached { attached ≡ attached_in self.old.sprites }
+        requires room { at + 12 ≤ length room.old }
+        ensures given { (p : DeniseValue) → IsPainterOf self.old p → IsSpan system v h 1 p
+            self.new (take at room.old) (take (at + 12) room.new) clx.old clx.new }
+        ensures window { self.new.window ≡ self.old.window }
+        ensures sprites { self.new.sprites ≡ self.old.sprites }
+        ensures size { length room.new ≡ length room.old }
+    {
+        let mut pixels = [[0; 3]; 4];
+        self.show_inside(v, h, &mut pixels);
+        self.cover_clock(v, h, attached, &mut pixels, clx);
+        put(room, at, &pixels);
+    }
+
+    /// The sprites over the four pixels of such a clock, and what collides there.
+    #[inline(always)]
+    fn cover_clock(&self, v: u16, h: u16, attached: u8, into: &mut [[u8; 3]; 4], clx: &mut u16)
+        requires place { h ≤ 227 }
+        requires first { is_inside v (2 * h) self.now.window.diwstrt
+            self.now.window.diwstop ≡ true }
+        requires second { is_inside v (2 * h + 1) self.now.window.diwstrt
+            self.now.window.diwstop ≡ true }
+        requires steady { IsSteady h self.now.sprites }
+        requires attached { attached ≡ attached_in self.now.sprites }
+        ensures pixels { (p : DeniseValue) → IsPainterOf self.now p
+            → into.new ≡ clock_over v h into.old p }
+        ensures clx { (p : DeniseValue) → IsPainterOf self.now p
+            → clx.new ≡ bit_or clx.old (clock_collisions v h p) }
+    {
+        self.cover_column(2 * h, 0, attached, into, clx);
+        self.cover_column(2 * h + 1, 2, attached, into, clx);
+    }
+
+    /// The picture step of one such clock at which words may begin.
+    fn show_beginning(
         &mut self,
         system: System,
         v: u16,
@@ -57,7 +178,7 @@ impl Painter {
         room: &mut [u8],
         at: usize,
         clx: &mut u16,
-    ) -> usize
+    )
         requires place { h ≤ 227 }
         requires first { is_inside v (2 * h) self.old.window.diwstrt
             self.old.window.diwstop ≡ true }
@@ -66,41 +187,13 @@ impl Painter {
         requires seen { is_visible system v h ≡ true }
         requires room { at + 12 ≤ length room.old }
         ensures given { (p : DeniseValue) → IsPainterOf self.old p → IsSpan system v h 1 p
-            self.new (take at room.old) (take result room.new) clx.old clx.new }
-        ensures place { result ≡ at + 12 }
+            self.new (take at room.old) (take (at + 12) room.new) clx.old clx.new }
         ensures window { self.new.window ≡ self.old.window }
         ensures size { length room.new ≡ length room.old }
     {
         let mut pixels = [[0; 3]; 4];
         self.show_inside(v, h, &mut pixels);
-        self.cover_clock(v, h, &mut pixels, clx);
+        self.show_sprite_columns(v, h, &mut pixels, clx);
         put(room, at, &pixels);
-        at + 12
-    }
-
-    /// The sprites over the four pixels of such a clock, and what collides there. Where no words begin
-    /// those that run stay as they are.
-    #[inline(always)]
-    fn cover_clock(&mut self, v: u16, h: u16, into: &mut [[u8; 3]; 4], clx: &mut u16)
-        requires place { h ≤ 227 }
-        requires first { is_inside v (2 * h) self.old.window.diwstrt
-            self.old.window.diwstop ≡ true }
-        requires second { is_inside v (2 * h + 1) self.old.window.diwstrt
-            self.old.window.diwstop ≡ true }
-        ensures pixels { (p : DeniseValue) → IsPainterOf self.old p
-            → into.new ≡ clock_over v h into.old p }
-        ensures runs { (p : DeniseValue) → IsPainterOf self.old p
-            → IsPainterOf self.new (with_runs (runs_after h 2 p) p) }
-        ensures clx { (p : DeniseValue) → IsPainterOf self.old p
-            → clx.new ≡ bit_or clx.old (clock_collisions v h p) }
-        ensures window { self.new.window ≡ self.old.window }
-    {
-        if !self.sprites.is_steady(h) {
-            self.show_sprite_columns(v, h, into, clx);
-            return;
-        }
-        let attached = self.sprites.attached_pairs();
-        self.cover_column(2 * h, 0, attached, into, clx);
-        self.cover_column(2 * h + 1, 2, attached, into, clx);
     }
 }

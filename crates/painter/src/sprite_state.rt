@@ -15,6 +15,7 @@ ghost use Rattle.painter.specs.SpriteState.{
   is_known_idle,
   attached_in,
   IsIdle,
+  IsSteady,
 };
 
 use collisions::{clx, playfields};
@@ -261,14 +262,17 @@ impl SpriteState {
         self.quiet_from <= 2 * h && (self.armed == 0 || !self.may_begin(h))
     }
 
-    /// Whether it is known that no words begin at this clock, so that those that run stay. Only speed
-    /// hangs on where that is not known.
-    #[inline(always)]
-    pub fn is_steady(&self, h: u16) -> bool
-        ensures first { result ≡ true → runs_in (2 * h) self.now ≡ self.now.runs }
-        ensures second { result ≡ true → runs_in (2 * h + 1) self.now ≡ self.now.runs }
+    /// How many clocks from `h` on, at most so many, are known to be steady: no words begin there, so
+    /// that those that run stay. Only speed hangs on where that is not known.
+    pub fn steady_clocks(&self, h: u16, count: u16) -> u16
+        requires { h + count ≤ 228 }
+        ensures most { result ≤ count }
+        ensures steady { (k : ℕ) → k < result → IsSteady (h + k) self.now }
     {
-        self.armed == 0 || !self.may_begin(h)
+        if self.armed == 0 {
+            return count;
+        }
+        self.clocks_before_start(h, count)
     }
 
     /// How many clocks from `h` on there are in which words that have begun may still show.

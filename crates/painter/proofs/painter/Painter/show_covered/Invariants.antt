@@ -1,5 +1,5 @@
 -- The clocks so far are shown.
-use Rattle.std.proofs.Common.{◌≡◌, ◌+◌, ◌*◌, length, take}
+use Rattle.std.proofs.Common.{◌≡◌, ◌≤◌, ◌+◌, ◌-◌, ◌*◌, length, take}
 use Rattle.serial_model.specs.declared.picture.Denise.{Denise}
 use Rattle.painter.specs.Painter.{IsPainterOf}
 use Rattle.painter.specs.Span.{IsSpan}
@@ -8,8 +8,11 @@ use Rattle.painter.proofs.painter.Painter.show_covered.Given as goal
 abbrev pub invariant-loop-shown : goal.invariant-loop-shown
 invariant-loop-shown l = record {
   given : (p : Denise) → IsPainterOf l.initial.self p →
-      IsSpan l.system l.v l.h l.shown p l.self (take l.filled l.initial.room) (take l.at l.room) l.initial.clx l.clx;
-  place : l.at ≡ l.filled + 12 * l.shown;
+      IsSpan l.system l.v l.h l.shown p l.self (take l.filled l.initial.room) (take (l.filled + 12 * l.shown) l.room) l.initial.clx l.clx;
+  most : l.shown ≤ l.count;
   window : l.self.window ≡ l.initial.self.window;
   size : length l.room ≡ length l.initial.room;
 }
+
+abbrev pub decreases-loop-shown : goal.decreases-loop-shown
+decreases-loop-shown l = l.count - l.shown

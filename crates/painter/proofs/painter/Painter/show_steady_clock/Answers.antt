@@ -1,11 +1,13 @@
-use Rattle.std.proofs.Common.{◌∙◌, ◌+◌, ◌*◌, ◌++◌, ℕ, List, bit_or, take, ap}
+use Rattle.std.proofs.Common.{◌∙◌, ◌+◌, ◌*◌, ◌++◌, ℕ, List, bit_or, take, sym, ap}
 use Rattle.serial_model.specs.declared.picture.Denise.{Denise}
 use Rattle.serial_model.specs.Picture.{held_after, step_of}
 use Rattle.serial_model.specs.Window.{is_inside}
 use Rattle.painter.specs.Painter.{with_held}
+use Rattle.painter.specs.SpriteState.{SpriteRegisters, attached_in}
+use Rattle.painter.proofs.Covering.{steady_same, steady_runs}
 use Rattle.painter.proofs.Overlays.{clock_shown, clock_stands, bits_apart}
 use Rattle.painter.proofs.Spans.{one_span}
-use Rattle.painter.proofs.painter.Painter.show_over.Goals as goal
+use Rattle.painter.proofs.painter.Painter.show_steady_clock.Goals as goal
 
 pub cover_clock-requires-clause-first : goal.cover_clock-requires-clause-first
 cover_clock-requires-clause-first c =
@@ -15,16 +17,26 @@ pub cover_clock-requires-clause-second : goal.cover_clock-requires-clause-second
 cover_clock-requires-clause-second c =
     ap (λ window. is_inside c.args.v (2 * c.args.h + 1) window.diwstrt window.diwstop) c.show_inside.ensures.window ∙ c.requires.second
 
+pub cover_clock-requires-clause-steady : goal.cover_clock-requires-clause-steady
+cover_clock-requires-clause-steady c =
+    steady_same c.args.h c.args.self.now c.show_inside.new.self c.show_inside.ensures.sprites c.requires.steady
+
+pub cover_clock-requires-clause-attached : goal.cover_clock-requires-clause-attached
+cover_clock-requires-clause-attached c =
+    c.requires.attached ∙ ap (λ (s : SpriteRegisters). attached_in s) (sym c.show_inside.ensures.sprites)
+
 pub returns-clause-given : goal.returns-clause-given
 unfolding step_of
 returns-clause-given c p stands =
     let v = c.args.v in
     let h = c.args.h in
+    let now = c.show_inside.new.self in
     let next : Denise = with_held (held_after c.args.v c.args.h 4 p) p in
     let held = c.show_inside.ensures.held p stands in
-    one_span c.args.system v h p c.cover_clock.new.self (take c.args.at c.args.room.now) (take (c.args.at + 12) c.put.new.room)
+    let steady = steady_same c.args.h c.args.self.now c.show_inside.new.self c.show_inside.ensures.sprites c.requires.steady in
+    one_span c.args.system v h p now (take c.args.at c.args.room.now) (take (c.args.at + 12) c.put.new.room)
     c.args.clx.now c.cover_clock.new.clx
-    (clock_stands c.args.system v h c.cover_clock.new.self p (c.cover_clock.ensures.runs next held))
+    (clock_stands c.args.system v h now p (steady_runs h now next held steady))
     (c.put.ensures.bytes
     ∙ ap (λ (l : List ℕ). take c.args.at c.args.room.now ++ l)
     (clock_shown c.args.system v h (held_after v h 4 p) p c.cover_clock.new.into c.show_inside.new.into c.requires.seen

@@ -1,0 +1,15 @@
+-- The clocks so far are shown.
+use Rattle.std.proofs.Common.{◌≡◌, ◌+◌, ◌*◌, length, take}
+use Rattle.serial_model.specs.declared.picture.Denise.{Denise}
+use Rattle.painter.specs.Painter.{IsPainterOf}
+use Rattle.painter.specs.Span.{IsSpan}
+use Rattle.painter.proofs.painter.Painter.show_steady.Given as goal
+
+abbrev pub invariant-loop-shown : goal.invariant-loop-shown
+invariant-loop-shown l = record {
+  given : (p : Denise) → IsPainterOf l.initial.self p →
+      IsSpan l.system l.v l.h l.shown p l.self (take l.filled l.initial.room) (take (l.filled + 12 * l.shown) l.room) l.initial.clx l.clx;
+  window : l.self.window ≡ l.initial.self.window;
+  sprites : l.self.sprites ≡ l.initial.self.sprites;
+  size : length l.room ≡ length l.initial.room;
+}
