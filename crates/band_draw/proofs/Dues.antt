@@ -17,7 +17,7 @@ use Rattle.serial_model.specs.Registers.{is_picture_register}
 use Rattle.serial_model.specs.declared.picture.Touch.{Touch}
 use Rattle.serial_model.specs.declared.picture.Touch.TheVariants.{Set}
 use Rattle.serial_model.proofs.EventLaws.{IsQueue, due_events-more, due_events-later, due_events-none, AreFrom-le, IsQueue-end}
-use Rattle.band_draw.specs.DueCode.{IsLeft, is_set, due_if, sets_if, IsCounted}
+use Rattle.band_draw.specs.DueCode.{IsLeft, IsLeftEarlier, is_set, before_if, due_if, sets_if, IsCounted}
 
 first_of : List At → Option At
 first_of [] = None
@@ -100,6 +100,34 @@ left_at system frames place (suc n) (e ∷ events) order limits point =
       limits = rest.limits;
       same = λ b on later. not_due b e events (omega (arith, before, later)) ∙ rest.same b on later;
     }
+
+-- where the next event is not before a later place, the same are left there
+left_from : (earlier place : ℕ) (script left : List At) → IsLeft earlier script left → earlier ≤ place → before_if place (first_of left) ≡ false
+    → IsLeft place script left
+unfolding first_of
+left_from earlier place script [] so order is = record {
+  system = so.system;
+  frames = so.frames;
+  from = tt;
+  order = so.order;
+  limits = so.limits;
+  same = λ b on later. so.same b on (omega (arith, order, later));
+}
+left_from earlier place script (e ∷ left) so order is =
+    let after : place ≤ time_of e = before_false e place is in
+    record {
+      system = so.system;
+      frames = so.frames;
+      from = (after, AreFrom-le place (time_of e) left after so.order.0);
+      order = so.order;
+      limits = so.limits;
+      same = λ b on later. so.same b on (omega (arith, order, later));
+    }
+
+pub left_later : (place n : ℕ) (script : List At) → IsLeftEarlier place script (drop n script) → before_if place (slice_get script n) ≡ false
+    → IsLeft place script (drop n script)
+left_later place n script so is =
+    left_from so.earlier place script (drop n script) so.events so.order (ap (λ o. before_if place o) (sym (first_there script n)) ∙ is)
 
 -- the writes that are due
 counted_by : (b : Bool) (t : Touch) (touches : List Touch)

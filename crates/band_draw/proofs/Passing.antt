@@ -25,7 +25,7 @@ use Rattle.serial_bands.proofs.NextClock.{events_by_place}
 use Rattle.serial_bands.proofs.Spans.{drawing_goes_on_quietly}
 use Rattle.band_draw.specs.AheadCode.{IsFetched}
 use Rattle.band_draw.specs.BandPainter.{IsBandPainterOf}
-use Rattle.band_draw.specs.DueCode.{IsLeft}
+use Rattle.band_draw.specs.DueCode.{IsLeft, IsLeftEarlier}
 use Rattle.band_draw.specs.Given.{IsSpanGiven}
 use Rattle.band_draw.specs.ProgressCode.{IsSource, IsSamePlace, IsAt}
 use Rattle.band_draw.specs.declared.band_painter.BandPainter.{BandPainter}
@@ -135,6 +135,15 @@ pub screen_passed : (run : RunValue) (view : ViewValue) (events : List Event) (r
 screen_passed run view events room p q m source at so more line =
     subst (λ (k : Progress). IsOnScreen (on_line k.beam (count_to k m))) (sym so.same)
     (screen_ahead run view events room p q m source at so more line)
+
+-- the script's events that are left
+pub left_passed : (run : RunValue) (events : List Event) (room : List ℕ) (p q : Progress) (m : ℕ)
+    → IsAt run events room p → IsFetched run events p q m → p.clock < m
+    → IsLeftEarlier (place_of (on_line q.beam (count_to q m))) run.script.events (drop q.due.next run.script.events)
+left_passed run events room p q m at so some =
+    subst (λ (k : Progress). IsLeftEarlier (place_of (on_line k.beam (count_to k m))) run.script.events (drop k.due.next run.script.events))
+    (sym so.same)
+    (record { earlier = place_of p.beam + 1; order = omega (arith, some); events = at.left })
 
 -- where nothing was to be shown, all is as it was
 pub stays_at : (run : RunValue) (events : List Event) (room : List ℕ) (p q : Progress)

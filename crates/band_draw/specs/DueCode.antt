@@ -1,6 +1,6 @@
 -- The events of a script that are left when the beam has come to a place.
-use Rattle.std.specs.Prelude.{◌≡◌, ◌≤◌, ◌+◌, ℕ, Bool, false, List, length, Option, None, Some, if◌then◌else◌}
-use Rattle.ocs_base.specs.Limits.{AreFrom, AreInOrder, AreInLimits}
+use Rattle.std.specs.Prelude.{◌≡◌, ◌≤◌, ◌+◌, ℕ, Bool, false, nat_lt, List, length, Option, None, Some, if◌then◌else◌}
+use Rattle.ocs_base.specs.Limits.{AreFrom, AreInOrder, AreInLimits, time_of}
 use Rattle.ocs_base.specs.declared.beam.Beam.{Beam}
 use Rattle.ocs_base.specs.declared.script.At.{At}
 use Rattle.ocs_base.specs.declared.script.Act.{Act}
@@ -20,6 +20,12 @@ pub record IsLeft (place : ℕ) (script left : List At) : Type 0 where
   pub limits : AreInLimits system frames left
   pub same : (b : Beam) → IsOnScreen b → place ≤ place_of b → due_events b script ≡ due_events b left
 
+-- the same, of an earlier place
+pub record IsLeftEarlier (place : ℕ) (script left : List At) : Type 0 where
+  pub earlier : ℕ
+  pub order : earlier ≤ place
+  pub events : IsLeft earlier script left
+
 -- whether an act writes to one of Denise's registers
 abbrev pub is_set : Act → Bool
 is_set (Poke reg word) = is_picture_register reg.offset
@@ -28,7 +34,11 @@ is_set (Joy port word) = false
 is_set (Fire port down) = false
 is_set (Key code) = false
 
--- of the event at some place of a script, if there is one: whether it is due, and how many writes to Denise's registers it is
+-- of the event at some place of a script, if there is one: whether it is before a place, whether it is due, and how many writes to Denise's registers it is
+abbrev pub before_if : ℕ → Option At → Bool
+before_if place None = false
+before_if place (Some e) = nat_lt (time_of e) place
+
 abbrev pub due_if : Beam → Option At → Bool
 due_if b None = false
 due_if b (Some e) = is_due b e

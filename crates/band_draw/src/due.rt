@@ -4,7 +4,7 @@ ghost use Rattle.std.specs.Prelude.{◌≡◌, ◌≤◌, ◌<◌, ◌+◌, ◌^
 ghost use Rattle.serial_model.specs.Beam.{IsOnScreen, place_of};
 ghost use Rattle.serial_model.specs.Events.{due_events, touches_of, is_due as due_at};
 ghost use Rattle.ocs_base.specs.Limits.{time_of, order_of};
-ghost use Rattle.band_draw.specs.DueCode.{IsLeft, is_set as sets, due_if, sets_if};
+ghost use Rattle.band_draw.specs.DueCode.{IsLeft, IsLeftEarlier, is_set as sets, before_if, due_if, sets_if};
 
 use band_log::Cursor;
 use ocs_base::{Act, At, Beam, time_order};
@@ -44,17 +44,45 @@ pub struct Due {
     pub behind: Cursor,
 }
 
-/// What of a script is due at the beam's place, found by halving.
-pub fn find_due(script: &[At], beam: &Beam) -> Due
+/// What of a script is due at the beam's place, where the events before the cursor are before it, and
+/// perhaps others.
+pub fn find_due(script: &[At], from: Cursor, beam: &Beam) -> Due
     requires screen { IsOnScreen beam.now }
-    requires left { IsLeft 0 script.now script.now }
+    requires all { IsLeft 0 script.now script.now }
+    requires left { IsLeftEarlier (place_of beam.now) script.now (drop from.next script.now) }
+    requires within { from.next ≤ length script.now }
     ensures sets { result.sets ≡ length (touches_of (due_events beam.now script.now)) }
     ensures left { IsLeft (place_of beam.now + 1) script.now
         (drop result.behind.next script.now) }
     ensures within { result.behind.next ≤ length script.now }
 {
-    let first = first_from(script, beam);
+    let first = first_after(script, from, beam);
     due_from(script, first, beam)
+}
+
+/// The place of the first event that is not before the beam's place, where those before the cursor
+/// are: mostly that of the cursor, and else found by halving.
+fn first_after(script: &[At], from: Cursor, beam: &Beam) -> Cursor
+    requires all { IsLeft 0 script.now script.now }
+    requires left { IsLeftEarlier (place_of beam.now) script.now (drop from.next script.now) }
+    requires within { from.next ≤ length script.now }
+    ensures left { IsLeft (place_of beam.now) script.now (drop result.next script.now) }
+    ensures within { result.next ≤ length script.now }
+{
+    if is_next_before(script, from.next, beam) {
+        return first_from(script, beam);
+    }
+    from
+}
+
+/// Whether there is an event at this place of a script that is before the beam's place.
+fn is_next_before(script: &[At], at: usize, beam: &Beam) -> bool
+    ensures { result ≡ before_if (place_of beam.now) (slice_get script.now at) }
+{
+    match script.get(at) {
+        Some(event) => is_before(event, order(beam.frame, beam.v, beam.h)),
+        None => false,
+    }
 }
 
 /// What is due at the beam's place of a script, of which the events before the cursor are before it.

@@ -64,7 +64,7 @@ impl Progress {
             &mut self.clx,
         );
         self.beam.h += count;
-        let due = find_due(script.events(), &self.beam);
+        let due = find_due(script.events(), self.due, &self.beam);
         self.clock = until;
         self.sets = due.sets;
         self.due = due.behind;

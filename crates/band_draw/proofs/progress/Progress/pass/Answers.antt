@@ -7,13 +7,13 @@ use Rattle.serial_model.specs.Beam.{place_of}
 use Rattle.serial_model.specs.Events.{due_events, touches_of}
 use Rattle.serial_bands.specs.Run.{run_over}
 use Rattle.band_draw.specs.AheadCode.{IsFetched}
-use Rattle.band_draw.specs.DueCode.{IsLeft}
+use Rattle.band_draw.specs.DueCode.{IsLeft, IsLeftEarlier}
 use Rattle.band_draw.specs.Given.{IsSpanGiven}
 use Rattle.band_draw.specs.declared.progress.Progress.{Progress}
 use Rattle.band_draw.proofs.Beginning.{left_all}
 use Rattle.band_draw.proofs.Fetching.{on_line}
 use Rattle.band_draw.proofs.Turning.{screen_there}
-use Rattle.band_draw.proofs.Passing.{room_passed, screen_passed, stays_at, passed}
+use Rattle.band_draw.proofs.Passing.{room_passed, screen_passed, left_passed, stays_at, passed}
 use Rattle.band_draw.proofs.progress.Progress.pass.Goals as goal
 
 pub fetch_ahead-until-requires-clause-screen : goal.fetch_ahead-until-requires-clause-screen
@@ -47,11 +47,31 @@ find_due-due-requires-clause-screen g c =
     screen_passed run c.args.view.now c.args.events.now c.args.room.now c.args.self.now ahead.new.self ahead.result c.requires.source c.requires.at
     ahead.ensures.fetched ahead.ensures.band (λ some. ahead.ensures.line (omega (arith, some)))
 
-pub find_due-due-requires-clause-left : goal.find_due-due-requires-clause-left
-find_due-due-requires-clause-left g c =
+pub find_due-due-requires-clause-all : goal.find_due-due-requires-clause-all
+find_due-due-requires-clause-all g c =
     let script : c.events.result.now ≡ c.args.run.now.script.events =
     c.events.ensures ∙ ap (λ (s : ScriptValue). s.events) c.script-script.ensures.value in
     subst (λ l. IsLeft 0 l l) (sym script) (left_all c.args.run.now.script c.script-script.ensures.good.script)
+
+pub find_due-due-requires-clause-left : goal.find_due-due-requires-clause-left
+find_due-due-requires-clause-left g c =
+    let run = run_over g.S.Side.seen c.args.run.now in
+    let ahead = c.fetch_ahead-until in
+    let q : Progress = ahead.new.self in
+    let so = ahead.ensures.fetched in
+    let script : c.events.result.now ≡ c.args.run.now.script.events =
+    c.events.ensures ∙ ap (λ (s : ScriptValue). s.events) c.script-script.ensures.value in
+    subst (λ (l : List At). IsLeftEarlier (place_of (on_line q.beam (ahead.result - q.clock))) l (drop q.due.next l)) (sym script)
+    (left_passed run c.args.events.now c.args.room.now c.args.self.now q ahead.result c.requires.at so
+    (omega (arith, c.if-until-self.false, so.least, ap (λ (p : Progress). p.clock) so.same)))
+
+pub find_due-due-requires-clause-within : goal.find_due-due-requires-clause-within
+find_due-due-requires-clause-within g c =
+    let so = c.fetch_ahead-until.ensures.fetched in
+    let script : c.events.result.now ≡ c.args.run.now.script.events =
+    c.events.ensures ∙ ap (λ (s : ScriptValue). s.events) c.script-script.ensures.value in
+    subst (λ (l : List At). c.fetch_ahead-until.new.self.due.next ≤ length l) (sym script)
+    (subst (λ (k : Progress). k.due.next ≤ length c.args.run.now.script.events) (sym so.same) c.requires.at.due)
 
 pub returns-clause-at : goal.returns-clause-at
 returns-clause-at g c =
