@@ -7,7 +7,8 @@ from compare_page import fill_page, page_data
 from differences import FramesDifference, MemoryDifference, Pixel, TraceDifference, compare_pixels
 from faults import BadFile, plural
 from frames import PAL, WIDTH, Frame, FramesFile
-from page import escaped, frame_data, json_text
+from page import frame_data
+from page_text import escaped, json_text
 from png_read import Picture, read_png
 from uae_file import read_chunks
 

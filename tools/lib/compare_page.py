@@ -8,7 +8,8 @@ from differences import (
 )
 from faults import plural
 from frames import FramesFile, System
-from page import escaped, fill, frame_data, json_text, system_data
+from page import frame_data, system_data
+from page_text import escaped, fill, json_text
 
 MOST_FRAMES = 50
 STYLES = ("common.css", "compare.css")

@@ -6,7 +6,7 @@ from http.server import BaseHTTPRequestHandler, ThreadingHTTPServer
 from urllib.parse import parse_qs, urlsplit
 
 from faults import BadFile
-from page import escaped
+from page_text import escaped
 
 HOST = "127.0.0.1"
 # a question waits so long for a new page, and is then asked again

@@ -1,7 +1,6 @@
 """The cases of a suite: folders with an image and a script, and what each must give."""
 from __future__ import annotations
 
-import hashlib
 import os
 import re
 from dataclasses import dataclass, field
@@ -11,6 +10,7 @@ from faults import BadFile, quoted
 
 # the files that a run may write, in the order in which they are told
 KINDS = ("frames", "trace", "memory", "audio")
+USUAL_KINDS = KINDS[:3]
 USUAL_COMMAND = "OCS run IMAGE SCRIPT FRAMES TRACE MEMORY 20 0"
 # bytes that are read at once
 PIECE = 1 << 20
@@ -175,6 +175,8 @@ def unpack(place: str, to: str) -> None:
 
 def sum_of(place: str) -> str:
     """The SHA-256 of a file, unpacked where it is packed."""
+    import hashlib
+
     total = hashlib.sha256()
     for piece in pieces(place):
         total.update(piece)

@@ -1,12 +1,11 @@
-"""Runs a command of a suite in a folder, to its own end or to the end of its time."""
+"""Runs commands of a suite, one after another, each in a folder and to its own end or to the end of its time."""
 from __future__ import annotations
 
-import functools
+import contextlib
 import os
-import select
 import signal
-import time
-from dataclasses import dataclass
+from time import monotonic
+from typing import NamedTuple
 
 from faults import BadFile
 
@@ -16,8 +15,7 @@ MOST_READ = 1 << 16
 SIGNALS = (signal.SIGINT, signal.SIGPIPE, signal.SIGXFSZ)
 
 
-@dataclass(frozen=True)
-class Ended:
+class Ended(NamedTuple):
     """How a command ended: its status, where it is below 0 the signal that ended it; whether that was in time; the
     seconds by the clock and those of processors; and its text.
     """
@@ -29,50 +27,68 @@ class Ended:
     text: str
 
 
-@functools.cache
-def environment() -> dict[bytes, bytes]:
-    """What a command has of the environment, read once and as it is handed on."""
-    return dict(os.environb)
+def text_of(said: int) -> str:
+    """What a command has said, which mostly is nothing."""
+    return os.pread(said, MOST_READ, 0).decode("utf-8", "backslashreplace") if os.pread(said, 1, 0) else ""
 
 
-def run_command(words: list[str], folder: str, limit: float) -> Ended:
-    """Runs a command in a folder, without input. Whatever ends this, nothing of the command runs on."""
-    said = os.memfd_create("said")
-    try:
-        begun = time.monotonic()
-        process = start(words, folder, said)
-        status, in_time, processor = wait(process, limit)
-        seconds = time.monotonic() - begun
-        text = os.pread(said, MOST_READ, 0)
-    finally:
-        os.close(said)
-    return Ended(status, in_time, seconds, processor, text.decode("utf-8", "backslashreplace"))
+class Commands:
+    """What runs commands; it has at hand what all of them have, and the alarm that ends one whose time is over."""
 
+    def __init__(self, limit: float) -> None:
+        self.limit = limit
+        self.home, self.nothing = os.open(".", os.O_PATH), os.open(os.devnull, os.O_RDONLY)
+        self.environment = dict(os.environb)
+        # the command that runs, when its time is over, and whether an alarm comes then or before
+        self.process, self.until, self.alarmed = 0, 0.0, False
+        signal.signal(signal.SIGALRM, self.look_at_time)
 
-def start(words: list[str], folder: str, said: int) -> int:
-    """Starts a command, in a session of its own, so that all of it can be ended; gives the number of its process."""
-    before = os.open(".", os.O_PATH)
-    files = [(os.POSIX_SPAWN_OPEN, 0, os.devnull, os.O_RDONLY, 0), *((os.POSIX_SPAWN_DUP2, said, text) for text in (1, 2))]
-    try:
-        os.chdir(folder)
-        return os.posix_spawnp(words[0], words, environment(), file_actions=files, setsid=True, setsigdef=SIGNALS)
-    except OSError as fault:
-        raise BadFile(words[0], f"cannot be run: {(fault.strerror or str(fault)).lower()}") from None
-    finally:
-        os.fchdir(before)
-        os.close(before)
+    def set_alarm(self, seconds: float) -> None:
+        signal.setitimer(signal.ITIMER_REAL, seconds)
+        self.alarmed = True
 
+    def look_at_time(self, *unused: object) -> None:
+        """Ends the command that runs, where its time is over; the alarm may be that of an earlier one."""
+        left, self.alarmed = self.until - monotonic(), False
+        if self.process and left > 0:
+            self.set_alarm(left)
+        elif self.process:
+            self.end()
 
-def wait(process: int, limit: float) -> tuple[int, bool, float]:
-    """Waits until a process ends, or ends it when its time is over; gives its status, whether it ended in time, and the
-    seconds of processors.
-    """
-    handle, in_time = os.pidfd_open(process), False
-    try:
-        in_time = bool(select.select([handle], [], [], limit)[0])
-    finally:
-        os.close(handle)
-        if not in_time:
-            os.killpg(process, signal.SIGKILL)
-        _, status, used = os.wait4(process, 0)
-    return os.waitstatus_to_exitcode(status), in_time, used.ru_utime + used.ru_stime
+    def end(self) -> None:
+        """Ends the command that runs, with all that it started."""
+        with contextlib.suppress(ProcessLookupError):
+            os.killpg(self.process, signal.SIGKILL)
+
+    def run(self, words: list[str], folder: str) -> Ended:
+        """Runs a command in a folder, without input. Whatever ends this, nothing of the command runs on."""
+        said = os.memfd_create("said")
+        try:
+            begun = monotonic()
+            self.until = begun + self.limit
+            self.process = self.start(words, folder, said)
+            if not self.alarmed:
+                self.set_alarm(self.limit)
+            _, status, used = os.wait4(self.process, 0)
+            self.process, ended = 0, monotonic()
+            text = text_of(said)
+        finally:
+            os.close(said)
+            if self.process:
+                self.end()
+                with contextlib.suppress(ChildProcessError):
+                    os.waitpid(self.process, 0)
+                self.process = 0
+        seconds = used.ru_utime + used.ru_stime
+        return Ended(os.waitstatus_to_exitcode(status), ended < self.until, ended - begun, seconds, text)
+
+    def start(self, words: list[str], folder: str, said: int) -> int:
+        """Starts a command, in a session of its own, so that all of it can be ended; gives the number of its process."""
+        files = [(os.POSIX_SPAWN_DUP2, one, to) for one, to in ((self.nothing, 0), (said, 1), (said, 2))]
+        try:
+            os.chdir(folder)
+            return os.posix_spawnp(words[0], words, self.environment, file_actions=files, setsid=True, setsigdef=SIGNALS)
+        except OSError as fault:
+            raise BadFile(words[0], f"cannot be run: {(fault.strerror or str(fault)).lower()}") from None
+        finally:
+            os.fchdir(self.home)

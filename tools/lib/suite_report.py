@@ -5,7 +5,7 @@ import os
 import re
 
 from faults import BadFile, plural
-from page import escaped, fill, json_text
+from page_text import escaped, fill, json_text
 from suite_cases import Case
 from suite_run import DIFFERS, FAILED, GOOD, NEW, Result, Suite, expected, golden_of
 

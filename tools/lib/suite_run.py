@@ -6,15 +6,18 @@ import json
 import os
 import signal
 from dataclasses import dataclass, field
+from typing import Callable
 
 from faults import BadFile
-from suite_cases import KINDS, Case, Golden, read_bytes, read_golden, sum_of, unpack
-from suite_command import run_command
+from suite_cases import KINDS, USUAL_KINDS, Case, Golden, read_bytes, read_golden, sum_of, unpack
+from suite_command import Commands, Ended
 from suite_pieces import Pieces, sums_of_pieces
 
 PASSED, ACCEPTED, DIFFERS, NEW, FAILED = "passed", "accepted", "differs", "new", "failed"
 GOOD = (PASSED, ACCEPTED)
 RESULT, STORED = "result.json", "stored.json"
+# what a case has that has another command than the usual one, packed files, or goldens that are files
+UNUSUAL = ("command", "image.xz", "script.xz", "kept")
 # of a program's text so many lines are kept
 MOST_SAID = 20
 # where each name of a command stands for a file of the run
@@ -28,7 +31,7 @@ class Stored:
     sum: str
     size: int
     time: int
-    pieces: list[str]
+    sums: str
 
 
 @dataclass
@@ -48,19 +51,19 @@ class Result:
 
 @dataclass
 class Known:
-    """What is known of a case before it runs: its last result, the bytes of its golden, and the words of its run; None where
-    there is none, or where to find out is a part of the run.
+    """What is known of a case before it runs: its last result and the bytes of its golden, None where there is none; and the
+    whole place of its folder, where it is to give just what it gave last time and that is stored.
     """
 
     before: Result | None
     golden: bytes | None
-    words: list[str] | None
+    folder: str | None
 
 
 @dataclass
 class Suite:
     """How cases are run: the program, the folder of what comes out, seconds a case may take, bytes it may leave; whether
-    what comes out is accepted, and kept whole; and pieces of files at hand.
+    what comes out is accepted, and kept whole; what runs commands, and pieces of files at hand.
     """
 
     program: str
@@ -69,7 +72,11 @@ class Suite:
     most_stored: int
     accepts: bool = False
     keeps: bool = False
+    commands: Commands = field(init=False)
     pieces: Pieces = field(default_factory=Pieces)
+
+    def __post_init__(self) -> None:
+        self.commands = Commands(self.limit)
 
     def place(self, case: Case, *names: str) -> str:
         """A file or folder of what comes out of a case."""
@@ -92,8 +99,24 @@ def known_of(suite: Suite, case: Case) -> Known:
     if "golden" in case.files:
         with contextlib.suppress(OSError):
             golden = read_bytes(os.path.join(case.folder, "golden"))
-    simple = case.files.isdisjoint(("command", "image.xz", "script.xz")) and case.files.issuperset(("image", "script"))
-    return Known(read_result(suite, case), golden, words_of(suite, case) if simple else None)
+    before = read_result(suite, case)
+    simple = case.files.isdisjoint(UNUSUAL) and case.files.issuperset(("image", "script"))
+    same = simple and before is not None and is_met_by(suite, case, before, golden)
+    return Known(before, golden, os.path.abspath(case.folder) if same else None)
+
+
+def is_met_by(suite: Suite, case: Case, before: Result, golden: bytes | None) -> bool:
+    """Whether a case's golden is met by just what came of a run that wrote the usual files, all of which are still stored."""
+    stored = before.stored
+    return (
+        before.verdict == PASSED
+        and not suite.keeps
+        and before.sums.keys() == stored.keys() == set(USUAL_KINDS)
+        and golden == came_of(before).text().encode("utf-8")
+        and sum(old.size for old in stored.values()) <= suite.most_stored
+        and all(old.sum == before.sums[kind] for kind, old in stored.items())
+        and all(is_as_stored(suite.place(case, "passed", kind), old) for kind, old in stored.items())
+    )
 
 
 def read_stored(suite: Suite, case: Case) -> dict[str, Stored]:
@@ -123,13 +146,14 @@ def write_json(place: str, data: object) -> None:
     os.replace(place + ".new", place)
 
 
-def run_case(suite: Suite, case: Case, known: Known) -> Result:
-    """Runs a case and compares it; whatever is wrong with it is in the result, which is written too."""
+def run_case(suite: Suite, case: Case, known: Known, run: Callable[[], Ended] | None = None) -> Result:
+    """Runs a case and compares it; whatever is wrong with it is in the result, which is written too. What came stands in the
+    case's folder `now` when `run` ends.
+    """
     before = known.before
     result = Result(case.name, stored=dict(before.stored) if before else read_stored(suite, case))
     try:
-        clear(suite.place(case, "now"))
-        run_program(suite, case, known.words or words_of(suite, case), result)
+        note(suite, run() if run else run_alone(suite, case), result)
         if result.verdict != FAILED:
             judge(suite, case, result, known.golden)
     except (BadFile, OSError) as fault:
@@ -193,9 +217,14 @@ def words_of(suite: Suite, case: Case) -> list[str]:
     return made
 
 
-def run_program(suite: Suite, case: Case, words: list[str], result: Result) -> None:
-    """Runs a case's command in its folder; puts status, times and what was said into the result."""
-    ended = run_command(words, case.folder, suite.limit)
+def run_alone(suite: Suite, case: Case) -> Ended:
+    """Runs a case's command in its folder, which writes new files."""
+    clear(suite.place(case, "now"))
+    return suite.commands.run(words_of(suite, case), case.folder)
+
+
+def note(suite: Suite, ended: Ended, result: Result) -> None:
+    """Puts status, times and what was said into the result."""
     lines = ended.text.splitlines()
     result.status, result.seconds, result.program = ended.status, ended.seconds, ended.processor
     result.spoken = lines[:MOST_SAID]
@@ -285,8 +314,13 @@ def is_as_stored(place: str, stored: Stored) -> bool:
 def sum_by_store(suite: Suite, case: Case, kind: str, size: int, kept: Stored | None) -> str:
     """The SHA-256 of a file: that of the stored one where both have the same bytes, which is quicker to find out."""
     place = suite.place(case, "now", kind)
-    if kept and size == kept.size and suite.pieces.are_same(place, size, suite.place(case, "passed", kind), kept.pieces):
-        return kept.sum
+    if kept and size == kept.size:
+        file = os.open(place, os.O_RDONLY)
+        try:
+            if suite.pieces.are_same(file, size, suite.place(case, "passed", kind), kept.sums):
+                return kept.sum
+        finally:
+            os.close(file)
     return sum_of(place)
 
 

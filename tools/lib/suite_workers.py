@@ -2,6 +2,7 @@
 at once as a pipe holds. What passed is written into memory that all share, and read at the end; the rest comes at once."""
 from __future__ import annotations
 
+import contextlib
 import fcntl
 import gc
 import os
@@ -10,15 +11,18 @@ import signal
 import struct
 import sys
 from dataclasses import dataclass
+from time import time_ns
 from typing import Callable, Iterator
 
+from suite_again import Again, new_again, remove_folder
 from suite_cases import Case
-from suite_run import PASSED, Known, Result, Suite, known_of, run_case
+from suite_command import Ended
+from suite_run import PASSED, RESULT, Known, Result, Suite, known_of, run_case
 
 # bytes of a case's number, and of a result's length
 NUMBER = 4
-# a case that passed: its number, its seconds by the clock, and those of the processor
-PASS = struct.Struct("<Idd")
+# a case that passed: its number, its seconds by the clock and those of the processor, and when, or 0 where its result is written
+PASS = struct.Struct("<IddQ")
 # a case makes some hundred things that Python counts, and none that it has to look for
 SELDOM = 100_000
 # of so many cases it is read at once, before the first runs, what is known: that takes less than between two runs
@@ -60,13 +64,17 @@ class Passes:
         self.file = os.memfd_create("passes")
         fcntl.fcntl(self.file, fcntl.F_SETFL, os.O_APPEND)
 
-    def add(self, number: int, result: Result) -> None:
-        os.write(self.file, PASS.pack(number, result.seconds, result.program))
+    def add(self, number: int, seconds: float, processor: float, at: int = 0) -> None:
+        os.write(self.file, PASS.pack(number, seconds, processor, at))
 
-    def results(self, cases: list[Case]) -> Iterator[Result]:
+    def results(self, suite: Suite, cases: list[Case]) -> Iterator[Result]:
+        """The results; those that are as they were get the time of the new run."""
         size = os.fstat(self.file).st_size // PASS.size * PASS.size
-        for number, seconds, program in PASS.iter_unpack(os.pread(self.file, size, 0)):
-            yield Result(cases[number].name, PASSED, seconds=seconds, program=program)
+        for number, seconds, processor, at in PASS.iter_unpack(os.pread(self.file, size, 0)):
+            if at:
+                with contextlib.suppress(OSError):
+                    os.utime(suite.place(cases[number], RESULT), ns=(at, at))
+            yield Result(cases[number].name, PASSED, seconds=seconds, program=processor)
 
 
 def results_of(suite: Suite, cases: list[Case], jobs: int) -> Iterator[Result]:
@@ -81,16 +89,22 @@ def results_of(suite: Suite, cases: list[Case], jobs: int) -> Iterator[Result]:
     gc.enable()
     gc.set_threshold(SELDOM)
     workers: list[Worker] = []
+    agains: list[Again | None] = []
     try:
         while len(workers) < min(jobs, len(cases)):
-            workers.append(begin(numbers, lambda results: work(suite, cases, known, numbers.taken, passes, results)))
+            # a process that has one case alone writes over nothing
+            again = new_again(suite) if len(cases) > jobs else None
+            agains.append(again)
+            workers.append(begin(numbers, lambda results: work(suite, cases, known, numbers.taken, passes, results, again)))
         yield from results_in(workers, numbers)
-        yield from passes.results(cases)
+        yield from passes.results(suite, cases)
     finally:
         for worker in workers:
             os.kill(worker.process, signal.SIGTERM)
         for worker in workers:
             os.waitpid(worker.process, 0)
+        for again in filter(None, agains):
+            remove_folder(again.folder)
 
 
 def begin(numbers: Numbers, run: Callable[[int], None]) -> Worker:
@@ -157,16 +171,19 @@ def read(pipe: int, count: int) -> bytes:
     return data
 
 
-def work(suite: Suite, cases: list[Case], known: list[Known], taken: int, passes: Passes, results: int) -> None:
+def work(suite: Suite, cases: list[Case], known: list[Known], taken: int, passes: Passes, results: int, again: Again | None) -> None:
     """Runs the cases whose numbers come. The first process alone answers the keyboard, and ends the others."""
     signal.signal(signal.SIGINT, signal.SIG_IGN)
     signal.signal(signal.SIGTERM, lambda *unused: sys.exit())
     while data := os.read(taken, NUMBER):
         number = int.from_bytes(data, "little")
         case = cases[number]
-        result = run_case(suite, case, known[number] if number < len(known) else known_of(suite, case))
-        if result.verdict == PASSED:
-            passes.add(number, result)
+        what = known[number] if number < len(known) else known_of(suite, case)
+        result = again.result(case, what) if again and what.folder else run_case(suite, case, what)
+        if isinstance(result, Ended):
+            passes.add(number, result.seconds, result.processor, time_ns())
+        elif result.verdict == PASSED:
+            passes.add(number, result.seconds, result.program)
         else:
             send(result, results)
 

@@ -12,7 +12,9 @@ import time
 import unittest
 import xml.etree.ElementTree as trees
 
+from faults import BadFile
 from runs import TOOLS, Tools, frame
+from suite_command import Commands
 from suite_pieces import MOST, PIECE, Pieces, sums_of_pieces
 
 # a program of the same words as ours: what it gives is told by its image's first bytes
@@ -33,10 +35,16 @@ if "killer" in script:
     os.kill(os.getppid(), 9)
 if "loud" in script:
     sys.stdout.buffer.write(b"\\xff" * 70000)
+if "replaces" in script:
+    places, sys.argv[4:7] = sys.argv[4:7], [place + ".new" for place in sys.argv[4:7]]
 system = NTSC if "ntsc" in script else PAL
 open(sys.argv[4], "wb").write(frame({{}}, system) + frame({{(212, 74): bytes(image[:3])}}, system))
-open(sys.argv[5], "w").write("0 44 100 W 180 %04x C\\n" % image[3])
+if "without trace" not in script:
+    open(sys.argv[5], "w").write("0 44 100 W 180 %04x C\\n" % image[3])
 open(sys.argv[6], "wb").write(image + bytes(524288 - len(image)))
+if "replaces" in script:
+    for place in places:
+        os.replace(place + ".new", place)
 """
 RED, GREEN = b"\xff\0\0", b"\0\xff\0"
 
@@ -58,7 +66,8 @@ class PiecesTest(Tools):
 
     def is_same(self, pieces: Pieces, now: bytes, before: bytes) -> bool:
         stored, place = self.write("stored", before), self.write("now", now)
-        return pieces.are_same(place, len(now), stored, sums_of_pieces(stored))
+        with open(place, "rb") as file:
+            return pieces.are_same(file.fileno(), len(now), stored, sums_of_pieces(stored))
 
     def test_any_byte_counts(self) -> None:
         pieces = Pieces()
@@ -79,9 +88,28 @@ class PiecesTest(Tools):
     def test_more_pieces_than_are_kept(self) -> None:
         pieces = Pieces()
         data = b"".join(number.to_bytes(4, "big") * (PIECE // 4) for number in range(MOST + 9))
-        for _ in range(3):
+        for kept in (0, MOST, MOST):
             self.assertTrue(self.is_same(pieces, data, data))
-            self.assertEqual(len(pieces.kept), MOST)
+            self.assertEqual(len(pieces.kept), kept)
+
+
+class CommandsTest(unittest.TestCase):
+    """Commands that run one after another."""
+
+    def test_each_has_its_own_time(self) -> None:
+        """Two take more than the limit together; one that takes more by itself is ended, and not the next."""
+        commands = Commands(2)
+        for seconds, in_time in (("1.2", True), ("1.2", True), ("60", False), ("0", True)):
+            ended = commands.run(["sleep", seconds], ".")
+            self.assertEqual((ended.in_time, ended.status), (in_time, 0 if in_time else -signal.SIGKILL), seconds)
+            self.assertLess(ended.seconds, 20)
+
+    def test_what_it_says(self) -> None:
+        commands = Commands(60)
+        for words, said in ((["echo", "one"], "one\n"), (["true"], ""), (["sh", "-c", "echo two >/dev/stderr"], "two\n")):
+            self.assertEqual(commands.run(words, ".").text, said)
+        with self.assertRaisesRegex(BadFile, "./absent: cannot be run: no such file or directory"):
+            commands.run(["./absent"], ".")
 
 
 class SuiteTest(Tools):
@@ -175,6 +203,47 @@ class SuiteTest(Tools):
                 self.assertEqual(said[0], f"differs   {name}: memory: first at byte {at:05x}: 00 and ff; 1 byte")
                 self.assertTrue(said[1].startswith("3 cases: 2 pass, 1 differ; "), said)
             self.write(f"cases/{name}/image", image)
+
+    def passed_cases(self, script: str = "") -> None:
+        """Three cases that passed, and of which all is stored."""
+        for number in range(3):
+            self.case(f"case {number}", script=script)
+            self.golden(f"case {number}")
+            golden = self.read(f"cases/case {number}/golden")
+            self.write(f"cases/case {number}/golden", "# status 0\n" + golden)
+        for _ in range(2):
+            self.assertEqual(self.suite("--jobs", "1")[0], 0)
+
+    def test_no_case_has_what_another_wrote(self) -> None:
+        """They write over one another's files: what is not written is none, and what differs is that case's."""
+        self.passed_cases()
+        self.case("case 1", script="without trace")
+        status, said = self.suite("--jobs", "1")
+        self.assertEqual((status, said[0]), (1, "differs   case 1: trace: none came"))
+        self.assertTrue(said[1].startswith("3 cases: 2 pass, 1 differ; "), said)
+        self.assertEqual(sorted(os.listdir(self.place("cases/out/case 1/now"))), ["frames", "memory"])
+        self.case("case 1", script="bad")
+        told = "differs   case 1: status: 0 was to come, and 4 (bad script: line 4: event) came"
+        self.assertEqual(self.suite("--jobs", "1")[1][0], told)
+        self.case("case 1")
+        self.case("case 2", GREEN)
+        self.assertIn("differs   case 2: frames: first at frame 1, line 100, clock 100", self.suite("--jobs", "1")[1][0])
+        self.case("case 2")
+        self.assertEqual(self.suite("--jobs", "1")[0], 0)
+        self.assertEqual([name for name in os.listdir(self.place("cases/out")) if name.startswith(".")], [])
+
+    def test_a_program_that_replaces_its_files(self) -> None:
+        self.passed_cases("replaces")
+        self.assertEqual(self.suite("--jobs", "1")[0], 0)
+        self.case("case 1", GREEN, script="replaces")
+        self.assertIn("differs   case 1: frames: first at frame 1, line 100, clock 100", self.suite("--jobs", "1")[1][0])
+
+    def test_a_result_of_another_kind(self) -> None:
+        """What an older suite left is no result."""
+        self.passed_cases()
+        for text in ("{}", "[]", self.read("cases/out/case 0/result.json").replace('"sums"', '"pieces"')):
+            self.write("cases/out/case 0/result.json", text)
+            self.assertEqual(self.suite("--jobs", "1")[0], 0)
 
     def test_ntsc(self) -> None:
         """Row 74 is line 94; a case that becomes PAL differs in its system."""
@@ -318,6 +387,20 @@ class SuiteTest(Tools):
             process.send_signal(signal.SIGINT)
             said = process.communicate(timeout=20)
         self.assertEqual((process.returncode, *said), (-signal.SIGINT, "", ""))
+
+    def test_a_signal_leaves_no_folder(self) -> None:
+        self.passed_cases()
+        self.case("case 1", script="slow")
+        self.ran()
+        for number in (signal.SIGINT, signal.SIGTERM):
+            words = [os.path.join(TOOLS, "suite"), "cases", "--jobs", "1"]
+            with subprocess.Popen(words, cwd=self.folder, stdout=subprocess.DEVNULL) as process:
+                while not os.path.exists(self.log) or "case 1" not in self.read("log"):
+                    time.sleep(0.05)
+                process.send_signal(number)
+                self.assertEqual(process.wait(timeout=20), -number)
+            self.ran()
+            self.assertEqual(sorted(os.listdir(self.place("cases/out")))[0], "case 0")
 
     @unittest.skipUnless(shutil.which("ninja"), "ninja is not installed: apt-get install ninja-build")
     def test_ninja_runs_what_changed(self) -> None:
