@@ -11,6 +11,8 @@ UNUSABLE = 2
 # signals that end a tool, which takes away first what it has made beside: a terminal that closes is SIGHUP
 ENDING = (signal.SIGTERM, signal.SIGHUP)
 QUOTED = 32
+# a tool whose text has this reads its words itself
+USAGE = "\nusage: "
 
 
 class BadFile(Exception):
@@ -54,9 +56,14 @@ def stop(tool: str, fault: Exception) -> NoReturn:
     sys.exit(UNUSABLE)
 
 
+def usage() -> str:
+    """What the tool that runs says of itself."""
+    return sys.modules["__main__"].__doc__ or ""
+
+
 def run_tool(tool: str, main: Callable[[], None]) -> None:
-    """Runs a tool. What stops it is said in one line; after an interrupt or a signal that ends it nothing is said, and it
-    ends by that signal.
+    """Runs a tool, or says what it is where that alone is asked. What stops it is said in one line; after an interrupt or a
+    signal that ends it nothing is said, and it ends by that signal.
     """
     for number in ENDING:
         if signal.getsignal(number) == signal.SIG_DFL:
@@ -66,7 +73,10 @@ def run_tool(tool: str, main: Callable[[], None]) -> None:
     # names of files are bytes: they are said as they are
     sys.stdout.reconfigure(errors="surrogateescape")
     try:
-        main()
+        if sys.argv[1:] in (["-h"], ["--help"]) and USAGE in usage():
+            print(usage().strip())
+        else:
+            main()
         sys.stdout.flush()
     except Ended as ended:
         end_by(ended.number)
