@@ -3,8 +3,7 @@ from __future__ import annotations
 
 import os
 import re
-from dataclasses import dataclass, field
-from typing import Iterator
+from typing import Iterator, NamedTuple
 
 from faults import BadFile, quoted
 
@@ -21,8 +20,7 @@ STATUS_LINE = re.compile(r"# status (\d{1,3})")
 SAID = "# said "
 
 
-@dataclass(frozen=True)
-class Case:
+class Case(NamedTuple):
     """A folder of a suite: its name from the suite's folder on, its place, and the files in it."""
 
     name: str
@@ -61,13 +59,12 @@ class Case:
         return {kind: os.path.join(folder, there[0]) for kind, there in found.items() if there}
 
 
-@dataclass
-class Golden:
+class Golden(NamedTuple):
     """What a run must give: its status, what it says, and the SHA-256 of the files that are looked at."""
 
-    status: int = 0
-    said: list[str] = field(default_factory=list)
-    sums: dict[str, str] = field(default_factory=dict)
+    status: int
+    said: list[str]
+    sums: dict[str, str]
 
     def is_met(self, status: int, said: list[str], sums: dict[str, str]) -> bool:
         """Whether a run gave that."""
@@ -104,18 +101,18 @@ def read_text(place: str) -> str:
 
 def read_golden(place: str) -> Golden:
     """A file `golden`: lines of `sha256sum`, and comments that say the status and what was said."""
-    golden = Golden()
+    golden, told = Golden(0, [], {}), 0
     for number, line in enumerate(read_text(place).splitlines(), 1):
         sums, status = SUM_LINE.fullmatch(line), STATUS_LINE.fullmatch(line)
         if sums and sums.group(2) in KINDS:
             golden.sums[sums.group(2)] = sums.group(1)
         elif status:
-            golden.status = int(status.group(1))
+            told = int(status.group(1))
         elif line.startswith(SAID):
             golden.said.append(line[len(SAID) :])
         elif line.strip() and not line.startswith("#"):
             raise BadFile(place, f"line {number} is no sum of a file and no comment: {quoted(line.encode())}")
-    return golden
+    return golden._replace(status=told)
 
 
 def find_cases(folder: str, out: str) -> list[Case]:

@@ -5,8 +5,7 @@ import contextlib
 import json
 import os
 import signal
-from dataclasses import dataclass, field
-from typing import Callable
+from typing import Callable, Iterable, NamedTuple
 
 from faults import BadFile
 from suite_cases import KINDS, USUAL_KINDS, Case, Golden, read_bytes, read_golden, sum_of, unpack
@@ -18,14 +17,14 @@ GOOD = (PASSED, ACCEPTED)
 RESULT, STORED = "result.json", "stored.json"
 # what a case has that has another command than the usual one, packed files, or goldens that are files
 UNUSUAL = ("command", "image.xz", "script.xz", "kept")
+USUAL = frozenset(USUAL_KINDS)
 # of a program's text so many lines are kept
 MOST_SAID = 20
 # where each name of a command stands for a file of the run
 NAMES = {kind.upper(): kind for kind in KINDS}
 
 
-@dataclass
-class Stored:
+class Stored(NamedTuple):
     """A file that a passing run left: its sum and those of its pieces, and by what it is known to be the same file still."""
 
     sum: str
@@ -34,23 +33,22 @@ class Stored:
     sums: str
 
 
-@dataclass
 class Result:
-    """What came out of a case. `seconds` are those of the clock, `program` those of the processor."""
+    """What came out of a case. `seconds` are those of the clock, `program` those of the processor; `spoken` is what the program
+    said, and `sums` are those of its files.
+    """
 
-    name: str
-    verdict: str = FAILED
-    said: list[str] = field(default_factory=list)
-    seconds: float = 0.0
-    program: float = 0.0
-    status: int = 0
-    spoken: list[str] = field(default_factory=list)
-    sums: dict[str, str] = field(default_factory=dict)
-    stored: dict[str, Stored] = field(default_factory=dict)
+    def __init__(
+        self, name: str, verdict: str = FAILED, said: Iterable[str] = (), seconds: float = 0.0, program: float = 0.0, status: int = 0,
+        spoken: Iterable[str] = (), sums: dict[str, str] | None = None, stored: dict[str, Stored] | None = None,
+    ) -> None:
+        self.name, self.verdict, self.said = name, verdict, list(said)
+        self.seconds, self.program = seconds, program
+        self.status, self.spoken = status, list(spoken)
+        self.sums, self.stored = sums or {}, stored or {}
 
 
-@dataclass
-class Known:
+class Known(NamedTuple):
     """What is known of a case before it runs: its last result and the bytes of its golden, None where there is none; and the
     whole place of its folder, where it is to give just what it gave last time and that is stored.
     """
@@ -60,23 +58,15 @@ class Known:
     folder: str | None
 
 
-@dataclass
 class Suite:
     """How cases are run: the program, the folder of what comes out, seconds a case may take, bytes it may leave; whether
     what comes out is accepted, and kept whole; what runs commands, and pieces of files at hand.
     """
 
-    program: str
-    out: str
-    limit: float
-    most_stored: int
-    accepts: bool = False
-    keeps: bool = False
-    commands: Commands = field(init=False)
-    pieces: Pieces = field(default_factory=Pieces)
-
-    def __post_init__(self) -> None:
-        self.commands = Commands(self.limit)
+    def __init__(self, program: str, out: str, limit: float, most_stored: int, accepts: bool = False, keeps: bool = False) -> None:
+        self.program, self.out, self.limit, self.most_stored = program, out, limit, most_stored
+        self.accepts, self.keeps = accepts, keeps
+        self.home, self.commands, self.pieces = os.getcwd(), Commands(limit), Pieces()
 
     def place(self, case: Case, *names: str) -> str:
         """A file or folder of what comes out of a case."""
@@ -97,26 +87,26 @@ def known_of(suite: Suite, case: Case) -> Known:
     """What is known of a case. A golden that cannot be read is None here, and told where it is looked at."""
     golden = None
     if "golden" in case.files:
-        with contextlib.suppress(OSError):
+        try:
             golden = read_bytes(os.path.join(case.folder, "golden"))
+        except OSError:
+            pass
     before = read_result(suite, case)
     simple = case.files.isdisjoint(UNUSUAL) and case.files.issuperset(("image", "script"))
-    same = simple and before is not None and is_met_by(suite, case, before, golden)
-    return Known(before, golden, os.path.abspath(case.folder) if same else None)
+    same = simple and not suite.keeps and before is not None and is_met_by(suite, case, before, golden)
+    return Known(before, golden, os.path.join(suite.home, case.folder) if same else None)
 
 
 def is_met_by(suite: Suite, case: Case, before: Result, golden: bytes | None) -> bool:
     """Whether a case's golden is met by just what came of a run that wrote the usual files, all of which are still stored."""
-    stored = before.stored
-    return (
-        before.verdict == PASSED
-        and not suite.keeps
-        and before.sums.keys() == stored.keys() == set(USUAL_KINDS)
-        and golden == came_of(before).text().encode("utf-8")
-        and sum(old.size for old in stored.values()) <= suite.most_stored
-        and all(old.sum == before.sums[kind] for kind, old in stored.items())
-        and all(is_as_stored(suite.place(case, "passed", kind), old) for kind, old in stored.items())
-    )
+    if before.verdict != PASSED or not before.sums.keys() == before.stored.keys() == USUAL:
+        return False
+    size = 0
+    for kind, old in before.stored.items():
+        if old.sum != before.sums[kind] or not is_as_stored(suite.place(case, "passed", kind), old):
+            return False
+        size += old.size
+    return size <= suite.most_stored and golden == came_of(before).text().encode("utf-8")
 
 
 def read_stored(suite: Suite, case: Case) -> dict[str, Stored]:
@@ -136,7 +126,7 @@ def same_but_for_time(before: Result, after: Result) -> bool:
 
 def write_result(suite: Suite, case: Case, result: Result) -> None:
     """Writes the case's result, beside and renamed, so that it is never a part of one."""
-    data = {**vars(result), "stored": {kind: vars(one) for kind, one in result.stored.items()}}
+    data = {**vars(result), "stored": {kind: one._asdict() for kind, one in result.stored.items()}}
     write_json(suite.place(case, RESULT), data)
 
 
@@ -288,7 +278,7 @@ def golden_of(case: Case) -> Golden | None:
     kept = case.kept()
     if "golden" not in case.files and not kept:
         return None
-    golden = read_golden(os.path.join(case.folder, "golden")) if "golden" in case.files else Golden()
+    golden = read_golden(os.path.join(case.folder, "golden")) if "golden" in case.files else Golden(0, [], {})
     for kind, place in kept.items():
         if kind not in golden.sums:
             golden.sums[kind] = sum_of(place)
@@ -348,7 +338,7 @@ def store(suite: Suite, case: Case, result: Result, came: dict[str, int], kept: 
             remove(suite.place(case, "passed", kind))
             remove(place)
     if result.stored != before:
-        write_json(suite.place(case, "passed", STORED), {kind: vars(one) for kind, one in result.stored.items()})
+        write_json(suite.place(case, "passed", STORED), {kind: one._asdict() for kind, one in result.stored.items()})
 
 
 def move(place: str, to: str, sum: str) -> Stored:

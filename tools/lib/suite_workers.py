@@ -10,9 +10,8 @@ import select
 import signal
 import struct
 import sys
-from dataclasses import dataclass
 from time import time_ns
-from typing import Callable, Iterator
+from typing import Callable, Iterator, NamedTuple
 
 from suite_again import Again, new_again, remove_folder
 from suite_cases import Case
@@ -23,14 +22,11 @@ from suite_run import PASSED, RESULT, Known, Result, Suite, known_of, run_case
 NUMBER = 4
 # a case that passed: its number, its seconds by the clock and those of the processor, and when, or 0 where its result is written
 PASS = struct.Struct("<IddQ")
-# a case makes some hundred things that Python counts, and none that it has to look for
-SELDOM = 100_000
 # of so many cases it is read at once, before the first runs, what is known: that takes less than between two runs
 MOST_KNOWN = 5000
 
 
-@dataclass(frozen=True)
-class Worker:
+class Worker(NamedTuple):
     """A process, and the pipe by which its results come."""
 
     process: int
@@ -87,7 +83,6 @@ def results_of(suite: Suite, cases: list[Case], jobs: int) -> Iterator[Result]:
     known = [known_of(suite, case) for case in cases[:MOST_KNOWN]]
     gc.freeze()
     gc.enable()
-    gc.set_threshold(SELDOM)
     workers: list[Worker] = []
     agains: list[Again | None] = []
     try:
