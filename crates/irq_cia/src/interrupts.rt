@@ -17,11 +17,14 @@ const ENABLES: u16 = 0x7fff;
 const INTEN: u16 = 0x4000;
 
 /// The kept words of INTENA, bits 14 to 0, and INTREQ, bits 13 to 0 (Hardware Reference Manual, INTENA and
-/// INTREQ).
+/// INTREQ). The level is worked out where a word changes, since it is looked at more often.
 #[derive(Drop)]
 pub struct Irq {
     req: u16,
     ena: u16,
+    level: u8,
+    ghost level_is: { level ≡ level_of (record { req = req; ena = ena }) },
+    ghost most: { level ≤ 6 },
 }
 
 impl Model for Irq {
@@ -40,7 +43,18 @@ impl Irq {
     pub fn reset() -> Irq
         ensures { result ≡ no_interrupts }
     {
-        Irq { req: 0, ena: 0 }
+        Irq::of(0, 0)
+    }
+
+    /// These words.
+    fn of(req: u16, ena: u16) -> Irq
+        ensures { result ≡ record { req = req; ena = ena } }
+    {
+        Irq {
+            req,
+            ena,
+            level: level_by_words(req, ena),
+        }
     }
 
     /// The same state once more.
@@ -50,6 +64,7 @@ impl Irq {
         Irq {
             req: self.req,
             ena: self.ena,
+            level: self.level,
         }
     }
 
@@ -57,7 +72,10 @@ impl Irq {
     pub fn request(&mut self, bits: u16)
         ensures { self.new ≡ after_request bits self.old }
     {
-        self.req |= bits & REQUESTS;
+        let req = self.req | bits & REQUESTS;
+        if req != self.req {
+            *self = Irq::of(req, self.ena);
+        }
     }
 
     /// A write to INTREQ: bit 15 says whether the word's other 1 bits are set or cleared (Hardware Reference
@@ -65,7 +83,7 @@ impl Irq {
     pub fn poke_req(&mut self, word: u16)
         ensures { self.new ≡ after_req_write word self.old }
     {
-        self.req = set_or_clear(self.req, word, REQUESTS);
+        *self = Irq::of(set_or_clear(self.req, word, REQUESTS), self.ena);
     }
 
     /// A write to INTENA: bit 15 says whether the word's other 1 bits are set or cleared (Hardware Reference
@@ -73,7 +91,7 @@ impl Irq {
     pub fn poke_ena(&mut self, word: u16)
         ensures { self.new ≡ after_ena_write word self.old }
     {
-        self.ena = set_or_clear(self.ena, word, ENABLES);
+        *self = Irq::of(self.req, set_or_clear(self.ena, word, ENABLES));
     }
 
     /// The kept word of INTREQ, as INTREQR reads.
@@ -96,11 +114,19 @@ impl Irq {
         ensures level { result ≡ level_of self.now }
         ensures range { result ≤ 6 }
     {
-        if self.ena & INTEN != INTEN {
-            return 0;
-        }
-        level_by_bits(self.req & self.ena)
+        self.level
     }
+}
+
+/// The level of the two words.
+fn level_by_words(req: u16, ena: u16) -> u8
+    ensures level { result ≡ level_of (record { req = req; ena = ena }) }
+    ensures range { result ≤ 6 }
+{
+    if ena & INTEN != INTEN {
+        return 0;
+    }
+    level_by_bits(req & ena)
 }
 
 /// The greatest level of a bit that is set in the word: the levels rise with the bits.
