@@ -1,5 +1,5 @@
 -- The processor between two accesses stands for registers, what is under way, and the answers since it began.
-use Rattle.std.specs.Prelude.{◌≡◌, ℕ, Bool, true, false, List, length, min, Option}
+use Rattle.std.specs.Prelude.{◌≡◌, ℕ, Bool, true, false, if◌then◌else◌, List, length, min, Option, Some, None}
 use Rattle.m68k_decode.specs.declared.regs.CpuRegs.{CpuRegs}
 use Rattle.m68k_decode.specs.declared.under.Under.{Under}
 use Rattle.m68k_decode.specs.Access.{Next, Asks, Ends, Halts, Read, Write, after}
@@ -32,6 +32,13 @@ wanted (Asks (Read at byte)) = A.Read at byte
 wanted (Asks (Write at byte word)) = A.Write at byte word
 wanted (Ends r idle u) = A.Idle idle
 wanted Halts = A.Halted
+
+-- the address of the word that an ask reads; the read of a byte is another ask
+abbrev pub word_read : Ask → Option ℕ
+word_read (A.Read at byte) = if byte then None else Some at
+word_read (A.Write at byte word) = None
+word_read (A.Idle clocks) = None
+word_read A.Halted = None
 
 -- whether the processor is halted
 abbrev pub is_halted_step : Step → Bool

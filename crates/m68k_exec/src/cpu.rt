@@ -8,7 +8,7 @@ ghost use Rattle.m68k_decode.specs.Access.{after, next_of, idle_clocks};
 ghost use Rattle.m68k_decode.specs.Walk.{next, program, advance, begin, begin_again, settled, boundary, is_traced, taking_of, regs_at_reset};
 ghost use Rattle.m68k_exec.specs.declared.ask.Ask.TheVariants as A;
 ghost use Rattle.m68k_exec.specs.Meaning.{meaning};
-ghost use Rattle.m68k_exec.specs.Stands.{Stands, Reaches, wanted, is_halted};
+ghost use Rattle.m68k_exec.specs.Stands.{Stands, Reaches, wanted, word_read, is_halted};
 
 use crate::access::fetch;
 use crate::ask::Ask;
@@ -141,6 +141,30 @@ impl Cpu {
             },
             Step::Broken { .. } => Ask::Idle { clocks: 0 },
             Step::Halted => Ask::Halted,
+        }
+    }
+
+    /// The address of the word that it reads next: what `ask` says of most accesses, with less to do. None
+    /// where it reads a byte, writes, waits or has halted.
+    #[inline(always)]
+    #[tactic(auto, unfolding(m68k_decode::specs::Walk::next))]
+    pub fn word_read(&self) -> Option<u32>
+        ensures { (r : CpuRegs) (u : Under) (ws : List ℕ) → Stands self.now r u ws
+            → result ≡ word_read (wanted (next r u ws)) }
+    {
+        match self.machine.step {
+            Step::Fetch { .. } => Some(self.machine.regs.pc),
+            Step::ReadWord { at, .. } | Step::ReadHigh { at, .. } | Step::ReadLow { at, .. } => {
+                Some(at)
+            }
+            Step::ReadByte { .. }
+            | Step::WriteByte { .. }
+            | Step::WriteWord { .. }
+            | Step::WriteHigh { .. }
+            | Step::Push { .. }
+            | Step::Ended { .. }
+            | Step::Broken { .. }
+            | Step::Halted => None,
         }
     }
 }
