@@ -1,5 +1,6 @@
 -- What the processor waits for, and its halt.
-use Rattle.std.proofs.Common.{◌≡◌, ℕ, ◌%◌, not, ◌&&◌, ◌==◌, if◌then◌else◌, List, arith, refl, ap, subst, sym, ◌∙◌, None, length}
+use Rattle.std.proofs.Common.{◌≡◌, ◌<◌, ℕ, ◌%◌, Bool, true, false, nat_lt, not, ◌&&◌, ◌==◌, if◌then◌else◌, List, arith, refl, ap, subst, sym, ◌∙◌, Some, None, length}
+use Rattle.std.proofs.lemmas.Bool.Decides.{nat_tests}
 use Rattle.m68k_decode.specs.declared.regs.CpuRegs.{CpuRegs}
 use Rattle.m68k_decode.specs.declared.under.Under.{Under}
 use Rattle.m68k_decode.specs.Access.{Prog, Ask, End, Enter, Halt, Next, Asks, Ends, Halts, Read, Write, after, next_of}
@@ -7,11 +8,16 @@ use Rattle.m68k_decode.specs.Walk.{program, next, advance, answered, stage}
 use Rattle.m68k_exec.specs.declared.ask.Ask.{Ask as Access}
 use Rattle.m68k_exec.specs.declared.ask.Ask.TheVariants as A
 use Rattle.m68k_exec.specs.declared.state.Cpu.{Cpu}
-use Rattle.m68k_exec.specs.Stands.{Stands, Reaches, wanted}
+use Rattle.m68k_exec.specs.Stands.{Stands, Reaches, wanted, word_read}
 use Rattle.ocs_base.proofs.Registers.{same_register}
 use Rattle.ocs_base.specs.declared.chip_size.ChipSize.{ChipSize}
+use Rattle.ocs_base.specs.AddressOf.{addr_at}
 use Rattle.ocs_base.specs.Register.{register_of}
-use Rattle.serial_model.specs.Processor.{Processor, slot_wish, processor_wish, wait_of}
+use Rattle.ocs_base.specs.Sizes.{bytes_of}
+use Rattle.serial_model.specs.declared.bus.ProcessorAsk.TheVariants as P
+use Rattle.serial_model.specs.declared.processor.Target.TheVariants as G
+use Rattle.serial_model.specs.declared.processor.Wait.TheVariants as W
+use Rattle.serial_model.specs.Processor.{Processor, slot_wish, processor_wish, wait_of, target_of, target_at, read_wait}
 use Rattle.cpu_bus.specs.declared.BusCpu.{BusCpu}
 use Rattle.cpu_bus.specs.Bus.{IsProcessorOf, wait_by, wish_shown}
 
@@ -22,6 +28,25 @@ wait_is chip (Asks (Read at byte)) = refl
 wait_is chip (Asks (Write at byte word)) = refl
 wait_is chip (Ends r idle u) = refl
 wait_is chip Halts = refl
+
+-- what reads a word is known by its address
+asks_word : (a : Access) (at : ℕ) → Some at ≡ word_read a → a ≡ A.Read at false
+asks_word (A.Read n false) at is = let e : n ≡ at = cc in ap (λ x. A.Read x false) e
+asks_word (A.Read n true) at is = cc
+asks_word (A.Write n byte word) at is = cc
+asks_word (A.Idle clocks) at is = cc
+asks_word A.Halted at is = cc
+
+target_below : (chip : ChipSize) (a : ℕ) (b : Bool) → a < bytes_of chip → target_at chip a b ≡ G.Memory (addr_at chip a)
+target_below chip a b below = let so : nat_lt a (bytes_of chip) ≡ true = grind (arith, nat_tests) in rw so refl
+
+-- a word of chip memory waits for its slot
+pub word_waits : (chip : ChipSize) (n : Next) (at a : ℕ) → Some at ≡ word_read (wanted n) → a ≡ at % 16777216 → a < bytes_of chip
+    → wait_of chip n ≡ W.Slot (P.Read (addr_at chip a))
+unfolding wait_by target_of
+word_waits chip n at a is low below =
+    wait_is chip n ∙ ap (wait_by chip) (asks_word (wanted n) at is)
+    ∙ ap (λ x. read_wait (target_at chip x false)) (sym low) ∙ ap read_wait (target_below chip a false below)
 
 -- a halted processor asks for nothing, and nothing else asks so
 abbrev IsHalted : Access → Type 0

@@ -9,7 +9,7 @@ mod quiet;
 mod target;
 
 pub use crate::quiet::waits_of_none;
-use crate::target::wait_for;
+use crate::target::look_ahead;
 use m68k_exec::{Ask as Access, Cpu};
 use ocs_base::ChipSize;
 use serial_model::{ProcessorAsk, Turn, Wait};
@@ -41,7 +41,8 @@ impl BusCpu {
         ensures { IsProcessorOf result (reset_processor chip on) }
     {
         let cpu = Cpu::reset();
-        let wait = wait_for(chip, cpu.ask());
+        let mut wait = Wait::Halted;
+        look_ahead(&mut wait, chip, &cpu);
         BusCpu {
             chip,
             on,
@@ -146,7 +147,7 @@ impl BusCpu {
         let begins = advance(&mut self.cpu, word, level);
         self.spent = 0;
         self.given = None;
-        self.wait = wait_for(self.chip, self.cpu.ask());
+        look_ahead(&mut self.wait, self.chip, &self.cpu);
         begins
     }
 }

@@ -1,19 +1,45 @@
 //! Where an access of the processor goes, and what it waits for then.
 
-ghost use Rattle.std.specs.Prelude.{◌≡◌};
+ghost use Rattle.std.specs.Prelude.{◌≡◌, ℕ, ◌%◌, List};
+ghost use Rattle.m68k_decode.specs.declared.regs.CpuRegs.{CpuRegs};
+ghost use Rattle.m68k_decode.specs.declared.under.Under.{Under};
+ghost use Rattle.m68k_decode.specs.Walk.{next};
+ghost use Rattle.m68k_exec.specs.Stands.{Stands};
 ghost use Rattle.cpu_bus.specs.Bus.{wait_by};
 ghost use Rattle.ocs_base.specs.Register.{register_of};
-ghost use Rattle.serial_model.specs.Processor.{target_of, target_at, read_wait as read_wait_of, write_wait as write_wait_of, half_of};
+ghost use Rattle.serial_model.specs.Processor.{target_of, target_at, wait_of, read_wait as read_wait_of, write_wait as write_wait_of, half_of};
 ghost use Rattle.serial_model.specs.Processor.{register_word as register_word_of, cia_byte as cia_byte_of};
 ghost use Rattle.serial_model.specs.Processor.{cia_register as cia_register_of, reaches_cia_a as reaches_a, reaches_cia_b as reaches_b};
 
-use m68k_exec::Ask as Access;
+use m68k_exec::{Ask as Access, Cpu};
 use ocs_base::{Addr, ChipSize, Reg};
 use serial_model::{CiaName, CiaRegister, Half, ProcessorAsk, Target, Wait};
 
+/// Puts down what the processor waits for next, with a chip memory of this size. The read of a word of chip
+/// memory, which is most of what it does, is looked for first.
+#[inline(always)]
+pub fn look_ahead(wait: &mut Wait, chip: ChipSize, cpu: &Cpu)
+    ensures { (r : CpuRegs) (u : Under) (ws : List ℕ) → Stands cpu.now r u ws
+        → wait.new ≡ wait_of chip (next r u ws) }
+{
+    if let Some(at) = cpu.word_read() {
+        let low = bus_address(at);
+        if low < chip.bytes() {
+            *wait = Wait::Slot {
+                ask: ProcessorAsk::Read {
+                    at: Addr::sized(chip, low),
+                },
+            };
+            return;
+        }
+    }
+    *wait = wait_for(chip, cpu.ask());
+}
+
 /// What the processor waits for, by what it asks for, with a chip memory of this size.
+#[inline(never)]
 #[tactic(auto, unfolding(crate::specs::Bus::wait_by))]
-pub fn wait_for(chip: ChipSize, access: Access) -> Wait
+fn wait_for(chip: ChipSize, access: Access) -> Wait
     ensures { result ≡ wait_by chip access }
 {
     match access {
@@ -24,12 +50,19 @@ pub fn wait_for(chip: ChipSize, access: Access) -> Wait
     }
 }
 
+/// The low 24 bits of an address, which are those on the bus.
+fn bus_address(at: u32) -> u32
+    ensures { result ≡ at % 0x1000000 }
+{
+    at % 0x100_0000
+}
+
 /// Where an access goes, by the low 24 bits of its address: those below the size of chip memory are in it.
 #[tactic(auto, unfolding(serial_model::specs::Processor::target_of))]
 fn target(chip: ChipSize, at: u32, byte: bool) -> Target
     ensures { result ≡ target_of chip at byte }
 {
-    let a = at % 0x100_0000;
+    let a = bus_address(at);
     if a < chip.bytes() {
         Target::Memory {
             at: Addr::sized(chip, a),
