@@ -139,7 +139,7 @@ impl AreaBlit {
         ensures { ForWhatItStands self.old (λ s ws. Stands self.new s (ws ++ word ∷ [])) }
     {
         match self.ask {
-            WordAsk::D => self.end_word(self.ready),
+            WordAsk::D => self.end_word(),
             WordAsk::A | WordAsk::B | WordAsk::C | WordAsk::Rest => self.take(word),
         }
     }
@@ -153,11 +153,13 @@ impl AreaBlit {
         self.words.take(self.ask, word);
         if self.place < self.asks.last {
             let next = self.asks.at(self.place + 1);
-            self.ready = self.outcome_for(next);
+            self.path.prepare(next, &self.words, &self.past, self.column, &mut self.ready);
             self.ask = next;
             self.place += 1;
         } else {
-            self.end_word(self.mix_inputs());
+            self.path
+                .mix_into(&self.words, &self.past, self.column, &mut self.ready);
+            self.end_word();
         }
     }
 
@@ -197,33 +199,15 @@ impl AreaBlit {
         }
     }
 
-    /// The result of the present word, once its inputs have their words, and what it leaves for the next.
-    #[inline(never)]
-    fn mix_inputs(&self) -> Outcome
-        ensures { result ≡ outcome_now self.now }
-    {
-        self.path.mix(&self.words, &self.past, self.column)
-    }
-
-    /// What is to be ready for an ask: the outcome of the present word for its write.
-    fn outcome_for(&self, ask: WordAsk) -> Outcome
-        ensures { ask ≡ D → result ≡ outcome_now self.now }
-    {
-        match ask {
-            WordAsk::D => self.mix_inputs(),
-            WordAsk::A | WordAsk::B | WordAsk::C | WordAsk::Rest => self.ready,
-        }
-    }
-
-    /// All asks of the present word have answers: its result counts, and the next word begins. A
-    /// row begins with the carry FCI.
-    fn end_word(&mut self, outcome: Outcome)
+    /// All asks of the present word have answers, and its outcome is ready: its result counts, and the next
+    /// word begins. A row begins with the carry FCI.
+    fn end_word(&mut self)
         requires row { self.old.row < height_of self.old.start }
-        requires outcome { outcome ≡ outcome_now self.old }
+        requires outcome { self.old.ready ≡ outcome_now self.old }
         ensures { EndsWord self.old self.new }
     {
-        self.zero &= outcome.word == 0;
-        self.past = outcome.past;
+        self.zero &= self.ready.word == 0;
+        self.past = self.ready.past;
         self.place = 0;
         self.ask = self.asks.at(0);
         self.pointers.step_word();

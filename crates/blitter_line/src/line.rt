@@ -93,6 +93,7 @@ impl LineBlit {
 
     /// Carries out the ask that `next` tells, which is not Done: the slot was got. The word counts
     /// only for a read.
+    #[inline(never)]
     pub fn give(&mut self, word: u16)
         requires { shown self.old ≢ SlotAsk.Done }
         ensures { ForWhatItStands self.old (λ s ws. Stands self.new s (ws ++ word ∷ [])) }

@@ -2,6 +2,7 @@ use Rattle.std.proofs.Common.{arith, ◌≡◌, ◌+◌, ap, refl, ◌∙◌}
 use Rattle.blit_words.specs.declared.blit.WordAsk.{WordAsk}
 use Rattle.blit_words.specs.AreaBlit.{asks_per_word}
 use Rattle.blitter_area.specs.Data.{words_with}
+use Rattle.blitter_area.proofs.Results.{ready_outcome}
 use Rattle.blitter_area.proofs.Walking.{answered, answered_all}
 use Rattle.blitter_area.proofs.area.AreaBlit.take.Goals as goal
 
@@ -39,3 +40,13 @@ returns-else-self c = λ s ws h.
       words = c.take.ensures ∙ ap (λ (k : WordAsk). words_with k c.args.word b.words) b.ask_is;
     })
     last)
+
+pub end_word-requires-clause-outcome : goal.end_word-requires-clause-outcome
+end_word-requires-clause-outcome c =
+    let b = c.args.self.now in
+    c.mix_into.ensures ∙ ready_outcome b.path b.start b.past b.column _ b.path_is
+
+pub invariant_of-self-clause-ready_is : goal.invariant_of-self-clause-ready_is
+invariant_of-self-clause-ready_is c =
+    let b = c.args.self.now in
+    λ writes. c.prepare.ensures writes ∙ ready_outcome b.path b.start b.past b.column _ b.path_is
