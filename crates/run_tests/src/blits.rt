@@ -15,6 +15,7 @@ part 18 73 70 101 ffffff
 part 84 217 70 101 ffffff",
         "run The same with a blitter that comes before the processor, which is off.
 bands 1 20 100 313
+workers 0 4 32
 image 128*0000 200*ffff
 at 0 0 0: 08e=2c81 090=f4c1 092=0038 094=0038 0e2=0100 100=1000 182=0fff 096=8740 040=0100 056=015c
 at 0 100 0: 058=0501
