@@ -1,5 +1,6 @@
 -- Clocks of a line that are made one behind the other.
-use Rattle.std.proofs.Common.{◌≡◌, ◌≤◌, ◌<◌, ℕ, zero, suc, ◌+◌, ◌-◌, ◌==◌, Bool, false, if◌then◌else◌, List, [], drop, length, arith, refl, ap, subst, ◌∙◌, sym}
+use Rattle.std.proofs.Common.{◌≡◌, ◌≤◌, ◌<◌, ℕ, zero, suc, ◌+◌, ◌-◌, ◌==◌, Bool, false, if◌then◌else◌}
+use Rattle.std.proofs.Common.{List, [], drop, length, arith, refl, ap, subst, ◌∙◌, sym}
 use Rattle.std.proofs.lemmas.Bool.Decides.{nat_tests}
 use Rattle.ocs_base.specs.declared.beam.Beam.{Beam}
 use Rattle.ocs_base.specs.declared.script.At.{At}
@@ -8,9 +9,9 @@ use Rattle.out_files.specs.OutFiles.{OutFilesValue}
 use Rattle.quiet_clocks.proofs.PlainClock.{else_of}
 use Rattle.quiet_clocks.proofs.QuietClocks.{next_later}
 use Rattle.quiet_clocks.specs.QuietClocks.{later_beam}
-use Rattle.serial_model.specs.Beam.{IsOnScreen, is_line_start, is_field_start, next_place, place_of}
+use Rattle.serial_model.specs.Beam.{IsOnScreen, is_line_start, is_field_start, next_place}
 use Rattle.serial_model.specs.Events.{due_events, touches_of}
-use Rattle.serial_model.specs.State.{Chips, State}
+use Rattle.serial_model.specs.State.{Chips}
 use Rattle.serial_model.specs.Tick.{start_chips, start_clock}
 use Rattle.serial_bands.specs.Bands.{is_band_place, has_clx_read}
 use Rattle.serial_bands.specs.BusReads.{bus_reads, word_registers}
@@ -19,12 +20,12 @@ use Rattle.serial_bands.specs.Run.{RunValue, beam_at}
 use Rattle.band_log.specs.Raster.{RasterValue}
 use Rattle.chip_set.specs.Chips.{IsChipsOf}
 use Rattle.foreground.specs.Clock.{Rises}
-use Rattle.foreground.specs.Fore.{ForeOf, ForeValue, HasScript, IsUnderway, CanGo, is_done}
+use Rattle.foreground.specs.Fore.{ForeOf, ForeValue, HasScript, IsUnderway, CanGo}
 use Rattle.foreground.specs.LineCode.{AreInLine}
 use Rattle.foreground.specs.Log.{with_script_touches}
-use Rattle.foreground.specs.Machine.{MachineValue, IsMachineOf, MakesQuietly, Stands, IsSamePlace}
+use Rattle.foreground.specs.Machine.{MachineValue, MakesQuietly, IsSamePlace}
 use Rattle.foreground.specs.RunTo.{HasRunOn, RunsOn, reads_from, looked_from, RisesIn, RisesInSome}
-use Rattle.foreground.specs.Script.{MakesEvents, IsLeft}
+use Rattle.foreground.specs.Script.{MakesEvents}
 use Rattle.foreground.specs.Steps.{HasScriptBehind, RunsEvents}
 use Rattle.foreground.proofs.EmptyLaws.{none_happen, none_touched}
 use Rattle.foreground.proofs.QuietLaws.{no_place, reads_no_bits, left_next}

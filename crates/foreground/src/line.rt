@@ -1,6 +1,6 @@
 //! Clocks of a line that need no look around, made one behind the other.
 
-ghost use Rattle.std.specs.Prelude.{◌≡◌, ◌≤◌, ◌<◌, ◌+◌, ◌-◌, max, ℕ, false, true, [], IfOk, OnOk, OnErr};
+ghost use Rattle.std.specs.Prelude.{◌≡◌, ◌≤◌, ◌<◌, ◌+◌, ◌-◌, max, ℕ, false, true, [], OnOk, OnErr};
 ghost use Rattle.serial_model.specs.Events.{due_events};
 ghost use Rattle.serial_bands.specs.BusReads.{bus_reads};
 ghost use Rattle.quiet_clocks.specs.QuietClocks.{later_beam};

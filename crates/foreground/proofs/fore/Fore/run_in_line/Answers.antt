@@ -1,4 +1,4 @@
-use Rattle.std.proofs.Common.{◌≡◌, ◌≤◌, ◌<◌, ◌+◌, false, arith, refl, ◌∙◌}
+use Rattle.std.proofs.Common.{◌<◌, arith, refl, ◌∙◌}
 use Rattle.ocs_io.proofs.MapLaws.{on_err}
 use Rattle.foreground.specs.Fore.{over, GivesPart}
 use Rattle.foreground.specs.LineCode.{AreInLine}
