@@ -84,15 +84,12 @@ pub fn read(context: &Context, machine: &mut Machine, size: Size, program: bool,
         ≡ read (run_of context.now machine.old) size program at
         (valued into context.now.fetched.instr (run_of context.now machine.old)) }
 {
-    machine.step = match size {
-        Size::Byte => Step::ReadByte { at, into },
-        _ if at & 1 == 1 => {
-            fault(context, machine, at, true, program);
-            return;
-        }
-        Size::Word => Step::ReadWord { at, into },
-        Size::Long => Step::ReadHigh { at, program, into },
-    };
+    match size {
+        Size::Byte => machine.step = Step::ReadByte { at, into },
+        _ if at & 1 == 1 => fault(context, machine, at, true, program),
+        Size::Word => machine.step = Step::ReadWord { at, into },
+        Size::Long => machine.step = Step::ReadHigh { at, program, into },
+    }
 }
 
 /// Asks for the low word of a long.
@@ -138,28 +135,25 @@ pub fn write(context: &Context, machine: &mut Machine, size: Size, at: u32, valu
         ≡ write (run_of context.now machine.old) size at value
         (written then context.now.fetched.instr (run_of context.now machine.old)) }
 {
-    machine.step = match size {
-        Size::Byte => Step::WriteByte {
+    match size {
+        Size::Byte => machine.step = Step::WriteByte {
             at,
             byte: (value & 0xff) as u16,
             then,
         },
-        _ if at & 1 == 1 => {
-            fault(context, machine, at, false, false);
-            return;
-        }
-        Size::Word => Step::WriteWord {
+        _ if at & 1 == 1 => fault(context, machine, at, false, false),
+        Size::Word => machine.step = Step::WriteWord {
             at,
             word: (value & 0xffff) as u16,
             then,
         },
-        Size::Long => Step::WriteHigh {
+        Size::Long => machine.step = Step::WriteHigh {
             at,
             high: (value >> 16) as u16,
             low: (value & 0xffff) as u16,
             then,
         },
-    };
+    }
 }
 
 /// The value in a register or in the instruction, cut to a size.

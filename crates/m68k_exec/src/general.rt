@@ -6,7 +6,7 @@ ghost use Rattle.m68k_decode.specs.RowData.{dest_size, source_size, source_mode,
 ghost use Rattle.m68k_decode.specs.General.{completed, compute, with_dest, dest, with_source, general};
 ghost use Rattle.m68k_exec.specs.Meaning.{meaning, run_of};
 
-use crate::access::{fetch, held_value, read, store};
+use crate::access::{end, fetch, held_value, read, store};
 use crate::operation::{operation, status_after, trap, trap_ea};
 use crate::row_data::{count, dest_mode, is_program, source_mode};
 use crate::state::{Context, Machine, Part, Role, Step, Use};
@@ -14,7 +14,7 @@ use m68k_decode::{Dest, Place68, Source, Trap, Under};
 use m68k_ea::{extension_words, resolve};
 
 /// The result is known: it is stored, or an exception begins.
-#[tactic(auto, unfolding(m68k_decode::specs::General::completed))]
+#[tactic(auto, unfolding(m68k_decode::specs::General::completed, m68k_decode::specs::Run::store))]
 fn complete(
     context: &Context,
     machine: &mut Machine,
@@ -38,12 +38,11 @@ fn complete(
         };
         return;
     }
-    let target = if row.writes {
-        place
+    if row.writes {
+        store(context, machine, row.size, place, value, clocks);
     } else {
-        Place68::Value { value: 0 }
-    };
-    store(context, machine, row.size, target, value, clocks);
+        end(machine, clocks);
+    }
 }
 
 /// Source and old value are known.
