@@ -8,7 +8,8 @@ use Rattle.std.proofs.lemmas.Bool.Decides.{nat_tests}
 use Rattle.serial_model.specs.Picture.{colour_bytes}
 use Rattle.priority_ham.specs.PlaneCount.{planes_of, is_hires, is_hold_and_modify, is_dual_playfield}
 use Rattle.priority_ham.specs.PixelColour.{Mode, DualPlayfield, HoldAndModify, ExtraHalfBrite, Plain, colour_in, dual_number, value_of_two}
-use Rattle.priority_ham.specs.PixelColour.{hides, playfield_value, priority_code, value_of_one, is_two_chosen, half_brite, modified, playfield_colour, red, green, blue, colour_of}
+use Rattle.priority_ham.specs.PixelColour.{hides, playfield_value, priority_code}
+use Rattle.priority_ham.specs.PixelColour.{value_of_one, is_two_chosen, half_brite, modified, playfield_colour, red, green, blue, colour_of}
 use Rattle.priority_ham.proofs.Within.{below, at_most_six}
 use Rattle.painter.specs.Inks.{ink, ink_number, counted_bits, first_hidden, is_held, halved, HasTables}
 use Rattle.painter.proofs.Rows.{zeros}
