@@ -4,6 +4,8 @@
 #![tactic(auto)]
 
 #[cfg(test)]
+mod caps;
+#[cfg(test)]
 mod faults;
 #[cfg(test)]
 mod inputs;

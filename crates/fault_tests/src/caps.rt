@@ -1,0 +1,108 @@
+//! How much of an input is read at the most: the longest good image, script and track, and no more.
+
+ghost use Rattle.std.specs.Prelude.{◌≡◌, []};
+
+use ocs_io::{Place, ReadRefusal, Shelf, WriteRefusal};
+use ocs_run::{NoGate, ocs_main};
+use run_cases::place::shelf;
+use std::alloc::Global;
+use std::process::Abort;
+use std::sync::Wait;
+use std::test::Fail;
+use std::thread::Threads;
+
+/// The shelf that it is, and the caps with which it was asked to read, in order.
+#[derive(Drop)]
+struct NotingShelf {
+    shelf: Shelf,
+    caps: Vec<usize>,
+}
+
+impl Place for NotingShelf {
+    ghost use Rattle.ocs_io.specs.Place.{Rose, OnlyReads, OnlyWrites, OnlySays, KeepsNames};
+    ghost use Rattle.ocs_io.specs.Answers.{ReadAnswers, CreateAnswers, AppendAnswers, SayAnswers, GrowsIfOk, HadMemory};
+    ghost use Rattle.ocs_io.specs.Said.{IsShort};
+    ghost use Rattle.ocs_io.specs.Shelf.{outside_of, IsHeld, IsAnyName};
+
+    ghost outside = { λ p. outside_of p.shelf };
+
+    ghost readable = { λ p name. IsAnyName name };
+
+    ghost growable = { λ p name. IsHeld p.shelf.files name };
+
+    ghost says_freely = { λ p piece. IsShort p.shelf.said piece };
+
+    fn read(&mut self, name: &str, cap: usize, into: &mut Vec<u8>) -> Result<(), ReadRefusal> {
+        if self.caps.push(cap).is_err() {
+            return Err(ReadRefusal::OutOfMemory);
+        }
+        self.shelf.read(name, cap, into)
+    }
+
+    fn create(&mut self, name: &str) -> Result<(), WriteRefusal> {
+        self.shelf.create(name)
+    }
+
+    fn append(&mut self, name: &str, piece: &[u8]) -> Result<(), WriteRefusal> {
+        self.shelf.append(name, piece)
+    }
+
+    fn say(&mut self, piece: &[u8]) -> Result<(), WriteRefusal> {
+        self.shelf.say(piece)
+    }
+}
+
+/// The status of the words of a text, over an image of 8 zeros, this script and a track of three bytes, and
+/// the caps of its reads.
+fn caps_of<R: Threads + Wait + Abort + Clone + Drop + Send + Sync + 'static>(
+    rt: &R,
+    alloc: Global,
+    text: &str,
+    script: &str,
+) -> Result<(u8, Vec<usize>), Fail> {
+    let mut words = Vec::new(alloc);
+    for word in text.split(' ') {
+        words.push(String::from_str(alloc, word)?)?;
+    }
+    let mut shelf = shelf(alloc, &[0; 8], script)?;
+    shelf.put("track", &[0; 3])?;
+    let mut place = NotingShelf {
+        shelf,
+        caps: Vec::new(alloc),
+    };
+    let ended = ocs_main(rt, alloc, &words, &mut place, NoGate);
+    Ok((ended, place.caps))
+}
+
+/// A script that is bad at its third line, so that nothing runs: image and script are read.
+#[test]
+fn an_image_and_a_script_are_read_up_to_their_greatest_lengths(
+    rt: HostRuntime,
+) -> Result<(), Fail> {
+    let alloc = rt.alloc();
+    let bad = "ocs 1\ncpu off\nframes 0\nend\n";
+    for text in [
+        "run image script frames trace memory 313 0",
+        "rewind image script 1 1 9",
+    ] {
+        let (ended, caps) = caps_of(&rt, alloc, text, bad)?;
+        assert_eq!(rt; ended, 4, "{text}");
+        assert!(rt;
+            caps.as_slice() == [1_048_576, 4_194_304].as_slice(),
+            "{text}"
+        );
+    }
+    Ok(())
+}
+
+/// The track is the third file that is read, and is bad.
+#[test]
+fn a_track_is_read_up_to_its_greatest_length(rt: HostRuntime) -> Result<(), Fail> {
+    let alloc = rt.alloc();
+    let good = "ocs 1\ncpu off\nframes 1\nend\n";
+    let text = "disk image script frames trace memory track 313 0";
+    let (ended, caps) = caps_of(&rt, alloc, text, good)?;
+    assert_eq!(rt; ended, 9);
+    assert!(rt; caps.as_slice() == [1_048_576, 4_194_304, 32_768].as_slice());
+    Ok(())
+}
