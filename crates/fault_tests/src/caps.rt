@@ -1,7 +1,5 @@
 //! How much of an input is read at the most: the longest good image, script and track, and no more.
 
-ghost use Rattle.std.specs.Prelude.{◌≡◌, []};
-
 use ocs_io::{Place, ReadRefusal, Shelf, WriteRefusal};
 use ocs_run::{NoGate, ocs_main};
 use run_cases::place::shelf;
@@ -19,8 +17,6 @@ struct NotingShelf {
 }
 
 impl Place for NotingShelf {
-    ghost use Rattle.ocs_io.specs.Place.{Rose, OnlyReads, OnlyWrites, OnlySays, KeepsNames};
-    ghost use Rattle.ocs_io.specs.Answers.{ReadAnswers, CreateAnswers, AppendAnswers, SayAnswers, GrowsIfOk, HadMemory};
     ghost use Rattle.ocs_io.specs.Said.{IsShort};
     ghost use Rattle.ocs_io.specs.Shelf.{outside_of, IsHeld, IsAnyName};
 
