@@ -1,8 +1,8 @@
 -- Writes to Denise's registers, by the register.
-use Rattle.std.proofs.Common.{◌≡◌, ◌≢◌, ℕ, ◌-◌, ◌/◌, ◌%◌, ◌≤◌, ◌<◌, slice_set, arith}
+use Rattle.std.proofs.Common.{◌≡◌, ◌≢◌, ℕ, ◌-◌, ◌/◌, ◌%◌, ◌≤◌, ◌<◌, slice_set, ap, arith}
 use Rattle.std.proofs.lemmas.Bool.Decides.{nat_tests}
 use Rattle.serial_model.specs.declared.picture.Denise.{Denise}
-use Rattle.serial_model.specs.Picture.{set_picture, set_sprite}
+use Rattle.serial_model.specs.Picture.{add_load, set_picture, set_sprite}
 
 pub latch_set : (h offset word : ℕ) (p : Denise) → 274 ≤ offset → offset ≤ 282
     → set_picture h offset word p ≡ record p { latches = slice_set p.latches ((offset - 272) / 2) word }
@@ -38,3 +38,9 @@ pub colour_set : (h offset word : ℕ) (p : Denise) → 384 ≤ offset → offse
     → set_picture h offset word p ≡ record p { palette = slice_set p.palette ((offset - 384) / 2) (word % 4096) }
 unfolding set_picture
 colour_set h offset word p least most = grind (arith, nat_tests)
+
+-- BPL1DAT, which makes a load
+pub load_set : (h offset word : ℕ) (p : Denise) → offset ≡ 272 →
+    set_picture h offset word p ≡ add_load h (record p { latches = slice_set p.latches 0 word })
+unfolding set_picture
+load_set h offset word p is = ap (λ (o : ℕ). set_picture h o word p) is

@@ -151,8 +151,8 @@ impl Painter {
         self.set_at(h, reg.offset, word);
     }
 
-    /// The same to the register at an offset, where it is one of Denise's. The latches of planes 2 to 6
-    /// are written most often.
+    /// The same to the register at an offset, where it is one of Denise's. The latches are written most
+    /// often.
     #[inline(always)]
     pub fn set_at(&mut self, h: u16, offset: u16, word: u16)
         requires { h ≤ 227 }
@@ -161,6 +161,10 @@ impl Painter {
     {
         if 0x112 <= offset && offset <= 0x11a {
             self.latches[(offset - 0x110) as usize / 2] = word;
+            return;
+        }
+        if offset == 0x110 {
+            self.load(h, word);
             return;
         }
         self.set_register(h, offset, word);

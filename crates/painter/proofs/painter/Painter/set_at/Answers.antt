@@ -1,5 +1,5 @@
 use Rattle.std.proofs.Common.{arith, ap, ◌-◌, ◌/◌, slice_set}
-use Rattle.painter.proofs.Registers.{latch_set}
+use Rattle.painter.proofs.Registers.{latch_set, load_set}
 use Rattle.painter.proofs.painter.Painter.set_at.Goals as goal
 
 pub returns-then-offset-le282 : goal.returns-then-offset-le282
@@ -23,3 +23,6 @@ returns-then-offset-le282 c p is =
       line = is.line;
       held = is.held;
     })
+
+pub returns-then-offset-eq272 : goal.returns-then-offset-eq272
+returns-then-offset-eq272 c p is = rw (load_set c.args.h c.args.offset c.args.word p c.if-offset-eq272.true) (c.load.ensures p is)
