@@ -78,6 +78,7 @@ pub fn fetch(context: &Context, machine: &mut Machine, part: Part)
 }
 
 /// Asks for a value in memory.
+#[inline(always)]
 #[tactic(auto, unfolding(m68k_decode::specs::Run::read, m68k_decode::specs::Run::read_word))]
 pub fn read(context: &Context, machine: &mut Machine, size: Size, program: bool, at: u32, into: Use)
     ensures { meaning context.now machine.new
