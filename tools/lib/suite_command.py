@@ -1,7 +1,6 @@
 """Runs commands of a suite, one after another, each in a folder and to its own end or to the end of its time."""
 from __future__ import annotations
 
-import contextlib
 import os
 import signal
 from time import monotonic
@@ -27,17 +26,14 @@ class Ended(NamedTuple):
     text: str
 
 
-def text_of(said: int) -> str:
-    """What a command has said, which mostly is nothing."""
-    return os.pread(said, MOST_READ, 0).decode("utf-8", "backslashreplace") if os.pread(said, 1, 0) else ""
-
-
 class Commands:
     """What runs commands; it has at hand what all of them have, and the alarm that ends one whose time is over."""
 
     def __init__(self, limit: float) -> None:
         self.limit = limit
-        self.home, self.nothing = os.open(".", os.O_PATH), os.open(os.devnull, os.O_RDONLY)
+        self.home, self.said = os.open(".", os.O_PATH), os.memfd_create("said")
+        nothing = os.open(os.devnull, os.O_RDONLY)
+        self.files = [(os.POSIX_SPAWN_DUP2, one, to) for one, to in ((nothing, 0), (self.said, 1), (self.said, 2))]
         self.environment = dict(os.environb)
         # the command that runs, when its time is over, and whether an alarm comes then or before
         self.process, self.until, self.alarmed = 0, 0.0, False
@@ -57,37 +53,42 @@ class Commands:
 
     def end(self) -> None:
         """Ends the command that runs, with all that it started."""
-        with contextlib.suppress(ProcessLookupError):
+        try:
             os.killpg(self.process, signal.SIGKILL)
+        except ProcessLookupError:
+            pass
 
     def run(self, words: list[str], folder: str) -> Ended:
         """Runs a command in a folder, without input. Whatever ends this, nothing of the command runs on."""
-        said = os.memfd_create("said")
+        begun, status = monotonic(), None
+        self.until = begun + self.limit
+        self.process = self.start(words, folder)
         try:
-            begun = monotonic()
-            self.until = begun + self.limit
-            self.process = self.start(words, folder, said)
             if not self.alarmed:
                 self.set_alarm(self.limit)
             _, status, used = os.wait4(self.process, 0)
-            self.process, ended = 0, monotonic()
-            text = text_of(said)
         finally:
-            os.close(said)
-            if self.process:
-                self.end()
-                with contextlib.suppress(ChildProcessError):
-                    os.waitpid(self.process, 0)
-                self.process = 0
-        seconds = used.ru_utime + used.ru_stime
-        return Ended(os.waitstatus_to_exitcode(status), ended < self.until, ended - begun, seconds, text)
+            self.end()
+            if status is None:
+                os.waitpid(self.process, 0)
+            self.process = 0
+        ended, seconds = monotonic(), used.ru_utime + used.ru_stime
+        return Ended(os.waitstatus_to_exitcode(status), ended < self.until, ended - begun, seconds, self.text())
 
-    def start(self, words: list[str], folder: str, said: int) -> int:
+    def text(self) -> str:
+        """What the command has said, mostly nothing; it is taken away for the next one."""
+        if not os.pread(self.said, 1, 0):
+            return ""
+        text = os.pread(self.said, MOST_READ, 0)
+        os.ftruncate(self.said, 0)
+        os.lseek(self.said, 0, os.SEEK_SET)
+        return text.decode("utf-8", "backslashreplace")
+
+    def start(self, words: list[str], folder: str) -> int:
         """Starts a command, in a session of its own, so that all of it can be ended; gives the number of its process."""
-        files = [(os.POSIX_SPAWN_DUP2, one, to) for one, to in ((self.nothing, 0), (said, 1), (said, 2))]
         try:
             os.chdir(folder)
-            return os.posix_spawnp(words[0], words, self.environment, file_actions=files, setsid=True, setsigdef=SIGNALS)
+            return os.posix_spawnp(words[0], words, self.environment, file_actions=self.files, setsid=True, setsigdef=SIGNALS)
         except OSError as fault:
             raise BadFile(words[0], f"cannot be run: {(fault.strerror or str(fault)).lower()}") from None
         finally:

@@ -98,16 +98,33 @@ class CommandsTest(unittest.TestCase):
 
     def test_each_has_its_own_time(self) -> None:
         """Two take more than the limit together; one that takes more by itself is ended, and not the next."""
-        commands = Commands(2)
-        for seconds, in_time in (("1.2", True), ("1.2", True), ("60", False), ("0", True)):
+        commands = Commands(5)
+        for seconds, in_time in (("2.6", True), ("2.6", True), ("60", False), ("0", True)):
             ended = commands.run(["sleep", seconds], ".")
             self.assertEqual((ended.in_time, ended.status), (in_time, 0 if in_time else -signal.SIGKILL), seconds)
-            self.assertLess(ended.seconds, 20)
+            self.assertLess(ended.seconds, 40)
+
+    def test_what_it_leaves_running_is_ended(self) -> None:
+        """So that it neither writes nor speaks while others are looked at."""
+        commands = Commands(60)
+        process = int(commands.run(["sh", "-c", "sleep 300 & echo $!"], ".").text)
+        for _ in range(200):
+            try:
+                with open(f"/proc/{process}/status", encoding="ascii") as file:
+                    # nobody may have asked for its end yet
+                    if "State:\tZ" in file.read():
+                        return
+            except OSError:
+                return
+            time.sleep(0.05)
+        self.fail("it runs on")
 
     def test_what_it_says(self) -> None:
         commands = Commands(60)
         for words, said in ((["echo", "one"], "one\n"), (["true"], ""), (["sh", "-c", "echo two >/dev/stderr"], "two\n")):
             self.assertEqual(commands.run(words, ".").text, said)
+        self.assertEqual(commands.run(["sh", "-c", "head -c 99999 /dev/zero | tr '\\0' x"], ".").text, "x" * 65536)
+        self.assertEqual(commands.run(["true"], ".").text, "")
         with self.assertRaisesRegex(BadFile, "./absent: cannot be run: no such file or directory"):
             commands.run(["./absent"], ".")
 
