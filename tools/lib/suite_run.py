@@ -66,7 +66,9 @@ class Suite:
     def __init__(self, program: str, out: str, limit: float, most_stored: int, accepts: bool = False, keeps: bool = False) -> None:
         self.program, self.out, self.limit, self.most_stored = program, out, limit, most_stored
         self.accepts, self.keeps = accepts, keeps
-        self.home, self.commands, self.pieces = os.getcwd(), Commands(limit), Pieces()
+        self.home, self.pieces = os.getcwd(), Pieces()
+        # a process that runs cases has its own
+        self.commands: Commands | None = None
 
     def place(self, case: Case, *names: str) -> str:
         """A file or folder of what comes out of a case."""

@@ -15,7 +15,7 @@ from typing import Callable, Iterator, NamedTuple
 
 from suite_again import Again, new_again, remove_folder
 from suite_cases import Case
-from suite_command import Ended
+from suite_command import Commands, Ended
 from suite_run import PASSED, RESULT, Known, Result, Suite, known_of, run_case
 
 # bytes of a case's number, and of a result's length
@@ -170,6 +170,7 @@ def work(suite: Suite, cases: list[Case], known: list[Known], taken: int, passes
     """Runs the cases whose numbers come. The first process alone answers the keyboard, and ends the others."""
     signal.signal(signal.SIGINT, signal.SIG_IGN)
     signal.signal(signal.SIGTERM, lambda *unused: sys.exit())
+    suite.commands = Commands(suite.limit)
     while data := os.read(taken, NUMBER):
         number = int.from_bytes(data, "little")
         case = cases[number]

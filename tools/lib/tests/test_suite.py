@@ -377,6 +377,14 @@ class SuiteTest(Tools):
         self.assertEqual(self.read("cases/one/golden").splitlines()[1], "# said " + "\\xff" * 65536)
         self.assertEqual(self.suite()[0], 0)
 
+    def test_cases_that_speak_beside_others(self) -> None:
+        """Each process has its own text."""
+        for number in range(12):
+            self.case(f"case {number}", script="bad" if number % 2 else "", golden="# status 4\n# said bad script: line 4: event\n")
+            if not number % 2:
+                self.golden(f"case {number}")
+        self.assertEqual(self.suite("--jobs", "6")[0], 0)
+
     def test_goldens_in_other_words(self) -> None:
         """Order, comments and a status that need not be said change nothing."""
         self.case("one")
