@@ -1,15 +1,13 @@
 //! What precedes the first step of a clock: where a band begins, the one before it ends.
 
 ghost use Rattle.std.specs.Prelude.{◌≡◌, ◌<◌, ℕ, true, false, IfOk, OnOk, OnErr};
-ghost use Rattle.serial_model.specs.Beam.{IsOnScreen};
-ghost use Rattle.serial_model.specs.Events.{due_events};
 ghost use Rattle.out_files.specs.OutFiles.{OutFilesValue};
 ghost use Rattle.band_log.specs.Raster.{RasterValue};
 ghost use Rattle.serial_bands.specs.Bands.{is_band_place as place_of_band, has_clx_read};
 ghost use Rattle.serial_bands.specs.BusReads.{latched_words};
 ghost use Rattle.serial_bands.specs.Clock.{due_at};
 ghost use Rattle.foreground.specs.Clock.{Rises};
-ghost use Rattle.foreground.specs.Fore.{over, HasScript, IsUnderway, is_done, looked_up};
+ghost use Rattle.foreground.specs.Fore.{over, IsUnderway, is_done, looked_up};
 ghost use Rattle.foreground.specs.Log.{with_begin};
 ghost use Rattle.foreground.specs.Steps.{StandsBeforeRead, BeginsClock, BeginsPart, KeepsClock};
 
@@ -25,32 +23,6 @@ impl<S: Side> Fore<S> {
     /// answer is what the script's first read of CLXDAT in this clock sees, if it has one.
     #[inline(always)]
     pub(crate) fn begin_clock<Q: Raster<S>>(
-        &mut self,
-        raster: &mut Q,
-        out: &mut OutFiles,
-    ) -> Result<u16, OutOfMemory>
-        requires underway { (first : ℕ) × IsUnderway (over S.seen self.old) first
-            (Q.seen raster.old) }
-        requires running { is_done (over S.seen self.old) ≡ false }
-        ensures begins { IfOk result (λ clx. BeginsClock (over S.seen self.old)
-            (over S.seen self.new) clx
-            (Q.seen raster.old) (Q.seen raster.new) out.old out.new) }
-        ensures part { OnErr result (BeginsPart (over S.seen self.old)
-            (Q.seen raster.old) (Q.seen raster.new) out.old out.new) }
-        ensures kept { KeepsClock (over S.seen self.old) (over S.seen self.new) }
-        ensures reads { Rises 0 (looked_up (over S.seen self.old))
-            self.old.machine.chip.reads self.new.machine.chip.reads }
-    {
-        if self.keeps_band() {
-            self.go_on()?;
-            return Ok(0);
-        }
-        self.begin_band(raster, out)
-    }
-
-    /// The same where a band may begin with the clock.
-    #[inline(never)]
-    fn begin_band<Q: Raster<S>>(
         &mut self,
         raster: &mut Q,
         out: &mut OutFiles,
@@ -130,21 +102,6 @@ impl<S: Side> Fore<S> {
         self.end_at_line(shown, raster, out)?;
         self.begin_log();
         Ok(0)
-    }
-
-    /// Whether the open band goes on with this clock: clocks of it are done, and none begins here, neither by
-    /// a read of the script nor by its place.
-    #[inline(always)]
-    pub(crate) fn keeps_band(&self) -> bool
-        requires script { HasScript (over S.seen self.now).run self.now.machine.beam self.now.next }
-        requires screen { IsOnScreen self.now.machine.beam }
-        ensures unread { result ≡ true → has_clx_read
-            (due_events self.now.machine.beam self.now.run.script.events) ≡ false }
-        ensures before { result ≡ true → self.now.log.band.from < self.now.machine.t }
-        ensures place { result ≡ true →
-            place_of_band self.now.run.height self.now.machine.beam ≡ false }
-    {
-        !self.script_reads() && self.log.band.from < self.machine.t && !self.is_band_place()
     }
 
     /// The open band goes on with this clock: the write that waited is an event of it.

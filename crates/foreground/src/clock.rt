@@ -128,39 +128,11 @@ impl<S: Side> Fore<S> {
         ensures chip { self.new.machine.chip ≡ self.old.machine.chip }
         ensures told { OnErr result (GivesLines out.old out.new) }
     {
-        if self.cursor.next == self.run.script().events().len() {
+        let events = self.run.script().events();
+        if self.cursor.next == events.len() {
             return Ok(());
         }
-        self.run_due_events(clx, out)
-    }
-
-    /// The script's events of the clock, of which some are left.
-    #[inline(never)]
-    fn run_due_events(&mut self, clx: u16, out: &mut OutFiles) -> Result<(), OutOfMemory>
-        requires script { HasScript (over S.seen self.old).run self.old.machine.beam self.old.next }
-        requires screen { IsOnScreen self.old.machine.beam }
-        requires some { IsMachine (over S.seen self.old).machine }
-        ensures step { OnOk result (MakesEvents clx
-            (due_events self.old.machine.beam self.old.run.script.events)
-            (over S.seen self.old).machine out.old (over S.seen self.new).machine out.new) }
-        ensures place { OnOk result (KeepsPlace (over S.seen self.old).machine
-            (over S.seen self.new).machine) }
-        ensures noted { OnOk result (self.new.log ≡ with_script_touches self.old.machine.t
-            (touches_of (due_events self.old.machine.beam self.old.run.script.events))
-            self.old.log) }
-        ensures script { OnOk result (HasScriptBehind (over S.seen self.old).run
-            self.old.machine.beam
-            self.old.next self.new.next) }
-        ensures same { self.new ≡ record self.old {
-          machine = self.new.machine;
-          log = self.new.log;
-          next = self.new.next;
-        } }
-        ensures chip { self.new.machine.chip ≡ self.old.machine.chip }
-        ensures told { OnErr result (GivesLines out.old out.new) }
-    {
         let mut clx = clx;
-        let events = self.run.script().events();
         let left = run_script(
             &events[self.cursor.next..],
             &mut self.machine,

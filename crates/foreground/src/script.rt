@@ -21,7 +21,7 @@ use serial_model::{Denise, Side, Touch};
 /// The events of this clock happen in their order: machine and trace have them, and the log what
 /// touches the picture. `events` are those that are left, and the answer is what is left after this
 /// clock. `clx` has the collision bits for the first read of CLXDAT, which clears them.
-#[inline(always)]
+#[inline(never)]
 pub fn run_script<'a, S: Side>(
     events: &'a [At],
     machine: &mut Machine<S>,

@@ -1,22 +1,62 @@
--- The open band goes on, or a band may begin.
-use Rattle.std.proofs.Common.{sym}
+-- A band begins with a read by the script, with a line, where one has begun already, or none does.
 use Rattle.foreground.specs.Fore.{over}
-use Rattle.foreground.proofs.BeginLaws.{reads_there, begins_no_part}
-use Rattle.foreground.proofs.MadeLaws.{on_err}
+use Rattle.std.proofs.Common.{◌≡◌, ◌∙◌, sym, true, arith, ap}
+use Rattle.ocs_io.proofs.MapLaws.{on_err}
+use Rattle.serial_bands.specs.Bands.{has_clx_read}
+use Rattle.serial_bands.specs.Clock.{due_at}
+use Rattle.foreground.specs.Steps.{BeginsPart}
+use Rattle.foreground.proofs.BeginLaws.{is_running, reads_there, before_place, begins_within_now, begins_already_now, begins_no_part}
 use Rattle.foreground.proofs.fore.Fore.begin_clock.Goals as goal
 
-pub keeps_band-requires : goal.keeps_band-requires
-keeps_band-requires g c = record { script = c.requires.underway.1.script; screen = c.requires.underway.1.screen }
+pub script_reads-requires : goal.script_reads-requires
+script_reads-requires g c = record { script = c.requires.underway.1.script; screen = c.requires.underway.1.screen }
 
-pub go_on-requires : goal.go_on-requires
-go_on-requires g c = record {
+pub begin_at_read-requires : goal.begin_at_read-requires
+begin_at_read-requires g c =
+    let seen = g.Q.Raster.seen in
+    let first = c.requires.underway.0 in
+    let read : has_clx_read (due_at (over g.S.Side.seen c.args.self.now).run c.args.self.now.machine.t) ≡ true =
+    reads_there (over g.S.Side.seen c.args.self.now) first (seen c.args.raster.now) c.script_reads.result c.requires.underway.1 c.script_reads.ensures
+    ∙ c.if-script_reads.true in (
+      first,
+      c.requires.underway.1,
+      read,
+      is_running (over g.S.Side.seen c.args.self.now) first (seen c.args.raster.now) c.requires.underway.1
+          c.requires.running,
+    )
+
+pub begin_at_line-requires : goal.begin_at_line-requires
+begin_at_line-requires g c = record {
+  underway = c.requires.underway;
   running = c.requires.running;
-  unread = reads_there _ _ _ _ c.requires.underway.1 (sym (c.keeps_band.ensures.unread c.if-keeps_band.true));
-  before = c.keeps_band.ensures.before c.if-keeps_band.true;
-  place = c.keeps_band.ensures.place c.if-keeps_band.true;
+  before = before_place _ (over g.S.Side.seen c.args.self.now) (ap (over g.S.Side.seen) c.self.view_is) c.if-self.true;
+  place = sym c.is_band_place.ensures ∙ c.if-is_band_place.true;
+  unread =
+      reads_there (over g.S.Side.seen c.args.self.now) c.requires.underway.0 (g.Q.Raster.seen c.args.raster.now) c.script_reads.result c.requires.underway.1
+      c.script_reads.ensures ∙ c.if-script_reads.false;
 }
 
-pub returns-in_err-go_on-clause-part : goal.returns-in_err-go_on-clause-part
-returns-in_err-go_on-clause-part g c =
+pub returns-in_err-take_waiting-clause-part : goal.returns-in_err-take_waiting-clause-part
+returns-in_err-take_waiting-clause-part g c =
+    let seen = g.Q.Raster.seen in
     on_err c.from_residual.result
-    (begins_no_part (over g.S.Side.seen c.args.self.now) (g.Q.Raster.seen c.args.raster.now) c.args.out.now)
+    (BeginsPart (over g.S.Side.seen c.args.self.now) (seen c.args.raster.now) (seen c.args.raster.now) c.args.out.now c.args.out.now)
+    (begins_no_part (over g.S.Side.seen c.args.self.now) (seen c.args.raster.now) c.args.out.now)
+
+pub returns-then-self-clause-begins : goal.returns-then-self-clause-begins
+returns-then-self-clause-begins g c =
+    let seen = g.Q.Raster.seen in
+    begins_within_now _ (over g.S.Side.seen c.args.self.now) c.take_waiting.new.self (seen c.args.raster.now) c.args.out.now
+    (ap (over g.S.Side.seen) c.self.view_is) c.requires.running
+    c.if-self.true (sym c.is_band_place.ensures ∙ c.if-is_band_place.false)
+    (reads_there (over g.S.Side.seen c.args.self.now) c.requires.underway.0 (seen c.args.raster.now) c.script_reads.result c.requires.underway.1
+    c.script_reads.ensures ∙ c.if-script_reads.false) c.in_ok-take_waiting.ensures
+
+pub returns-clause-begins : goal.returns-clause-begins
+returns-clause-begins g c =
+    let seen = g.Q.Raster.seen in
+    begins_already_now _ (over g.S.Side.seen c.args.self.now) (over g.S.Side.seen c.begin_log.new.self) (seen c.args.raster.now) c.args.out.now
+    (ap (over g.S.Side.seen) c.self.view_is) c.requires.running
+    (omega (arith, c.if-self.false))
+    (reads_there (over g.S.Side.seen c.args.self.now) c.requires.underway.0 (seen c.args.raster.now) c.script_reads.result c.requires.underway.1
+    c.script_reads.ensures ∙ c.if-script_reads.false) (ap (over g.S.Side.seen) c.begin_log.ensures)
