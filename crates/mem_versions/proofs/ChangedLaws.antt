@@ -92,12 +92,14 @@ HasPage-memory f gs n q d words each within has =
         get_or_past (flat_map f (set gs (n / 32) q)) place 0 (omega arith) ∙ sym (get_or_past (flat_map f gs) place 0 (omega arith))
 
 -- a place that no write is to has its word still
-pub untouched : (place : ℕ) (writes : List Write) (words : List ℕ) → writes_to place writes ≡ [] → get_or (words_after words writes) place 0 ≡ get_or words place 0
+pub untouched : (place : ℕ) (writes : List Write) (words : List ℕ) → writes_to place writes ≡ []
+    → get_or (words_after words writes) place 0 ≡ get_or words place 0
 untouched place [] words none = refl
 untouched place (w ∷ ws) words none = by_case (w.place == place) refl (λ rest. untouched place ws (set words w.place w.word) rest) none
   where
     by_case : (here : Bool) → here ≡ (w.place == place)
-        → (writes_to place ws ≡ [] → get_or (words_after (set words w.place w.word) ws) place 0 ≡ get_or (set words w.place w.word) place 0) → cond here (w ∷ writes_to place ws) (writes_to place ws) ≡ []
+        → (writes_to place ws ≡ [] → get_or (words_after (set words w.place w.word) ws) place 0 ≡ get_or (set words w.place w.word) place 0)
+        → cond here (w ∷ writes_to place ws) (writes_to place ws) ≡ []
         → get_or (words_after (set words w.place w.word) ws) place 0 ≡ get_or words place 0
     by_case true is before some = let one : length (w ∷ writes_to place ws) ≡ 0 = ap length some in absurd (omega arith)
     by_case false is before rest =

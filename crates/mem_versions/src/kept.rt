@@ -31,8 +31,8 @@ impl Model for Kept {
 impl Chip {
     ghost use Rattle.mem_versions.specs.Kept.{kept_of, chip_back};
 
-    /// What is to be kept of the memory as it is now. No word is copied of pages that were not written since the
-    /// last cut.
+    /// What is to be kept of the memory as it is now. No word is copied of pages that were not written since
+    /// the last cut.
     pub fn keep(&self) -> Result<Kept, OutOfMemory>
         ensures { IfOk result (λ kept. kept ≡ kept_of self.now) }
     {

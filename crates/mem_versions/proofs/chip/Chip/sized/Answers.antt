@@ -18,4 +18,5 @@ invariant_of-result c =
     let count : length c.in_ok-base.base ≡ bytes_of size / 2 =
     ap length (c.in_ok-base.ensures ∙ c.deref.ensures.value ∙ c.in_ok-words.ensures) ∙ length-memory_of size c.args.image.now fits in
     IsSound-new c.in_ok-base.base c.in_ok-words.words.items c.new-2.result.items
-    (some-words size (length c.in_ok-base.base) count) (few-words size (length c.in_ok-base.base) count) (sym (c.in_ok-base.ensures ∙ c.deref.ensures.value)) c.new-2.ensures.items
+    (some-words size (length c.in_ok-base.base) count) (few-words size (length c.in_ok-base.base) count)
+    (sym (c.in_ok-base.ensures ∙ c.deref.ensures.value)) c.new-2.ensures.items

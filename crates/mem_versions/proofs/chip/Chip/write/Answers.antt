@@ -9,5 +9,6 @@ invariant_of-self-2 c =
     let place = c.args.at.value / 2 in
     let later : c.self.inside.newest ≤ c.args.now.0 = omega (arith, ap (λ v. v.newest) c.self.view_is) in
     let write : Write = record { clock = c.args.now.0; place = place; word = c.args.word } in
-    IsSound-write c.self.inside.base c.self.inside.words.items c.put_word.new.words.items c.self.inside.writes.items c.push.new.self.items c.self.inside.newest write
+    IsSound-write c.self.inside.base c.self.inside.words.items c.put_word.new.words.items c.self.inside.writes.items c.push.new.self.items
+    c.self.inside.newest write
     c.self.invariant later c.put_word.ensures c.in_ok-push.ensures.items

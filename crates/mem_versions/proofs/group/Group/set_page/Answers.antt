@@ -11,7 +11,11 @@ use Rattle.mem_versions.proofs.group.Group.set_page.Goals as goal
 
 pub index_mut-requires : goal.index_mut-requires
 index_mut-requires c =
-    omega (arith, page-within 256 arc_value c.self.inside.list.items c.args.self.now c.args.number c.self.invariant.1 c.self.view_is c.requires.within (omega arith))
+    omega (
+      arith,
+      page-within 256 arc_value c.self.inside.list.items c.args.self.now c.args.number c.self.invariant.1 c.self.view_is
+          c.requires.within (omega arith),
+    )
 
 pub returns-clause-ok : goal.returns-clause-ok
 returns-clause-ok c =
