@@ -1,7 +1,7 @@
 //! What decides the fetches of a line, read from the registers once.
 
 ghost use Rattle.std.specs.Prelude.{◌≡◌, ◌≤◌, ◌<◌, IfSome};
-ghost use Rattle.bitplane_dma.specs.Rules.{rules_of, first_unit, planes_by, begins_by, plane_by, bytes_by};
+ghost use Rattle.bitplane_dma.specs.RulesCode.{rules_of, first_unit, planes_by, begins_by, plane_by, bytes_by};
 
 use crate::{fetch_end, fetch_start, has_dma, is_window_line, modulo_bytes, slot_plane};
 use ocs_base::offset::{BPL1MOD, BPL2MOD, BPLCON0};

@@ -1,6 +1,6 @@
 pub mod Rows
-pub mod RowOf
+pub mod RowCode
 pub mod Pointing
 pub mod Data
-pub mod PathOf
+pub mod PathCode
 pub mod Walk

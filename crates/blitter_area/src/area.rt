@@ -8,8 +8,8 @@ ghost use Rattle.blit_words.specs.Blit.{is_line, height_of, width_of};
 ghost use Rattle.blit_words.specs.AreaBlit.{word_ask};
 ghost use Rattle.blit_words.specs.Blitter.{blit_ask, is_done as done_of, blit_zero, blit_end};
 ghost use Rattle.blitter_area.specs.Data.{outcome_of};
-ghost use Rattle.blitter_area.specs.PathOf.{IsPathOf};
-ghost use Rattle.blitter_area.specs.RowOf.{IsRowOf};
+ghost use Rattle.blitter_area.specs.PathCode.{IsPathOf};
+ghost use Rattle.blitter_area.specs.RowCode.{IsRowOf};
 
 use crate::asks::AskRow;
 use crate::channel::Pointers;

@@ -6,7 +6,7 @@ ghost use Rattle.serial_model.specs.PlaneFetch.{IsLastUnit};
 ghost use Rattle.serial_model.specs.Side.{no_side};
 ghost use Rattle.quiet_clocks.specs.FetchClocks.{ask_of_fetching};
 ghost use Rattle.quiet_clocks.specs.QuietClocks.{later_beam};
-ghost use Rattle.bitplane_dma.specs.Rules.{rules_of};
+ghost use Rattle.bitplane_dma.specs.RulesCode.{rules_of};
 ghost use Rattle.chip_set.specs.Quiet.{AreAtRest, fetching_in};
 ghost use Rattle.band_log.specs.Raster.{RasterValue};
 ghost use Rattle.foreground.specs.Log.{with_waiting};

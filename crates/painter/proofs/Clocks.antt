@@ -11,7 +11,7 @@ use Rattle.serial_model.specs.Spans.{after_shows, shown_bytes, shown_clx}
 use Rattle.painter.specs.declared.painter.Painter.{Painter}
 use Rattle.painter.specs.Painter.{IsPainterOf, with_held, clock_bytes}
 use Rattle.painter.specs.Overlay.{quiet_collisions}
-use Rattle.painter.specs.SpriteState.{IsIdle}
+use Rattle.painter.specs.StartsCode.{IsIdle}
 use Rattle.painter.specs.Span.{visible_clocks, IsSpan}
 use Rattle.painter.specs.SpanCode.{bytes_of_clocks, gathered, held_to, pixels_to, AreClocks, AreInside, all_backdrop, all_inks, ink_pixels, quiet_gathered}
 use Rattle.painter.specs.Pixels.{ink_at}

@@ -8,7 +8,7 @@ use Rattle.serial_model.specs.Window.{is_inside}
 use Rattle.painter.specs.declared.painter.Painter.{Painter}
 use Rattle.painter.specs.Overlay.{with_runs, shown_bits, covered_column, covered_collisions, clock_over}
 use Rattle.painter.specs.Painter.{IsPainterOf}
-use Rattle.painter.specs.SpriteState.{IsSteady}
+use Rattle.painter.specs.StartsCode.{IsSteady}
 use Rattle.painter.proofs.Overlays.{after_first, after_second, same_runs_stand, runs_same, runs_of, inside_same}
 use Rattle.painter.proofs.Overlays.{clock_changed, clock_gathered, column_inside, bits_inside}
 use Rattle.painter.proofs.Ors.{or_reached, or_both}

@@ -6,6 +6,7 @@ pub mod Inks
 pub mod WindowCode
 pub mod Pixels
 pub mod SpriteState
+pub mod StartsCode
 pub mod Runs
 pub mod Overlay
 pub mod Painter

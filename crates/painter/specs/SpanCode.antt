@@ -9,7 +9,7 @@ use Rattle.painter.specs.Overlay.{quiet_collisions}
 use Rattle.painter.specs.Painter.{IsPainterOf, clock_bytes}
 use Rattle.painter.specs.Pixels.{ink_at, modified_along, all_modified}
 use Rattle.serial_model.specs.Window.{is_inside}
-use Rattle.painter.specs.SpriteState.{IsIdle}
+use Rattle.painter.specs.StartsCode.{IsIdle}
 
 -- the bytes of n clocks, of which each has four pixels
 unfoldable pub bytes_of_clocks : (ℕ → List (List ℕ)) → ℕ → List ℕ

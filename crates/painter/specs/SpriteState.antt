@@ -6,7 +6,7 @@ use Rattle.sprites.specs.declared.runs.Start.{Start}
 use Rattle.sprites.specs.SpriteValue.{sprite_value, kept_start}
 use Rattle.sprite_rows.specs.declared.rows.SpriteRows.{SpriteRows}
 use Rattle.sprite_rows.specs.LineValues.{StartsBy, IsRowsOf}
-use Rattle.serial_model.specs.Picture.{all_sprites, sprite_values}
+use Rattle.serial_model.specs.Picture.{all_sprites}
 
 pub record SpriteRegisters : Type 0 where
   pub pos : List ℕ
@@ -92,14 +92,3 @@ abbrev pub attached_in : SpriteRegisters → ℕ
 attached_in s =
     slice_index s.ctl 1 / 128 % 2 + 2 * (slice_index s.ctl 3 / 128 % 2)
     + 4 * (slice_index s.ctl 5 / 128 % 2) + 8 * (slice_index s.ctl 7 / 128 % 2)
-
--- nothing begins at a clock, and nothing shows from it on
-pub record IsIdle (h : ℕ) (s : SpriteRegisters) : Type 0 where
-  pub first : runs_in (2 * h) s ≡ s.runs
-  pub second : runs_in (2 * h + 1) s ≡ s.runs
-  pub values : (x : ℕ) → 2 * h ≤ x → sprite_values x s.runs ≡ replicate 8 0
-
--- nothing begins at a clock: the words that run stay
-pub record IsSteady (h : ℕ) (s : SpriteRegisters) : Type 0 where
-  pub first : runs_in (2 * h) s ≡ s.runs
-  pub second : runs_in (2 * h + 1) s ≡ s.runs

@@ -10,7 +10,8 @@ ghost use Rattle.serial_model.specs.Window.{is_inside};
 ghost use Rattle.painter.specs.Overlay.{with_runs, shown_bits, covered_column, covered_collisions, column_over};
 ghost use Rattle.painter.specs.Overlay.{column_collisions, clock_over, quiet_in_column, quiet_collisions};
 ghost use Rattle.painter.specs.Inks.{is_held, backdrop};
-ghost use Rattle.painter.specs.SpriteState.{IsIdle, attached_in};
+ghost use Rattle.painter.specs.SpriteState.{attached_in};
+ghost use Rattle.painter.specs.StartsCode.{IsIdle};
 ghost use Rattle.painter.specs.Line.{row_bits};
 ghost use Rattle.ocs_base.specs.Systems.{is_visible};
 

@@ -5,7 +5,8 @@ ghost use Rattle.ocs_base.specs.Systems.{is_visible};
 ghost use Rattle.serial_model.specs.Picture.{clock_collisions};
 ghost use Rattle.serial_model.specs.Window.{is_inside};
 ghost use Rattle.painter.specs.Overlay.{clock_over};
-ghost use Rattle.painter.specs.SpriteState.{IsSteady, attached_in};
+ghost use Rattle.painter.specs.SpriteState.{attached_in};
+ghost use Rattle.painter.specs.StartsCode.{IsSteady};
 ghost use Rattle.painter.specs.Span.{IsSpan};
 
 use crate::painter::Painter;

@@ -14,9 +14,8 @@ ghost use Rattle.painter.specs.SpriteState.{
   has_start,
   is_known_idle,
   attached_in,
-  IsIdle,
-  IsSteady,
 };
+ghost use Rattle.painter.specs.StartsCode.{IsIdle, IsSteady};
 
 use collisions::{clx, playfields};
 use serial_model::Denise;

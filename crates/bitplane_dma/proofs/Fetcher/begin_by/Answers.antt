@@ -2,7 +2,7 @@ use Rattle.std.proofs.Common.{arith, ◌≡◌, ◌∙◌, ap, sym, subst, Some,
 use Rattle.serial_model.specs.PlaneFetch.{begins_unit, IsLastUnit}
 use Rattle.serial_model.specs.Registers.{Registers}
 use Rattle.serial_model.proofs.FetchLaws.{begins_unit-is, last_unit_at-between, last_unit_at-else}
-use Rattle.bitplane_dma.specs.Rules.{begins_by}
+use Rattle.bitplane_dma.specs.RulesCode.{begins_by}
 use Rattle.bitplane_dma.proofs.RuleLaws.{begins_as}
 use Rattle.bitplane_dma.proofs.Fetcher.begin_by.Goals as goal
 

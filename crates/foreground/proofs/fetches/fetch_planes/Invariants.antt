@@ -1,6 +1,6 @@
 use Rattle.std.proofs.Common.{◌≡◌, ◌≤◌, ◌-◌}
 use Rattle.serial_model.specs.PlaneFetch.{IsLastUnit}
-use Rattle.bitplane_dma.specs.Rules.{rules_of}
+use Rattle.bitplane_dma.specs.RulesCode.{rules_of}
 use Rattle.chip_set.specs.Quiet.{fetching_in}
 use Rattle.foreground.specs.FetchesCode.{with_fetches, clocks_of_planes}
 use Rattle.foreground.proofs.fetches.fetch_planes.Given as goal
