@@ -13,9 +13,15 @@ ghost use Rattle.m68k_exec.specs.Meaning.{is_memory, meaning, run_of, fetched, v
 use crate::state::{Context, Machine, Part, Step, Then, Use};
 use m68k_decode::{CpuRegs, Place68, Size, Trap, Under};
 
-/// An access to an odd address breaks off what is under way.
+/// Breaks off what is under way, at an access to an odd address.
 #[tactic(auto, unfolding(m68k_decode::specs::Run::fault))]
-pub fn fault(context: &Context, machine: &mut Machine, at: u32, read: bool, program: bool)
+pub fn raise_address_error(
+    context: &Context,
+    machine: &mut Machine,
+    at: u32,
+    read: bool,
+    program: bool,
+)
     ensures { meaning context.now machine.new
         ≡ fault (run_of context.now machine.old) at read program }
 {
@@ -43,8 +49,8 @@ pub fn fault(context: &Context, machine: &mut Machine, at: u32, read: bool, prog
     };
 }
 
-/// The end of an instruction with its clocks.
-pub fn end(machine: &mut Machine, clocks: u32)
+/// Ends an instruction after so many clocks.
+pub fn end_instruction(machine: &mut Machine, clocks: u32)
     ensures { (c : Context) → meaning c machine.new ≡ ended clocks (run_of c machine.old) }
 {
     machine.step = Step::Ended {
@@ -53,25 +59,25 @@ pub fn end(machine: &mut Machine, clocks: u32)
     };
 }
 
-/// The end of an instruction, with the clocks of its row.
+/// Ends an instruction after the clocks of its row.
 #[tactic(auto, unfolding(m68k_decode::specs::Run::finish))]
-pub fn finish(context: &Context, machine: &mut Machine, extra: u32)
+pub fn finish_row(context: &Context, machine: &mut Machine, extra: u32)
     requires { extra ≤ 63 }
     ensures { meaning context.now machine.new ≡ finish extra (run_of context.now machine.old) }
 {
-    end(machine, context.fetched.clocks(extra));
+    end_instruction(machine, context.fetched.row_clocks(extra));
 }
 
 /// Asks for the next word of the program.
 #[tactic(auto, unfolding(m68k_decode::specs::Run::fetch, m68k_decode::specs::Run::read_word))]
-pub fn fetch(context: &Context, machine: &mut Machine, part: Part)
+pub fn fetch_word(context: &Context, machine: &mut Machine, part: Part)
     ensures { meaning context.now machine.new
         ≡ fetch (run_of context.now machine.old)
         (fetched part context.now.fetched.instr machine.old.regs.pc) }
 {
     let pc = machine.regs.pc;
     if pc & 1 == 1 {
-        fault(context, machine, pc, true, true);
+        raise_address_error(context, machine, pc, true, true);
     } else {
         machine.step = Step::Fetch { part };
     }
@@ -80,14 +86,21 @@ pub fn fetch(context: &Context, machine: &mut Machine, part: Part)
 /// Asks for a value in memory.
 #[inline(always)]
 #[tactic(auto, unfolding(m68k_decode::specs::Run::read, m68k_decode::specs::Run::read_word))]
-pub fn read(context: &Context, machine: &mut Machine, size: Size, program: bool, at: u32, into: Use)
+pub fn read_value(
+    context: &Context,
+    machine: &mut Machine,
+    size: Size,
+    program: bool,
+    at: u32,
+    into: Use,
+)
     ensures { meaning context.now machine.new
         ≡ read (run_of context.now machine.old) size program at
         (valued into context.now.fetched.instr (run_of context.now machine.old)) }
 {
     match size {
         Size::Byte => machine.step = Step::ReadByte { at, into },
-        _ if at & 1 == 1 => fault(context, machine, at, true, program),
+        _ if at & 1 == 1 => raise_address_error(context, machine, at, true, program),
         Size::Word => machine.step = Step::ReadWord { at, into },
         Size::Long => machine.step = Step::ReadHigh { at, program, into },
     }
@@ -95,7 +108,7 @@ pub fn read(context: &Context, machine: &mut Machine, size: Size, program: bool,
 
 /// Asks for the low word of a long.
 #[tactic(auto, unfolding(m68k_decode::specs::Run::read_word))]
-pub fn read_low(
+pub fn read_low_word(
     context: &Context,
     machine: &mut Machine,
     program: bool,
@@ -109,7 +122,7 @@ pub fn read_low(
         (high * 65536 + l)) }
 {
     if at & 1 == 1 {
-        fault(context, machine, at, true, program);
+        raise_address_error(context, machine, at, true, program);
     } else {
         machine.step = Step::ReadLow { at, high, into };
     }
@@ -123,7 +136,7 @@ pub fn write_word(context: &Context, machine: &mut Machine, at: u32, word: u16, 
         (written then context.now.fetched.instr (run_of context.now machine.old)) }
 {
     if at & 1 == 1 {
-        fault(context, machine, at, false, false);
+        raise_address_error(context, machine, at, false, false);
     } else {
         machine.step = Step::WriteWord { at, word, then };
     }
@@ -131,7 +144,14 @@ pub fn write_word(context: &Context, machine: &mut Machine, at: u32, word: u16, 
 
 /// Asks to write a value.
 #[tactic(auto, unfolding(m68k_decode::specs::Run::write, m68k_decode::specs::Run::write_word))]
-pub fn write(context: &Context, machine: &mut Machine, size: Size, at: u32, value: u32, then: Then)
+pub fn write_value(
+    context: &Context,
+    machine: &mut Machine,
+    size: Size,
+    at: u32,
+    value: u32,
+    then: Then,
+)
     ensures { meaning context.now machine.new
         ≡ write (run_of context.now machine.old) size at value
         (written then context.now.fetched.instr (run_of context.now machine.old)) }
@@ -142,7 +162,7 @@ pub fn write(context: &Context, machine: &mut Machine, size: Size, at: u32, valu
             byte: (value & 0xff) as u16,
             then,
         },
-        _ if at & 1 == 1 => fault(context, machine, at, false, false),
+        _ if at & 1 == 1 => raise_address_error(context, machine, at, false, false),
         Size::Word => machine.step = Step::WriteWord {
             at,
             word: (value & 0xffff) as u16,
@@ -186,7 +206,7 @@ pub fn low_part(size: Size, number: u32) -> u32
 
 /// A data register's number with another low byte, low word or whole.
 #[tactic(auto, unfolding(m68k_decode::specs::Run::merged))]
-pub fn merge(size: Size, old: u32, value: u32) -> u32
+pub fn merged_value(size: Size, old: u32, value: u32) -> u32
     ensures { result ≡ merged size old value }
 {
     match size {
@@ -224,7 +244,7 @@ fn width(size: Size) -> u32
 
 /// Stores a result, and ends.
 #[tactic(auto, unfolding(m68k_decode::specs::Run::store))]
-pub fn store(
+pub fn store_result(
     context: &Context,
     machine: &mut Machine,
     size: Size,
@@ -237,15 +257,22 @@ pub fn store(
 {
     match place {
         Place68::Data { reg } => {
-            let merged = merge(size, machine.regs.data(reg), value);
+            let merged = merged_value(size, machine.regs.data(reg), value);
             machine.regs.set_data(reg, merged);
-            end(machine, clocks);
+            end_instruction(machine, clocks);
         }
         Place68::Address { reg } => {
             machine.regs.set_address(reg, value);
-            end(machine, clocks);
+            end_instruction(machine, clocks);
         }
-        Place68::Value { .. } => end(machine, clocks),
-        Place68::Memory { at } => write(context, machine, size, at, value, Then::End { clocks }),
+        Place68::Value { .. } => end_instruction(machine, clocks),
+        Place68::Memory { at } => write_value(
+            context,
+            machine,
+            size,
+            at,
+            value,
+            Then::End { clocks },
+        ),
     }
 }

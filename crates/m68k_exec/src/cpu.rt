@@ -10,18 +10,18 @@ ghost use Rattle.m68k_exec.specs.declared.ask.Ask.TheVariants as A;
 ghost use Rattle.m68k_exec.specs.Meaning.{meaning};
 ghost use Rattle.m68k_exec.specs.Stands.{Stands, Reaches, wanted, word_read, is_halted};
 
-use crate::access::fetch;
+use crate::access::fetch_word;
 use crate::ask::Ask;
-use crate::dispatch::resume;
-use crate::entries::{enter, is_instruction, reset};
+use crate::dispatch::continue_with_word;
+use crate::entries::{is_instruction, start_exception, start_reset};
 use crate::fetched::{Fetched, Rows};
 use crate::state::{Context, Cpu, Machine, Part, Step};
-use crate::status::{entered_status, has_trace, mask};
+use crate::status::{entered_status, has_trace, interrupt_mask};
 use m68k_decode::{CpuRegs, Trap, Under};
 
-/// Begins what is under way.
+/// Sets the first step of what is under way, and the context for it.
 #[tactic(auto, unfolding(m68k_decode::specs::Walk::program, m68k_decode::specs::Walk::instruction, m68k_decode::specs::Walk::taking_of))]
-fn start(context: &mut Context, machine: &mut Machine, under: Under)
+fn set_first_step(context: &mut Context, machine: &mut Machine, under: Under)
     ensures start { context.new.start ≡ machine.old.regs }
     ensures walk { meaning context.new machine.new ≡ program machine.old.regs under }
 {
@@ -30,12 +30,12 @@ fn start(context: &mut Context, machine: &mut Machine, under: Under)
     context.taking = is_taking(&under);
     context.instruction = true;
     match under {
-        Under::Reset => reset(context, machine),
-        Under::Instruction { .. } => fetch(context, machine, Part::Opcode),
+        Under::Reset => start_reset(context, machine),
+        Under::Instruction { .. } => fetch_word(context, machine, Part::Opcode),
         Under::Entry { kind, ea, .. } => {
             context.instruction = is_instruction(&kind);
             machine.regs.sr = entered_status(&kind, machine.regs.sr);
-            enter(context, machine, kind, ea);
+            start_exception(context, machine, kind, ea);
         }
         Under::Stopped => machine.step = Step::Ended {
             clocks: 2,
@@ -58,7 +58,7 @@ fn is_taking(under: &Under) -> bool
 
 /// Whether a trace follows.
 #[tactic(auto, unfolding(m68k_decode::specs::Walk::is_traced))]
-fn traces(regs: &CpuRegs, under: &Under) -> bool
+fn is_traced(regs: &CpuRegs, under: &Under) -> bool
     ensures { result ≡ is_traced regs.now under.now }
 {
     matches!(*under, Under::Instruction { .. }) && has_trace(regs.sr)
@@ -77,14 +77,14 @@ impl Cpu {
             pc: 0,
             sr: 0x2700,
         };
-        Cpu::at_begin(regs, Under::Reset)
+        Cpu::new(regs, Under::Reset)
     }
 
-    /// The processor as something begins.
-    fn at_begin(regs: CpuRegs, under: Under) -> Cpu
+    /// The processor at the start of something.
+    fn new(regs: CpuRegs, under: Under) -> Cpu
         ensures { Stands result regs under [] }
     {
-        let traced = traces(&regs, &under);
+        let traced = is_traced(&regs, &under);
         let mut context = Context {
             start: regs,
             fetched: Fetched::none(),
@@ -96,7 +96,7 @@ impl Cpu {
             regs,
             step: Step::Halted,
         };
-        start(&mut context, &mut machine, under);
+        set_first_step(&mut context, &mut machine, under);
         Cpu {
             context,
             machine,
@@ -137,7 +137,7 @@ impl Cpu {
                 }
             }
             Step::Ended { clocks, .. } => Ask::Idle {
-                clocks: idle(clocks, self.done),
+                clocks: idle_clocks(clocks, self.done),
             },
             Step::Broken { .. } => Ask::Idle { clocks: 0 },
             Step::Halted => Ask::Halted,
@@ -170,7 +170,7 @@ impl Cpu {
 }
 
 /// The idle clocks that a number of clocks leaves after so many accesses.
-fn idle(clocks: u32, done: u32) -> u32
+fn idle_clocks(clocks: u32, done: u32) -> u32
     ensures { (n : ℕ) → done ≡ min n 4294967295 → result ≡ idle_clocks clocks n }
 {
     clocks.saturating_sub(done.saturating_mul(4)) / 2
@@ -189,46 +189,46 @@ impl Cpu {
             → Reaches self.new result (advance r u ws word level) }
     {
         if let Step::Ended { under, .. } = self.machine.step {
-            return self.end(under, level);
+            return self.pass_boundary(under, level);
         }
-        self.complete(word);
-        self.settle(level)
+        self.complete_access(word);
+        self.settle_access(level)
     }
 
     /// Goes on with the word of an access.
-    fn complete(&mut self, word: u16)
+    fn complete_access(&mut self, word: u16)
         ensures { (r : CpuRegs) (u : Under) (ws : List ℕ)
             → Stands self.old r u ws
             → Stands self.new r u (ws ++ word ∷ []) }
     {
         self.done = self.done.saturating_add(1);
-        resume(&mut self.context, &mut self.machine, word);
+        continue_with_word(&mut self.context, &mut self.machine, word);
     }
 
-    /// Begins what follows an access, if it does.
-    fn settle(&mut self, level: u8) -> Option<u8>
+    /// Starts what follows an access, where something ended or was broken off with it.
+    fn settle_access(&mut self, level: u8) -> Option<u8>
         ensures { (r : CpuRegs) (u : Under) (ws : List ℕ)
             → Stands self.old r u ws
             → Reaches self.new result (settled (after (program r u) ws) r u ws level) }
     {
         match self.machine.step {
             Step::Ended { clocks, under } => {
-                if idle(clocks, self.done) == 0 {
-                    return self.end(under, level);
+                if idle_clocks(clocks, self.done) == 0 {
+                    return self.pass_boundary(under, level);
                 }
                 None
             }
             Step::Broken { under } => {
-                self.begin(under);
+                self.start_or_replace(under);
                 None
             }
             _ => None,
         }
     }
 
-    /// The next instruction begins, and nothing comes between: as a begin does it, in fewer steps.
+    /// Starts the next instruction, where nothing comes between: as `start_or_replace` does, in fewer steps.
     #[tactic(auto, unfolding(m68k_decode::specs::Walk::begin, m68k_decode::specs::Walk::program, m68k_decode::specs::Walk::instruction, m68k_decode::specs::Walk::is_traced, m68k_decode::specs::Run::fetch, m68k_decode::specs::Run::read_word))]
-    fn begin_next(&mut self)
+    fn start_next_instruction(&mut self)
         requires { self.old.machine.regs.pc % 2 ≡ 0 }
         ensures { Reaches self.new None (begin self.old.machine.regs (U.Instruction false)) }
     {
@@ -241,69 +241,70 @@ impl Cpu {
         self.done = 0;
     }
 
-    /// An end: a trace, an interrupt, or what is under way next.
+    /// Starts what follows an end: a trace, an interrupt, or what is under way next.
     #[tactic(auto, unfolding(m68k_decode::specs::Walk::boundary))]
     #[inline(always)]
-    fn end(&mut self, under: Under, level: u8) -> Option<u8>
+    fn pass_boundary(&mut self, under: Under, level: u8) -> Option<u8>
         ensures { Reaches self.new result
             (boundary self.old.traced self.old.machine.regs under level) }
     {
         if let Under::Instruction { taking: false } = under {
             let regs = &self.machine.regs;
-            if !self.traced && level <= mask(regs.sr) && regs.pc & 1 == 0 {
-                self.begin_next();
+            if !self.traced && level <= interrupt_mask(regs.sr) && regs.pc & 1 == 0 {
+                self.start_next_instruction();
                 return None;
             }
         }
         let taking = is_taking(&under);
         if self.traced {
-            self.begin(Under::Entry {
+            self.start_or_replace(Under::Entry {
                 kind: Trap::Trace,
                 ea: 0,
                 taking,
             });
             return None;
         }
-        if level > mask(self.machine.regs.sr) {
-            self.begin(Under::Entry {
+        if level > interrupt_mask(self.machine.regs.sr) {
+            self.start_or_replace(Under::Entry {
                 kind: Trap::Interrupt { level },
                 ea: 0,
                 taking,
             });
             return Some(level);
         }
-        self.begin(under);
+        self.start_or_replace(under);
         None
     }
 
-    /// Begins with the registers as they are; an access to an odd address may take its place.
+    /// Starts with the registers as they are, or what takes its place where the first access is to an odd
+    /// address.
     #[inline(never)]
-    fn begin(&mut self, under: Under)
+    fn start_or_replace(&mut self, under: Under)
         ensures { Reaches self.new None (begin self.old.machine.regs under) }
     {
-        self.start(under);
+        self.start_walk(under);
         if let Step::Broken { under } = self.machine.step {
-            self.begin_again(under);
+            self.start_replacement(under);
         }
     }
 
-    /// Begins what takes the place of another.
-    fn begin_again(&mut self, under: Under)
+    /// Starts what takes the place of another.
+    fn start_replacement(&mut self, under: Under)
         ensures { Reaches self.new None (begin_again self.old.machine.regs under) }
     {
-        self.start(under);
+        self.start_walk(under);
         if let Step::Broken { under } = self.machine.step {
-            self.start(under);
+            self.start_walk(under);
         }
     }
 
-    /// Begins with the registers as they are.
-    fn start(&mut self, under: Under)
+    /// Starts the walk of what is under way, with the registers as they are.
+    fn start_walk(&mut self, under: Under)
         ensures { Stands self.new self.old.machine.regs under [] }
     {
-        self.traced = traces(&self.machine.regs, &under);
+        self.traced = is_traced(&self.machine.regs, &under);
         self.done = 0;
-        start(&mut self.context, &mut self.machine, under);
+        set_first_step(&mut self.context, &mut self.machine, under);
     }
 
     /// The registers with which what is under way began.

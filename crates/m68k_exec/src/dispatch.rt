@@ -6,30 +6,35 @@ ghost use Rattle.m68k_decode.specs.Run.{at_place, moved, half_at};
 ghost use Rattle.m68k_decode.specs.Walk.{refused, permitted, execute, opcode_read};
 ghost use Rattle.m68k_exec.specs.Meaning.{meaning, run_of, rest, fetched, valued, written, placed, role_mode, role_size, follow};
 
-use crate::access::{end, fetch, finish, read_low, write_word};
-use crate::entries::{end_reset, handle, push, take_stack};
+use crate::access::{end_instruction, fetch_word, finish_row, read_low_word, write_word};
+use crate::entries::{end_reset, push_frame, start_handler, take_reset_stack};
 use crate::flow::{
-    branch, control, exchange, finish_unlink, jump, move_usp, own_word, read_resume_pc,
-    resolve_control, resume_at, return_to, start_return, system, trap, unlink, use_own_word,
+    exchange_registers, fetch_own_word, finish_unlink, jump_to, move_usp, raise_exception,
+    read_resume_pc, resolve_control, resume_at, return_to, start_branch, start_control,
+    start_return, start_system_control, start_unlink, take_own_word,
 };
-use crate::general::{compute, dest, resolve_dest, resolve_source, start_general};
-use crate::lists::{gather, resolve_list, scatter, store_next, take_loaded};
+use crate::general::{
+    compute_result, resolve_dest, resolve_source, start_general_row, take_source_value,
+};
+use crate::lists::{
+    gather_bytes, resolve_list, scatter_bytes, store_next_register, take_register_value,
+};
 use crate::state::{Context, Machine, Part, Role, Step, Then, Use};
 use crate::status::needs_supervisor;
 use m68k_decode::{Instr, Trap};
 
 /// An exception in place of the instruction.
 #[tactic(auto, unfolding(m68k_decode::specs::Walk::refused))]
-fn refuse(context: &Context, machine: &mut Machine, kind: Trap)
+fn refuse_instruction(context: &Context, machine: &mut Machine, kind: Trap)
     ensures { meaning context.now machine.new ≡ refused kind (run_of context.now machine.old) }
 {
     machine.regs = context.start;
-    trap(machine, kind);
+    raise_exception(machine, kind);
 }
 
 /// An instruction, after its opcode.
 #[tactic(auto, unfolding(m68k_decode::specs::Walk::permitted))]
-fn permit(context: &Context, machine: &mut Machine)
+fn dispatch_instruction(context: &Context, machine: &mut Machine)
     ensures { meaning context.now machine.new
         ≡ permitted context.now.fetched.instr (run_of context.now machine.old) }
 {
@@ -38,55 +43,57 @@ fn permit(context: &Context, machine: &mut Machine)
         | Instr::MovemToMemory { .. }
         | Instr::MovemToRegisters { .. }
         | Instr::LinkUnlk { which: 0, .. }
-        | Instr::Dbcc { .. } => own_word(context, machine),
-        Instr::Pea { .. } | Instr::JsrJmp { .. } | Instr::Lea { .. } => control(context, machine),
-        Instr::LinkUnlk { r, .. } => unlink(context, machine, r),
-        Instr::ResetNopStopRte { which } => system(context, machine, which),
+        | Instr::Dbcc { .. } => fetch_own_word(context, machine),
+        Instr::Pea { .. } | Instr::JsrJmp { .. } | Instr::Lea { .. } => start_control(
+            context, machine,
+        ),
+        Instr::LinkUnlk { r, .. } => start_unlink(context, machine, r),
+        Instr::ResetNopStopRte { which } => start_system_control(context, machine, which),
         Instr::RtsTrapvRtr { which } => start_return(context, machine, which),
-        Instr::Branch { which, c, d8 } => branch(context, machine, which, c, d8),
+        Instr::Branch { which, c, d8 } => start_branch(context, machine, which, c, d8),
         Instr::MoveUsp { d, r } => {
             move_usp(&mut machine.regs, d, r);
-            finish(context, machine, 0);
+            finish_row(context, machine, 0);
         }
         Instr::Exg { x, o, y } => {
-            exchange(&mut machine.regs, x, o, y);
-            finish(context, machine, 0);
+            exchange_registers(&mut machine.regs, x, o, y);
+            finish_row(context, machine, 0);
         }
-        Instr::Trap { v } => trap(machine, Trap::Number { v }),
-        Instr::Illegal => refuse(context, machine, Trap::Illegal),
-        Instr::LineA => refuse(context, machine, Trap::LineA),
-        Instr::LineF => refuse(context, machine, Trap::LineF),
-        _ => start_general(context, machine),
+        Instr::Trap { v } => raise_exception(machine, Trap::Number { v }),
+        Instr::Illegal => refuse_instruction(context, machine, Trap::Illegal),
+        Instr::LineA => refuse_instruction(context, machine, Trap::LineA),
+        Instr::LineF => refuse_instruction(context, machine, Trap::LineF),
+        _ => start_general_row(context, machine),
     }
 }
 
 /// An instruction, if it is not the supervisor's alone.
 #[tactic(auto, unfolding(m68k_decode::specs::Walk::execute))]
-fn execute(context: &Context, machine: &mut Machine)
+fn execute_instruction(context: &Context, machine: &mut Machine)
     ensures { meaning context.now machine.new
         ≡ execute context.now.fetched.instr (run_of context.now machine.old) }
 {
     if needs_supervisor(&context.fetched.instr) && !machine.regs.is_supervisor() {
-        refuse(context, machine, Trap::Privilege);
+        refuse_instruction(context, machine, Trap::Privilege);
     } else {
-        permit(context, machine);
+        dispatch_instruction(context, machine);
     }
 }
 
 /// The opcode is read: the context takes it.
 #[tactic(auto, unfolding(m68k_decode::specs::Walk::opcode_read))]
-fn begin_row(context: &mut Context, machine: &mut Machine, opcode: u16)
+fn take_opcode(context: &mut Context, machine: &mut Machine, opcode: u16)
     ensures start { context.new.start ≡ context.old.start }
     ensures walk { meaning context.new machine.new
         ≡ opcode_read opcode (run_of context.old machine.old) }
 {
     context.fetched = context.rows.row(opcode);
     context.taking = false;
-    execute(context, machine);
+    execute_instruction(context, machine);
 }
 
 /// The place of a role is known by its words.
-fn resolve(context: &Context, machine: &mut Machine, role: Role, pc: u32, high: u16, low: u16)
+fn resolve_place(context: &Context, machine: &mut Machine, role: Role, pc: u32, high: u16, low: u16)
     ensures { meaning context.now machine.new
         ≡ at_place (run_of context.now machine.old) (role_mode role context.now.fetched.instr)
         (role_size role context.now.fetched.instr) pc high low
@@ -107,10 +114,10 @@ fn take_word(context: &mut Context, machine: &mut Machine, part: Part, pc: u32, 
         ≡ fetched part context.old.fetched.instr pc word (run_of context.old machine.old) }
 {
     match part {
-        Part::Opcode => begin_row(context, machine, word),
-        Part::Own => use_own_word(context, machine, word),
-        Part::One { role } => resolve(context, machine, role, pc, word, 0),
-        Part::High { role } => fetch(
+        Part::Opcode => take_opcode(context, machine, word),
+        Part::Own => take_own_word(context, machine, word),
+        Part::One { role } => resolve_place(context, machine, role, pc, word, 0),
+        Part::High { role } => fetch_word(
             context,
             machine,
             Part::Low {
@@ -119,7 +126,7 @@ fn take_word(context: &mut Context, machine: &mut Machine, part: Part, pc: u32, 
                 high: word,
             },
         ),
-        Part::Low { role, pc, high } => resolve(context, machine, role, pc, high, word),
+        Part::Low { role, pc, high } => resolve_place(context, machine, role, pc, high, word),
     }
 }
 
@@ -156,11 +163,11 @@ fn take_value(context: &Context, machine: &mut Machine, into: Use, value: u32)
         ≡ valued into context.now.fetched.instr (run_of context.now machine.old) value }
 {
     match into {
-        Use::Source => dest(context, machine, value),
+        Use::Source => take_source_value(context, machine, value),
         Use::Old {
             value: source,
             place,
-        } => compute(context, machine, source, place, value),
+        } => compute_result(context, machine, source, place, value),
         Use::Return => return_to(context, machine, value),
         Use::Status => read_resume_pc(context, machine, value),
         Use::Resume { status } => resume_at(context, machine, status, value),
@@ -171,30 +178,32 @@ fn take_value(context: &Context, machine: &mut Machine, into: Use, value: u32)
             value: before,
         } => {
             let joined = before.wrapping_mul(0x100).wrapping_add(value);
-            gather(context, machine, at, left, joined);
+            gather_bytes(context, machine, at, left, joined);
         }
-        Use::Load { at, number, left } => take_loaded(context, machine, at, number, left, value),
-        Use::Handler { clocks } => handle(context, machine, clocks, value),
-        Use::Stack => take_stack(context, machine, value),
+        Use::Load { at, number, left } => take_register_value(
+            context, machine, at, number, left, value,
+        ),
+        Use::Handler { clocks } => start_handler(context, machine, clocks, value),
+        Use::Stack => take_reset_stack(context, machine, value),
         Use::Begin { ssp } => end_reset(context, machine, ssp, value),
     }
 }
 
 /// A write is made.
-fn go_on(context: &Context, machine: &mut Machine, then: Then)
+fn continue_after_write(context: &Context, machine: &mut Machine, then: Then)
     ensures { meaning context.now machine.new
         ≡ written then context.now.fetched.instr (run_of context.now machine.old) }
 {
     match then {
-        Then::End { clocks } => end(machine, clocks),
-        Then::Jump { at } => jump(context, machine, at, 0),
-        Then::Store { at, left } => store_next(context, machine, at, left),
-        Then::Scatter { at, left, value } => scatter(context, machine, at, left, value),
+        Then::End { clocks } => end_instruction(machine, clocks),
+        Then::Jump { at } => jump_to(context, machine, at, 0),
+        Then::Store { at, left } => store_next_register(context, machine, at, left),
+        Then::Scatter { at, left, value } => scatter_bytes(context, machine, at, left, value),
     }
 }
 
 /// Goes on with the word of an access.
-pub fn resume(context: &mut Context, machine: &mut Machine, word: u16)
+pub fn continue_with_word(context: &mut Context, machine: &mut Machine, word: u16)
     ensures start { context.new.start ≡ context.old.start }
     ensures walk { meaning context.new machine.new ≡ follow (meaning context.old machine.old) word }
 {
@@ -202,7 +211,7 @@ pub fn resume(context: &mut Context, machine: &mut Machine, word: u16)
         Step::Fetch { part } => take_next_word(context, machine, part, word),
         Step::ReadByte { at, into } => take_value(context, machine, into, byte_at(at, word)),
         Step::ReadWord { into, .. } => take_value(context, machine, into, u32::from(word)),
-        Step::ReadHigh { at, program, into } => read_low(
+        Step::ReadHigh { at, program, into } => read_low_word(
             context,
             machine,
             program,
@@ -211,7 +220,7 @@ pub fn resume(context: &mut Context, machine: &mut Machine, word: u16)
             into,
         ),
         Step::ReadLow { high, into, .. } => take_value(context, machine, into, long_of(high, word)),
-        Step::WriteByte { then, .. } | Step::WriteWord { then, .. } => go_on(
+        Step::WriteByte { then, .. } | Step::WriteWord { then, .. } => continue_after_write(
             context, machine, then,
         ),
         Step::WriteHigh { at, low, then, .. } => write_word(
@@ -227,7 +236,7 @@ pub fn resume(context: &mut Context, machine: &mut Machine, word: u16)
             kind,
             ea,
             ..
-        } => push(context, machine, kind, ea, at, next),
+        } => push_frame(context, machine, kind, ea, at, next),
         Step::Ended { .. } | Step::Broken { .. } | Step::Halted => {}
     }
 }

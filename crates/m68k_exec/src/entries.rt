@@ -8,7 +8,7 @@ ghost use Rattle.m68k_decode.specs.Entries.{is_instruction, exception_clocks, ac
 ghost use Rattle.m68k_decode.specs.Entries.{handled, vectored, pushes, entry, reset_done, reset_stack, reset};
 ghost use Rattle.m68k_exec.specs.Meaning.{meaning, run_of};
 
-use crate::access::{address_before, fault, read};
+use crate::access::{address_before, raise_address_error, read_value};
 use crate::state::{Context, Machine, Step, Use};
 use m68k_decode::{CpuRegs, Size, Trap, Under};
 use m68k_except::{frame, vector};
@@ -63,7 +63,7 @@ fn entry_clocks(kind: &Trap, ea: u8) -> u32
 
 /// The vector is read: the handler begins.
 #[tactic(auto, unfolding(m68k_decode::specs::Entries::handled))]
-pub fn handle(context: &Context, machine: &mut Machine, clocks: u32, pc: u32)
+pub fn start_handler(context: &Context, machine: &mut Machine, clocks: u32, pc: u32)
     ensures { meaning context.now machine.new ≡ handled clocks pc (run_of context.now machine.old) }
 {
     machine.regs.pc = pc;
@@ -82,7 +82,7 @@ fn read_vector(context: &Context, machine: &mut Machine, kind: Trap, ea: u8, at:
 {
     machine.regs.set_address(7, at);
     let clocks = entry_clocks(&kind, ea);
-    read(
+    read_value(
         context,
         machine,
         Size::Long,
@@ -124,7 +124,7 @@ fn write_frame_word(
         (run_of context.now machine.old)) }
 {
     if at & 1 == 1 {
-        fault(context, machine, at, false, false);
+        raise_address_error(context, machine, at, false, false);
         return;
     }
     machine.step = Step::Push {
@@ -138,7 +138,7 @@ fn write_frame_word(
 
 /// Goes on with the frame, of which `next` words are written.
 #[tactic(auto, using(crate::proofs::Pushing::pushes_word, crate::proofs::Pushing::pushes_end, crate::proofs::Pushing::within_frame))]
-pub fn push(context: &Context, machine: &mut Machine, kind: Trap, ea: u8, at: u32, next: u8)
+pub fn push_frame(context: &Context, machine: &mut Machine, kind: Trap, ea: u8, at: u32, next: u8)
     ensures { meaning context.now machine.new
         ≡ pushes kind ea at (drop next (frame_of kind context.now.start))
         (run_of context.now machine.old) }
@@ -153,11 +153,11 @@ pub fn push(context: &Context, machine: &mut Machine, kind: Trap, ea: u8, at: u3
 
 /// An entry begins; the registers have its status register.
 #[tactic(auto, unfolding(m68k_decode::specs::Entries::entry))]
-pub fn enter(context: &Context, machine: &mut Machine, kind: Trap, ea: u8)
+pub fn start_exception(context: &Context, machine: &mut Machine, kind: Trap, ea: u8)
     ensures { meaning context.now machine.new ≡ entry kind ea (run_of context.now machine.old) }
 {
     let at = machine.regs.address(7);
-    push(context, machine, kind, ea, at, 0);
+    push_frame(context, machine, kind, ea, at, 0);
 }
 
 /// The stack pointer and the PC of the reset are read.
@@ -176,16 +176,16 @@ pub fn end_reset(context: &Context, machine: &mut Machine, ssp: u32, pc: u32)
 
 /// The stack pointer of the reset is read.
 #[tactic(auto, unfolding(m68k_decode::specs::Entries::reset_stack))]
-pub fn take_stack(context: &Context, machine: &mut Machine, ssp: u32)
+pub fn take_reset_stack(context: &Context, machine: &mut Machine, ssp: u32)
     ensures { meaning context.now machine.new ≡ reset_stack ssp (run_of context.now machine.old) }
 {
-    read(context, machine, Size::Long, false, 4, Use::Begin { ssp });
+    read_value(context, machine, Size::Long, false, 4, Use::Begin { ssp });
 }
 
 /// The reset.
 #[tactic(auto, unfolding(m68k_decode::specs::Entries::reset))]
-pub fn reset(context: &Context, machine: &mut Machine)
+pub fn start_reset(context: &Context, machine: &mut Machine)
     ensures { meaning context.now machine.new ≡ reset (run_of context.now machine.old) }
 {
-    read(context, machine, Size::Long, false, 0, Use::Stack);
+    read_value(context, machine, Size::Long, false, 0, Use::Stack);
 }

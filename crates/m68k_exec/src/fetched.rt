@@ -68,7 +68,7 @@ impl Fetched {
     }
 
     /// The clocks of the row.
-    pub fn clocks(&self, extra: u32) -> u32
+    pub fn row_clocks(&self, extra: u32) -> u32
         requires { extra ≤ 63 }
         ensures { result ≡ number (clocks_at self.now.opcode) extra }
     {

@@ -13,11 +13,13 @@ ghost use Rattle.m68k_exec.specs.declared.state.Context.{Context};
 ghost use Rattle.m68k_exec.specs.declared.state.Machine.{Machine};
 ghost use Rattle.m68k_exec.specs.Meaning.{meaning, run_of, written};
 
-use crate::access::{address_after, address_before, fetch, finish, merge, read, write};
-use crate::lists::{spread, start_list};
+use crate::access::{
+    address_after, address_before, fetch_word, finish_row, merged_value, read_value, write_value,
+};
+use crate::lists::{start_byte_moves, start_list};
 use crate::row_data::extended_word;
 use crate::state::{Context, Machine, Part, Role, Step, Then, Use};
-use crate::status::{condition, flags, kept_status, with_code};
+use crate::status::{condition, flags_of, kept_status, with_code};
 use m68k_decode::{CpuRegs, Instr, Mode, Place68, Size, Trap, Under, extended_byte};
 use m68k_ea::{extension_words, resolve};
 
@@ -36,12 +38,12 @@ fn write_on_stack(context: &Context, machine: &mut Machine, value: u32, then: Th
         (written then context.now.fetched.instr (run_of context.now machine.old)) }
 {
     let top = machine.regs.address(7);
-    write(context, machine, Size::Long, top, value, then);
+    write_value(context, machine, Size::Long, top, value, then);
 }
 
 /// Puts the PC on the stack and goes on at an address.
 #[tactic(auto, unfolding(m68k_decode::specs::Flow::call))]
-fn call(context: &Context, machine: &mut Machine, at: u32)
+fn call_subroutine(context: &Context, machine: &mut Machine, at: u32)
     ensures { meaning context.now machine.new ≡ call at (run_of context.now machine.old) }
 {
     let pc = machine.regs.pc;
@@ -50,13 +52,13 @@ fn call(context: &Context, machine: &mut Machine, at: u32)
 }
 
 /// Goes on at an address, and ends.
-pub fn jump(context: &Context, machine: &mut Machine, at: u32, extra: u32)
+pub fn jump_to(context: &Context, machine: &mut Machine, at: u32, extra: u32)
     requires { extra ≤ 63 }
     ensures { meaning context.now machine.new
         ≡ finish extra (jumped at (run_of context.now machine.old)) }
 {
     machine.regs.pc = at;
-    finish(context, machine, extra);
+    finish_row(context, machine, extra);
 }
 
 /// Puts an address on the stack, and ends.
@@ -67,7 +69,7 @@ fn push_address(context: &Context, machine: &mut Machine, at: u32)
         (finish 0 (lowered (run_of context.now machine.old))) }
 {
     lower_stack(&mut machine.regs);
-    let clocks = context.fetched.clocks(0);
+    let clocks = context.fetched.row_clocks(0);
     write_on_stack(context, machine, at, Then::End { clocks });
 }
 
@@ -78,26 +80,26 @@ fn take_address(context: &Context, machine: &mut Machine, at: u32)
         ≡ addressed_at context.now.fetched.instr at (run_of context.now machine.old) }
 {
     match context.fetched.instr {
-        Instr::JsrJmp { which: 0, .. } => call(context, machine, at),
-        Instr::JsrJmp { .. } => jump(context, machine, at, 0),
+        Instr::JsrJmp { which: 0, .. } => call_subroutine(context, machine, at),
+        Instr::JsrJmp { .. } => jump_to(context, machine, at, 0),
         Instr::Lea { r, .. } => {
             machine.regs.set_address(r, at);
-            finish(context, machine, 0);
+            finish_row(context, machine, 0);
         }
         Instr::Pea { .. } => push_address(context, machine, at),
-        _ => finish(context, machine, 0),
+        _ => finish_row(context, machine, 0),
     }
 }
 
 /// The place of JSR, JMP, LEA and PEA is known.
 #[tactic(auto, unfolding(m68k_decode::specs::Flow::addressed))]
-fn address(context: &Context, machine: &mut Machine, place: Place68)
+fn take_control_place(context: &Context, machine: &mut Machine, place: Place68)
     ensures { meaning context.now machine.new
         ≡ addressed context.now.fetched.instr place (run_of context.now machine.old) }
 {
     match place {
         Place68::Memory { at } => take_address(context, machine, at),
-        _ => finish(context, machine, 0),
+        _ => finish_row(context, machine, 0),
     }
 }
 
@@ -121,12 +123,12 @@ pub fn resolve_control(context: &Context, machine: &mut Machine, pc: u32, high: 
 {
     let mode = control_mode(&context.fetched.instr);
     let place = resolve(&mode, &mut machine.regs, &[high, low], pc, Size::Long);
-    address(context, machine, place);
+    take_control_place(context, machine, place);
 }
 
 /// JSR, JMP, LEA and PEA, after the opcode.
 #[tactic(auto, unfolding(m68k_decode::specs::Flow::control, m68k_decode::specs::Run::place))]
-pub fn control(context: &Context, machine: &mut Machine)
+pub fn start_control(context: &Context, machine: &mut Machine)
     ensures { meaning context.now machine.new
         ≡ control context.now.fetched.instr (run_of context.now machine.old) }
 {
@@ -135,14 +137,14 @@ pub fn control(context: &Context, machine: &mut Machine)
             let pc = machine.regs.pc;
             resolve_control(context, machine, pc, 0, 0);
         }
-        1 => fetch(
+        1 => fetch_word(
             context,
             machine,
             Part::One {
                 role: Role::Control,
             },
         ),
-        _ => fetch(
+        _ => fetch_word(
             context,
             machine,
             Part::High {
@@ -161,7 +163,7 @@ fn branch_target(opcode_address: u32, displacement: u32) -> u32
 
 /// The displacement of a branch is known.
 #[tactic(auto, unfolding(m68k_decode::specs::Flow::branched))]
-fn take_branch(
+fn decide_branch(
     context: &Context,
     machine: &mut Machine,
     which: u8,
@@ -175,11 +177,11 @@ fn take_branch(
 {
     let target = branch_target(context.start.pc, displacement);
     if which == 1 {
-        call(context, machine, target);
-    } else if condition(c, flags(machine.regs.sr)) {
-        jump(context, machine, target, 0);
+        call_subroutine(context, machine, target);
+    } else if condition(c, flags_of(machine.regs.sr)) {
+        jump_to(context, machine, target, 0);
     } else {
-        finish(context, machine, miss);
+        finish_row(context, machine, miss);
     }
 }
 
@@ -188,32 +190,32 @@ fn count_down(regs: &mut CpuRegs, r: u8)
     ensures { regs.new ≡ counted_down r regs.old }
 {
     let counter = regs.data(r);
-    let lowered = merge(Size::Word, counter, counter % 0x1_0000 + 0xffff);
+    let lowered = merged_value(Size::Word, counter, counter % 0x1_0000 + 0xffff);
     regs.set_data(r, lowered);
 }
 
 /// The displacement of DBcc is known.
 #[tactic(auto, unfolding(m68k_decode::specs::Flow::counted))]
-fn count(context: &Context, machine: &mut Machine, c: u8, r: u8, displacement: u16)
+fn decrement_and_branch(context: &Context, machine: &mut Machine, c: u8, r: u8, displacement: u16)
     ensures { meaning context.now machine.new
         ≡ counted c r displacement (run_of context.now machine.old) }
 {
-    if condition(c, flags(machine.regs.sr)) {
-        finish(context, machine, 0);
+    if condition(c, flags_of(machine.regs.sr)) {
+        finish_row(context, machine, 0);
         return;
     }
     let ends = machine.regs.data(r) % 0x1_0000 == 0;
     count_down(&mut machine.regs, r);
     if ends {
-        finish(context, machine, 2);
+        finish_row(context, machine, 2);
     } else {
         let target = branch_target(context.start.pc, extended_word(displacement));
-        jump(context, machine, target, 1);
+        jump_to(context, machine, target, 1);
     }
 }
 
 /// Points a register to the top of the stack, and makes room there.
-fn point(regs: &mut CpuRegs, r: u8, displacement: u16)
+fn allocate_frame(regs: &mut CpuRegs, r: u8, displacement: u16)
     ensures { regs.new ≡ linked r displacement regs.old }
 {
     let top = regs.address(7);
@@ -224,15 +226,15 @@ fn point(regs: &mut CpuRegs, r: u8, displacement: u16)
 
 /// The displacement of LINK is known.
 #[tactic(auto, unfolding(m68k_decode::specs::Flow::link, m68k_decode::specs::Run::finish))]
-fn link(context: &Context, machine: &mut Machine, r: u8, displacement: u16)
+fn link_frame(context: &Context, machine: &mut Machine, r: u8, displacement: u16)
     ensures { meaning context.now machine.new ≡ link r displacement (run_of context.now machine.old) }
 {
     lower_stack(&mut machine.regs);
     let value = machine.regs.address(r);
     let top = machine.regs.address(7);
-    point(&mut machine.regs, r, displacement);
-    let clocks = context.fetched.clocks(0);
-    write(
+    allocate_frame(&mut machine.regs, r, displacement);
+    let clocks = context.fetched.row_clocks(0);
+    write_value(
         context,
         machine,
         Size::Long,
@@ -253,17 +255,17 @@ pub fn finish_unlink(context: &Context, machine: &mut Machine, value: u32)
         machine.regs.set_address(7, stack);
         machine.regs.set_address(r, value);
     }
-    finish(context, machine, 0);
+    finish_row(context, machine, 0);
 }
 
 /// UNLK, after the opcode.
 #[tactic(auto, unfolding(m68k_decode::specs::Flow::unlink))]
-pub fn unlink(context: &Context, machine: &mut Machine, r: u8)
+pub fn start_unlink(context: &Context, machine: &mut Machine, r: u8)
     ensures { meaning context.now machine.new
         ≡ unlink context.now.fetched.instr r (run_of context.now machine.old) }
 {
     let at = machine.regs.address(r);
-    read(context, machine, Size::Long, false, at, Use::Unlink);
+    read_value(context, machine, Size::Long, false, at, Use::Unlink);
 }
 
 /// Takes so many bytes from the stack.
@@ -280,7 +282,7 @@ pub fn return_to(context: &Context, machine: &mut Machine, pc: u32)
     ensures { meaning context.now machine.new ≡ returned pc (run_of context.now machine.old) }
 {
     raise_stack(&mut machine.regs, 4);
-    jump(context, machine, pc, 0);
+    jump_to(context, machine, pc, 0);
 }
 
 /// The PC of RTE and RTR is read.
@@ -295,7 +297,7 @@ pub fn resume_at(context: &Context, machine: &mut Machine, word: u16, pc: u32)
     };
     raise_stack(&mut machine.regs, 6);
     machine.regs.sr = sr;
-    jump(context, machine, pc, 0);
+    jump_to(context, machine, pc, 0);
 }
 
 /// The word for SR or CCR is read.
@@ -306,7 +308,7 @@ pub fn read_resume_pc(context: &Context, machine: &mut Machine, word: u32)
 {
     let status = (word % 0x1_0000) as u16;
     let at = address_after(Size::Word, machine.regs.address(7));
-    read(
+    read_value(
         context,
         machine,
         Size::Long,
@@ -318,41 +320,41 @@ pub fn read_resume_pc(context: &Context, machine: &mut Machine, word: u32)
 
 /// RTE and RTR, after the opcode.
 #[tactic(auto, unfolding(m68k_decode::specs::Flow::resume))]
-fn resume(context: &Context, machine: &mut Machine)
+fn read_resume_status(context: &Context, machine: &mut Machine)
     ensures { meaning context.now machine.new
         ≡ resume context.now.fetched.instr (run_of context.now machine.old) }
 {
     let at = machine.regs.address(7);
-    read(context, machine, Size::Word, false, at, Use::Status);
+    read_value(context, machine, Size::Word, false, at, Use::Status);
 }
 
 /// The word of STOP is known.
 #[tactic(auto, unfolding(m68k_decode::specs::Flow::stop))]
-fn stop(context: &Context, machine: &mut Machine, word: u16)
+fn stop_processor(context: &Context, machine: &mut Machine, word: u16)
     ensures { meaning context.now machine.new ≡ stop word (run_of context.now machine.old) }
 {
     machine.regs.sr = kept_status(word);
     machine.step = Step::Ended {
-        clocks: context.fetched.clocks(0),
+        clocks: context.fetched.row_clocks(0),
         under: Under::Stopped,
     };
 }
 
 /// The word of a row that has one behind its opcode is known.
 #[tactic(auto, unfolding(m68k_decode::specs::Flow::own))]
-pub fn use_own_word(context: &Context, machine: &mut Machine, word: u16)
+pub fn take_own_word(context: &Context, machine: &mut Machine, word: u16)
     ensures { meaning context.now machine.new
         ≡ own context.now.fetched.instr word (run_of context.now machine.old) }
 {
     match context.fetched.instr {
-        Instr::Movep { .. } => spread(context, machine, word),
+        Instr::Movep { .. } => start_byte_moves(context, machine, word),
         Instr::MovemToMemory { .. } | Instr::MovemToRegisters { .. } => start_list(
             context, machine, word,
         ),
-        Instr::LinkUnlk { r, .. } => link(context, machine, r, word),
-        Instr::ResetNopStopRte { .. } => stop(context, machine, word),
-        Instr::Dbcc { c, r } => count(context, machine, c, r, word),
-        Instr::Branch { which, c, .. } => take_branch(
+        Instr::LinkUnlk { r, .. } => link_frame(context, machine, r, word),
+        Instr::ResetNopStopRte { .. } => stop_processor(context, machine, word),
+        Instr::Dbcc { c, r } => decrement_and_branch(context, machine, c, r, word),
+        Instr::Branch { which, c, .. } => decide_branch(
             context,
             machine,
             which,
@@ -360,29 +362,29 @@ pub fn use_own_word(context: &Context, machine: &mut Machine, word: u16)
             extended_word(word),
             2,
         ),
-        _ => finish(context, machine, 0),
+        _ => finish_row(context, machine, 0),
     }
 }
 
 /// Asks for that word.
 #[tactic(auto, unfolding(m68k_decode::specs::Flow::own_word))]
-pub fn own_word(context: &Context, machine: &mut Machine)
+pub fn fetch_own_word(context: &Context, machine: &mut Machine)
     ensures { meaning context.now machine.new
         ≡ own_word context.now.fetched.instr (run_of context.now machine.old) }
 {
-    fetch(context, machine, Part::Own);
+    fetch_word(context, machine, Part::Own);
 }
 
 /// RESET, NOP, STOP and RTE.
 #[tactic(auto, unfolding(m68k_decode::specs::Flow::system))]
-pub fn system(context: &Context, machine: &mut Machine, which: u8)
+pub fn start_system_control(context: &Context, machine: &mut Machine, which: u8)
     ensures { meaning context.now machine.new
         ≡ system context.now.fetched.instr which (run_of context.now machine.old) }
 {
     match which {
-        2 => own_word(context, machine),
-        3 => resume(context, machine),
-        _ => finish(context, machine, 0),
+        2 => fetch_own_word(context, machine),
+        3 => read_resume_status(context, machine),
+        _ => finish_row(context, machine, 0),
     }
 }
 
@@ -394,18 +396,18 @@ pub fn start_return(context: &Context, machine: &mut Machine, which: u8)
 {
     if which == 0 {
         let at = machine.regs.address(7);
-        read(context, machine, Size::Long, false, at, Use::Return);
+        read_value(context, machine, Size::Long, false, at, Use::Return);
     } else if which == 2 {
-        resume(context, machine);
-    } else if flags(machine.regs.sr).v {
-        trap(machine, Trap::Trapv);
+        read_resume_status(context, machine);
+    } else if flags_of(machine.regs.sr).v {
+        raise_exception(machine, Trap::Trapv);
     } else {
-        finish(context, machine, 0);
+        finish_row(context, machine, 0);
     }
 }
 
 /// An exception follows the instruction's last access.
-pub fn trap(machine: &mut Machine, kind: Trap)
+pub fn raise_exception(machine: &mut Machine, kind: Trap)
     ensures { (c : Context) → meaning c machine.new ≡ Enter machine.old.regs (U.Entry kind 0 false) }
 {
     machine.step = Step::Broken {
@@ -432,7 +434,7 @@ pub fn move_usp(regs: &mut CpuRegs, d: u8, r: u8)
 
 /// EXG.
 #[tactic(auto, unfolding(m68k_decode::specs::Flow::exchanged))]
-pub fn exchange(regs: &mut CpuRegs, x: u8, o: u8, y: u8)
+pub fn exchange_registers(regs: &mut CpuRegs, x: u8, o: u8, y: u8)
     ensures { regs.new ≡ exchanged x o y regs.old }
 {
     let (first, second) = match o {
@@ -452,13 +454,13 @@ pub fn exchange(regs: &mut CpuRegs, x: u8, o: u8, y: u8)
 
 /// A branch, after the opcode.
 #[tactic(auto, unfolding(m68k_decode::specs::Flow::branch))]
-pub fn branch(context: &Context, machine: &mut Machine, which: u8, c: u8, d8: u8)
+pub fn start_branch(context: &Context, machine: &mut Machine, which: u8, c: u8, d8: u8)
     ensures { meaning context.now machine.new
         ≡ branch context.now.fetched.instr which c d8 (run_of context.now machine.old) }
 {
     if d8 == 0 {
-        own_word(context, machine);
+        fetch_own_word(context, machine);
     } else {
-        take_branch(context, machine, which, c, extended_byte(d8), 1);
+        decide_branch(context, machine, which, c, extended_byte(d8), 1);
     }
 }

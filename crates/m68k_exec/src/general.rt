@@ -6,16 +6,16 @@ ghost use Rattle.m68k_decode.specs.RowData.{dest_size, source_size, source_mode,
 ghost use Rattle.m68k_decode.specs.General.{completed, compute, with_dest, dest, with_source, general};
 ghost use Rattle.m68k_exec.specs.Meaning.{meaning, run_of};
 
-use crate::access::{end, fetch, held_value, read, store};
-use crate::operation::{operation, status_after, trap, trap_ea};
-use crate::row_data::{count, dest_mode, is_program, source_mode};
+use crate::access::{end_instruction, fetch_word, held_value, read_value, store_result};
+use crate::operation::{operand_trap, operation, status_after, trap_ea};
+use crate::row_data::{clock_count, dest_mode, is_program, source_mode};
 use crate::state::{Context, Machine, Part, Role, Step, Use};
 use m68k_decode::{Dest, Place68, Source, Trap, Under};
 use m68k_ea::{extension_words, resolve};
 
 /// The result is known: it is stored, or an exception begins.
 #[tactic(auto, unfolding(m68k_decode::specs::General::completed, m68k_decode::specs::Run::store))]
-fn complete(
+fn finish_operation(
     context: &Context,
     machine: &mut Machine,
     trap: Option<Trap>,
@@ -39,27 +39,34 @@ fn complete(
         return;
     }
     if row.writes {
-        store(context, machine, row.size, place, value, clocks);
+        store_result(context, machine, row.size, place, value, clocks);
     } else {
-        end(machine, clocks);
+        end_instruction(machine, clocks);
     }
 }
 
 /// Source and old value are known.
 #[tactic(auto, unfolding(m68k_decode::specs::General::compute))]
-pub fn compute(context: &Context, machine: &mut Machine, value: u32, place: Place68, old: u32)
+pub fn compute_result(
+    context: &Context,
+    machine: &mut Machine,
+    value: u32,
+    place: Place68,
+    old: u32,
+)
     ensures { meaning context.now machine.new
         ≡ compute context.now.fetched.instr value place old (run_of context.now machine.old) }
 {
     let row = &context.fetched.row;
     let sr = machine.regs.sr;
     let outcome = operation(row, value, old, sr);
-    let clocks = context.fetched.clocks(count(row.count, value, sr));
+    let count = clock_count(row.count, value, sr);
+    let clocks = context.fetched.row_clocks(count);
     machine.regs.sr = status_after(row.op, value, outcome.flags, sr);
-    complete(
+    finish_operation(
         context,
         machine,
-        trap(row.traps, value, old),
+        operand_trap(row.traps, value, old),
         place,
         outcome.value,
         clocks,
@@ -68,7 +75,7 @@ pub fn compute(context: &Context, machine: &mut Machine, value: u32, place: Plac
 
 /// Takes the old value of the destination.
 #[tactic(auto, unfolding(m68k_decode::specs::Run::load))]
-fn load_old(context: &Context, machine: &mut Machine, value: u32, place: Place68)
+fn load_old_value(context: &Context, machine: &mut Machine, value: u32, place: Place68)
     ensures { meaning context.now machine.new
         ≡ load (run_of context.now machine.old) (dest_size context.now.fetched.instr) false place
         (λ old. compute context.now.fetched.instr value place old
@@ -76,7 +83,7 @@ fn load_old(context: &Context, machine: &mut Machine, value: u32, place: Place68
 {
     let size = context.fetched.row.size;
     match place {
-        Place68::Memory { at } => read(
+        Place68::Memory { at } => read_value(
             context,
             machine,
             size,
@@ -86,21 +93,21 @@ fn load_old(context: &Context, machine: &mut Machine, value: u32, place: Place68
         ),
         _ => {
             let old = held_value(&machine.regs, size, place);
-            compute(context, machine, value, place, old);
+            compute_result(context, machine, value, place, old);
         }
     }
 }
 
 /// The place of the destination is known.
 #[tactic(auto, unfolding(m68k_decode::specs::General::with_dest))]
-pub fn with_dest(context: &Context, machine: &mut Machine, value: u32, place: Place68)
+pub fn take_dest_place(context: &Context, machine: &mut Machine, value: u32, place: Place68)
     ensures { meaning context.now machine.new
         ≡ with_dest context.now.fetched.instr value place (run_of context.now machine.old) }
 {
     if context.fetched.row.reads_old {
-        load_old(context, machine, value, place);
+        load_old_value(context, machine, value, place);
     } else {
-        compute(context, machine, value, place, 0);
+        compute_result(context, machine, value, place, 0);
     }
 }
 
@@ -122,17 +129,17 @@ pub fn resolve_dest(
     let mode = dest_mode(context.fetched.row.dest);
     let size = context.fetched.row.size;
     let place = resolve(&mode, &mut machine.regs, &[high, low], pc, size);
-    with_dest(context, machine, value, place);
+    take_dest_place(context, machine, value, place);
 }
 
 /// The source is known.
 #[tactic(auto, unfolding(m68k_decode::specs::General::dest, m68k_decode::specs::Run::place))]
-pub fn dest(context: &Context, machine: &mut Machine, value: u32)
+pub fn take_source_value(context: &Context, machine: &mut Machine, value: u32)
     ensures { meaning context.now machine.new
         ≡ dest context.now.fetched.instr value (run_of context.now machine.old) }
 {
     let Dest::Operand { mode } = context.fetched.row.dest else {
-        compute(context, machine, value, Place68::Value { value: 0 }, 0);
+        compute_result(context, machine, value, Place68::Value { value: 0 }, 0);
         return;
     };
     match extension_words(&mode, context.fetched.row.size) {
@@ -140,14 +147,14 @@ pub fn dest(context: &Context, machine: &mut Machine, value: u32)
             let pc = machine.regs.pc;
             resolve_dest(context, machine, value, pc, 0, 0);
         }
-        1 => fetch(
+        1 => fetch_word(
             context,
             machine,
             Part::One {
                 role: Role::Dest { value },
             },
         ),
-        _ => fetch(
+        _ => fetch_word(
             context,
             machine,
             Part::High {
@@ -159,7 +166,7 @@ pub fn dest(context: &Context, machine: &mut Machine, value: u32)
 
 /// The place of the source is known.
 #[tactic(auto, unfolding(m68k_decode::specs::General::with_source, m68k_decode::specs::Run::load))]
-pub fn with_source(context: &Context, machine: &mut Machine, place: Place68)
+pub fn take_source_place(context: &Context, machine: &mut Machine, place: Place68)
     ensures { meaning context.now machine.new
         ≡ with_source context.now.fetched.instr place (run_of context.now machine.old) }
 {
@@ -167,11 +174,11 @@ pub fn with_source(context: &Context, machine: &mut Machine, place: Place68)
     match place {
         Place68::Memory { at } => {
             let program = is_program(source_mode(context.fetched.row.source));
-            read(context, machine, size, program, at, Use::Source);
+            read_value(context, machine, size, program, at, Use::Source);
         }
         _ => {
             let value = held_value(&machine.regs, size, place);
-            dest(context, machine, value);
+            take_source_value(context, machine, value);
         }
     }
 }
@@ -187,19 +194,19 @@ pub fn resolve_source(context: &Context, machine: &mut Machine, pc: u32, high: u
     let mode = source_mode(context.fetched.row.source);
     let size = context.fetched.row.source_size;
     let place = resolve(&mode, &mut machine.regs, &[high, low], pc, size);
-    with_source(context, machine, place);
+    take_source_place(context, machine, place);
 }
 
 /// A row with a source, a destination and a result, after its opcode.
 #[tactic(auto, unfolding(m68k_decode::specs::General::general, m68k_decode::specs::Run::place))]
-pub fn start_general(context: &Context, machine: &mut Machine)
+pub fn start_general_row(context: &Context, machine: &mut Machine)
     ensures { meaning context.now machine.new
         ≡ general context.now.fetched.instr (run_of context.now machine.old) }
 {
     let mode = match context.fetched.row.source {
         Source::Operand { mode } => mode,
         Source::Number { value } => {
-            dest(context, machine, value);
+            take_source_value(context, machine, value);
             return;
         }
     };
@@ -208,7 +215,7 @@ pub fn start_general(context: &Context, machine: &mut Machine)
             let pc = machine.regs.pc;
             resolve_source(context, machine, pc, 0, 0);
         }
-        1 => fetch(context, machine, Part::One { role: Role::Source }),
-        _ => fetch(context, machine, Part::High { role: Role::Source }),
+        1 => fetch_word(context, machine, Part::One { role: Role::Source }),
+        _ => fetch_word(context, machine, Part::High { role: Role::Source }),
     }
 }

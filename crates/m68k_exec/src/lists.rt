@@ -8,8 +8,10 @@ ghost use Rattle.m68k_decode.specs.Lists.{list_mode, list_size, is_downward, uns
 ghost use Rattle.m68k_decode.specs.Lists.{stored_next, list_end, list_ended, stores, loads, listing, several, scatter, gathered, gather, bytes_moved, spread};
 ghost use Rattle.m68k_exec.specs.Meaning.{meaning, run_of, numbers_left, taken};
 
-use crate::access::{address_after, address_before, fetch, finish, merge, read, write};
-use crate::row_data::{extend, extended_word, is_program, ones};
+use crate::access::{
+    address_after, address_before, fetch_word, finish_row, merged_value, read_value, write_value,
+};
+use crate::row_data::{extended_value, extended_word, is_program, ones};
 use crate::state::{Context, Left, Machine, Part, Role, Then, Use};
 use m68k_decode::{CpuRegs, Instr, Mode, Place68, Size};
 use m68k_ea::{extension_words, resolve};
@@ -128,7 +130,7 @@ fn left_of(mask: u16) -> Left
 }
 
 /// Takes the next register out of a list.
-fn take(left: &mut Left) -> Option<u8>
+fn take_number(left: &mut Left) -> Option<u8>
     ensures mask { left.new.mask ≡ left.old.mask }
     ensures numbers { numbers_left left.old ≡ taken result (numbers_left left.new) }
 {
@@ -152,18 +154,18 @@ fn end_list(context: &Context, machine: &mut Machine, mask: u16, at: u32)
     if let Mode::Post { reg } | Mode::Pre { reg } = list_mode(&context.fetched.instr) {
         machine.regs.set_address(reg, at);
     }
-    finish(context, machine, ones(16, u32::from(mask)));
+    finish_row(context, machine, ones(16, u32::from(mask)));
 }
 
 /// Stores the next register.
 #[tactic(auto, unfolding(m68k_decode::specs::Lists::stores))]
-pub fn store_next(context: &Context, machine: &mut Machine, at: u32, left: Left)
+pub fn store_next_register(context: &Context, machine: &mut Machine, at: u32, left: Left)
     ensures { meaning context.now machine.new
         ≡ stores context.now.fetched.instr left.mask at (numbers_left left)
         (run_of context.now machine.old) }
 {
     let mut left = left;
-    let Some(number) = take(&mut left) else {
+    let Some(number) = take_number(&mut left) else {
         end_list(context, machine, left.mask, at);
         return;
     };
@@ -174,7 +176,7 @@ pub fn store_next(context: &Context, machine: &mut Machine, at: u32, left: Left)
         at: stored_next(mode, size, at),
         left,
     };
-    write(
+    write_value(
         context,
         machine,
         size,
@@ -186,13 +188,13 @@ pub fn store_next(context: &Context, machine: &mut Machine, at: u32, left: Left)
 
 /// Loads the next register.
 #[tactic(auto, unfolding(m68k_decode::specs::Lists::loads))]
-fn load_next(context: &Context, machine: &mut Machine, at: u32, left: Left)
+fn load_next_register(context: &Context, machine: &mut Machine, at: u32, left: Left)
     ensures { meaning context.now machine.new
         ≡ loads context.now.fetched.instr left.mask at (numbers_left left)
         (run_of context.now machine.old) }
 {
     let mut left = left;
-    let Some(number) = take(&mut left) else {
+    let Some(number) = take_number(&mut left) else {
         end_list(context, machine, left.mask, at);
         return;
     };
@@ -203,11 +205,11 @@ fn load_next(context: &Context, machine: &mut Machine, at: u32, left: Left)
         number,
         left,
     };
-    read(context, machine, size, is_program(mode), at, into);
+    read_value(context, machine, size, is_program(mode), at, into);
 }
 
 /// A register of MOVEM has been read.
-pub fn take_loaded(
+pub fn take_register_value(
     context: &Context,
     machine: &mut Machine,
     at: u32,
@@ -221,25 +223,25 @@ pub fn take_loaded(
         (extended (list_size context.now.fetched.instr) value))) }
 {
     let size = list_size(&context.fetched.instr);
-    set_register(&mut machine.regs, number, extend(size, value));
-    load_next(context, machine, at, left);
+    set_register(&mut machine.regs, number, extended_value(size, value));
+    load_next_register(context, machine, at, left);
 }
 
 /// The first address is known.
 #[tactic(auto, unfolding(m68k_decode::specs::Lists::listing))]
-pub fn list(context: &Context, machine: &mut Machine, mask: u16, place: Place68)
+pub fn take_list_place(context: &Context, machine: &mut Machine, mask: u16, place: Place68)
     ensures { meaning context.now machine.new
         ≡ listing context.now.fetched.instr mask place (run_of context.now machine.old) }
 {
     match (context.fetched.instr, place) {
-        (Instr::MovemToMemory { .. }, Place68::Memory { at }) => store_next(
+        (Instr::MovemToMemory { .. }, Place68::Memory { at }) => store_next_register(
             context,
             machine,
             at,
             left_of(mask),
         ),
-        (_, Place68::Memory { at }) => load_next(context, machine, at, left_of(mask)),
-        _ => finish(context, machine, 0),
+        (_, Place68::Memory { at }) => load_next_register(context, machine, at, left_of(mask)),
+        _ => finish_row(context, machine, 0),
     }
 }
 
@@ -261,7 +263,7 @@ pub fn resolve_list(
     let mode = without_step(list_mode(&context.fetched.instr));
     let size = list_size(&context.fetched.instr);
     let place = resolve(&mode, &mut machine.regs, &[high, low], pc, size);
-    list(context, machine, mask, place);
+    take_list_place(context, machine, mask, place);
 }
 
 /// The mask of MOVEM is known.
@@ -276,14 +278,14 @@ pub fn start_list(context: &Context, machine: &mut Machine, mask: u16)
             let pc = machine.regs.pc;
             resolve_list(context, machine, mask, pc, 0, 0);
         }
-        1 => fetch(
+        1 => fetch_word(
             context,
             machine,
             Part::One {
                 role: Role::List { mask },
             },
         ),
-        _ => fetch(
+        _ => fetch_word(
             context,
             machine,
             Part::High {
@@ -295,12 +297,12 @@ pub fn start_list(context: &Context, machine: &mut Machine, mask: u16)
 
 /// Writes the next of MOVEP's bytes, the top one of a number.
 #[tactic(auto, using(crate::proofs::Counting::scatter_none, crate::proofs::Counting::scatter_step))]
-pub fn scatter(context: &Context, machine: &mut Machine, at: u32, left: u8, value: u32)
+pub fn scatter_bytes(context: &Context, machine: &mut Machine, at: u32, left: u8, value: u32)
     ensures { meaning context.now machine.new
         ≡ scatter left at value (run_of context.now machine.old) }
 {
     if left == 0 {
-        finish(context, machine, 0);
+        finish_row(context, machine, 0);
         return;
     }
     let then = Then::Scatter {
@@ -308,7 +310,7 @@ pub fn scatter(context: &Context, machine: &mut Machine, at: u32, left: u8, valu
         left: left - 1,
         value: value.wrapping_mul(0x100),
     };
-    write(context, machine, Size::Byte, at, value >> 24, then);
+    write_value(context, machine, Size::Byte, at, value >> 24, then);
 }
 
 /// The bytes for MOVEP's register have been read.
@@ -319,15 +321,15 @@ fn finish_gather(context: &Context, machine: &mut Machine, value: u32)
 {
     if let Instr::Movep { r, o, .. } = context.fetched.instr {
         let size = if o == 0 { Size::Word } else { Size::Long };
-        let whole = merge(size, machine.regs.data(r), value);
+        let whole = merged_value(size, machine.regs.data(r), value);
         machine.regs.set_data(r, whole);
     }
-    finish(context, machine, 0);
+    finish_row(context, machine, 0);
 }
 
 /// Reads the next of MOVEP's bytes.
 #[tactic(auto, using(crate::proofs::Counting::gather_none, crate::proofs::Counting::gather_step))]
-pub fn gather(context: &Context, machine: &mut Machine, at: u32, left: u8, value: u32)
+pub fn gather_bytes(context: &Context, machine: &mut Machine, at: u32, left: u8, value: u32)
     ensures { meaning context.now machine.new
         ≡ gather context.now.fetched.instr left at value (run_of context.now machine.old) }
 {
@@ -340,7 +342,7 @@ pub fn gather(context: &Context, machine: &mut Machine, at: u32, left: u8, value
         left: left - 1,
         value,
     };
-    read(context, machine, Size::Byte, false, at, into);
+    read_value(context, machine, Size::Byte, false, at, into);
 }
 
 /// The first address of MOVEP is known.
@@ -350,21 +352,21 @@ fn move_bytes(context: &Context, machine: &mut Machine, r: u8, o: u8, at: u32)
 {
     let value = machine.regs.data(r);
     match o {
-        0 => gather(context, machine, at, 2, 0),
-        1 => gather(context, machine, at, 4, 0),
-        2 => scatter(context, machine, at, 2, value.wrapping_mul(0x1_0000)),
-        _ => scatter(context, machine, at, 4, value),
+        0 => gather_bytes(context, machine, at, 2, 0),
+        1 => gather_bytes(context, machine, at, 4, 0),
+        2 => scatter_bytes(context, machine, at, 2, value.wrapping_mul(0x1_0000)),
+        _ => scatter_bytes(context, machine, at, 4, value),
     }
 }
 
 /// The displacement of MOVEP is known.
 #[tactic(auto, unfolding(m68k_decode::specs::Lists::spread))]
-pub fn spread(context: &Context, machine: &mut Machine, displacement: u16)
+pub fn start_byte_moves(context: &Context, machine: &mut Machine, displacement: u16)
     ensures { meaning context.now machine.new
         ≡ spread context.now.fetched.instr displacement (run_of context.now machine.old) }
 {
     let Instr::Movep { r, o, a } = context.fetched.instr else {
-        finish(context, machine, 0);
+        finish_row(context, machine, 0);
         return;
     };
     let at = machine

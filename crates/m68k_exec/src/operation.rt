@@ -8,8 +8,8 @@ ghost use Rattle.m68k_decode.specs.Results.{signed, low};
 ghost use Rattle.m68k_decode.specs.RowWords.{unflagged, status_logical, is_outside, word_of};
 ghost use Rattle.m68k_decode.specs.RowResults.{division, result_by, status_by, trap_by, trap_ea_by};
 
-use crate::row_data::extend;
-use crate::status::{condition, flags, kept_status, with_code, with_flags};
+use crate::row_data::extended_value;
+use crate::status::{condition, flags_of, kept_status, with_code, with_flags};
 use m68k_alu::{
     op_abcd, op_add, op_addx, op_and, op_asl, op_asr, op_bchg, op_bclr, op_bset, op_btst, op_chk,
     op_clr, op_cmp, op_divs, op_divu, op_eor, op_ext, op_lsl, op_lsr, op_move, op_muls, op_mulu,
@@ -19,7 +19,7 @@ use m68k_alu::{
 use m68k_decode::{Flags, GeneralRow, Mode, Op, Outcome, Size, Trap, Traps, ea};
 
 /// A value with the flags as they are.
-fn keep_flags(value: u32, flags: Flags) -> Outcome
+fn outcome_with_flags(value: u32, flags: Flags) -> Outcome
     ensures { result ≡ unflagged value flags }
 {
     Outcome { value, flags }
@@ -33,7 +33,7 @@ fn is_zero_word(number: u32) -> bool
 }
 
 /// The outcome of a division by 0: it clears C.
-fn undivided(value: u32, flags: Flags) -> Outcome
+fn zero_divide_outcome(value: u32, flags: Flags) -> Outcome
     ensures { result ≡ unflagged value (record flags { c = false }) }
 {
     Outcome {
@@ -48,64 +48,64 @@ pub fn operation(row: &GeneralRow, value: u32, old: u32, sr: u16) -> Outcome
     ensures { result ≡ result_by row.now.op row.now.source_size row.now.size value old sr }
 {
     let size = row.size;
+    let flags = flags_of(sr);
     match row.op {
-        Op::Or => op_or(size, old, value, flags(sr)),
-        Op::And => op_and(size, old, value, flags(sr)),
-        Op::Sub => op_sub(size, old, value, flags(sr)),
-        Op::Add => op_add(size, old, value, flags(sr)),
-        Op::Eor => op_eor(size, old, value, flags(sr)),
-        Op::Cmp => op_cmp(size, old, value, flags(sr)),
-        Op::Btst => op_btst(size, old, value, flags(sr)),
-        Op::Bchg => op_bchg(size, old, value, flags(sr)),
-        Op::Bclr => op_bclr(size, old, value, flags(sr)),
-        Op::Bset => op_bset(size, old, value, flags(sr)),
-        Op::Move => op_move(size, value, 0, flags(sr)),
-        Op::MoveAddress => keep_flags(extend(row.source_size, value), flags(sr)),
-        Op::Negx => op_negx(size, old, 0, flags(sr)),
-        Op::Clr => op_clr(size, old, 0, flags(sr)),
-        Op::Neg => op_neg(size, old, 0, flags(sr)),
-        Op::Not => op_not(size, old, 0, flags(sr)),
-        Op::MoveFromSr => keep_flags(u32::from(sr), flags(sr)),
-        Op::Nbcd => op_nbcd(size, old, 0, flags(sr)),
-        Op::Swap => op_swap(size, old, 0, flags(sr)),
-        Op::Ext => op_ext(size, old, 0, flags(sr)),
-        Op::Tst => op_tst(size, old, 0, flags(sr)),
-        Op::Tas => op_tas(size, old, 0, flags(sr)),
-        Op::Chk => op_chk(size, old, value, flags(sr)),
-        Op::Scc { c } => keep_flags(if condition(c, flags(sr)) { 0xff } else { 0 }, flags(sr)),
+        Op::Or => op_or(size, old, value, flags),
+        Op::And => op_and(size, old, value, flags),
+        Op::Sub => op_sub(size, old, value, flags),
+        Op::Add => op_add(size, old, value, flags),
+        Op::Eor => op_eor(size, old, value, flags),
+        Op::Cmp => op_cmp(size, old, value, flags),
+        Op::Btst => op_btst(size, old, value, flags),
+        Op::Bchg => op_bchg(size, old, value, flags),
+        Op::Bclr => op_bclr(size, old, value, flags),
+        Op::Bset => op_bset(size, old, value, flags),
+        Op::Move => op_move(size, value, 0, flags),
+        Op::MoveAddress => outcome_with_flags(extended_value(row.source_size, value), flags),
+        Op::Negx => op_negx(size, old, 0, flags),
+        Op::Clr => op_clr(size, old, 0, flags),
+        Op::Neg => op_neg(size, old, 0, flags),
+        Op::Not => op_not(size, old, 0, flags),
+        Op::MoveFromSr => outcome_with_flags(u32::from(sr), flags),
+        Op::Nbcd => op_nbcd(size, old, 0, flags),
+        Op::Swap => op_swap(size, old, 0, flags),
+        Op::Ext => op_ext(size, old, 0, flags),
+        Op::Tst => op_tst(size, old, 0, flags),
+        Op::Tas => op_tas(size, old, 0, flags),
+        Op::Chk => op_chk(size, old, value, flags),
+        Op::Scc { c } => outcome_with_flags(if condition(c, flags) { 0xff } else { 0 }, flags),
         Op::AddAddress => {
-            keep_flags(
-                op_add(size, old, extend(row.source_size, value), flags(sr)).value,
-                flags(sr),
+            outcome_with_flags(
+                op_add(size, old, extended_value(row.source_size, value), flags).value,
+                flags,
             )
         }
         Op::SubAddress => {
-            keep_flags(
-                op_sub(size, old, extend(row.source_size, value), flags(sr)).value,
-                flags(sr),
+            outcome_with_flags(
+                op_sub(size, old, extended_value(row.source_size, value), flags).value,
+                flags,
             )
         }
-        Op::CmpAddress => op_cmp(size, old, extend(row.source_size, value), flags(sr)),
-        Op::Addx => op_addx(size, old, value, flags(sr)),
-        Op::Subx => op_subx(size, old, value, flags(sr)),
-        Op::Abcd => op_abcd(size, old, value, flags(sr)),
-        Op::Sbcd => op_sbcd(size, old, value, flags(sr)),
-        Op::Mulu => op_mulu(size, old, value, flags(sr)),
-        Op::Muls => op_muls(size, old, value, flags(sr)),
-        Op::Divu | Op::Divs if is_zero_word(value) => undivided(old, flags(sr)),
-        Op::Divu => op_divu(size, old, value, flags(sr)),
-        Op::Divs => op_divs(size, old, value, flags(sr)),
-        Op::Asl => op_asl(size, old, value, flags(sr)),
-        Op::Asr => op_asr(size, old, value, flags(sr)),
-        Op::Lsl => op_lsl(size, old, value, flags(sr)),
-        Op::Lsr => op_lsr(size, old, value, flags(sr)),
-        Op::Roxl => op_roxl(size, old, value, flags(sr)),
-        Op::Roxr => op_roxr(size, old, value, flags(sr)),
-        Op::Rol => op_rol(size, old, value, flags(sr)),
-        Op::Ror => op_ror(size, old, value, flags(sr)),
-        Op::ImmediateToStatus { .. } | Op::MoveToStatus { .. } | Op::Other => keep_flags(
-            0,
-            flags(sr),
+        Op::CmpAddress => op_cmp(size, old, extended_value(row.source_size, value), flags),
+        Op::Addx => op_addx(size, old, value, flags),
+        Op::Subx => op_subx(size, old, value, flags),
+        Op::Abcd => op_abcd(size, old, value, flags),
+        Op::Sbcd => op_sbcd(size, old, value, flags),
+        Op::Mulu => op_mulu(size, old, value, flags),
+        Op::Muls => op_muls(size, old, value, flags),
+        Op::Divu | Op::Divs if is_zero_word(value) => zero_divide_outcome(old, flags),
+        Op::Divu => op_divu(size, old, value, flags),
+        Op::Divs => op_divs(size, old, value, flags),
+        Op::Asl => op_asl(size, old, value, flags),
+        Op::Asr => op_asr(size, old, value, flags),
+        Op::Lsl => op_lsl(size, old, value, flags),
+        Op::Lsr => op_lsr(size, old, value, flags),
+        Op::Roxl => op_roxl(size, old, value, flags),
+        Op::Roxr => op_roxr(size, old, value, flags),
+        Op::Rol => op_rol(size, old, value, flags),
+        Op::Ror => op_ror(size, old, value, flags),
+        Op::ImmediateToStatus { .. } | Op::MoveToStatus { .. } | Op::Other => outcome_with_flags(
+            0, flags,
         ),
     }
 }
@@ -160,7 +160,7 @@ fn is_outside(bound: u32, number: u32) -> bool
 
 /// The exception that the operands make.
 #[tactic(auto, unfolding(m68k_decode::specs::RowResults::trap_by))]
-pub fn trap(traps: Traps, value: u32, old: u32) -> Option<Trap>
+pub fn operand_trap(traps: Traps, value: u32, old: u32) -> Option<Trap>
     ensures { result ≡ trap_by traps value old }
 {
     match traps {

@@ -8,7 +8,7 @@ ghost use Rattle.m68k_decode.specs.RowResults.{count_by};
 ghost use Rattle.m68k_decode.specs.RowData.{source_mode_of, dest_mode_of};
 ghost use Rattle.m68k_decode.specs.General.{is_program};
 
-use crate::status::{condition, flags};
+use crate::status::{condition, flags_of};
 use m68k_decode::{Count, Dest, Mode, Size, Source};
 
 /// The source operand; a number has none.
@@ -44,7 +44,7 @@ pub fn extended_word(word: u16) -> u32
 }
 
 /// A word with its sign as a long; a long as it is.
-pub fn extend(size: Size, value: u32) -> u32
+pub fn extended_value(size: Size, value: u32) -> u32
     ensures { result ≡ extended size value }
 {
     match size {
@@ -99,7 +99,7 @@ fn turns_before_zero(word: u32) -> u32
 
 /// The count, or the place of the outcome, with which the row's clocks are to be taken.
 #[tactic(auto, unfolding(m68k_decode::specs::RowResults::count_by))]
-pub fn count(count: Count, value: u32, sr: u16) -> u32
+pub fn clock_count(count: Count, value: u32, sr: u16) -> u32
     ensures value { result ≡ count_by count value sr }
     ensures most { result ≤ 63 }
 {
@@ -108,6 +108,6 @@ pub fn count(count: Count, value: u32, sr: u16) -> u32
         Count::Ones => ones(16, value),
         Count::Turns => turns_before_zero(value),
         Count::Shift => value % 64,
-        Count::Condition { c } => u32::from(condition(c, flags(sr))),
+        Count::Condition { c } => u32::from(condition(c, flags_of(sr))),
     }
 }

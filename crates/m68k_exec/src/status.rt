@@ -9,7 +9,7 @@ use m68k_decode::{Flags, Instr, Trap};
 
 /// Bits 4 to 0 of a status register: X, N, Z, V, C.
 #[tactic(auto, unfolding(m68k_decode::specs::Status::flags_of))]
-pub fn flags(sr: u16) -> Flags
+pub fn flags_of(sr: u16) -> Flags
     ensures { result ≡ flags_of sr }
 {
     Flags {
@@ -30,7 +30,7 @@ fn one_if(flag: bool) -> u16
 }
 
 /// The flags as the low five bits of a word.
-fn code(f: Flags) -> u16
+fn condition_code(f: Flags) -> u16
     ensures value { result
         ≡ 16 * one_if f.x + 8 * one_if f.n + 4 * one_if f.z + 2 * one_if f.v + one_if f.c }
     ensures small { result ≤ 31 }
@@ -43,7 +43,7 @@ fn code(f: Flags) -> u16
 pub fn with_flags(sr: u16, f: Flags) -> u16
     ensures { result ≡ with_flags sr f }
 {
-    sr - (sr & 31) + code(f)
+    sr - (sr & 31) + condition_code(f)
 }
 
 /// The status register with the flags of a word.
@@ -109,7 +109,7 @@ pub fn has_trace(sr: u16) -> bool
 }
 
 /// The level up to which interrupts are masked.
-pub fn mask(sr: u16) -> u8
+pub fn interrupt_mask(sr: u16) -> u8
     ensures { result ≡ mask_of sr }
 {
     ((sr >> 8) & 7) as u8

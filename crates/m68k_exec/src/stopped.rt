@@ -8,7 +8,7 @@ ghost use Rattle.m68k_exec.specs.Stands.{Stands};
 ghost use Rattle.m68k_exec.specs.Stopped.{stands_stopped};
 
 use crate::state::{Cpu, Step};
-use crate::status::mask;
+use crate::status::interrupt_mask;
 
 impl Cpu {
     /// Whether STOP has stopped it, so that nothing but an interrupt wakes it: from right behind its last
@@ -26,6 +26,6 @@ impl Cpu {
         ensures { (r : CpuRegs) (u : Under) (ws : List ℕ) → Stands self.now r u ws
             → result ≡ mask_of r.sr }
     {
-        mask(self.context.start.sr)
+        interrupt_mask(self.context.start.sr)
     }
 }

@@ -1,6 +1,6 @@
 use Rattle.std.proofs.Common.{◌≡◌}
 use Rattle.m68k_exec.specs.Meaning.{numbers_left}
-use Rattle.m68k_exec.proofs.lists.take.Given as goal
+use Rattle.m68k_exec.proofs.lists.take_number.Given as goal
 
 -- what was passed over are clear bits
 abbrev pub invariant-loop-left : goal.invariant-loop-left

@@ -2,29 +2,29 @@ use Rattle.std.proofs.Common.{◌≡◌, ◌≢◌, length, refl, sym, ◌∙◌
 use Rattle.m68k_decode.specs.Access.{End, Enter, after, idle_clocks}
 use Rattle.m68k_decode.specs.Walk.{stage, program, settled}
 use Rattle.m68k_exec.proofs.Following.{settled_end, settled_idle, settled_enter, settled_rests}
-use Rattle.m68k_exec.proofs.state.Cpu.settle.Goals as goal
+use Rattle.m68k_exec.proofs.state.Cpu.settle_access.Goals as goal
 
-pub returns-then-idle-eq0 : goal.returns-then-idle-eq0
-returns-then-idle-eq0 c = λ r u ws s.
+pub returns-then-idle_clocks-eq0 : goal.returns-then-idle_clocks-eq0
+returns-then-idle_clocks-eq0 c = λ r u ws s.
     let over : after (program r u) ws ≡ End c.in-Ended.clocks c.args.self.now.machine.regs c.in-Ended.under =
     rw (← s.same) (rw c.in-Ended.is refl) in
     let none : idle_clocks c.in-Ended.clocks (length ws) ≡ 0 =
-    sym (c.idle.ensures (length ws) s.done) ∙ c.if-idle-eq0.true in
-    rw (settled_end _ r u ws c.args.level _ _ _ over none, ← s.traced) c.end.ensures
+    sym (c.idle_clocks.ensures (length ws) s.done) ∙ c.if-idle_clocks-eq0.true in
+    rw (settled_end _ r u ws c.args.level _ _ _ over none, ← s.traced) c.pass_boundary.ensures
 
-pub returns-else-idle-eq0 : goal.returns-else-idle-eq0
-returns-else-idle-eq0 c = λ r u ws s.
+pub returns-else-idle_clocks-eq0 : goal.returns-else-idle_clocks-eq0
+returns-else-idle_clocks-eq0 c = λ r u ws s.
     let over : after (program r u) ws ≡ End c.in-Ended.clocks c.args.self.now.machine.regs c.in-Ended.under =
     rw (← s.same) (rw c.in-Ended.is refl) in
     let some : idle_clocks c.in-Ended.clocks (length ws) ≢ 0 =
-    λ e. c.if-idle-eq0.false (c.idle.ensures (length ws) s.done ∙ e) in
+    λ e. c.if-idle_clocks-eq0.false (c.idle_clocks.ensures (length ws) s.done ∙ e) in
     rw (settled_idle _ r u ws c.args.level _ _ _ over some) (record { stands = s; level = refl })
 
 pub returns-in-Broken : goal.returns-in-Broken
 returns-in-Broken c = λ r u ws s.
     let broken : after (program r u) ws ≡ Enter c.args.self.now.machine.regs c.in-Broken.under =
     rw (← s.same) (rw c.in-Broken.is refl) in
-    rw (settled_enter _ r u ws c.args.level _ _ broken) c.begin.ensures
+    rw (settled_enter _ r u ws c.args.level _ _ broken) c.start_or_replace.ensures
 
 pub returns-in_default : goal.returns-in_default
 returns-in_default c = λ r u ws s.
