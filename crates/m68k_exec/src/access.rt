@@ -5,12 +5,13 @@ ghost use Rattle.m68k_opcodes.specs.declared.operand.Size.TheVariants as S;
 ghost use Rattle.m68k_decode.specs.Access.{Prog, Enter, End};
 ghost use Rattle.m68k_decode.specs.Registers.{word32};
 ghost use Rattle.m68k_decode.specs.Results.{low};
-ghost use Rattle.m68k_decode.specs.Run.{Run, fault, finish, ended, fetch, read, read_word, write, write_word};
+ghost use Rattle.m68k_decode.specs.Places.{extensions};
+ghost use Rattle.m68k_decode.specs.Run.{Run, fault, finish, ended, fetch, place, read, read_word, write, write_word};
 ghost use Rattle.m68k_decode.specs.Run.{load, store, merged, address_after, address_before, width_of};
 ghost use Rattle.m68k_exec.specs.declared.state.Context.{Context};
-ghost use Rattle.m68k_exec.specs.Meaning.{is_memory, meaning, run_of, fetched, valued, written};
+ghost use Rattle.m68k_exec.specs.Meaning.{is_memory, meaning, run_of, fetched, valued, written, placed, role_mode, role_size};
 
-use crate::state::{Context, Machine, Part, Step, Then, Use};
+use crate::state::{Context, Machine, Part, Role, Step, Then, Use};
 use m68k_decode::{CpuRegs, Place68, Size, Trap, Under};
 
 /// Breaks off what is under way, at an access to an odd address.
@@ -80,6 +81,24 @@ pub fn fetch_word(context: &Context, machine: &mut Machine, part: Part)
         raise_address_error(context, machine, pc, true, true);
     } else {
         machine.step = Step::Fetch { part };
+    }
+}
+
+/// Asks for the extension words of an operand, of which it has one or two.
+#[tactic(auto, unfolding(m68k_decode::specs::Run::place))]
+pub fn fetch_extension(context: &Context, machine: &mut Machine, words: u8, role: Role)
+    requires some { 0 < words }
+    requires all { words
+        ≡ extensions (role_mode role context.now.fetched.instr)
+        (role_size role context.now.fetched.instr) }
+    ensures { meaning context.now machine.new
+        ≡ place (run_of context.now machine.old) (role_size role context.now.fetched.instr)
+        (role_mode role context.now.fetched.instr) (placed role context.now.fetched.instr) }
+{
+    if words == 1 {
+        fetch_word(context, machine, Part::One { role });
+    } else {
+        fetch_word(context, machine, Part::High { role });
     }
 }
 

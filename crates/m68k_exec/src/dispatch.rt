@@ -9,19 +9,22 @@ ghost use Rattle.m68k_exec.specs.Meaning.{meaning, run_of, rest, fetched, valued
 use crate::access::{end_instruction, fetch_word, finish_row, read_low_word, write_word};
 use crate::entries::{end_reset, push_frame, start_handler, take_reset_stack};
 use crate::flow::{
-    exchange_registers, fetch_own_word, finish_unlink, jump_to, move_usp, raise_exception,
-    read_resume_pc, resolve_control, resume_at, return_to, start_branch, start_control,
-    start_return, start_system_control, start_unlink, take_own_word,
+    control_mode, exchange_registers, fetch_own_word, finish_unlink, jump_to, move_usp,
+    raise_exception, read_resume_pc, resume_at, return_to, start_branch, start_control,
+    start_return, start_system_control, start_unlink, take_control_place, take_own_word,
 };
 use crate::general::{
-    compute_result, resolve_dest, resolve_source, start_general_row, take_source_value,
+    compute_result, start_general_row, take_dest_place, take_source_place, take_source_value,
 };
 use crate::lists::{
-    gather_bytes, resolve_list, scatter_bytes, store_next_register, take_register_value,
+    gather_bytes, list_mode, list_size, scatter_bytes, store_next_register, take_list_place,
+    take_register_value, without_step,
 };
+use crate::row_data::{dest_mode, source_mode};
 use crate::state::{Context, Machine, Part, Role, Step, Then, Use};
 use crate::status::needs_supervisor;
-use m68k_decode::{Instr, Trap};
+use m68k_decode::{Instr, Mode, Place68, Size, Trap};
+use m68k_ea::resolve;
 
 /// An exception in place of the instruction.
 #[tactic(auto, unfolding(m68k_decode::specs::Walk::refused))]
@@ -92,19 +95,45 @@ fn take_opcode(context: &mut Context, machine: &mut Machine, opcode: u16)
     execute_instruction(context, machine);
 }
 
-/// The place of a role is known by its words.
+/// The mode and the size of an operand.
+fn operand_of(context: &Context, role: Role) -> (Mode, Size)
+    ensures mode { result.0 ≡ role_mode role context.now.fetched.instr }
+    ensures size { result.1 ≡ role_size role context.now.fetched.instr }
+{
+    let instr = &context.fetched.instr;
+    let row = &context.fetched.row;
+    match role {
+        Role::Source => (source_mode(row.source), row.source_size),
+        Role::Dest { .. } => (dest_mode(row.dest), row.size),
+        Role::Control => (control_mode(instr), Size::Long),
+        Role::List { .. } => (without_step(list_mode(instr)), list_size(instr)),
+    }
+}
+
+/// The place of an operand is known.
+fn take_place(context: &Context, machine: &mut Machine, role: Role, place: Place68)
+    ensures { meaning context.now machine.new
+        ≡ placed role context.now.fetched.instr place (run_of context.now machine.old) }
+{
+    match role {
+        Role::Source => take_source_place(context, machine, place),
+        Role::Dest { value } => take_dest_place(context, machine, value, place),
+        Role::Control => take_control_place(context, machine, place),
+        Role::List { mask } => take_list_place(context, machine, mask, place),
+    }
+}
+
+/// The extension words of an operand are known.
+#[tactic(auto, unfolding(m68k_decode::specs::Run::at_place))]
 fn resolve_place(context: &Context, machine: &mut Machine, role: Role, pc: u32, high: u16, low: u16)
     ensures { meaning context.now machine.new
         ≡ at_place (run_of context.now machine.old) (role_mode role context.now.fetched.instr)
         (role_size role context.now.fetched.instr) pc high low
         (placed role context.now.fetched.instr) }
 {
-    match role {
-        Role::Source => resolve_source(context, machine, pc, high, low),
-        Role::Dest { value } => resolve_dest(context, machine, value, pc, high, low),
-        Role::Control => resolve_control(context, machine, pc, high, low),
-        Role::List { mask } => resolve_list(context, machine, mask, pc, high, low),
-    }
+    let (mode, size) = operand_of(context, role);
+    let place = resolve(&mode, &mut machine.regs, &[high, low], pc, size);
+    take_place(context, machine, role, place);
 }
 
 /// A word of the program is read; `pc` was its address.

@@ -14,7 +14,8 @@ ghost use Rattle.m68k_exec.specs.declared.state.Machine.{Machine};
 ghost use Rattle.m68k_exec.specs.Meaning.{meaning, run_of, written};
 
 use crate::access::{
-    address_after, address_before, fetch_word, finish_row, merged_value, read_value, write_value,
+    address_after, address_before, fetch_extension, fetch_word, finish_row, merged_value,
+    read_value, write_value,
 };
 use crate::lists::{start_byte_moves, start_list};
 use crate::row_data::extended_word;
@@ -93,7 +94,7 @@ fn take_address(context: &Context, machine: &mut Machine, at: u32)
 
 /// The place of JSR, JMP, LEA and PEA is known.
 #[tactic(auto, unfolding(m68k_decode::specs::Flow::addressed))]
-fn take_control_place(context: &Context, machine: &mut Machine, place: Place68)
+pub fn take_control_place(context: &Context, machine: &mut Machine, place: Place68)
     ensures { meaning context.now machine.new
         ≡ addressed context.now.fetched.instr place (run_of context.now machine.old) }
 {
@@ -105,7 +106,7 @@ fn take_control_place(context: &Context, machine: &mut Machine, place: Place68)
 
 /// The mode of JSR, JMP, LEA and PEA.
 #[tactic(auto, unfolding(m68k_decode::specs::Flow::control_mode))]
-fn control_mode(instr: &Instr) -> Mode
+pub fn control_mode(instr: &Instr) -> Mode
     ensures { result ≡ control_mode instr.now }
 {
     match *instr {
@@ -114,43 +115,20 @@ fn control_mode(instr: &Instr) -> Mode
     }
 }
 
-/// Goes on with the words of that mode.
-#[tactic(auto, unfolding(m68k_decode::specs::Run::at_place))]
-pub fn resolve_control(context: &Context, machine: &mut Machine, pc: u32, high: u16, low: u16)
-    ensures { meaning context.now machine.new
-        ≡ at_place (run_of context.now machine.old) (control_mode context.now.fetched.instr) S.Long
-        pc high low (λ p t. addressed context.now.fetched.instr p t) }
-{
-    let mode = control_mode(&context.fetched.instr);
-    let place = resolve(&mode, &mut machine.regs, &[high, low], pc, Size::Long);
-    take_control_place(context, machine, place);
-}
-
 /// JSR, JMP, LEA and PEA, after the opcode.
-#[tactic(auto, unfolding(m68k_decode::specs::Flow::control, m68k_decode::specs::Run::place))]
+#[tactic(auto, unfolding(m68k_decode::specs::Flow::control, m68k_decode::specs::Run::place, m68k_decode::specs::Run::at_place))]
 pub fn start_control(context: &Context, machine: &mut Machine)
     ensures { meaning context.now machine.new
         ≡ control context.now.fetched.instr (run_of context.now machine.old) }
 {
-    match extension_words(&control_mode(&context.fetched.instr), Size::Long) {
+    let mode = control_mode(&context.fetched.instr);
+    match extension_words(&mode, Size::Long) {
         0 => {
             let pc = machine.regs.pc;
-            resolve_control(context, machine, pc, 0, 0);
+            let place = resolve(&mode, &mut machine.regs, &[0, 0], pc, Size::Long);
+            take_control_place(context, machine, place);
         }
-        1 => fetch_word(
-            context,
-            machine,
-            Part::One {
-                role: Role::Control,
-            },
-        ),
-        _ => fetch_word(
-            context,
-            machine,
-            Part::High {
-                role: Role::Control,
-            },
-        ),
+        words => fetch_extension(context, machine, words, Role::Control),
     }
 }
 

@@ -1,15 +1,15 @@
 //! The rows with a source, a destination and a result.
 
 ghost use Rattle.std.specs.Prelude.{◌≡◌, ◌≤◌, false};
-ghost use Rattle.m68k_decode.specs.Run.{at_place, load, place, store};
-ghost use Rattle.m68k_decode.specs.RowData.{dest_size, source_size, source_mode, dest_mode};
+ghost use Rattle.m68k_decode.specs.Run.{load, place, store};
+ghost use Rattle.m68k_decode.specs.RowData.{dest_size, source_size, source_mode};
 ghost use Rattle.m68k_decode.specs.General.{completed, compute, with_dest, dest, with_source, general};
 ghost use Rattle.m68k_exec.specs.Meaning.{meaning, run_of};
 
-use crate::access::{end_instruction, fetch_word, held_value, read_value, store_result};
+use crate::access::{end_instruction, fetch_extension, held_value, read_value, store_result};
 use crate::operation::{operand_trap, operation, status_after, trap_ea};
-use crate::row_data::{clock_count, dest_mode, is_program, source_mode};
-use crate::state::{Context, Machine, Part, Role, Step, Use};
+use crate::row_data::{clock_count, is_program, source_mode};
+use crate::state::{Context, Machine, Role, Step, Use};
 use m68k_decode::{Dest, Place68, Source, Trap, Under};
 use m68k_ea::{extension_words, resolve};
 
@@ -111,29 +111,8 @@ pub fn take_dest_place(context: &Context, machine: &mut Machine, value: u32, pla
     }
 }
 
-/// Goes on with the words of the destination's mode.
-#[tactic(auto, unfolding(m68k_decode::specs::Run::at_place))]
-pub fn resolve_dest(
-    context: &Context,
-    machine: &mut Machine,
-    value: u32,
-    pc: u32,
-    high: u16,
-    low: u16,
-)
-    ensures { meaning context.now machine.new
-        ≡ at_place (run_of context.now machine.old) (dest_mode context.now.fetched.instr)
-        (dest_size context.now.fetched.instr) pc high low
-        (λ p t. with_dest context.now.fetched.instr value p t) }
-{
-    let mode = dest_mode(context.fetched.row.dest);
-    let size = context.fetched.row.size;
-    let place = resolve(&mode, &mut machine.regs, &[high, low], pc, size);
-    take_dest_place(context, machine, value, place);
-}
-
 /// The source is known.
-#[tactic(auto, unfolding(m68k_decode::specs::General::dest, m68k_decode::specs::Run::place))]
+#[tactic(auto, unfolding(m68k_decode::specs::General::dest, m68k_decode::specs::Run::place, m68k_decode::specs::Run::at_place))]
 pub fn take_source_value(context: &Context, machine: &mut Machine, value: u32)
     ensures { meaning context.now machine.new
         ≡ dest context.now.fetched.instr value (run_of context.now machine.old) }
@@ -142,25 +121,14 @@ pub fn take_source_value(context: &Context, machine: &mut Machine, value: u32)
         compute_result(context, machine, value, Place68::Value { value: 0 }, 0);
         return;
     };
-    match extension_words(&mode, context.fetched.row.size) {
+    let size = context.fetched.row.size;
+    match extension_words(&mode, size) {
         0 => {
             let pc = machine.regs.pc;
-            resolve_dest(context, machine, value, pc, 0, 0);
+            let place = resolve(&mode, &mut machine.regs, &[0, 0], pc, size);
+            take_dest_place(context, machine, value, place);
         }
-        1 => fetch_word(
-            context,
-            machine,
-            Part::One {
-                role: Role::Dest { value },
-            },
-        ),
-        _ => fetch_word(
-            context,
-            machine,
-            Part::High {
-                role: Role::Dest { value },
-            },
-        ),
+        words => fetch_extension(context, machine, words, Role::Dest { value }),
     }
 }
 
@@ -183,22 +151,8 @@ pub fn take_source_place(context: &Context, machine: &mut Machine, place: Place6
     }
 }
 
-/// Goes on with the words of the source's mode.
-#[tactic(auto, unfolding(m68k_decode::specs::Run::at_place))]
-pub fn resolve_source(context: &Context, machine: &mut Machine, pc: u32, high: u16, low: u16)
-    ensures { meaning context.now machine.new
-        ≡ at_place (run_of context.now machine.old) (source_mode context.now.fetched.instr)
-        (source_size context.now.fetched.instr) pc high low
-        (λ p t. with_source context.now.fetched.instr p t) }
-{
-    let mode = source_mode(context.fetched.row.source);
-    let size = context.fetched.row.source_size;
-    let place = resolve(&mode, &mut machine.regs, &[high, low], pc, size);
-    take_source_place(context, machine, place);
-}
-
 /// A row with a source, a destination and a result, after its opcode.
-#[tactic(auto, unfolding(m68k_decode::specs::General::general, m68k_decode::specs::Run::place))]
+#[tactic(auto, unfolding(m68k_decode::specs::General::general, m68k_decode::specs::Run::place, m68k_decode::specs::Run::at_place))]
 pub fn start_general_row(context: &Context, machine: &mut Machine)
     ensures { meaning context.now machine.new
         ≡ general context.now.fetched.instr (run_of context.now machine.old) }
@@ -210,12 +164,13 @@ pub fn start_general_row(context: &Context, machine: &mut Machine)
             return;
         }
     };
-    match extension_words(&mode, context.fetched.row.source_size) {
+    let size = context.fetched.row.source_size;
+    match extension_words(&mode, size) {
         0 => {
             let pc = machine.regs.pc;
-            resolve_source(context, machine, pc, 0, 0);
+            let place = resolve(&mode, &mut machine.regs, &[0, 0], pc, size);
+            take_source_place(context, machine, place);
         }
-        1 => fetch_word(context, machine, Part::One { role: Role::Source }),
-        _ => fetch_word(context, machine, Part::High { role: Role::Source }),
+        words => fetch_extension(context, machine, words, Role::Source),
     }
 }

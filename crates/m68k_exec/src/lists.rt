@@ -2,23 +2,24 @@
 
 ghost use Rattle.std.specs.Prelude.{◌≡◌, ◌≤◌, ◌<◌, ◌+◌, ◌*◌, ◌/◌};
 ghost use Rattle.m68k_decode.specs.Registers.{word32, extended_word, data_of, address_of};
-ghost use Rattle.m68k_decode.specs.Run.{at_place, place, with_regs};
+ghost use Rattle.m68k_decode.specs.Run.{place, with_regs};
 ghost use Rattle.m68k_decode.specs.RowWords.{extended};
 ghost use Rattle.m68k_decode.specs.Lists.{list_mode, list_size, is_downward, unstepped, numbers, register_of, with_register, stored_number, stored_at};
 ghost use Rattle.m68k_decode.specs.Lists.{stored_next, list_end, list_ended, stores, loads, listing, several, scatter, gathered, gather, bytes_moved, spread};
 ghost use Rattle.m68k_exec.specs.Meaning.{meaning, run_of, numbers_left, taken};
 
 use crate::access::{
-    address_after, address_before, fetch_word, finish_row, merged_value, read_value, write_value,
+    address_after, address_before, fetch_extension, finish_row, merged_value, read_value,
+    write_value,
 };
 use crate::row_data::{extended_value, extended_word, is_program, ones};
-use crate::state::{Context, Left, Machine, Part, Role, Then, Use};
+use crate::state::{Context, Left, Machine, Role, Then, Use};
 use m68k_decode::{CpuRegs, Instr, Mode, Place68, Size};
 use m68k_ea::{extension_words, resolve};
 
 /// The mode that MOVEM names.
 #[tactic(auto, unfolding(m68k_decode::specs::Lists::list_mode))]
-fn list_mode(instr: &Instr) -> Mode
+pub fn list_mode(instr: &Instr) -> Mode
     ensures { result ≡ list_mode instr.now }
 {
     match *instr {
@@ -29,7 +30,7 @@ fn list_mode(instr: &Instr) -> Mode
 
 /// The size of MOVEM.
 #[tactic(auto, unfolding(m68k_decode::specs::Lists::list_size))]
-fn list_size(instr: &Instr) -> Size
+pub fn list_size(instr: &Instr) -> Size
     ensures { result ≡ list_size instr.now }
 {
     match *instr {
@@ -48,7 +49,7 @@ fn is_downward(mode: Mode) -> bool
 
 /// The mode that gives the first address.
 #[tactic(auto, unfolding(m68k_decode::specs::Lists::unstepped))]
-fn without_step(mode: Mode) -> Mode
+pub fn without_step(mode: Mode) -> Mode
     ensures { result ≡ unstepped mode }
 {
     match mode {
@@ -245,53 +246,21 @@ pub fn take_list_place(context: &Context, machine: &mut Machine, mask: u16, plac
     }
 }
 
-/// Goes on with the words of MOVEM's mode.
-#[tactic(auto, unfolding(m68k_decode::specs::Run::at_place))]
-pub fn resolve_list(
-    context: &Context,
-    machine: &mut Machine,
-    mask: u16,
-    pc: u32,
-    high: u16,
-    low: u16,
-)
-    ensures { meaning context.now machine.new
-        ≡ at_place (run_of context.now machine.old)
-        (unstepped (list_mode context.now.fetched.instr)) (list_size context.now.fetched.instr)
-        pc high low (λ p t. listing context.now.fetched.instr mask p t) }
-{
-    let mode = without_step(list_mode(&context.fetched.instr));
-    let size = list_size(&context.fetched.instr);
-    let place = resolve(&mode, &mut machine.regs, &[high, low], pc, size);
-    take_list_place(context, machine, mask, place);
-}
-
 /// The mask of MOVEM is known.
-#[tactic(auto, unfolding(m68k_decode::specs::Lists::several, m68k_decode::specs::Run::place))]
+#[tactic(auto, unfolding(m68k_decode::specs::Lists::several, m68k_decode::specs::Run::place, m68k_decode::specs::Run::at_place))]
 pub fn start_list(context: &Context, machine: &mut Machine, mask: u16)
     ensures { meaning context.now machine.new
         ≡ several context.now.fetched.instr mask (run_of context.now machine.old) }
 {
-    let instr = context.fetched.instr;
-    match extension_words(&without_step(list_mode(&instr)), list_size(&instr)) {
+    let mode = without_step(list_mode(&context.fetched.instr));
+    let size = list_size(&context.fetched.instr);
+    match extension_words(&mode, size) {
         0 => {
             let pc = machine.regs.pc;
-            resolve_list(context, machine, mask, pc, 0, 0);
+            let place = resolve(&mode, &mut machine.regs, &[0, 0], pc, size);
+            take_list_place(context, machine, mask, place);
         }
-        1 => fetch_word(
-            context,
-            machine,
-            Part::One {
-                role: Role::List { mask },
-            },
-        ),
-        _ => fetch_word(
-            context,
-            machine,
-            Part::High {
-                role: Role::List { mask },
-            },
-        ),
+        words => fetch_extension(context, machine, words, Role::List { mask }),
     }
 }
 
