@@ -2,11 +2,12 @@
 #![tactic(auto)]
 
 ghost use Rattle.std.specs.Prelude.{◌≡◌, ◌≤◌, ◌+◌, ◌*◌, ◌%◌, length, slice_index};
-ghost use Rattle.m68k_decode.specs.Places.{extensions, step_of, after_post, after_pre, displaced, index_of, indexed, long_of, immediate_of, place_of, stepped};
-ghost use Rattle.m68k_decode.specs.Registers.{extended_word, extended_byte, address_of, with_address};
+ghost use Rattle.m68k_decode.specs.Places.{extensions, step_of, after_post, after_pre, displaced, index_of, indexed, immediate_of, place_of, stepped};
+ghost use Rattle.m68k_decode.specs.Registers.{extended_word, address_of, with_address};
 ghost use Rattle.m68k_decode.specs.declared.place.Place68.TheVariants as P;
 ghost use Rattle.m68k_opcodes.specs.declared.operand.Mode.TheVariants as M;
 
+use m68k_decode::extended_byte;
 pub use m68k_decode::{CpuRegs, Mode, Place68, Size};
 
 /// How many extension words follow the opcode for an operand.
@@ -56,7 +57,7 @@ pub fn resolve(mode: &Mode, regs: &mut CpuRegs, words: &[u16], pc: u32, size: Si
             at: extended_word(words[0]),
         },
         Mode::Long => Place68::Memory {
-            at: long(words[0], words[1]),
+            at: long_of(words[0], words[1]),
         },
         Mode::PcDisp => Place68::Memory {
             at: displacement_address(pc, words[0]),
@@ -115,7 +116,7 @@ fn index_address(regs: &CpuRegs, base: u32, word: u16) -> u32
     ensures { result ≡ indexed regs.now base word }
 {
     base.wrapping_add(index(regs, word))
-        .wrapping_add(extended_byte(word & 0xff))
+        .wrapping_add(extended_byte((word & 0xff) as u8))
 }
 
 /// The index that an extension word names: bit 15 says An, bits 14 to 12 the register, bit 11 long.
@@ -136,7 +137,7 @@ fn index(regs: &CpuRegs, word: u16) -> u32
 }
 
 /// A word with its sign as 32 bits.
-fn extended_word(word: u16) -> u32
+pub fn extended_word(word: u16) -> u32
     ensures { result ≡ extended_word word }
 {
     let word = u32::from(word);
@@ -147,21 +148,8 @@ fn extended_word(word: u16) -> u32
     }
 }
 
-/// A byte with its sign as 32 bits.
-fn extended_byte(byte: u16) -> u32
-    requires { byte ≤ 255 }
-    ensures { result ≡ extended_byte byte }
-{
-    let byte = u32::from(byte);
-    if byte < 0x80 {
-        byte
-    } else {
-        byte + 0xffff_ff00
-    }
-}
-
 /// A long of two words.
-fn long(high: u16, low: u16) -> u32
+pub fn long_of(high: u16, low: u16) -> u32
     ensures { result ≡ high * 65536 + low }
 {
     u32::from(high) * 0x1_0000 + u32::from(low)
@@ -175,6 +163,6 @@ fn immediate(words: &[u16], size: Size) -> u32
     match size {
         Size::Byte => u32::from(words[0] & 0xff),
         Size::Word => u32::from(words[0]),
-        Size::Long => long(words[0], words[1]),
+        Size::Long => long_of(words[0], words[1]),
     }
 }

@@ -24,7 +24,7 @@ use crate::row_data::{dest_mode, source_mode};
 use crate::state::{Context, Machine, Part, Role, Step, Then, Use};
 use crate::status::needs_supervisor;
 use m68k_decode::{Instr, Mode, Place68, Size, Trap};
-use m68k_ea::resolve;
+use m68k_ea::{long_of, resolve};
 
 /// An exception in place of the instruction.
 #[tactic(auto, unfolding(m68k_decode::specs::Walk::refused))]
@@ -177,13 +177,6 @@ fn byte_at(at: u32, word: u16) -> u32
 {
     let byte = if at & 1 == 1 { word & 0xff } else { word >> 8 };
     u32::from(byte)
-}
-
-/// A long of two words.
-fn long_of(high: u16, low: u16) -> u32
-    ensures { result ≡ high * 65536 + low }
-{
-    u32::from(high) * 0x1_0000 + u32::from(low)
 }
 
 /// A value is read.

@@ -12,10 +12,10 @@ use crate::access::{
     address_after, address_before, fetch_extension, finish_row, merged_value, read_value,
     write_value,
 };
-use crate::row_data::{extended_value, extended_word, is_program, ones};
+use crate::row_data::{extended_value, is_program, ones};
 use crate::state::{Context, Left, Machine, Role, Then, Use};
 use m68k_decode::{CpuRegs, Instr, Mode, Place68, Size};
-use m68k_ea::{extension_words, resolve};
+use m68k_ea::{extended_word, extension_words, resolve};
 
 /// The mode that MOVEM names.
 #[tactic(auto, unfolding(m68k_decode::specs::Lists::list_mode))]

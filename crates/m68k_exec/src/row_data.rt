@@ -2,7 +2,6 @@
 
 ghost use Rattle.std.specs.Prelude.{◌≡◌, ◌≤◌, ◌<◌, ◌+◌, ◌*◌, ◌/◌, ◌%◌};
 ghost use Rattle.m68k_opcodes.specs.declared.operand.Size.TheVariants as S;
-ghost use Rattle.m68k_decode.specs.Registers.{extended_word};
 ghost use Rattle.m68k_decode.specs.RowWords.{extended, ones, turns};
 ghost use Rattle.m68k_decode.specs.RowResults.{count_by};
 ghost use Rattle.m68k_decode.specs.RowData.{source_mode_of, dest_mode_of};
@@ -10,6 +9,7 @@ ghost use Rattle.m68k_decode.specs.General.{is_program};
 
 use crate::status::{condition, flags_of};
 use m68k_decode::{Count, Dest, Mode, Size, Source};
+use m68k_ea::extended_word;
 
 /// The source operand; a number has none.
 pub fn source_mode(source: Source) -> Mode
@@ -28,18 +28,6 @@ pub fn dest_mode(dest: Dest) -> Mode
     match dest {
         Dest::Nothing => Mode::Imm,
         Dest::Operand { mode } => mode,
-    }
-}
-
-/// A word with its sign as 32 bits.
-pub fn extended_word(word: u16) -> u32
-    ensures { result ≡ extended_word word }
-{
-    let word = u32::from(word);
-    if word < 0x8000 {
-        word
-    } else {
-        word + 0xffff_0000
     }
 }
 
