@@ -24,3 +24,4 @@ pub use logic::{op_and, op_clr, op_eor, op_ext, op_move, op_not, op_or, op_swap,
 pub use products::{op_divs, op_divu, op_muls, op_mulu};
 pub use rotations::{op_rol, op_ror, op_roxl, op_roxr};
 pub use shifts::{op_asl, op_asr, op_lsl, op_lsr};
+pub use size::low_part;

@@ -17,7 +17,7 @@ pub(crate) fn bit_count(size: Size) -> u32
 }
 
 /// The number cut to the size.
-pub(crate) fn low_part(size: Size, number: u32) -> u32
+pub fn low_part(size: Size, number: u32) -> u32
     ensures { result ≡ low size number }
 {
     match size {

@@ -4,7 +4,6 @@ ghost use Rattle.std.specs.Prelude.{◌≡◌, ◌≤◌, ◌<◌, ◌+◌, ◌*
 ghost use Rattle.m68k_opcodes.specs.declared.operand.Size.TheVariants as S;
 ghost use Rattle.m68k_decode.specs.Access.{Prog, Enter, End};
 ghost use Rattle.m68k_decode.specs.Registers.{word32};
-ghost use Rattle.m68k_decode.specs.Results.{low};
 ghost use Rattle.m68k_decode.specs.Places.{extensions};
 ghost use Rattle.m68k_decode.specs.Run.{Run, fault, finish, ended, fetch, place, read, read_word, write, write_word};
 ghost use Rattle.m68k_decode.specs.Run.{load, store, merged, address_after, address_before, width_of};
@@ -12,6 +11,7 @@ ghost use Rattle.m68k_exec.specs.declared.state.Context.{Context};
 ghost use Rattle.m68k_exec.specs.Meaning.{is_memory, meaning, run_of, fetched, valued, written, placed, role_mode, role_size};
 
 use crate::state::{Context, Machine, Part, Role, Step, Then, Use};
+use m68k_alu::low_part;
 use m68k_decode::{CpuRegs, Place68, Size, Trap, Under};
 
 /// Breaks off what is under way, at an access to an odd address.
@@ -209,17 +209,6 @@ pub fn held_value(regs: &CpuRegs, size: Size, place: Place68) -> u32
         Place68::Address { reg } => low_part(size, regs.address(reg)),
         Place68::Value { value } => low_part(size, value),
         Place68::Memory { .. } => 0,
-    }
-}
-
-/// A number cut to a size.
-pub fn low_part(size: Size, number: u32) -> u32
-    ensures { result ≡ low size number }
-{
-    match size {
-        Size::Byte => number & 0xff,
-        Size::Word => number & 0xffff,
-        Size::Long => number,
     }
 }
 
