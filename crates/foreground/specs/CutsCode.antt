@@ -1,5 +1,5 @@
 -- What ends a band, and what gathering for a read of CLXDAT gives.
-use Rattle.std.specs.Prelude.{◌≡◌, ◌≤◌, ◌-◌, false, ℕ, [], bit_or, Option, IsSome}
+use Rattle.std.specs.Prelude.{◌≡◌, ◌≤◌, ◌-◌, Bool, false, ℕ, [], bit_or, Option, IsSome, Result, IfOk, OnErr}
 use Rattle.out_files.specs.OutFiles.{OutFilesValue}
 use Rattle.serial_model.specs.declared.picture.Denise.{Denise}
 use Rattle.serial_model.specs.Beam.{is_line_start}
@@ -10,6 +10,7 @@ use Rattle.foreground.specs.Log.{IsLogOf, IsEnding, IsCut}
 use Rattle.foreground.specs.Gathered.{Fits, HasGatheredTo}
 use Rattle.foreground.specs.Clock.{HasGiven, HasGivenPart}
 use Rattle.foreground.specs.Fore.{ForeValue}
+use Rattle.foreground.specs.Steps.{ReadsBits, ReadsPart, KeepsClock}
 
 -- right before the picture step of a clock: the log stands there, and outstanding are the bands from clock `first` on
 pub record StandsBefore (to first : ℕ) (fore : ForeValue) (seen : RasterValue) : Type 0 where
@@ -69,3 +70,11 @@ EndsPartAtRead to old seen after out given =
 -- depends on its clock.)
 abbrev pub IsClockBefore : RunValue → ℕ → ℕ → Type 0
 IsClockBefore run to h = is_line_start (beam_at run to) ≡ false → h ≡ (beam_at run (to - 1)).h
+
+-- CLXDAT is read within a clock: the bits that the read sees, or, where memory was wanted, a part of the pixels of outstanding bands
+pub record ReadsClxdat {E : Type 0} (shown : Bool) (old new : ForeValue) (seen after : RasterValue) (out given : OutFilesValue)
+    (result : Result ℕ E) : Type 0 where
+  pub bits : IfOk result (λ clx. ReadsBits shown old new clx seen after out given)
+  pub part : OnErr result (ReadsPart shown old seen after out given)
+  pub kept : KeepsClock old new
+  pub reads : new.machine.chip.reads ≡ old.machine.chip.reads

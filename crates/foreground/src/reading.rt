@@ -1,8 +1,9 @@
 //! Reads of CLXDAT: the collision bits of all bands up to the read are gathered.
 
 ghost use Rattle.std.specs.Prelude.{◌≡◌, ◌-◌, true, false, IfOk, IsErr, OnOk, OnErr};
+ghost use Rattle.foreground.specs.CutsCode.{ReadsClxdat};
 ghost use Rattle.foreground.specs.Fore.{over};
-ghost use Rattle.foreground.specs.Steps.{StandsBeforeRead, ReadsBits, ReadsPart, KeepsClock};
+ghost use Rattle.foreground.specs.Steps.{StandsBeforeRead, ReadsBits, ReadsPart};
 
 use crate::fore::Fore;
 use crate::gather::gather_all;
@@ -57,13 +58,8 @@ impl<S: Side> Fore<S> {
         out: &mut OutFiles,
     ) -> Result<u16, OutOfMemory>
         requires { StandsBeforeRead shown (over S.seen self.old) (Q.seen raster.old) }
-        ensures bits { IfOk result (λ clx. ReadsBits shown (over S.seen self.old)
-            (over S.seen self.new) clx
-            (Q.seen raster.old) (Q.seen raster.new) out.old out.new) }
-        ensures part { OnErr result (ReadsPart shown (over S.seen self.old)
-            (Q.seen raster.old) (Q.seen raster.new) out.old out.new) }
-        ensures kept { KeepsClock (over S.seen self.old) (over S.seen self.new) }
-        ensures reads { self.new.machine.chip.reads ≡ self.old.machine.chip.reads }
+        ensures { ReadsClxdat shown (over S.seen self.old) (over S.seen self.new)
+            (Q.seen raster.old) (Q.seen raster.new) out.old out.new result }
     {
         if shown {
             self.read_by_access(raster, out)
@@ -79,13 +75,8 @@ impl<S: Side> Fore<S> {
         out: &mut OutFiles,
     ) -> Result<u16, OutOfMemory>
         requires { StandsBeforeRead true (over S.seen self.old) (Q.seen raster.old) }
-        ensures bits { IfOk result (λ clx. ReadsBits true (over S.seen self.old)
-            (over S.seen self.new) clx
-            (Q.seen raster.old) (Q.seen raster.new) out.old out.new) }
-        ensures part { OnErr result (ReadsPart true (over S.seen self.old)
-            (Q.seen raster.old) (Q.seen raster.new) out.old out.new) }
-        ensures kept { KeepsClock (over S.seen self.old) (over S.seen self.new) }
-        ensures reads { self.new.machine.chip.reads ≡ self.old.machine.chip.reads }
+        ensures { ReadsClxdat true (over S.seen self.old) (over S.seen self.new)
+            (Q.seen raster.old) (Q.seen raster.new) out.old out.new result }
     {
         let _height = self.run.height();
         let to = self.machine.t + 1;
@@ -102,13 +93,8 @@ impl<S: Side> Fore<S> {
         out: &mut OutFiles,
     ) -> Result<u16, OutOfMemory>
         requires { StandsBeforeRead false (over S.seen self.old) (Q.seen raster.old) }
-        ensures bits { IfOk result (λ clx. ReadsBits false (over S.seen self.old)
-            (over S.seen self.new) clx
-            (Q.seen raster.old) (Q.seen raster.new) out.old out.new) }
-        ensures part { OnErr result (ReadsPart false (over S.seen self.old)
-            (Q.seen raster.old) (Q.seen raster.new) out.old out.new) }
-        ensures kept { KeepsClock (over S.seen self.old) (over S.seen self.new) }
-        ensures reads { self.new.machine.chip.reads ≡ self.old.machine.chip.reads }
+        ensures { ReadsClxdat false (over S.seen self.old) (over S.seen self.new)
+            (Q.seen raster.old) (Q.seen raster.new) out.old out.new result }
     {
         let to = self.machine.t;
         if self.log.band.from < to {

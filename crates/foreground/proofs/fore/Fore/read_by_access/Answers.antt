@@ -1,5 +1,5 @@
 -- The band ends behind the clock, and all are gathered.
-use Rattle.std.proofs.Common.{◌≡◌, ◌+◌, ◌-◌, ◌<◌, ◌^◌, subst, sym, arith, ap}
+use Rattle.std.proofs.Common.{rules, ◌≡◌, ◌+◌, ◌-◌, ◌<◌, ◌^◌, subst, sym, arith, ap}
 use Rattle.ocs_io.proofs.MapLaws.{on_err}
 use Rattle.ocs_base.specs.declared.beam.Beam.{Beam}
 use Rattle.serial_bands.specs.Run.{run_over, beam_at}
@@ -35,18 +35,21 @@ end_at_read-requires g c =
           c.shown_behind-shown.ensures;
     }
 
-pub returns-clause-bits : goal.returns-clause-bits
-returns-clause-bits g c =
+pub returns : goal.returns
+returns g c =
     let seen = g.Q.Raster.seen in
-    access_taken _ (over g.S.Side.seen c.args.self.now) (over g.S.Side.seen c.end_at_read.new.self) (over g.S.Side.seen c.take_bits.new.self)
+    let bits = access_taken _ (over g.S.Side.seen c.args.self.now) (over g.S.Side.seen c.end_at_read.new.self) (over g.S.Side.seen c.take_bits.new.self)
     (seen c.args.raster.now) (seen c.end_at_read.new.raster)
     c.args.out.now c.end_at_read.new.out c.take_bits.result (ap (over g.S.Side.seen) c.self.view_is) c.requires.2 c.in_ok-end_at_read.ensures.ends
-    (ap (over g.S.Side.seen) c.take_bits.ensures.same) c.take_bits.ensures.bits
+    (ap (over g.S.Side.seen) c.take_bits.ensures.same) c.take_bits.ensures.bits in
+    search (rules, bits)
 
-pub returns-in_err-end_at_read-clause-part : goal.returns-in_err-end_at_read-clause-part
-returns-in_err-end_at_read-clause-part g c =
+pub returns-in_err-end_at_read : goal.returns-in_err-end_at_read
+returns-in_err-end_at_read g c =
     let seen = g.Q.Raster.seen in
-    on_err c.from_residual.result
+    let part = on_err c.from_residual.result
     (AccessesPart (over g.S.Side.seen c.args.self.now) (seen c.args.raster.now) (seen c.end_at_read.new.raster) c.args.out.now c.end_at_read.new.out)
-    (access_part_now _ (over g.S.Side.seen c.args.self.now) (seen c.args.raster.now) (seen c.end_at_read.new.raster) c.args.out.now c.end_at_read.new.out
-    (ap (over g.S.Side.seen) c.self.view_is) c.requires.2 c.in_err-end_at_read.ensures.part)
+    (access_part_now _ (over g.S.Side.seen c.args.self.now) (seen c.args.raster.now) (seen c.end_at_read.new.raster) c.args.out.now
+    c.end_at_read.new.out
+    (ap (over g.S.Side.seen) c.self.view_is) c.requires.2 c.in_err-end_at_read.ensures.part) in
+    search (rules, part)
