@@ -589,3 +589,19 @@ pub answer_is : (b : Beam) (clx : ℕ) (memory : List ℕ) (ask : Ask) (mid new 
     → ask ≡ ask_at side b c → HasAccessed side b clx c memory made new
 answer_is b clx memory ask mid new made answered side c time asked same =
     answer_found side b clx memory mid new made c time (subst (λ a. HasAnswered b clx memory a mid new made) same answered) asked
+
+-- the fetches had their steps, where the sprites are told whether a plane has the slot
+pub fetched_by_steps : (b : Beam) (old mid : WorkingChips) (moved : Registers) (plane : Option PlaneAsk) (sprite : Option SpriteAsk) → IsLastUnit mid.last
+    → ((units : List ℕ) → old.last ≡ last_unit units → mid.last ≡ last_unit (units_at b old.registers units))
+    → plane ≡ plane_ask b.h old.registers mid.last → moved ≡ move_planes b.h mid.last old.registers → mid.kinds ≡ kinds_at b moved old.kinds
+    → sprite ≡ sprite_ask b.h moved mid.kinds (is_some plane) → mid.registers ≡ move_sprites b.h mid.kinds (is_some plane) moved
+    → mid ≡ record old { registers = mid.registers; last = mid.last; kinds = mid.kinds } → HasFetched b old mid plane sprite
+fetched_by_steps b old mid moved plane sprite begun units asks moves kinds sprites registers rest = record {
+  begun = begun;
+  units = units;
+  plane_ask = asks;
+  kinds = kinds ∙ ap (λ r. kinds_at b r old.kinds) moves;
+  sprite_ask = sprites ∙ ap (λ r. sprite_ask b.h r mid.kinds (is_some plane)) moves;
+  moved = registers ∙ ap (λ r. move_sprites b.h mid.kinds (is_some plane) r) moves;
+  rest = rest;
+}

@@ -27,9 +27,12 @@ use Rattle.serial_model.specs.declared.fetch.SpriteAsk.{SpriteAsk}
 use Rattle.serial_model.specs.declared.fetch.SpriteAsk.TheVariants.{Control, Words}
 use Rattle.serial_model.specs.declared.fetch.SpriteKind.{SpriteKind}
 use Rattle.serial_model.specs.declared.registers.Inputs.{Inputs}
+use Rattle.chip_set.specs.declared.late.LateOwner.{LateOwner}
+use Rattle.chip_set.specs.declared.late.LateOwner.TheVariants as L
 use Rattle.mem_versions.specs.Chip.{ChipValue, after_reads}
 use Rattle.serial_bands.specs.BusReads.{reads_of_processor}
 use Rattle.serial_model.specs.Bus.{Wishes, copper_wish, plane_wish, units_now, kinds_now, slot_state, owner_ask, copper_runs}
+use Rattle.serial_model.specs.Bus.{copper_ask, blit_owner_ask, processor_ask}
 use Rattle.serial_model.specs.Bus.{copper_word, copper_after, missed_after, ask_at, answer_processor, answer_to, answer_chips, give_blit}
 use Rattle.serial_model.specs.Bus.{give_chips, end_blit, made_by_copper, made_by_processor, made_by_sprite, made_by_ask, answer_blit}
 use Rattle.serial_model.specs.BlitRegisters.{blit_start}
@@ -37,6 +40,8 @@ use Rattle.irq_cia.specs.Interrupts.{Interrupts}
 use Rattle.serial_model.specs.Copper.{copper_act}
 use Rattle.serial_model.specs.Made.{word_of}
 use Rattle.serial_model.specs.Owner.{owner_of}
+use Rattle.serial_model.specs.declared.slots.Owner.{Owner}
+use Rattle.serial_model.specs.declared.slots.Owner.TheVariants.{Refresh, Disk, Audio, Plane, Sprite, Copper, Blitter, Processor, Free}
 use Rattle.serial_model.specs.PlaneFetch.{last_unit, IsLastUnit, move_planes}
 use Rattle.serial_model.specs.Processor.{reset_processor}
 use Rattle.serial_model.specs.Registers.{Registers, no_registers, blitter_dma, is_danger}
@@ -113,6 +118,39 @@ wishes_with side b plane sprite blit processor c =
 unfoldable pub ask_with : SideAsk → Beam → Option PlaneAsk → Option SpriteAsk → Option SlotAsk → Option ProcessorAsk → Chips → Ask
 ask_with side b plane sprite blit processor c =
     owner_ask (owner_of (slot_state b c (wishes_with side b plane sprite blit processor c))) (wishes_with side b plane sprite blit processor c)
+
+-- the ask of a clock for whose slot neither the side nor a plane nor a sprite asks
+abbrev pub late_ask : Beam → WorkingChips → Ask
+late_ask b now = ask_with S.Nothing b None None (kept_wish now) (wish_shown now.processor) (plain_chips now)
+
+-- the ask of a clock, where planes and sprites ask for this, and else the Copper, the blitter and the processor may
+abbrev pub ask_or_late : Option Ask → Beam → WorkingChips → Ask
+ask_or_late None b now = late_ask b now
+ask_or_late (Some ask) b now = ask
+
+-- who of those has its slot
+abbrev pub late_by : Owner → LateOwner
+late_by Refresh = L.Nobody
+late_by Disk = L.Nobody
+late_by (Audio channel) = L.Nobody
+late_by (Plane plane) = L.Nobody
+late_by (Sprite sprite) = L.Nobody
+late_by Copper = L.Copper
+late_by Blitter = L.Blitter
+late_by Processor = L.Processor
+late_by Free = L.Nobody
+
+abbrev pub late_owner_of : Beam → WorkingChips → LateOwner
+late_owner_of b now =
+    late_by (owner_of (slot_state b (plain_chips now)
+    (wishes_with S.Nothing b None None (kept_wish now) (wish_shown now.processor) (plain_chips now))))
+
+-- what each of them asks for
+abbrev pub ask_of_late : LateOwner → Beam → WorkingChips → Ask
+ask_of_late L.Copper b now = copper_ask (copper_wish b (plain_chips now))
+ask_of_late L.Blitter b now = blit_owner_ask (kept_wish now)
+ask_of_late L.Processor b now = processor_ask (wish_shown now.processor)
+ask_of_late L.Nobody b now = A.Free
 
 -- an ask of the blitter is what the blit asks for, and no end
 abbrev pub IsBlitAsk : Ask → Option SlotAsk → Type 0

@@ -15,7 +15,7 @@ ghost use Rattle.serial_model.specs.Write.{write_chips, carry_effect, restart_co
 ghost use Rattle.serial_model.specs.Tick.{start_chips};
 ghost use Rattle.serial_model.specs.Events.{tell_chips, with_joy, with_fire};
 ghost use Rattle.cpu_bus.specs.Bus.{wish_shown};
-ghost use Rattle.chip_set.specs.Chips.{IsChipsOf, HasAsked, HasAccessed, CanAsk, CanDo, plain_chips, kept_wish, ask_with};
+ghost use Rattle.chip_set.specs.Chips.{IsChipsOf, HasAsked, HasAccessed, CanAsk, CanDo, plain_chips, kept_wish, ask_with, ask_or_late};
 ghost use Rattle.chip_set.specs.Chips.{act_at, IsAnswer, IsRead, reads_by_chips, reads_of_blit, read_by, IsBlitAsk};
 ghost use Rattle.chip_set.specs.Chips.{AnswersOwner, answering, made_with, GivesBlit, GivesProcessor, IsGoing, end_if_blit};
 
@@ -324,6 +324,29 @@ impl Chips {
         self.owner_ask(beam, side, Some(wish), sprite)
     }
 
+    /// The same without a side, and of planes and sprites alone: None where none of them asks, and then the
+    /// Copper, the blitter and the processor may (`late_owner`). So an owner has a way of its own through the
+    /// clock, and no ask is put in memory.
+    #[inline(always)]
+    pub fn early_ask(&mut self, beam: &Beam) -> Option<Ask>
+        ensures ask { (c : ChipsOf) → IsChipsOf self.old c
+            → ask_or_late result beam.now self.new ≡ ask_at SideAsk.Nothing beam.now c }
+        ensures chips { (c : ChipsOf) → IsChipsOf self.old c → HasAsked beam.now c self.new }
+        ensures able { CanAsk (ask_or_late result beam.now self.new) }
+        ensures wish { IsBlitAsk (ask_or_late result beam.now self.new) (kept_wish self.new) }
+    {
+        let plane = self.fetcher.step(beam, &mut self.registers);
+        let Some(wish) = plane else {
+            let sprite = self.sprites.step(beam, &mut self.registers, false);
+            if sprite.is_none() {
+                return None;
+            }
+            return Some(self.chips_ask(beam, None, sprite));
+        };
+        let sprite = self.sprites.step(beam, &mut self.registers, true);
+        Some(self.chips_ask(beam, Some(wish), sprite))
+    }
+
     /// The access of this clock, by what `ask` said of it: the owner of the slot has its word, and
     /// each chip its answer. The answer is what the access makes: a write by Copper or processor,
     /// or of a sprite's control word, a word that is stored, a word for a plane's latch or a
@@ -440,7 +463,7 @@ impl Chips {
     /// What the owner of a slot asks for in which neither the side nor a plane nor a sprite asks.
     #[inline(always)]
     #[tactic(auto, unfolding(crate::specs::Chips::ask_with, serial_model::specs::Owner::owner_of))]
-    fn late_ask(&self, beam: &Beam) -> Ask
+    pub fn late_ask(&self, beam: &Beam) -> Ask
         ensures { result ≡ ask_with SideAsk.Nothing beam.now None None (kept_wish self.now)
             (wish_shown self.now.processor) (plain_chips self.now) }
     {
@@ -516,6 +539,7 @@ impl Chips {
     }
 
     /// The processor asked and another has the slot, once more in a row; or it has the slot, or did not ask.
+    #[inline(always)]
     fn count_missed(&mut self, ask: &Ask)
         ensures { self.new ≡ record self.old {
           missed = missed_after (wish_shown self.old.processor) ask.now self.old.missed;
@@ -529,7 +553,7 @@ impl Chips {
     }
 
     /// Whether the blitter asks for the slot: a blit is under way, and the blitter's DMA is on.
-    fn has_blitter_wish(&self) -> bool
+    pub(crate) fn has_blitter_wish(&self) -> bool
         ensures { result ≡ is_some (kept_wish self.now) }
     {
         self.blit.is_some() && self.has_blitter_dma()
@@ -537,7 +561,7 @@ impl Chips {
 
     /// What the blitter asks for.
     #[inline(always)]
-    fn blit_ask(&self) -> Ask
+    pub fn blit_ask(&self) -> Ask
         ensures { result ≡ blit_owner_ask (kept_wish self.now) }
     {
         if !self.has_blitter_dma() {
@@ -636,7 +660,7 @@ impl Chips {
     }
 
     /// The address of the word that the Copper asks for at this clock.
-    fn copper_wish(&self, beam: &Beam) -> Option<Addr>
+    pub fn copper_wish(&self, beam: &Beam) -> Option<Addr>
         ensures { result ≡ wish_of beam.now (plain_chips self.now) }
     {
         if self.copper_runs(beam) {
@@ -667,7 +691,7 @@ impl Chips {
     }
 
     /// Whether BLTPRI is set.
-    fn is_nasty(&self) -> bool
+    pub(crate) fn is_nasty(&self) -> bool
         ensures { result ≡ blitter_first self.now.registers }
     {
         self.registers.word(Reg::masked(DMACON)) & BLTPRI == BLTPRI

@@ -4,6 +4,7 @@
 mod asks;
 mod blit_registers;
 mod chips;
+mod late;
 pub mod laws;
 mod quiet;
 mod turn;
@@ -11,3 +12,4 @@ mod turn;
 pub use asks::is_clx_ask;
 pub use bitplane_dma::FetchRules;
 pub use chips::Chips;
+pub use late::LateOwner;

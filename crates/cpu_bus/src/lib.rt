@@ -69,6 +69,7 @@ impl BusCpu {
 
     /// What it asks for in the slot of this clock: an access to memory or to a register asks at
     /// each clock but its first, until it is given.
+    #[inline(always)]
     #[tactic(auto, unfolding(serial_model::specs::Processor::processor_wish))]
     pub fn wish(&self) -> Option<ProcessorAsk>
         ensures shown { result ≡ wish_shown self.now }

@@ -1,13 +1,11 @@
 //! One colour clock.
 
-ghost use Rattle.std.specs.Prelude.{◌≡◌, ◌+◌, ◌<◌, ◌^◌, ℕ, Bool, true, false, IfOk, OnOk, OnErr};
+ghost use Rattle.std.specs.Prelude.{◌≡◌, ◌+◌, ◌<◌, ◌^◌, ℕ, Bool, false, OnOk, OnErr};
 ghost use Rattle.serial_model.specs.Beam.{IsOnScreen, next_place};
 ghost use Rattle.serial_model.specs.Events.{due_events, touches_of};
 ghost use Rattle.serial_bands.specs.Bands.{has_clx_read};
-ghost use Rattle.serial_bands.specs.BusReads.{bus_reads, reads_of_ask};
-ghost use Rattle.chip_set.specs.AskLaws.{is_clx_ask as is_clx_asked};
-ghost use Rattle.chip_set.specs.Chips.{CanAsk, IsBlitAsk, kept_wish};
-ghost use Rattle.band_log.specs.Raster.{RasterValue};
+ghost use Rattle.serial_bands.specs.BusReads.{bus_reads};
+ghost use Rattle.chip_set.specs.Chips.{CanAsk, IsBlitAsk, kept_wish, ask_or_late};
 ghost use Rattle.foreground.specs.Out.{GivesLines};
 ghost use Rattle.foreground.specs.Machine.{KeepsPlace};
 ghost use Rattle.foreground.specs.MachineStepsCode.{AsksInTime};
@@ -15,14 +13,12 @@ ghost use Rattle.foreground.specs.Log.{with_script_touches};
 ghost use Rattle.foreground.specs.Script.{IsMachine, MakesEvents};
 ghost use Rattle.foreground.specs.Clock.{Rises};
 ghost use Rattle.foreground.specs.Fore.{over, HasScript, IsUnderway, Advances, GivesPart, is_done, looked_up};
-ghost use Rattle.foreground.specs.Steps.{IsLoggedBefore, HasScriptBehind, RunsEvents, KeepsClock};
-ghost use Rattle.foreground.specs.Steps.{HasAskedNow, MakesAskedAccess, AccessesPart, EndsClock, reads_more};
+ghost use Rattle.foreground.specs.Steps.{HasScriptBehind, RunsEvents};
+ghost use Rattle.foreground.specs.Steps.{EndsClock};
 
 use crate::fore::Fore;
 use crate::script::{reads_clxdat, run_script};
-use crate::touches::touch_of;
 use band_log::{Cursor, Raster};
-use chip_set::is_clx_ask;
 use ocs_base::OutOfMemory;
 use out_files::OutFiles;
 use serial_model::{Ask, Side};
@@ -57,7 +53,7 @@ impl<S: Side> Fore<S> {
         let clx = self.begin_clock(raster, out)?;
         self.run_to_timers(clx, out)?;
         let ask = self.ask();
-        self.access(&ask, raster, out)?;
+        self.access_alone(ask, raster, out)?;
         self.end_clock(out)
     }
 
@@ -92,11 +88,13 @@ impl<S: Side> Fore<S> {
 
     /// The third and the fourth, and the ask of the slot's owner.
     #[inline(always)]
-    pub(crate) fn ask(&mut self) -> Ask
-        ensures asks { AsksInTime result (over S.seen self.old).machine
-            (over S.seen self.new).machine }
-        ensures able { CanAsk result }
-        ensures wish { IsBlitAsk result (kept_wish self.new.machine.chips) }
+    pub(crate) fn ask(&mut self) -> Option<Ask>
+        ensures asks { AsksInTime (ask_or_late result self.new.machine.beam self.new.machine.chips)
+            (over S.seen self.old).machine (over S.seen self.new).machine }
+        ensures able { CanAsk
+            (ask_or_late result self.new.machine.beam self.new.machine.chips) }
+        ensures wish { IsBlitAsk (ask_or_late result self.new.machine.beam self.new.machine.chips)
+            (kept_wish self.new.machine.chips) }
         ensures same { self.new ≡ record self.old { machine = self.new.machine } }
         ensures chip { self.new.machine.chip ≡ self.old.machine.chip }
     {
@@ -142,116 +140,6 @@ impl<S: Side> Fore<S> {
         )?;
         let next = events.len() - left.len();
         self.cursor = Cursor { next };
-        Ok(())
-    }
-
-    /// Fifth step: the access, once the chips have asked.
-    #[inline(always)]
-    pub(crate) fn access<Q: Raster<S>>(
-        &mut self,
-        ask: &Ask,
-        raster: &mut Q,
-        out: &mut OutFiles,
-    ) -> Result<(), OutOfMemory>
-        requires logged { (first : ℕ) × IsLoggedBefore (over S.seen self.old) first
-            (Q.seen raster.old) }
-        requires asked { HasAskedNow ask.now (over S.seen self.old) }
-        requires able { CanAsk ask.now }
-        requires wish { IsBlitAsk ask.now (kept_wish self.old.machine.chips) }
-        requires room { self.old.machine.t + 1 < 2 ^ 64 }
-        ensures makes { OnOk result (MakesAskedAccess (over S.seen self.old)
-            (over S.seen self.new)
-            (Q.seen raster.old) (Q.seen raster.new) out.old out.new) }
-        ensures part { OnErr result (AccessesPart (over S.seen self.old)
-            (Q.seen raster.old) (Q.seen raster.new) out.old out.new) }
-        ensures kept { KeepsClock (over S.seen self.old) (over S.seen self.new) }
-        ensures reads { self.new.machine.chip.reads ≡ reads_more
-            (reads_of_ask ask.now) self.old.machine.chip.reads }
-    {
-        if is_clx_ask(ask) {
-            return self.access_clxdat(ask, raster, out);
-        }
-        self.access_asked(ask, out)
-    }
-
-    /// The access, which does not read CLXDAT. The owners of most clocks stand
-    /// apart: what follows is then that of the one owner.
-    #[inline(always)]
-    fn access_asked(&mut self, ask: &Ask, out: &mut OutFiles) -> Result<(), OutOfMemory>
-        requires logged { (first : ℕ) × (seen : RasterValue) × IsLoggedBefore
-            (over S.seen self.old) first seen }
-        requires asked { HasAskedNow ask.now (over S.seen self.old) }
-        requires quiet { is_clx_asked ask.now ≡ false }
-        requires able { CanAsk ask.now }
-        requires wish { IsBlitAsk ask.now (kept_wish self.old.machine.chips) }
-        requires room { self.old.machine.t + 1 < 2 ^ 64 }
-        ensures makes { OnOk result ((seen : RasterValue) → MakesAskedAccess
-            (over S.seen self.old) (over S.seen self.new) seen seen out.old out.new) }
-        ensures part { OnErr result ((seen : RasterValue) → AccessesPart
-            (over S.seen self.old) seen seen out.old out.new) }
-        ensures kept { KeepsClock (over S.seen self.old) (over S.seen self.new) }
-        ensures reads { self.new.machine.chip.reads ≡ reads_more
-            (reads_of_ask ask.now) self.old.machine.chip.reads }
-    {
-        match *ask {
-            Ask::Free => self.make_access(&Ask::Free, out),
-            Ask::Plane { ask } => self.make_access(&Ask::Plane { ask }, out),
-            Ask::Sprite { ask } => self.make_access(&Ask::Sprite { ask }, out),
-            Ask::Copper { at } => self.make_access(&Ask::Copper { at }, out),
-            Ask::Blit { ask } => self.make_access(&Ask::Blit { ask }, out),
-            Ask::Processor { ask } => self.make_access(&Ask::Processor { ask }, out),
-            other => self.make_access(&other, out),
-        }
-    }
-
-    /// The access of one owner.
-    #[inline(always)]
-    fn make_access(&mut self, ask: &Ask, out: &mut OutFiles) -> Result<(), OutOfMemory>
-        requires logged { (first : ℕ) × (seen : RasterValue) × IsLoggedBefore
-            (over S.seen self.old) first seen }
-        requires asked { HasAskedNow ask.now (over S.seen self.old) }
-        requires quiet { is_clx_asked ask.now ≡ false }
-        requires able { CanAsk ask.now }
-        requires wish { IsBlitAsk ask.now (kept_wish self.old.machine.chips) }
-        requires room { self.old.machine.t + 1 < 2 ^ 64 }
-        ensures makes { OnOk result ((seen : RasterValue) → MakesAskedAccess
-            (over S.seen self.old) (over S.seen self.new) seen seen out.old out.new) }
-        ensures part { OnErr result ((seen : RasterValue) → AccessesPart
-            (over S.seen self.old) seen seen out.old out.new) }
-        ensures kept { KeepsClock (over S.seen self.old) (over S.seen self.new) }
-        ensures reads { self.new.machine.chip.reads ≡ reads_more
-            (reads_of_ask ask.now) self.old.machine.chip.reads }
-    {
-        let made = self.machine.answer(ask, 0, out)?;
-        let t = self.machine.t;
-        self.log.note_access(t, &touch_of(&made))
-    }
-
-    /// The access reads CLXDAT: it sees the pixels of this clock too.
-    #[inline(never)]
-    fn access_clxdat<Q: Raster<S>>(
-        &mut self,
-        ask: &Ask,
-        raster: &mut Q,
-        out: &mut OutFiles,
-    ) -> Result<(), OutOfMemory>
-        requires logged { (first : ℕ) × IsLoggedBefore (over S.seen self.old) first
-            (Q.seen raster.old) }
-        requires asked { HasAskedNow ask.now (over S.seen self.old) }
-        requires read { is_clx_asked ask.now ≡ true }
-        requires able { CanAsk ask.now }
-        requires wish { IsBlitAsk ask.now (kept_wish self.old.machine.chips) }
-        ensures makes { OnOk result (MakesAskedAccess (over S.seen self.old)
-            (over S.seen self.new)
-            (Q.seen raster.old) (Q.seen raster.new) out.old out.new) }
-        ensures part { OnErr result (AccessesPart (over S.seen self.old)
-            (Q.seen raster.old) (Q.seen raster.new) out.old out.new) }
-        ensures kept { KeepsClock (over S.seen self.old) (over S.seen self.new) }
-        ensures reads { self.new.machine.chip.reads ≡ reads_more
-            (reads_of_ask ask.now) self.old.machine.chip.reads }
-    {
-        let clx = self.gather_clxdat(raster, true, out)?;
-        self.machine.answer(ask, clx, out)?;
         Ok(())
     }
 

@@ -3,6 +3,7 @@
 //! memory and submits a job, from which the band is drawn.
 #![tactic(auto)]
 
+mod access;
 mod advance;
 mod band;
 mod begin;

@@ -142,7 +142,7 @@ impl<S: Side> Fore<S> {
     {
         self.go_on()?;
         let ask = self.ask();
-        self.access(&ask, raster, out)?;
+        self.access(ask, raster, out)?;
         self.end_clock(out)
     }
 }

@@ -11,7 +11,7 @@ ghost use Rattle.serial_model.specs.Tick.{start_clock, count_timers as count_tim
 ghost use Rattle.serial_model.specs.State.{State};
 ghost use Rattle.serial_model.specs.Tick.{ask_of, run_processor, advance_beam};
 ghost use Rattle.chip_set.specs.AskLaws.{is_clx_ask};
-ghost use Rattle.chip_set.specs.Chips.{CanAsk, CanDo, IsBlitAsk, kept_wish};
+ghost use Rattle.chip_set.specs.Chips.{CanAsk, CanDo, IsBlitAsk, kept_wish, ask_or_late};
 ghost use Rattle.foreground.specs.Machine.{machine_over, IsMachineOf, IsReset, Makes, MakesQuietly, MakesEvent, MakesAccess};
 ghost use Rattle.foreground.specs.Machine.{HasAskedOf, StoresMade, StaysInPlace, KeepsPlace, reads_after};
 ghost use Rattle.foreground.specs.MachineStepsCode.{WritesRegister, AsksInTime, GivesSide, Does};
@@ -92,25 +92,27 @@ impl<S: Side> Machine<S> {
     }
 
     /// Third step, and the fifth's beginning: the timers of the CIAs tick at each fifth clock, the side
-    /// ticks, CIAs and side request their interrupts, and the owner of the slot says what it asks for. The
+    /// ticks, CIAs and side request their interrupts, and the owner of the slot says what it asks for: None
+    /// where neither the side nor a plane nor a sprite asks, and then the chips say who does (`late_owner`). The
     /// fetches of bitplanes and sprites are done with it. `answer` is to be called next. Whether there is a
     /// side is asked here alone: without one a clock has nothing of it.
     #[inline(always)]
-    pub fn ask_in_time(&mut self) -> Ask
-        ensures asks { AsksInTime result (machine_over S.seen self.old)
-            (machine_over S.seen self.new) }
-        ensures able { CanAsk result }
-        ensures wish { IsBlitAsk result (kept_wish self.new.chips) }
+    pub fn ask_in_time(&mut self) -> Option<Ask>
+        ensures asks { AsksInTime (ask_or_late result self.new.beam self.new.chips)
+            (machine_over S.seen self.old) (machine_over S.seen self.new) }
+        ensures able { CanAsk (ask_or_late result self.new.beam self.new.chips) }
+        ensures wish { IsBlitAsk (ask_or_late result self.new.beam self.new.chips)
+            (kept_wish self.new.chips) }
         ensures same { self.new ≡ record self.old {
           chips = self.new.chips;
           side = self.new.side;
         } }
     {
         if !self.side.is_nothing() {
-            return self.ask_beside_side();
+            return Some(self.ask_beside_side());
         }
         self.chips.count_timers(self.t, 0);
-        self.chips.ask(&self.beam, SideAsk::Nothing)
+        self.chips.early_ask(&self.beam)
     }
 
     /// The same with a side.

@@ -1,33 +1,11 @@
-use Rattle.std.proofs.Common.{◌≡◌, ℕ, List, Option, Some, None, is_some, refl, subst, sym, ap, ◌∙◌}
-use Rattle.ocs_base.specs.declared.beam.Beam.{Beam}
-use Rattle.serial_model.specs.declared.fetch.PlaneAsk.{PlaneAsk}
-use Rattle.serial_model.specs.declared.fetch.SpriteAsk.{SpriteAsk}
+use Rattle.std.proofs.Common.{◌≡◌, Some, None, refl, subst, sym, ◌∙◌}
 use Rattle.serial_model.specs.State.{Chips}
 use Rattle.serial_model.specs.Bus.{ask_at}
-use Rattle.serial_model.specs.PlaneFetch.{units_at, move_planes, plane_ask, last_unit, IsLastUnit}
-use Rattle.serial_model.specs.Registers.{Registers}
-use Rattle.serial_model.specs.SpriteFetch.{kinds_at, sprite_ask, move_sprites}
 use Rattle.chip_set.specs.Chips.{WorkingChips, IsChipsOf, HasAsked, IsBlitAsk, kept_wish, plain_chips}
 use Rattle.cpu_bus.specs.Bus.{wish_shown}
 use Rattle.chip_set.proofs.AbleLaws.{ask_can}
-use Rattle.chip_set.proofs.AskLaws.{HasFetched, ask_is_at, has_asked, ask_is_of_blit}
+use Rattle.chip_set.proofs.AskLaws.{HasFetched, fetched_by_steps, ask_is_at, has_asked, ask_is_of_blit}
 use Rattle.chip_set.proofs.chips.Chips.ask.Goals as goal
-
--- the fetches had their steps, where the sprites are told whether a plane has the slot
-fetched : (b : Beam) (old mid : WorkingChips) (moved : Registers) (plane : Option PlaneAsk) (sprite : Option SpriteAsk) → IsLastUnit mid.last
-    → ((units : List ℕ) → old.last ≡ last_unit units → mid.last ≡ last_unit (units_at b old.registers units))
-    → plane ≡ plane_ask b.h old.registers mid.last → moved ≡ move_planes b.h mid.last old.registers → mid.kinds ≡ kinds_at b moved old.kinds
-    → sprite ≡ sprite_ask b.h moved mid.kinds (is_some plane) → mid.registers ≡ move_sprites b.h mid.kinds (is_some plane) moved
-    → mid ≡ record old { registers = mid.registers; last = mid.last; kinds = mid.kinds } → HasFetched b old mid plane sprite
-fetched b old mid moved plane sprite begun units asks moves kinds sprites registers rest = record {
-  begun = begun;
-  units = units;
-  plane_ask = asks;
-  kinds = kinds ∙ ap (λ r. kinds_at b r old.kinds) moves;
-  sprite_ask = sprites ∙ ap (λ r. sprite_ask b.h r mid.kinds (is_some plane)) moves;
-  moved = registers ∙ ap (λ r. move_sprites b.h mid.kinds (is_some plane) r) moves;
-  rest = rest;
-}
 
 -- the chips before, and after the steps: where no plane fetches, and where one does
 abbrev before_free : goal.After-owner_ask → WorkingChips
@@ -51,7 +29,7 @@ between_free c = record (before_free c) { registers = c.step-sprite.new.regs; la
 
 free : (c : goal.After-owner_ask) → HasFetched c.args.beam.now (before_free c) (between_free c) None c.step-sprite.result
 free c =
-    fetched c.args.beam.now (before_free c) (between_free c) c.step-plane.new.regs None c.step-sprite.result c.step-plane.ensures.begun
+    fetched_by_steps c.args.beam.now (before_free c) (between_free c) c.step-plane.new.regs None c.step-sprite.result c.step-plane.ensures.begun
     c.step-plane.ensures.units (sym c.in_default.is ∙ c.step-plane.ensures.ask) c.step-plane.ensures.moved c.step-sprite.ensures.kinds
     c.step-sprite.ensures.ask c.step-sprite.ensures.moved refl
 
@@ -77,7 +55,7 @@ between_plane c = record (before_plane c) { registers = c.step-sprite-2.new.regs
 taken : (c : goal.After-owner_ask-2)
     → HasFetched c.args.beam.now (before_plane c) (between_plane c) (Some c.in-Some.wish) c.step-sprite-2.result
 taken c =
-    fetched c.args.beam.now (before_plane c) (between_plane c) c.step-plane.new.regs (Some c.in-Some.wish) c.step-sprite-2.result
+    fetched_by_steps c.args.beam.now (before_plane c) (between_plane c) c.step-plane.new.regs (Some c.in-Some.wish) c.step-sprite-2.result
     c.step-plane.ensures.begun c.step-plane.ensures.units (sym c.in-Some.is ∙ c.step-plane.ensures.ask) c.step-plane.ensures.moved
     c.step-sprite-2.ensures.kinds c.step-sprite-2.ensures.ask c.step-sprite-2.ensures.moved refl
 

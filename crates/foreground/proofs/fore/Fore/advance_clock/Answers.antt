@@ -16,49 +16,49 @@ returns-in_err-run_to_timers-clause-part g c =
     on_err c.from_residual-in_err-run_to_timers.result
     (part_reaching _ _ _ _ _ _ _ _ c.in_ok-clx.ensures.begins c.in_err-run_to_timers.ensures.told)
 
-pub access-requires-clause-logged : goal.access-requires-clause-logged
-access-requires-clause-logged g c = (at_ask _ _ _ _ _ _ _ _ _ _ _ c.requires.underway.1 c.in_ok-clx.ensures.begins
+pub access_alone-requires-clause-logged : goal.access_alone-requires-clause-logged
+access_alone-requires-clause-logged g c = (at_ask _ _ _ _ _ _ _ _ _ _ _ c.requires.underway.1 c.in_ok-clx.ensures.begins
     (reaches_ask _ _ _ _ _ _ _ c.in_ok-run_to_timers.ensures.events c.ask-ask.ensures.asks (ap (over g.S.Side.seen) c.ask-ask.ensures.same))).1
 
-pub access-requires-clause-asked : goal.access-requires-clause-asked
-access-requires-clause-asked g c = (at_ask _ _ _ _ _ _ _ _ _ _ _ c.requires.underway.1 c.in_ok-clx.ensures.begins
+pub access_alone-requires-clause-asked : goal.access_alone-requires-clause-asked
+access_alone-requires-clause-asked g c = (at_ask _ _ _ _ _ _ _ _ _ _ _ c.requires.underway.1 c.in_ok-clx.ensures.begins
     (reaches_ask _ _ _ _ _ _ _ c.in_ok-run_to_timers.ensures.events c.ask-ask.ensures.asks (ap (over g.S.Side.seen) c.ask-ask.ensures.same))).0
 
-pub returns-in_err-access-clause-part : goal.returns-in_err-access-clause-part
-returns-in_err-access-clause-part g c =
+pub returns-in_err-access_alone-clause-part : goal.returns-in_err-access_alone-clause-part
+returns-in_err-access_alone-clause-part g c =
     let reaches = reaches_ask _ _ _ _ _ _ _ c.in_ok-run_to_timers.ensures.events c.ask-ask.ensures.asks (ap (over g.S.Side.seen) c.ask-ask.ensures.same) in
-    on_err c.from_residual-in_err-access.result
+    on_err c.from_residual-in_err-access_alone.result
     (part_accessing _ _ _ _ _ _ _ _ _ _ _ c.in_ok-clx.ensures.begins reaches.reaches
-    (part_from_ask _ _ _ _ _ _ _ _ _ reaches c.in_err-access.ensures.part))
+    (part_from_ask _ _ _ _ _ _ _ _ _ reaches c.in_err-access_alone.ensures.part))
 
-pub returns-in_err-access-clause-few : goal.returns-in_err-access-clause-few
-returns-in_err-access-clause-few g c =
-    on_err c.from_residual-in_err-access.result (rises_from_ask _ _ _ _ _ _ (looked_up (over g.S.Side.seen c.args.self.now)) _ _ _ _ _ _ _
+pub returns-in_err-access_alone-clause-few : goal.returns-in_err-access_alone-clause-few
+returns-in_err-access_alone-clause-few g c =
+    on_err c.from_residual-in_err-access_alone.result (rises_from_ask _ _ _ _ _ _ (looked_up (over g.S.Side.seen c.args.self.now)) _ _ _ _ _ _ _
     c.requires.underway.1 c.in_ok-clx.ensures.begins c.in_ok-clx.ensures.reads
     (reaches_ask _ _ _ _ _ _ _ c.in_ok-run_to_timers.ensures.events c.ask-ask.ensures.asks (ap (over g.S.Side.seen) c.ask-ask.ensures.same))
-    c.in_err-access.ensures.reads refl).1
+    c.in_err-access_alone.ensures.reads refl).1
 
 pub returns-clause-clock : goal.returns-clause-clock
 returns-clause-clock g c =
     let reaches = reaches_ask _ _ _ _ _ _ _ c.in_ok-run_to_timers.ensures.events c.ask-ask.ensures.asks (ap (over g.S.Side.seen) c.ask-ask.ensures.same) in
     on_ok_two c.end_clock.result (λ end place. advances _ _ _ _ _ _ place.0 _ _ _ _ _ _ _ _ c.requires.running c.in_ok-clx.ensures.begins
-    reaches.reaches (makes_from_ask _ _ _ _ _ _ _ _ _ _ reaches c.in_ok-access.ensures.makes)
-    (kept_from_ask _ _ _ _ _ _ _ reaches c.in_ok-access.ensures.kept) end place.1)
+    reaches.reaches (makes_from_ask _ _ _ _ _ _ _ _ _ _ reaches c.in_ok-access_alone.ensures.makes)
+    (kept_from_ask _ _ _ _ _ _ _ reaches c.in_ok-access_alone.ensures.kept) end place.1)
     c.end_clock.ensures.ends c.end_clock.ensures.place
 
 pub returns-clause-part : goal.returns-clause-part
 returns-clause-part g c =
     let reaches = reaches_ask _ _ _ _ _ _ _ c.in_ok-run_to_timers.ensures.events c.ask-ask.ensures.asks (ap (over g.S.Side.seen) c.ask-ask.ensures.same) in
     on_err_weaker c.end_clock.result (λ same. part_ending _ _ _ _ _ _ _ _ _ _ _ _ _ c.in_ok-clx.ensures.begins
-    reaches.reaches (makes_from_ask _ _ _ _ _ _ _ _ _ _ reaches c.in_ok-access.ensures.makes)
-    (kept_from_ask _ _ _ _ _ _ _ reaches c.in_ok-access.ensures.kept) same) c.end_clock.ensures.refused
+    reaches.reaches (makes_from_ask _ _ _ _ _ _ _ _ _ _ reaches c.in_ok-access_alone.ensures.makes)
+    (kept_from_ask _ _ _ _ _ _ _ reaches c.in_ok-access_alone.ensures.kept) same) c.end_clock.ensures.refused
 
 pub returns-clause-reads : goal.returns-clause-reads
 returns-clause-reads g c =
     on_ok c.end_clock.result (rises_from_ask _ _ _ _ _ _ (looked_up (over g.S.Side.seen c.args.self.now)) _ _ _ _ _ _ _
     c.requires.underway.1 c.in_ok-clx.ensures.begins c.in_ok-clx.ensures.reads
     (reaches_ask _ _ _ _ _ _ _ c.in_ok-run_to_timers.ensures.events c.ask-ask.ensures.asks (ap (over g.S.Side.seen) c.ask-ask.ensures.same))
-    c.in_ok-access.ensures.reads
+    c.in_ok-access_alone.ensures.reads
     (ap (λ (x : ChipValue). x.reads) c.end_clock.ensures.chip)).0
 
 pub returns-clause-few : goal.returns-clause-few
@@ -66,5 +66,5 @@ returns-clause-few g c =
     on_err c.end_clock.result (rises_from_ask _ _ _ _ _ _ (looked_up (over g.S.Side.seen c.args.self.now)) _ _ _ _ _ _ _
     c.requires.underway.1 c.in_ok-clx.ensures.begins c.in_ok-clx.ensures.reads
     (reaches_ask _ _ _ _ _ _ _ c.in_ok-run_to_timers.ensures.events c.ask-ask.ensures.asks (ap (over g.S.Side.seen) c.ask-ask.ensures.same))
-    c.in_ok-access.ensures.reads
+    c.in_ok-access_alone.ensures.reads
     (ap (λ (x : ChipValue). x.reads) c.end_clock.ensures.chip)).1

@@ -1,0 +1,336 @@
+//! The access of a colour clock: each owner of the slot has a way of its own.
+
+ghost use Rattle.std.specs.Prelude.{◌≡◌, ◌+◌, ◌<◌, ◌^◌, ℕ, true, false, OnOk, OnErr};
+ghost use Rattle.serial_bands.specs.BusReads.{reads_of_ask};
+ghost use Rattle.chip_set.specs.AskLaws.{is_clx_ask as is_clx_asked};
+ghost use Rattle.chip_set.specs.Chips.{CanAsk, IsBlitAsk, kept_wish, late_ask, ask_or_late, ask_of_late};
+ghost use Rattle.chip_set.specs.declared.late.LateOwner.{LateOwner};
+ghost use Rattle.band_log.specs.Raster.{RasterValue};
+ghost use Rattle.foreground.specs.Fore.{over};
+ghost use Rattle.foreground.specs.Steps.{IsLoggedBefore, HasAskedNow, MakesAskedAccess, AccessesPart, KeepsClock, reads_more};
+
+use crate::fore::Fore;
+use crate::touches::touch_of;
+use band_log::Raster;
+use chip_set::{LateOwner, is_clx_ask};
+use ocs_base::OutOfMemory;
+use out_files::OutFiles;
+use serial_model::{Ask, Side};
+
+impl<S: Side> Fore<S> {
+    /// Fifth step: the access, once the chips have asked. Who asks late has a way of its own.
+    #[inline(always)]
+    pub(crate) fn access<Q: Raster<S>>(
+        &mut self,
+        ask: Option<Ask>,
+        raster: &mut Q,
+        out: &mut OutFiles,
+    ) -> Result<(), OutOfMemory>
+        requires logged { (first : ℕ) × IsLoggedBefore (over S.seen self.old) first
+            (Q.seen raster.old) }
+        requires asked { HasAskedNow
+            (ask_or_late ask self.old.machine.beam self.old.machine.chips)
+            (over S.seen self.old) }
+        requires able { CanAsk
+            (ask_or_late ask self.old.machine.beam self.old.machine.chips) }
+        requires wish { IsBlitAsk
+            (ask_or_late ask self.old.machine.beam self.old.machine.chips)
+            (kept_wish self.old.machine.chips) }
+        requires room { self.old.machine.t + 1 < 2 ^ 64 }
+        ensures makes { OnOk result (MakesAskedAccess (over S.seen self.old)
+            (over S.seen self.new)
+            (Q.seen raster.old) (Q.seen raster.new) out.old out.new) }
+        ensures part { OnErr result (AccessesPart (over S.seen self.old)
+            (Q.seen raster.old) (Q.seen raster.new) out.old out.new) }
+        ensures kept { KeepsClock (over S.seen self.old) (over S.seen self.new) }
+        ensures reads { self.new.machine.chip.reads ≡ reads_more
+            (reads_of_ask (ask_or_late ask self.old.machine.beam self.old.machine.chips))
+            self.old.machine.chip.reads }
+    {
+        match ask {
+            Some(Ask::Plane { ask }) => self.make_access(&Ask::Plane { ask }, out),
+            Some(ask) => self.access_by(&ask, raster, out),
+            None => self.access_late(raster, out),
+        }
+    }
+
+    /// The same of a clock that is made alone, as at the start of a line: out of line, since it comes seldom.
+    #[inline(never)]
+    pub(crate) fn access_alone<Q: Raster<S>>(
+        &mut self,
+        ask: Option<Ask>,
+        raster: &mut Q,
+        out: &mut OutFiles,
+    ) -> Result<(), OutOfMemory>
+        requires logged { (first : ℕ) × IsLoggedBefore (over S.seen self.old) first
+            (Q.seen raster.old) }
+        requires asked { HasAskedNow
+            (ask_or_late ask self.old.machine.beam self.old.machine.chips)
+            (over S.seen self.old) }
+        requires able { CanAsk
+            (ask_or_late ask self.old.machine.beam self.old.machine.chips) }
+        requires wish { IsBlitAsk
+            (ask_or_late ask self.old.machine.beam self.old.machine.chips)
+            (kept_wish self.old.machine.chips) }
+        requires room { self.old.machine.t + 1 < 2 ^ 64 }
+        ensures makes { OnOk result (MakesAskedAccess (over S.seen self.old)
+            (over S.seen self.new)
+            (Q.seen raster.old) (Q.seen raster.new) out.old out.new) }
+        ensures part { OnErr result (AccessesPart (over S.seen self.old)
+            (Q.seen raster.old) (Q.seen raster.new) out.old out.new) }
+        ensures kept { KeepsClock (over S.seen self.old) (over S.seen self.new) }
+        ensures reads { self.new.machine.chip.reads ≡ reads_more
+            (reads_of_ask (ask_or_late ask self.old.machine.beam self.old.machine.chips))
+            self.old.machine.chip.reads }
+    {
+        let ask = match ask {
+            Some(ask) => ask,
+            None => self.machine.chips.late_ask(&self.machine.beam),
+        };
+        self.access_by(&ask, raster, out)
+    }
+
+    /// The access of a slot for which neither the side nor a plane nor a sprite asks.
+    #[inline(always)]
+    fn access_late<Q: Raster<S>>(
+        &mut self,
+        raster: &mut Q,
+        out: &mut OutFiles,
+    ) -> Result<(), OutOfMemory>
+        requires logged { (first : ℕ) × IsLoggedBefore (over S.seen self.old) first
+            (Q.seen raster.old) }
+        requires asked { HasAskedNow (late_ask self.old.machine.beam self.old.machine.chips)
+            (over S.seen self.old) }
+        requires wish { IsBlitAsk (late_ask self.old.machine.beam self.old.machine.chips)
+            (kept_wish self.old.machine.chips) }
+        requires room { self.old.machine.t + 1 < 2 ^ 64 }
+        ensures makes { OnOk result (MakesAskedAccess (over S.seen self.old)
+            (over S.seen self.new)
+            (Q.seen raster.old) (Q.seen raster.new) out.old out.new) }
+        ensures part { OnErr result (AccessesPart (over S.seen self.old)
+            (Q.seen raster.old) (Q.seen raster.new) out.old out.new) }
+        ensures kept { KeepsClock (over S.seen self.old) (over S.seen self.new) }
+        ensures reads { self.new.machine.chip.reads ≡ reads_more
+            (reads_of_ask (late_ask self.old.machine.beam self.old.machine.chips))
+            self.old.machine.chip.reads }
+    {
+        match self.machine.chips.late_owner(&self.machine.beam) {
+            LateOwner::Copper => self.access_for_copper(raster, out),
+            LateOwner::Blitter => self.access_for_blitter(raster, out),
+            LateOwner::Processor => self.access_for_processor(raster, out),
+            LateOwner::Nobody => self.make_access(&Ask::Free, out),
+        }
+    }
+
+    /// The Copper's.
+    #[inline(always)]
+    fn access_for_copper<Q: Raster<S>>(
+        &mut self,
+        raster: &mut Q,
+        out: &mut OutFiles,
+    ) -> Result<(), OutOfMemory>
+        requires logged { (first : ℕ) × IsLoggedBefore (over S.seen self.old) first
+            (Q.seen raster.old) }
+        requires asked { HasAskedNow
+            (ask_of_late LateOwner.Copper self.old.machine.beam self.old.machine.chips)
+            (over S.seen self.old) }
+        requires wish { IsBlitAsk
+            (ask_of_late LateOwner.Copper self.old.machine.beam self.old.machine.chips)
+            (kept_wish self.old.machine.chips) }
+        requires room { self.old.machine.t + 1 < 2 ^ 64 }
+        ensures makes { OnOk result (MakesAskedAccess (over S.seen self.old)
+            (over S.seen self.new)
+            (Q.seen raster.old) (Q.seen raster.new) out.old out.new) }
+        ensures part { OnErr result (AccessesPart (over S.seen self.old)
+            (Q.seen raster.old) (Q.seen raster.new) out.old out.new) }
+        ensures kept { KeepsClock (over S.seen self.old) (over S.seen self.new) }
+        ensures reads { self.new.machine.chip.reads ≡ reads_more (reads_of_ask
+            (ask_of_late LateOwner.Copper self.old.machine.beam self.old.machine.chips))
+            self.old.machine.chip.reads }
+    {
+        match self.machine.chips.copper_wish(&self.machine.beam) {
+            Some(at) => self.make_access(&Ask::Copper { at }, out),
+            None => self.access_by(&Ask::Free, raster, out),
+        }
+    }
+
+    /// The blitter's.
+    #[inline(always)]
+    fn access_for_blitter<Q: Raster<S>>(
+        &mut self,
+        raster: &mut Q,
+        out: &mut OutFiles,
+    ) -> Result<(), OutOfMemory>
+        requires logged { (first : ℕ) × IsLoggedBefore (over S.seen self.old) first
+            (Q.seen raster.old) }
+        requires asked { HasAskedNow
+            (ask_of_late LateOwner.Blitter self.old.machine.beam self.old.machine.chips)
+            (over S.seen self.old) }
+        requires wish { IsBlitAsk
+            (ask_of_late LateOwner.Blitter self.old.machine.beam self.old.machine.chips)
+            (kept_wish self.old.machine.chips) }
+        requires room { self.old.machine.t + 1 < 2 ^ 64 }
+        ensures makes { OnOk result (MakesAskedAccess (over S.seen self.old)
+            (over S.seen self.new)
+            (Q.seen raster.old) (Q.seen raster.new) out.old out.new) }
+        ensures part { OnErr result (AccessesPart (over S.seen self.old)
+            (Q.seen raster.old) (Q.seen raster.new) out.old out.new) }
+        ensures kept { KeepsClock (over S.seen self.old) (over S.seen self.new) }
+        ensures reads { self.new.machine.chip.reads ≡ reads_more (reads_of_ask
+            (ask_of_late LateOwner.Blitter self.old.machine.beam self.old.machine.chips))
+            self.old.machine.chip.reads }
+    {
+        match self.machine.chips.blit_ask() {
+            Ask::Blit { ask } => self.make_access(&Ask::Blit { ask }, out),
+            other => self.access_by(&other, raster, out),
+        }
+    }
+
+    /// The processor's.
+    #[inline(always)]
+    fn access_for_processor<Q: Raster<S>>(
+        &mut self,
+        raster: &mut Q,
+        out: &mut OutFiles,
+    ) -> Result<(), OutOfMemory>
+        requires logged { (first : ℕ) × IsLoggedBefore (over S.seen self.old) first
+            (Q.seen raster.old) }
+        requires asked { HasAskedNow
+            (ask_of_late LateOwner.Processor self.old.machine.beam self.old.machine.chips)
+            (over S.seen self.old) }
+        requires wish { IsBlitAsk
+            (ask_of_late LateOwner.Processor self.old.machine.beam self.old.machine.chips)
+            (kept_wish self.old.machine.chips) }
+        requires room { self.old.machine.t + 1 < 2 ^ 64 }
+        ensures makes { OnOk result (MakesAskedAccess (over S.seen self.old)
+            (over S.seen self.new)
+            (Q.seen raster.old) (Q.seen raster.new) out.old out.new) }
+        ensures part { OnErr result (AccessesPart (over S.seen self.old)
+            (Q.seen raster.old) (Q.seen raster.new) out.old out.new) }
+        ensures kept { KeepsClock (over S.seen self.old) (over S.seen self.new) }
+        ensures reads { self.new.machine.chip.reads ≡ reads_more (reads_of_ask
+            (ask_of_late LateOwner.Processor self.old.machine.beam self.old.machine.chips))
+            self.old.machine.chip.reads }
+    {
+        match self.machine.chips.processor_wish() {
+            Some(ask) => {
+                let ask = Ask::Processor { ask };
+                if is_clx_ask(&ask) {
+                    return self.access_clxdat(&ask, raster, out);
+                }
+                self.make_access(&ask, out)
+            }
+            None => self.access_by(&Ask::Free, raster, out),
+        }
+    }
+
+    /// The access of an owner that asks for this, whoever it is: out of line, for those that seldom come.
+    #[inline(never)]
+    fn access_by<Q: Raster<S>>(
+        &mut self,
+        ask: &Ask,
+        raster: &mut Q,
+        out: &mut OutFiles,
+    ) -> Result<(), OutOfMemory>
+        requires logged { (first : ℕ) × IsLoggedBefore (over S.seen self.old) first
+            (Q.seen raster.old) }
+        requires asked { HasAskedNow ask.now (over S.seen self.old) }
+        requires able { CanAsk ask.now }
+        requires wish { IsBlitAsk ask.now (kept_wish self.old.machine.chips) }
+        requires room { self.old.machine.t + 1 < 2 ^ 64 }
+        ensures makes { OnOk result (MakesAskedAccess (over S.seen self.old)
+            (over S.seen self.new)
+            (Q.seen raster.old) (Q.seen raster.new) out.old out.new) }
+        ensures part { OnErr result (AccessesPart (over S.seen self.old)
+            (Q.seen raster.old) (Q.seen raster.new) out.old out.new) }
+        ensures kept { KeepsClock (over S.seen self.old) (over S.seen self.new) }
+        ensures reads { self.new.machine.chip.reads ≡ reads_more
+            (reads_of_ask ask.now) self.old.machine.chip.reads }
+    {
+        if is_clx_ask(ask) {
+            return self.access_clxdat(ask, raster, out);
+        }
+        self.access_asked(ask, out)
+    }
+
+    /// The access, which does not read CLXDAT. The owners of most clocks stand
+    /// apart: what follows is then that of the one owner.
+    #[inline(always)]
+    fn access_asked(&mut self, ask: &Ask, out: &mut OutFiles) -> Result<(), OutOfMemory>
+        requires logged { (first : ℕ) × (seen : RasterValue) × IsLoggedBefore
+            (over S.seen self.old) first seen }
+        requires asked { HasAskedNow ask.now (over S.seen self.old) }
+        requires quiet { is_clx_asked ask.now ≡ false }
+        requires able { CanAsk ask.now }
+        requires wish { IsBlitAsk ask.now (kept_wish self.old.machine.chips) }
+        requires room { self.old.machine.t + 1 < 2 ^ 64 }
+        ensures makes { OnOk result ((seen : RasterValue) → MakesAskedAccess
+            (over S.seen self.old) (over S.seen self.new) seen seen out.old out.new) }
+        ensures part { OnErr result ((seen : RasterValue) → AccessesPart
+            (over S.seen self.old) seen seen out.old out.new) }
+        ensures kept { KeepsClock (over S.seen self.old) (over S.seen self.new) }
+        ensures reads { self.new.machine.chip.reads ≡ reads_more
+            (reads_of_ask ask.now) self.old.machine.chip.reads }
+    {
+        match *ask {
+            Ask::Free => self.make_access(&Ask::Free, out),
+            Ask::Plane { ask } => self.make_access(&Ask::Plane { ask }, out),
+            Ask::Sprite { ask } => self.make_access(&Ask::Sprite { ask }, out),
+            Ask::Copper { at } => self.make_access(&Ask::Copper { at }, out),
+            Ask::Blit { ask } => self.make_access(&Ask::Blit { ask }, out),
+            Ask::Processor { ask } => self.make_access(&Ask::Processor { ask }, out),
+            other => self.make_access(&other, out),
+        }
+    }
+
+    /// The access of one owner.
+    #[inline(always)]
+    fn make_access(&mut self, ask: &Ask, out: &mut OutFiles) -> Result<(), OutOfMemory>
+        requires logged { (first : ℕ) × (seen : RasterValue) × IsLoggedBefore
+            (over S.seen self.old) first seen }
+        requires asked { HasAskedNow ask.now (over S.seen self.old) }
+        requires quiet { is_clx_asked ask.now ≡ false }
+        requires able { CanAsk ask.now }
+        requires wish { IsBlitAsk ask.now (kept_wish self.old.machine.chips) }
+        requires room { self.old.machine.t + 1 < 2 ^ 64 }
+        ensures makes { OnOk result ((seen : RasterValue) → MakesAskedAccess
+            (over S.seen self.old) (over S.seen self.new) seen seen out.old out.new) }
+        ensures part { OnErr result ((seen : RasterValue) → AccessesPart
+            (over S.seen self.old) seen seen out.old out.new) }
+        ensures kept { KeepsClock (over S.seen self.old) (over S.seen self.new) }
+        ensures reads { self.new.machine.chip.reads ≡ reads_more
+            (reads_of_ask ask.now) self.old.machine.chip.reads }
+    {
+        let made = self.machine.answer(ask, 0, out)?;
+        let t = self.machine.t;
+        self.log.note_access(t, &touch_of(&made))
+    }
+
+    /// The access reads CLXDAT: it sees the pixels of this clock too.
+    #[inline(never)]
+    fn access_clxdat<Q: Raster<S>>(
+        &mut self,
+        ask: &Ask,
+        raster: &mut Q,
+        out: &mut OutFiles,
+    ) -> Result<(), OutOfMemory>
+        requires logged { (first : ℕ) × IsLoggedBefore (over S.seen self.old) first
+            (Q.seen raster.old) }
+        requires asked { HasAskedNow ask.now (over S.seen self.old) }
+        requires read { is_clx_asked ask.now ≡ true }
+        requires able { CanAsk ask.now }
+        requires wish { IsBlitAsk ask.now (kept_wish self.old.machine.chips) }
+        ensures makes { OnOk result (MakesAskedAccess (over S.seen self.old)
+            (over S.seen self.new)
+            (Q.seen raster.old) (Q.seen raster.new) out.old out.new) }
+        ensures part { OnErr result (AccessesPart (over S.seen self.old)
+            (Q.seen raster.old) (Q.seen raster.new) out.old out.new) }
+        ensures kept { KeepsClock (over S.seen self.old) (over S.seen self.new) }
+        ensures reads { self.new.machine.chip.reads ≡ reads_more
+            (reads_of_ask ask.now) self.old.machine.chip.reads }
+    {
+        let clx = self.gather_clxdat(raster, true, out)?;
+        self.machine.answer(ask, clx, out)?;
+        Ok(())
+    }
+}
