@@ -89,47 +89,30 @@ pub fn read_order(words: &[String]) -> Option<Order<'_>>
 fn run_words(words: &[String]) -> Option<RunWords<'_>>
     ensures { AreRunWords (run_words_of (map string_bytes words.now)) result }
 {
-    match words {
-        [command, image, script, frames, trace, memory, band, workers] => {
-            if command.as_str() != "run" {
-                return None;
-            }
-            Some(RunWords {
-                image: image.as_str(),
-                script: script.as_str(),
-                frames: frames.as_str(),
-                trace: trace.as_str(),
-                memory: memory.as_str(),
-                extra: Extra::None,
-                band: band.as_str(),
-                workers: workers.as_str(),
-            })
-        }
-        [
-            command,
-            image,
-            script,
-            frames,
-            trace,
-            memory,
-            extra,
-            band,
-            workers,
-        ] => {
-            let Some(extra) = read_extra(command.as_str(), extra.as_str()) else {
-                return None;
-            };
-            Some(RunWords {
-                image: image.as_str(),
-                script: script.as_str(),
-                frames: frames.as_str(),
-                trace: trace.as_str(),
-                memory: memory.as_str(),
-                extra,
-                band: band.as_str(),
-                workers: workers.as_str(),
-            })
-        }
+    let [command, image, script, frames, trace, memory, rest @ ..] = words else {
+        return None;
+    };
+    match rest {
+        [band, workers] if command.as_str() == "run" => Some(RunWords {
+            image: image.as_str(),
+            script: script.as_str(),
+            frames: frames.as_str(),
+            trace: trace.as_str(),
+            memory: memory.as_str(),
+            extra: Extra::None,
+            band: band.as_str(),
+            workers: workers.as_str(),
+        }),
+        [name, band, workers] => Some(RunWords {
+            image: image.as_str(),
+            script: script.as_str(),
+            frames: frames.as_str(),
+            trace: trace.as_str(),
+            memory: memory.as_str(),
+            extra: read_extra(command.as_str(), name.as_str())?,
+            band: band.as_str(),
+            workers: workers.as_str(),
+        }),
         _ => None,
     }
 }
