@@ -88,13 +88,6 @@ IsHeard-same audio old new run clock heard = record {
   taken = λ on. heard.taken on ∙ ap (λ n. taken old.run n) (sym clock) ∙ ap (λ r. taken r new.machine.t) (sym run);
 }
 
--- where the borrows ended with what a run left
-pub IsHeard-left : {T E : Type 0} (answer : Result T E) (given kept : Recording) (new left : ForeValue) → given ≡ kept → new ≡ left
-    → OnOk answer (IsHeard kept left) → OnOk answer (IsHeard given new)
-IsHeard-left (Ok done) given kept new left audio fore heard =
-    subst (λ a. IsHeard a new) (sym audio) (subst (λ f. IsHeard kept f) (sym fore) heard)
-IsHeard-left (Err fault) given kept new left audio fore heard = tt
-
 -- ---- the file
 
 apart : (a b : List ℕ) → a ≢ b → same_name a b ≡ false

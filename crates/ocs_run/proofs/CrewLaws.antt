@@ -7,7 +7,8 @@ use Rattle.crew.specs.declared.crew.Crew.{Crew}
 use Rattle.crew.specs.Crew.{crew_seen, IsNewCrew}
 use Rattle.foreground.specs.Fore.{ForeValue, IsNew}
 use Rattle.out_files.specs.declared.fault.WriteFault.{WriteFault}
-use Rattle.ocs_run.specs.UnderwayCode.{IsEmpty, Ends, IsCut, EndsFromStart, IsCutFromStart}
+use Rattle.ocs_run.specs.UnderwayCode.{IsEmpty, Ends, IsCut, EndsFromStart, IsCutFromStart, IsOfSameRun}
+use Rattle.ocs_run.specs.declared.audio.Recording.{Recording}
 use Rattle.ocs_run.proofs.RunLaws.{IsEmpty-new, EndsFromStart-ends, IsCutFromStart-cut}
 use Rattle.band_log.specs.Raster.{RasterValue}
 
@@ -24,6 +25,14 @@ module _ {R G : Type 0} where
 
 abbrev RunResult : Type 0
 RunResult = Result (Unit {0}) WriteFault
+
+-- the run is the same where the borrows ended with what it left
+pub IsOfSameRun-left : (answer : RunResult) (old left new : ForeValue) (out given last : OutFilesValue) (heard audio : Recording) → new ≡ left
+    → last ≡ given → audio ≡ heard → OnOk answer (IsOfSameRun old left out given heard) → OnOk answer (IsOfSameRun old new out last audio)
+IsOfSameRun-left (Ok done) old left new out given last heard audio fore file sound same =
+    subst (λ f. IsOfSameRun old f out last audio) (sym fore)
+    (subst (λ o. IsOfSameRun old left out o audio) (sym file) (subst (λ a. IsOfSameRun old left out given a) (sym sound) same))
+IsOfSameRun-left (Err fault) old left new out given last heard audio fore file sound same = tt
 
 module _ {P : Type 0} (outside : P → Outside) (run : RunValue) (old : ForeValue) (seen : RasterValue) (out : OutFilesValue) (before after now : P) where
   -- the run came to its end, and the borrows ended with what it left

@@ -6,8 +6,10 @@ use Rattle.out_files.specs.declared.fault.WriteFault.{WriteFault}
 use Rattle.out_files.specs.declared.fault.WriteFault.TheVariants.{Failed, OutOfMemory as NoRoomToWrite}
 use Rattle.ocs_run.specs.Audio.{IsAudioGrowable}
 use Rattle.ocs_run.specs.Fault.{IsRunFault, of_write}
+use Rattle.ocs_run.specs.PlaceCode.{WritesFiles, WritesRun}
 use Rattle.ocs_run.specs.declared.fault.Fault.{Fault}
 use Rattle.ocs_run.specs.declared.fault.Fault.TheVariants.{Usage, BadImage, BadScript, BadTrack, Unread, Unwritten, Unsaid, OutOfMemory}
+use Rattle.ocs_run.proofs.KeptLaws.{OnlyWrites-more}
 
 rose_since : (a b c : ℕ) → a ≤ b → Rose b c → Rose a c
 rose_since a b c le rose = omega (arith, le, rose)
@@ -30,12 +32,14 @@ fault_since audio a b c (Unwritten output) le is = (rose_since a.write_faults b.
 fault_since audio a b c Unsaid le is = absurd is
 fault_since audio a b c OutOfMemory le is = tt
 
-pub fault_err : {T : Type 0} (audio : Option (List ℕ)) (r : Result T Fault) (a b c : Outside) (f : WriteFault) → IsErrAnd r (λ x. x ≡ of_write f)
-    → OnlyWrites a b → (NamesFile f → Rose b.write_faults c.write_faults) → IfErr r (IsRunFault audio a c)
-fault_err audio (Ok v) a b c f is kept cause = tt
-fault_err audio (Err x) a b c f is kept cause =
-    subst (λ (fault : Fault). IsRunFault audio a c fault) (sym is)
-    (fault_since audio a b c (of_write f) kept.write_faults (run_fault_of audio b c f cause))
+pub WritesRun-err : (audio : Option (List ℕ)) (r : Result (Unit {0}) Fault) (a b c : Outside) (f : WriteFault) → IsErrAnd r (λ x. x ≡ of_write f)
+    → OnlyWrites a b → WritesFiles (Err f) b c → WritesRun audio r a c
+WritesRun-err audio (Ok done) a b c f is first second = record { kept = OnlyWrites-more a b c first second.kept; cause = tt }
+WritesRun-err audio (Err x) a b c f is first second = record {
+  kept = OnlyWrites-more a b c first second.kept;
+  cause = subst (λ (fault : Fault). IsRunFault audio a c fault) (sym is)
+      (fault_since audio a b c (of_write f) first.write_faults (run_fault_of audio b c f second.cause));
+}
 
 pub fault_of_all : {T : Type 0} (audio : Option (List ℕ)) (r : Result T Fault) (a b c : Outside) → OnlyWrites a b → IfErr r (IsRunFault audio b c)
     → IfErr r (IsRunFault audio a c)

@@ -1,10 +1,10 @@
 -- The run over plain values: its start, its turns, its end and its stops.
 use Rattle.std.proofs.Common.{◌≡◌, ℕ, ◌+◌, ◌-◌, ◌*◌, ◌^◌, ◌<◌, ◌≤◌, Bool, true, false, nat_lt, ◌==◌, List, [], ◌++◌, length, Option, Some}
-use Rattle.std.proofs.Common.{None, Result, Ok, Err, OnOk, OnErr, IfErr, IsErrAnd, arith, refl, ap, ◌∙◌, sym, subst, append_assoc, append-nil, inl}
+use Rattle.std.proofs.Common.{None, Result, Ok, Err, OnOk, OnErr, arith, refl, ap, ◌∙◌, sym, subst, append_assoc, append-nil, inl}
 use Rattle.ocs_base.specs.Script.{ScriptValue}
 use Rattle.ocs_base.specs.declared.system.System.{System}
-use Rattle.ocs_io.specs.Place.{Files, Outside, OnlyWrites, Rose}
-use Rattle.out_files.specs.Answers.{CreateAnswers, NamesFile}
+use Rattle.ocs_io.specs.Place.{Files, Outside}
+use Rattle.out_files.specs.Answers.{CreateAnswers}
 use Rattle.out_files.specs.OutFiles.{OutNames, OutFilesValue, all_given}
 use Rattle.out_files.specs.Together.{three_files, AreTogether, HoldParts, StayTogether, LeavesParts, Completes, Begins}
 use Rattle.out_files.specs.declared.fault.WriteFault.{WriteFault}
@@ -524,17 +524,6 @@ pub fewer_clocks : (old new : ForeValue) (seen after : RasterValue) (out given :
     → new.run.script.frames * 71364 - new.machine.t < old.run.script.frames * 71364 - old.machine.t
 fewer_clocks old new seen after out given done limit can is not runs come before run =
     fewer_left old new seen done can is not (later_clock old new seen after out given limit can (sym is ∙ not) runs come before run) run
-
--- a count that has risen since later has risen since before
-rose_later : (a b c : ℕ) → a ≤ b → Rose b c → Rose a c
-rose_later a b c le rose = omega arith
-
--- a fault of the last call is one of all of them
-pub cause_err : {T : Type 0} (r : Result T WriteFault) (a b c : Outside) (f : WriteFault) → IsErrAnd r (λ x. x ≡ f) → OnlyWrites a b
-    → OnlyWrites b c → (NamesFile f → Rose b.write_faults c.write_faults) → IfErr r (λ fault. NamesFile fault → Rose a.write_faults c.write_faults)
-cause_err (Ok v) a b c f is first second cause = tt
-cause_err (Err x) a b c f is first second cause =
-    λ names. rose_later a.write_faults b.write_faults c.write_faults first.write_faults (cause (subst NamesFile is names))
 
 -- a new crew is a raster without bands
 pub IsEmpty-new : (run : RunValue) (seen : RasterValue)

@@ -4,6 +4,7 @@ pub mod Command
 pub mod Fault
 pub mod Inputs
 pub mod Order
+pub mod PlaceCode
 pub mod Prefix
 pub mod RewindAnswers
 pub mod RewindOrder

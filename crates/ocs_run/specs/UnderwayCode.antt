@@ -10,8 +10,10 @@ use Rattle.run_side.specs.declared.side.RunSide.{RunSide}
 use Rattle.serial_bands.specs.Run.{RunOf, RunValue, run_over, state_of, IsEndOf}
 use Rattle.serial_bands.specs.BandShown.{bytes_from}
 use Rattle.foreground.specs.Fore.{ForeOf, ForeValue, over, IsUnderway as IsForeUnderway}
+use Rattle.ocs_run.specs.Audio.{IsHeard}
 use Rattle.ocs_run.specs.Prefix.{LeavesPrefixesOver}
 use Rattle.ocs_run.specs.Run.{HasParts}
+use Rattle.ocs_run.specs.declared.audio.Recording.{Recording}
 
 -- a run over a side of the program, and the foreground of one
 abbrev pub run_of : RunOf RunSide → RunValue
@@ -35,6 +37,12 @@ pub record CanRun (fore : ForeValue) (seen : RasterValue) : Type 0 where
   pub stands : IsForeUnderway fore first seen
   pub plain : seen.tint ≡ 0
   pub fresh : fore.spent ≡ false
+
+-- run and names of the files stay, and what the run sounds was taken up to its clock
+pub record IsOfSameRun (old new : ForeValue) (out given : OutFilesValue) (audio : Recording) : Type 0 where
+  pub run : new.run ≡ old.run
+  pub names : given.names ≡ out.names
+  pub heard : IsHeard audio new
 
 -- the run has gone on
 abbrev pub Runs : ForeValue → ForeValue → RasterValue → RasterValue → OutFilesValue → OutFilesValue → Option Files → Option Files → Type 0

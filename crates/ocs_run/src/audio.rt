@@ -1,10 +1,9 @@
 //! What a run sounds: what the side shows at the end of two clocks of each line, and the file of it.
 
-ghost use Rattle.std.specs.Prelude.{◌≡◌, ◌++◌, [], true, option_map, OnOk, OnErr, IfErr};
+ghost use Rattle.std.specs.Prelude.{◌≡◌, ◌++◌, [], true, option_map, OnOk, OnErr};
 ghost use Rattle.crew.specs.Crew.{side_seen};
-ghost use Rattle.ocs_io.specs.Place.{OnlyWrites, KeepsNames};
 ghost use Rattle.ocs_run.specs.Audio.{is_sampled as is_sample_place, sampled, with_audio, grown_audio, IsAudioGrowable, MayHaveMade, MayHaveGrown};
-ghost use Rattle.ocs_run.specs.Fault.{IsRunFault};
+ghost use Rattle.ocs_run.specs.PlaceCode.{LeavesPlace, WritesRun};
 
 use crate::fault::{Fault, Output};
 use crew::CrewSide;
@@ -51,11 +50,8 @@ pub fn create_audio<P: Place>(name: Option<&str>, place: &mut P) -> Result<(), F
         (IsAudioGrowable (P.growable place.new) (option_map (λ n. n.now) name.entry)) }
     ensures stopped { OnErr result (MayHaveMade (option_map (λ n. n.now) name.entry)
         (P.outside place.old).files (P.outside place.new).files) }
-    ensures cause { IfErr result (IsRunFault (option_map (λ n. n.now) name.entry)
-        (P.outside place.old) (P.outside place.new)) }
-    ensures kept { OnlyWrites (P.outside place.old) (P.outside place.new) }
-    ensures names { KeepsNames (P.readable place.old) (P.growable place.old) (P.readable place.new)
-        (P.growable place.new) }
+    ensures place { LeavesPlace (WritesRun (option_map (λ n. n.now) name.entry) result) P.outside
+        P.readable P.growable place.old place.new }
 {
     let Some(name) = name else {
         return Ok(());
@@ -82,9 +78,8 @@ pub fn write_audio<P: Place>(
     ensures stopped { OnErr result (MayHaveGrown (option_map (λ n. n.now) name.entry)
         heard.now.bytes.items
         (P.outside place.old).files (P.outside place.new).files) }
-    ensures cause { IfErr result (IsRunFault (option_map (λ n. n.now) name.entry)
-        (P.outside place.old) (P.outside place.new)) }
-    ensures kept { OnlyWrites (P.outside place.old) (P.outside place.new) }
+    ensures place { WritesRun (option_map (λ n. n.now) name.entry) result (P.outside place.old)
+        (P.outside place.new) }
 {
     let Some(name) = name else {
         return Ok(());

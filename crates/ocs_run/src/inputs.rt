@@ -1,7 +1,7 @@
 //! The input files: the image of chip memory, the script, and the track of a disk.
 
 ghost use Rattle.std.specs.Prelude.{◌≡◌, true, IfOk, IfErr};
-ghost use Rattle.ocs_io.specs.Place.{OnlyReads, KeepsNames};
+ghost use Rattle.ocs_io.specs.Place.{OnlyReads};
 ghost use Rattle.ocs_run.specs.Inputs.{AreInputsOf, IsInputFault};
 ghost use Rattle.ocs_run.specs.Inputs.{IsImageOf, IsImageFault, IsScriptOf, IsScriptFault, IsTextFault};
 ghost use Rattle.ocs_base.specs.Limits.{IsRunnable};
@@ -9,6 +9,7 @@ ghost use Rattle.script_read.specs.Grammar.{script_of, Good};
 ghost use Rattle.ocs_base.specs.Image.{is_image as good_image, fits_chip};
 ghost use Rattle.disk_dma.specs.Track.{is_track as good_track};
 ghost use Rattle.ocs_run.specs.Inputs.{IsTrackOf, IsTrackFault};
+ghost use Rattle.ocs_run.specs.PlaceCode.{LeavesPlace};
 
 use crate::fault::{Fault, Input};
 use ocs_base::Script;
@@ -46,9 +47,7 @@ pub fn read_inputs<P: Place>(
         inputs.image.items inputs.script) }
     ensures fault { IfErr result (IsInputFault (P.outside place.old) (P.outside place.new)
         image.now script.now) }
-    ensures kept { OnlyReads (P.outside place.old) (P.outside place.new) }
-    ensures names { KeepsNames (P.readable place.old) (P.growable place.old) (P.readable place.new)
-        (P.growable place.new) }
+    ensures place { LeavesPlace OnlyReads P.outside P.readable P.growable place.old place.new }
 {
     let image = read_image(alloc, image, place)?;
     let script = read_script_file(alloc, script, place)?;
@@ -72,9 +71,7 @@ fn read_image<P: Place>(alloc: Global, name: &str, place: &mut P) -> Result<Vec<
     ensures good { IfOk result (λ image. IsImageOf (P.outside place.old) name.now image.items) }
     ensures fault { IfErr result (IsImageFault (P.outside place.old)
         (P.outside place.new) name.now) }
-    ensures kept { OnlyReads (P.outside place.old) (P.outside place.new) }
-    ensures names { KeepsNames (P.readable place.old) (P.growable place.old) (P.readable place.new)
-        (P.growable place.new) }
+    ensures place { LeavesPlace OnlyReads P.outside P.readable P.growable place.old place.new }
 {
     let mut image = Vec::new(alloc);
     match place.read(name, IMAGE_BYTES, &mut image) {
@@ -100,9 +97,7 @@ fn read_script_file<P: Place>(alloc: Global, name: &str, place: &mut P) -> Resul
     ensures good { IfOk result (λ script. IsScriptOf (P.outside place.old) name.now script) }
     ensures fault { IfErr result (IsScriptFault (P.outside place.old)
         (P.outside place.new) name.now) }
-    ensures kept { OnlyReads (P.outside place.old) (P.outside place.new) }
-    ensures names { KeepsNames (P.readable place.old) (P.growable place.old) (P.readable place.new)
-        (P.growable place.new) }
+    ensures place { LeavesPlace OnlyReads P.outside P.readable P.growable place.old place.new }
 {
     let mut text = Vec::new(alloc);
     match place.read(name, SCRIPT_BYTES, &mut text) {
@@ -137,9 +132,7 @@ pub fn read_track<P: Place>(alloc: Global, name: &str, place: &mut P) -> Result<
     ensures good { IfOk result (λ track. IsTrackOf (P.outside place.old) name.now track.items) }
     ensures fault { IfErr result (IsTrackFault (P.outside place.old)
         (P.outside place.new) name.now) }
-    ensures kept { OnlyReads (P.outside place.old) (P.outside place.new) }
-    ensures names { KeepsNames (P.readable place.old) (P.growable place.old) (P.readable place.new)
-        (P.growable place.new) }
+    ensures place { LeavesPlace OnlyReads P.outside P.readable P.growable place.old place.new }
 {
     let mut track = Vec::new(alloc);
     match place.read(name, TRACK_BYTES, &mut track) {

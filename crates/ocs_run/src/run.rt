@@ -3,8 +3,7 @@
 ghost use Rattle.std.specs.Prelude.{◌≡◌, ◌≤◌, ◌<◌, ◌%◌, ◌+◌, ◌^◌, [], true, false, option_map, OnOk, OnErr, IfOk, IfErr};
 ghost use Rattle.std.specs.Arc.{arc_value};
 ghost use Rattle.out_files.specs.declared.fault.WriteFault.TheVariants as WriteFault;
-ghost use Rattle.ocs_io.specs.Place.{Rose, OnlyWrites, KeepsNames};
-ghost use Rattle.out_files.specs.Answers.{AreGrowable, NamesFile};
+ghost use Rattle.out_files.specs.Answers.{AreGrowable};
 ghost use Rattle.out_files.specs.OutFiles.{all_given};
 ghost use Rattle.out_files.specs.Together.{Completes, LeavesParts, StayTogether};
 ghost use Rattle.serial_model.specs.MemoryText.{memory_text};
@@ -13,10 +12,10 @@ ghost use Rattle.foreground.specs.Fore.{is_done, IsNew};
 ghost use Rattle.foreground.specs.RunTo.{RunsOn};
 ghost use Rattle.crew.specs.Crew.{side_seen};
 ghost use Rattle.ocs_run.specs.Audio.{IsHeard, IsFourthName};
-ghost use Rattle.ocs_run.specs.Fault.{IsRunFault};
+ghost use Rattle.ocs_run.specs.PlaceCode.{LeavesPlace, WritesFiles, WritesRun};
 ghost use Rattle.ocs_run.specs.Prefix.{LeavesFiles};
 ghost use Rattle.ocs_run.specs.Run.{HasAllFiles};
-ghost use Rattle.ocs_run.specs.UnderwayCode.{fore_of, run_of, CanRun, Runs, IsStopped, IsFresh, Ends, IsCut, EndsFromStart, IsCutFromStart};
+ghost use Rattle.ocs_run.specs.UnderwayCode.{fore_of, run_of, CanRun, Runs, IsStopped, IsFresh, Ends, IsCut, EndsFromStart, IsCutFromStart, IsOfSameRun};
 
 use crate::audio::{Recording, create_audio, listen, write_audio};
 use crate::fault::Fault;
@@ -66,9 +65,8 @@ pub fn run_files<
     ensures stopped { OnErr result (LeavesFiles (option_map (λ n. n.now) audio.entry)
         (side_seen run.side) run.image run.script out.names
         (P.outside place.old).files (P.outside place.new).files) }
-    ensures kept { OnlyWrites (P.outside place.old) (P.outside place.new) }
-    ensures cause { IfErr result (IsRunFault (option_map (λ n. n.now) audio.entry)
-        (P.outside place.old) (P.outside place.new)) }
+    ensures place { WritesRun (option_map (λ n. n.now) audio.entry) result (P.outside place.old)
+        (P.outside place.new) }
 {
     let _good = run.script();
     let run = share(alloc, run)?;
@@ -112,14 +110,10 @@ fn draw_with_crew<
     ensures stopped { OnErr result (IsCutFromStart (run_of (arc_value run)) (fore_of fore.old)
         out.old
         (P.outside place.old).files (P.outside place.new).files) }
-    ensures run { OnOk result ((fore_of fore.new).run ≡ (fore_of fore.old).run) }
-    ensures out { OnOk result (out.new.names ≡ out.old.names) }
-    ensures kept { OnlyWrites (P.outside place.old) (P.outside place.new) }
-    ensures cause { IfErr result (λ fault. NamesFile fault
-        → Rose (P.outside place.old).write_faults (P.outside place.new).write_faults) }
-    ensures names { KeepsNames (P.readable place.old) (P.growable place.old) (P.readable place.new)
-        (P.growable place.new) }
-    ensures heard { OnOk result (IsHeard audio.new (fore_of fore.new)) }
+    ensures same { OnOk result (IsOfSameRun (fore_of fore.old) (fore_of fore.new) out.old out.new
+        audio.new) }
+    ensures place { LeavesPlace (WritesFiles result) P.outside P.readable P.growable place.old
+        place.new }
     ensures on { OnOk result (audio.new.on ≡ audio.old.on) }
 {
     let Drawing { workers, gate } = drawing;
@@ -134,16 +128,11 @@ fn draw_with_crew<
         ensures stopped { OnErr result (IsCut (fore_of fore.entry.now) (crew_seen crew.old)
             out.entry.now
             (P.outside place.entry.now).files (P.outside place.exit.now).files) }
-        ensures run { OnOk result ((fore_of fore.exit.now).run ≡ (fore_of fore.entry.now).run) }
-        ensures out { OnOk result (out.exit.now.names ≡ out.entry.now.names) }
+        ensures same { OnOk result (IsOfSameRun (fore_of fore.entry.now) (fore_of fore.exit.now)
+            out.entry.now out.exit.now audio.exit.now) }
         ensures mark { (crew_seen crew.new).mark ≡ (crew_seen crew.old).mark }
-        ensures kept { OnlyWrites (P.outside place.entry.now) (P.outside place.exit.now) }
-        ensures cause { IfErr result (λ fault. NamesFile fault
-            → Rose (P.outside place.entry.now).write_faults
-            (P.outside place.exit.now).write_faults) }
-        ensures names { KeepsNames (P.readable place.entry.now) (P.growable place.entry.now)
-            (P.readable place.exit.now) (P.growable place.exit.now) }
-        ensures heard { OnOk result (IsHeard audio.exit.now (fore_of fore.exit.now)) }
+        ensures place { LeavesPlace (WritesFiles result) P.outside P.readable P.growable
+            place.entry.now place.exit.now }
         ensures on { OnOk result (audio.exit.now.on ≡ audio.entry.now.on) }
     { run_whole(fore, crew, out, audio, place) };
     let (answer, _totals) = with_crew(rt, alloc, run, workers, gate, &mut body)?;
@@ -188,15 +177,11 @@ pub fn run_whole<P: Place, Q: Raster<CrewSide>>(
         (P.outside place.old).files (P.outside place.new).files) }
     ensures stopped { OnErr result (IsCut (fore_of fore.old) (Q.seen raster.old) out.old
         (P.outside place.old).files (P.outside place.new).files) }
-    ensures run { OnOk result ((fore_of fore.new).run ≡ (fore_of fore.old).run) }
-    ensures out { OnOk result (out.new.names ≡ out.old.names) }
+    ensures same { OnOk result (IsOfSameRun (fore_of fore.old) (fore_of fore.new) out.old out.new
+        audio.new) }
     ensures mark { (Q.seen raster.new).mark ≡ (Q.seen raster.old).mark }
-    ensures kept { OnlyWrites (P.outside place.old) (P.outside place.new) }
-    ensures cause { IfErr result (λ fault. NamesFile fault
-        → Rose (P.outside place.old).write_faults (P.outside place.new).write_faults) }
-    ensures names { KeepsNames (P.readable place.old) (P.growable place.old) (P.readable place.new)
-        (P.growable place.new) }
-    ensures heard { OnOk result (IsHeard audio.new (fore_of fore.new)) }
+    ensures place { LeavesPlace (WritesFiles result) P.outside P.readable P.growable place.old
+        place.new }
     ensures on { audio.new.on ≡ audio.old.on }
 {
     run_clocks(fore, raster, out, audio, place)?;
@@ -221,17 +206,13 @@ fn run_clocks<P: Place, Q: Raster<CrewSide>>(
         out.old out.new (P.outside place.old).files (P.outside place.new).files) }
     ensures able { OnOk result (CanRun (fore_of fore.new) (Q.seen raster.new)) }
     ensures ended { OnOk result (is_done (fore_of fore.new) ≡ true) }
-    ensures run { OnOk result ((fore_of fore.new).run ≡ (fore_of fore.old).run) }
-    ensures out { OnOk result (out.new.names ≡ out.old.names) }
+    ensures same { OnOk result (IsOfSameRun (fore_of fore.old) (fore_of fore.new) out.old out.new
+        audio.new) }
     ensures mark { (Q.seen raster.new).mark ≡ (Q.seen raster.old).mark }
     ensures stopped { OnErr result (IsStopped (fore_of fore.old) (Q.seen raster.old) out.old
         (P.outside place.old).files (P.outside place.new).files) }
-    ensures kept { OnlyWrites (P.outside place.old) (P.outside place.new) }
-    ensures cause { IfErr result (λ fault. NamesFile fault
-        → Rose (P.outside place.old).write_faults (P.outside place.new).write_faults) }
-    ensures names { KeepsNames (P.readable place.old) (P.growable place.old) (P.readable place.new)
-        (P.growable place.new) }
-    ensures heard { OnOk result (IsHeard audio.new (fore_of fore.new)) }
+    ensures place { LeavesPlace (WritesFiles result) P.outside P.readable P.growable place.old
+        place.new }
     ensures on { audio.new.on ≡ audio.old.on }
 {
     while !fore.done() {
@@ -288,11 +269,8 @@ fn flush_lines<P: Place>(beam: &Beam, out: &mut OutFiles, place: &mut P) -> Resu
     ensures out { OnOk result (out.new.names ≡ out.old.names) }
     ensures parts { OnErr result
         (LeavesParts out.old (P.outside place.old).files (P.outside place.new).files []) }
-    ensures kept { OnlyWrites (P.outside place.old) (P.outside place.new) }
-    ensures cause { IfErr result (λ fault. NamesFile fault
-        → Rose (P.outside place.old).write_faults (P.outside place.new).write_faults) }
-    ensures names { KeepsNames (P.readable place.old) (P.growable place.old)
-        (P.readable place.new) (P.growable place.new) }
+    ensures place { LeavesPlace (WritesFiles result) P.outside P.readable P.growable place.old
+        place.new }
     ensures empty { OnOk result (beam.now.h ≡ 0 → beam.now.v % 32 ≡ 0 → out.new ≡ all_given
         out.old) }
 {
@@ -313,11 +291,8 @@ fn write_memory<P: Place>(
         (P.outside place.new).files (memory_text fore.machine.chip.words)) }
     ensures parts { OnErr result (LeavesParts out.old (P.outside place.old).files
         (P.outside place.new).files (memory_text fore.machine.chip.words)) }
-    ensures kept { OnlyWrites (P.outside place.old) (P.outside place.new) }
-    ensures cause { IfErr result (λ fault. NamesFile fault
-        → Rose (P.outside place.old).write_faults (P.outside place.new).write_faults) }
-    ensures names { KeepsNames (P.readable place.old) (P.growable place.old)
-        (P.readable place.new) (P.growable place.new) }
+    ensures place { LeavesPlace (WritesFiles result) P.outside P.readable P.growable place.old
+        place.new }
 {
     let mut chip = fore.finish();
     out.memory(&mut chip, place)

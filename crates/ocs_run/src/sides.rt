@@ -3,9 +3,10 @@
 ghost use Rattle.std.specs.Prelude.{◌≡◌, IfOk, IfErr};
 ghost use Rattle.crew.specs.Crew.{side_seen};
 ghost use Rattle.ocs_base.specs.Sizes.{bytes_of};
-ghost use Rattle.ocs_io.specs.Place.{OnlyReads, KeepsNames};
+ghost use Rattle.ocs_io.specs.Place.{OnlyReads};
 ghost use Rattle.ocs_run.specs.AskedCode.{extra_value};
 ghost use Rattle.ocs_run.specs.Inputs.{ReadableTrack, IsSideOf, IsSideFault};
+ghost use Rattle.ocs_run.specs.PlaceCode.{LeavesPlace};
 ghost use Rattle.serial_model.specs.Side.{FitsSide};
 
 use crate::fault::Fault;
@@ -39,9 +40,7 @@ pub fn read_sides<P: Place>(
     ensures fits { IfOk result (λ sides. FitsSide (bytes_of chip) (side_seen sides.first)) }
     ensures fault { IfErr result (IsSideFault (P.outside place.old) (P.outside place.new)
         (extra_value extra.entry)) }
-    ensures kept { OnlyReads (P.outside place.old) (P.outside place.new) }
-    ensures names { KeepsNames (P.readable place.old) (P.growable place.old) (P.readable place.new)
-        (P.growable place.new) }
+    ensures place { LeavesPlace OnlyReads P.outside P.readable P.growable place.old place.new }
 {
     match extra {
         Extra::None => Ok(Sides {

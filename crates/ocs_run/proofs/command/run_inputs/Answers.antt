@@ -14,7 +14,7 @@ returns-clause-answer g c =
     (g.P.Place.outside c.args.place.now) (g.P.Place.outside c.run_files.new.place) _ c.audio.ensures
     (ap (λ (r : RunOf RunSide). side_seen r.side) c.over-run.ensures) (ap (λ (r : RunOf RunSide). r.image) c.over-run.ensures)
     (ap (λ (r : RunOf RunSide). r.script) c.over-run.ensures) c.in_ok-out.ensures.files.named
-    c.run_files.ensures.done c.run_files.ensures.stopped c.run_files.ensures.cause
+    c.run_files.ensures.done c.run_files.ensures.stopped c.run_files.ensures.place.cause
 
 pub returns-in_err-out-clause-answer : goal.returns-in_err-out-clause-answer
 returns-in_err-out-clause-answer g c =

@@ -12,25 +12,25 @@ returns-in_err-image-clause-answer g c =
     by_err (λ r. OrderAnswers (value_of c.args.order.now) (g.P.Place.outside c.args.place.now) (g.P.Place.outside c.read_inputs.new.place) r) _
     c.in_err-image.field-0.0 c.from_residual.ensures.1
     (input_fault (value_of c.args.order.now) (g.P.Place.outside c.args.place.now) (g.P.Place.outside c.read_inputs.new.place) _
-    c.in_err-image.ensures.fault c.read_inputs.ensures.kept.files)
+    c.in_err-image.ensures.fault c.read_inputs.ensures.place.seen.files)
 
 pub returns-in_err-sides-clause-answer : goal.returns-in_err-sides-clause-answer
 returns-in_err-sides-clause-answer g c =
     let old = g.P.Place.outside c.args.place.now in
     let mid = g.P.Place.outside c.read_inputs.new.place in
     let new = g.P.Place.outside c.read_sides.new.place in
-    let kept = c.read_inputs.ensures.kept in
+    let kept = c.read_inputs.ensures.place.seen in
     by_err (λ r. OrderAnswers (value_of c.args.order.now) old new r) _ c.in_err-sides.field-0.0 c.from_residual-in_err-sides.ensures.1
     (side_fault (value_of c.args.order.now) old mid new c.in_ok-image.field-0.image.items c.in_ok-image.field-0.script _ c.in_ok-image.ensures.good
-    kept.files kept.read_faults c.in_err-sides.ensures.fault c.read_sides.ensures.kept.files)
+    kept.files kept.read_faults c.in_err-sides.ensures.fault c.read_sides.ensures.place.seen.files)
 
 pub returns-clause-answer : goal.returns-clause-answer
 returns-clause-answer g c =
     let old = g.P.Place.outside c.args.place.now in
     let made = g.P.Place.outside c.read_inputs.new.place in
     let mid = g.P.Place.outside c.read_sides.new.place in
-    let kept = c.read_inputs.ensures.kept in
-    let side = c.read_sides.ensures.kept in
+    let kept = c.read_inputs.ensures.place.seen in
+    let side = c.read_sides.ensures.place.seen in
     let chip : IsSideOf made c.in_ok-image.field-0.script.chip (extra_value c.args.order.now.extra) (side_seen c.in_ok-sides.sides.first) =
     subst (λ size. IsSideOf made size (extra_value c.args.order.now.extra) (side_seen c.in_ok-sides.sides.first)) c.chip_size.ensures
     c.in_ok-sides.ensures.side in

@@ -3,8 +3,8 @@ use Rattle.std.specs.Arc.{arc_value}
 use Rattle.crew.specs.Crew.{crew_seen}
 use Rattle.ocs_run.specs.UnderwayCode.{run_of, fore_of, IsCutFromStart}
 use Rattle.ocs_run.proofs.RunLaws.{on_err, CanRun-start, IsCutFromStart-now}
-use Rattle.ocs_run.proofs.AudioLaws.{IsHeard-start, IsHeard-left}
-use Rattle.ocs_run.proofs.CrewLaws.{IsEmpty-lent, mark_left, EndsFromStart-left, IsCutFromStart-left}
+use Rattle.ocs_run.proofs.AudioLaws.{IsHeard-start}
+use Rattle.ocs_run.proofs.CrewLaws.{IsEmpty-lent, mark_left, EndsFromStart-left, IsCutFromStart-left, IsOfSameRun-left}
 use Rattle.ocs_run.proofs.run.draw_with_crew.Goals as goal
 
 pub with_crew-requires-clause-body : goal.with_crew-requires-clause-body
@@ -17,7 +17,7 @@ with_crew-requires-clause-body g c κs within = λ crew new. record {
     ),
   );
   keeps = λ answer after left called.
-      mark_left crew called.shown.now called.left.now left called.shows called.leaves called.called.met.1.1.1.1.1.0;
+      mark_left crew called.shown.now called.left.now left called.shows called.leaves called.called.met.1.1.1.1.0;
 }
 
 pub returns-in_err-answer-clause-stopped : goal.returns-in_err-answer-clause-stopped
@@ -40,7 +40,7 @@ returns-clause-stopped g c =
     IsCutFromStart-left g.P.Place.outside _ _ (crew_seen lent) _ _ _ _ _ c.requires.new (IsEmpty-lent _ ran.crew lent ran.called.shows ran.starts)
     (search rules) ran.called.called.met.1.1.0
 
-pub returns-clause-heard : goal.returns-clause-heard
-returns-clause-heard g c =
+pub returns-clause-same : goal.returns-clause-same
+returns-clause-same g c =
     let ran = c.in_ok-answer.ensures.ran in
-    IsHeard-left _ _ _ _ _ (search rules) (search rules) ran.called.called.met.1.1.1.1.1.1.1.1.1.0
+    IsOfSameRun-left _ _ _ _ _ _ _ _ _ (search rules) (search rules) (search rules) ran.called.called.met.1.1.1.0

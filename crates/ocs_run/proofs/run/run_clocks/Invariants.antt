@@ -1,8 +1,8 @@
 use Rattle.std.proofs.Common.{◌≡◌, ◌-◌, ◌*◌}
-use Rattle.ocs_io.specs.Place.{OnlyWrites, KeepsNames}
+use Rattle.ocs_io.specs.Place.{OnlyWrites}
 use Rattle.out_files.specs.Answers.{AreGrowable}
-use Rattle.ocs_run.specs.Audio.{IsHeard}
-use Rattle.ocs_run.specs.UnderwayCode.{fore_of, CanRun, Runs}
+use Rattle.ocs_run.specs.PlaceCode.{LeavesPlace}
+use Rattle.ocs_run.specs.UnderwayCode.{fore_of, CanRun, Runs, IsOfSameRun}
 use Rattle.ocs_run.proofs.run.run_clocks.Given as goal
 
 abbrev pub invariant-loop-fore : goal.invariant-loop-fore
@@ -14,12 +14,9 @@ invariant-loop-fore g l =
       able : CanRun (fore_of l.fore) (seen l.raster);
       runs : Runs (fore_of l.initial.fore) (fore_of l.fore) (seen l.initial.raster) (seen l.raster) l.initial.out l.out
           (outside l.initial.place).files (outside l.place).files;
-      run : (fore_of l.fore).run ≡ (fore_of l.initial.fore).run;
-      out : l.out.names ≡ l.initial.out.names;
+      same : IsOfSameRun (fore_of l.initial.fore) (fore_of l.fore) l.initial.out l.out l.audio;
       mark : (seen l.raster).mark ≡ (seen l.initial.raster).mark;
-      kept : OnlyWrites (outside l.initial.place) (outside l.place);
-      names : KeepsNames (g.P.Place.readable l.initial.place) (g.P.Place.growable l.initial.place) (g.P.Place.readable l.place) (g.P.Place.growable l.place);
-      heard : IsHeard l.audio (fore_of l.fore);
+      place : LeavesPlace OnlyWrites outside g.P.Place.readable g.P.Place.growable l.initial.place l.place;
       on : l.audio.on ≡ l.initial.audio.on;
     }
 

@@ -12,7 +12,7 @@ use Rattle.ocs_run.specs.Run.{HasAllFiles}
 use Rattle.ocs_run.specs.UnderwayCode.{run_of, fore_of, IsFresh}
 use Rattle.ocs_run.proofs.AudioLaws.{LeavesFiles-none, LeavesFiles-made, LeavesFiles-empty}
 use Rattle.ocs_run.proofs.AudioLaws.{Begins-audio, IsAllButAudio-run, HasAllFiles-run, LeavesFiles-run}
-use Rattle.ocs_run.proofs.FaultLaws.{fault_err}
+use Rattle.ocs_run.proofs.FaultLaws.{WritesRun-err}
 use Rattle.ocs_run.proofs.KeptLaws.{OnlyWrites-none, OnlyWrites-more}
 use Rattle.ocs_run.proofs.PrefixLaws.{prefixes_kept}
 use Rattle.ocs_run.proofs.RunLaws.{on_err, LeavesPrefixes-run, LeavesPrefixes-memory, LeavesPrefixes-create_refused}
@@ -71,7 +71,7 @@ returns-in_err-write_memory-clause-stopped g c =
     let begins = Begins-audio audio _ _ _ _ fourth c.in_ok-create.ensures.together c.in_ok-create_audio.ensures.done in
     let drawn = c.in_ok-draw_with_crew.ensures in
     let cut = LeavesPrefixes-memory _ _ _ _ _ _ _ _ _ _ fresh c.create.ensures.same begins new
-    drawn.done drawn.run drawn.out c.in_err-write_memory.ensures.parts in
+    drawn.done drawn.same.run drawn.same.names c.in_err-write_memory.ensures.parts in
     on_err _ _ (subst (λ (r : RunOf RunSide). LeavesFiles audio (side_seen r.side) r.image r.script c.args.out.names
     (g.P.Place.outside c.args.place.now).files (g.P.Place.outside c.write_memory.new.place).files) c.in_ok-run.ensures.run
     (LeavesFiles-empty _ _ _ _ audio _ _ cut))
@@ -90,7 +90,7 @@ returns-clause-done g c =
     subst (λ (r : RunOf RunSide). 1 ≤ r.script.frames) (sym c.in_ok-run.ensures.run) c.script-good.ensures.good.script.least in
     let drawn = c.in_ok-draw_with_crew.ensures in
     let all = IsAllButAudio-run (λ n. n.now) c.args.audio _ _ _ _ _ _ _ _ _ _ c.draw_with_crew.new.audio c.requires.apart fresh c.create.ensures.same begins
-    new some drawn.done drawn.run drawn.out c.in_ok-write_memory.ensures.whole (drawn.on ∙ c.is_some.ensures) drawn.heard in
+    new some drawn.done drawn.same.run drawn.same.names c.in_ok-write_memory.ensures.whole (drawn.on ∙ c.is_some.ensures) drawn.same.heard in
     subst (λ (r : RunOf RunSide). OnOk c.write_audio.result (HasAllFiles audio (side_seen r.side) r.image r.script c.args.out.names
     (g.P.Place.outside c.args.place.now).files (g.P.Place.outside c.write_audio.new.place).files)) c.in_ok-run.ensures.run
     (HasAllFiles-run _ audio _ _ _ _ _ _ _ all c.write_audio.ensures.done)
@@ -109,18 +109,23 @@ returns-clause-stopped g c =
     subst (λ (r : RunOf RunSide). 1 ≤ r.script.frames) (sym c.in_ok-run.ensures.run) c.script-good.ensures.good.script.least in
     let drawn = c.in_ok-draw_with_crew.ensures in
     let all = IsAllButAudio-run (λ n. n.now) c.args.audio _ _ _ _ _ _ _ _ _ _ c.draw_with_crew.new.audio c.requires.apart fresh c.create.ensures.same begins
-    new some drawn.done drawn.run drawn.out c.in_ok-write_memory.ensures.whole (drawn.on ∙ c.is_some.ensures) drawn.heard in
+    new some drawn.done drawn.same.run drawn.same.names c.in_ok-write_memory.ensures.whole (drawn.on ∙ c.is_some.ensures) drawn.same.heard in
     subst (λ (r : RunOf RunSide). OnErr c.write_audio.result (LeavesFiles audio (side_seen r.side) r.image r.script c.args.out.names
     (g.P.Place.outside c.args.place.now).files (g.P.Place.outside c.write_audio.new.place).files)) c.in_ok-run.ensures.run
     (LeavesFiles-run _ audio _ _ _ _ _ _ _ all c.write_audio.ensures.stopped)
 
-pub returns-in_err-create-clause-cause : goal.returns-in_err-create-clause-cause
-returns-in_err-create-clause-cause g c =
-    fault_err _ _ _ (g.P.Place.outside c.args.place.now) (g.P.Place.outside c.create.new.place) c.in_err-create.field-0.0
-    c.from_residual-in_err-create.ensures.1 (OnlyWrites-none (g.P.Place.outside c.args.place.now)) c.in_err-create.ensures.cause
+pub returns-in_err-create-clause-place : goal.returns-in_err-create-clause-place
+returns-in_err-create-clause-place g c =
+    WritesRun-err _ _ _ _ _ _ c.from_residual-in_err-create.ensures.1 (OnlyWrites-none (g.P.Place.outside c.args.place.now))
+    (record { kept = c.create.ensures.kept; cause = c.in_err-create.ensures.cause })
 
-pub returns-in_err-draw_with_crew-clause-cause : goal.returns-in_err-draw_with_crew-clause-cause
-returns-in_err-draw_with_crew-clause-cause g c =
-    fault_err _ _ _ (g.P.Place.outside c.create_audio.new.place) (g.P.Place.outside c.draw_with_crew.new.place)
-    c.in_err-draw_with_crew.field-0.0 c.from_residual-in_err-draw_with_crew.ensures.1
-    (OnlyWrites-more _ _ _ c.create.ensures.kept c.create_audio.ensures.kept) c.in_err-draw_with_crew.ensures.cause
+pub returns-in_err-draw_with_crew-clause-place : goal.returns-in_err-draw_with_crew-clause-place
+returns-in_err-draw_with_crew-clause-place g c =
+    WritesRun-err _ _ _ _ _ _ c.from_residual-in_err-draw_with_crew.ensures.1
+    (OnlyWrites-more _ _ _ c.create.ensures.kept c.create_audio.ensures.place.seen.kept) c.in_err-draw_with_crew.ensures.place.seen
+
+pub returns-in_err-write_memory-clause-place : goal.returns-in_err-write_memory-clause-place
+returns-in_err-write_memory-clause-place g c =
+    WritesRun-err _ _ _ _ _ _ c.from_residual-in_err-write_memory.ensures.1
+    (OnlyWrites-more _ _ _ (OnlyWrites-more _ _ _ c.create.ensures.kept c.create_audio.ensures.place.seen.kept)
+    c.draw_with_crew.ensures.place.seen.kept) c.in_err-write_memory.ensures.place.seen

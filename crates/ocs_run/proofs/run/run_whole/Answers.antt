@@ -1,8 +1,8 @@
 use Rattle.std.proofs.Common.{◌≡◌, ◌∙◌, ap}
 use Rattle.ocs_run.specs.UnderwayCode.{fore_of}
 use Rattle.ocs_run.proofs.AudioLaws.{IsHeard-same}
-use Rattle.ocs_run.proofs.KeptLaws.{OnlyWrites-more, KeepsNames-more, AreGrowable-kept}
-use Rattle.ocs_run.proofs.RunLaws.{on_err, cause_err, IsCut-clocks, IsCut-settle, IsCut-flush}
+use Rattle.ocs_run.proofs.KeptLaws.{OnlyWrites-more, WritesFiles-err, KeepsNames-more, AreGrowable-kept}
+use Rattle.ocs_run.proofs.RunLaws.{on_err, IsCut-clocks, IsCut-settle, IsCut-flush}
 use Rattle.ocs_run.proofs.RunLaws.{IsSettling-settled, Ends-flushed, mark_part, mark_settled, names_settled, clock_settled}
 use Rattle.ocs_run.proofs.run.run_whole.Goals as goal
 
@@ -11,8 +11,8 @@ returns-in_err-run_clocks-clause-stopped g c = on_err _ _ (IsCut-clocks (fore_of
 
 pub returns-in_err-settle-clause-stopped : goal.returns-in_err-settle-clause-stopped
 returns-in_err-settle-clause-stopped g c =
-    on_err _ _ (IsCut-settle (fore_of c.args.fore.now) (fore_of c.run_clocks.new.fore) _ _ _ c.run_clocks.new.out _ _ c.in_ok-run_clocks.ensures.run
-    c.in_ok-run_clocks.ensures.out c.in_ok-run_clocks.ensures.runs)
+    on_err _ _ (IsCut-settle (fore_of c.args.fore.now) (fore_of c.run_clocks.new.fore) _ _ _ c.run_clocks.new.out _ _ c.in_ok-run_clocks.ensures.same.run
+    c.in_ok-run_clocks.ensures.same.names c.in_ok-run_clocks.ensures.runs)
 
 pub returns-in_err-settle-clause-mark : goal.returns-in_err-settle-clause-mark
 returns-in_err-settle-clause-mark g c =
@@ -23,7 +23,7 @@ pub flush-requires : goal.flush-requires
 flush-requires g c =
     let names : c.settle.new.out.names ≡ c.run_clocks.new.out.names =
     names_settled _ _ _ _ _ _ c.in_ok-settle.ensures.settled c.in_ok-run_clocks.ensures.able in
-    let all = AreGrowable-kept _ _ _ _ c.requires.growable c.run_clocks.ensures.names.grow (names ∙ c.in_ok-run_clocks.ensures.out) in
+    let all = AreGrowable-kept _ _ _ _ c.requires.growable c.run_clocks.ensures.place.names.grow (names ∙ c.in_ok-run_clocks.ensures.same.names) in
     record { frames = all.frames; trace = all.trace }
 
 pub returns-in_err-flush-clause-stopped : goal.returns-in_err-flush-clause-stopped
@@ -31,7 +31,7 @@ returns-in_err-flush-clause-stopped g c =
     let names : c.settle.new.out.names ≡ c.run_clocks.new.out.names =
     names_settled _ _ _ _ _ _ c.in_ok-settle.ensures.settled c.in_ok-run_clocks.ensures.able in
     on_err _ _ (IsCut-flush (fore_of c.args.fore.now) (fore_of c.settle.new.self) _ _ _ c.settle.new.out _ _ _
-    (IsSettling-settled _ _ _ _ _ _ _ _ _ _ _ c.in_ok-run_clocks.ensures.run c.settle.ensures.run c.in_ok-run_clocks.ensures.out names
+    (IsSettling-settled _ _ _ _ _ _ _ _ _ _ _ c.in_ok-run_clocks.ensures.same.run c.settle.ensures.run c.in_ok-run_clocks.ensures.same.names names
     c.in_ok-run_clocks.ensures.runs c.in_ok-settle.ensures.settled)
     c.in_err-flush.ensures.parts)
 
@@ -39,46 +39,39 @@ pub returns-in_err-flush-clause-mark : goal.returns-in_err-flush-clause-mark
 returns-in_err-flush-clause-mark g c =
     mark_settled _ _ _ _ _ _ c.in_ok-settle.ensures.settled c.in_ok-run_clocks.ensures.able ∙ c.run_clocks.ensures.mark
 
-pub returns-in_err-flush-clause-cause : goal.returns-in_err-flush-clause-cause
-returns-in_err-flush-clause-cause g c =
-    cause_err _ _ _ _ c.in_err-flush.field-0.0 c.from_residual-in_err-flush.ensures.1 c.run_clocks.ensures.kept c.flush.ensures.kept
-    c.in_err-flush.ensures.cause
-
-pub returns-in_err-flush-clause-kept : goal.returns-in_err-flush-clause-kept
-returns-in_err-flush-clause-kept g c = OnlyWrites-more _ _ _ c.run_clocks.ensures.kept c.flush.ensures.kept
-
-pub returns-in_err-flush-clause-names : goal.returns-in_err-flush-clause-names
-returns-in_err-flush-clause-names g c = KeepsNames-more _ _ _ _ _ _ c.run_clocks.ensures.names c.flush.ensures.names
+pub returns-in_err-flush-clause-place : goal.returns-in_err-flush-clause-place
+returns-in_err-flush-clause-place g c = record {
+  seen = WritesFiles-err _ _ _ _ _ c.from_residual-in_err-flush.ensures.1 c.run_clocks.ensures.place.seen.kept
+      (record { kept = c.flush.ensures.kept; cause = c.in_err-flush.ensures.cause });
+  names = KeepsNames-more _ _ _ _ _ _ c.run_clocks.ensures.place.names c.flush.ensures.names;
+}
 
 pub returns-clause-done : goal.returns-clause-done
 returns-clause-done g c =
     let names : c.settle.new.out.names ≡ c.run_clocks.new.out.names =
     names_settled _ _ _ _ _ _ c.in_ok-settle.ensures.settled c.in_ok-run_clocks.ensures.able in
     Ends-flushed (fore_of c.args.fore.now) (fore_of c.settle.new.self) _ _ _ c.settle.new.out _ _ _ _
-    (IsSettling-settled _ _ _ _ _ _ _ _ _ _ _ c.in_ok-run_clocks.ensures.run c.settle.ensures.run c.in_ok-run_clocks.ensures.out names
+    (IsSettling-settled _ _ _ _ _ _ _ _ _ _ _ c.in_ok-run_clocks.ensures.same.run c.settle.ensures.run c.in_ok-run_clocks.ensures.same.names names
     c.in_ok-run_clocks.ensures.runs c.in_ok-settle.ensures.settled)
     c.in_ok-flush.ensures.together c.in_ok-flush.ensures.answer.kept
 
-pub returns-clause-run : goal.returns-clause-run
-returns-clause-run g c = c.settle.ensures.run ∙ c.in_ok-run_clocks.ensures.run
-
-pub returns-clause-out : goal.returns-clause-out
-returns-clause-out g c =
+pub returns-clause-same : goal.returns-clause-same
+returns-clause-same g c =
     let names : c.settle.new.out.names ≡ c.run_clocks.new.out.names =
     names_settled _ _ _ _ _ _ c.in_ok-settle.ensures.settled c.in_ok-run_clocks.ensures.able in
-    ap (λ o. o.names) c.in_ok-flush.ensures.answer.kept ∙ (names ∙ c.in_ok-run_clocks.ensures.out)
-
-pub returns-clause-heard : goal.returns-clause-heard
-returns-clause-heard g c =
-    IsHeard-same c.run_clocks.new.audio (fore_of c.run_clocks.new.fore) (fore_of c.settle.new.self) c.settle.ensures.run
-    (clock_settled _ _ _ _ _ _ c.in_ok-settle.ensures.settled c.in_ok-run_clocks.ensures.able) c.in_ok-run_clocks.ensures.heard
+    record {
+      run = c.settle.ensures.run ∙ c.in_ok-run_clocks.ensures.same.run;
+      names = ap (λ o. o.names) c.in_ok-flush.ensures.answer.kept ∙ (names ∙ c.in_ok-run_clocks.ensures.same.names);
+      heard = IsHeard-same c.run_clocks.new.audio (fore_of c.run_clocks.new.fore) (fore_of c.settle.new.self) c.settle.ensures.run
+          (clock_settled _ _ _ _ _ _ c.in_ok-settle.ensures.settled c.in_ok-run_clocks.ensures.able) c.in_ok-run_clocks.ensures.same.heard;
+    }
 
 pub returns-clause-mark : goal.returns-clause-mark
 returns-clause-mark g c =
     mark_settled _ _ _ _ _ _ c.in_ok-settle.ensures.settled c.in_ok-run_clocks.ensures.able ∙ c.run_clocks.ensures.mark
 
-pub returns-clause-kept : goal.returns-clause-kept
-returns-clause-kept g c = OnlyWrites-more _ _ _ c.run_clocks.ensures.kept c.flush.ensures.kept
-
-pub returns-clause-names : goal.returns-clause-names
-returns-clause-names g c = KeepsNames-more _ _ _ _ _ _ c.run_clocks.ensures.names c.flush.ensures.names
+pub returns-clause-place : goal.returns-clause-place
+returns-clause-place g c = record {
+  seen = record { kept = OnlyWrites-more _ _ _ c.run_clocks.ensures.place.seen.kept c.flush.ensures.kept; cause = tt };
+  names = KeepsNames-more _ _ _ _ _ _ c.run_clocks.ensures.place.names c.flush.ensures.names;
+}
