@@ -10,6 +10,7 @@ pub mod Clock
 pub mod Fore
 pub mod CutsCode
 pub mod Steps
+pub mod AccessCode
 pub mod RunTo
 pub mod Checkpoint
 pub mod Save

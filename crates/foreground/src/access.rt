@@ -6,6 +6,7 @@ ghost use Rattle.chip_set.specs.AskLaws.{is_clx_ask as is_clx_asked};
 ghost use Rattle.chip_set.specs.Chips.{CanAsk, IsBlitAsk, kept_wish, late_ask, ask_or_late, ask_of_late};
 ghost use Rattle.chip_set.specs.declared.late.LateOwner.{LateOwner};
 ghost use Rattle.band_log.specs.Raster.{RasterValue};
+ghost use Rattle.foreground.specs.AccessCode.{CanAccess, MakesAccessWith};
 ghost use Rattle.foreground.specs.Fore.{over};
 ghost use Rattle.foreground.specs.Steps.{IsLoggedBefore, HasAskedNow, MakesAskedAccess, AccessesPart, KeepsClock, reads_more};
 
@@ -26,26 +27,14 @@ impl<S: Side> Fore<S> {
         raster: &mut Q,
         out: &mut OutFiles,
     ) -> Result<(), OutOfMemory>
-        requires logged { (first : ℕ) × IsLoggedBefore (over S.seen self.old) first
-            (Q.seen raster.old) }
-        requires asked { HasAskedNow
+        requires can { CanAccess
             (ask_or_late ask self.old.machine.beam self.old.machine.chips)
-            (over S.seen self.old) }
-        requires able { CanAsk
-            (ask_or_late ask self.old.machine.beam self.old.machine.chips) }
-        requires wish { IsBlitAsk
-            (ask_or_late ask self.old.machine.beam self.old.machine.chips)
-            (kept_wish self.old.machine.chips) }
+            (over S.seen self.old) (Q.seen raster.old) }
         requires room { self.old.machine.t + 1 < 2 ^ 64 }
-        ensures makes { OnOk result (MakesAskedAccess (over S.seen self.old)
-            (over S.seen self.new)
-            (Q.seen raster.old) (Q.seen raster.new) out.old out.new) }
-        ensures part { OnErr result (AccessesPart (over S.seen self.old)
-            (Q.seen raster.old) (Q.seen raster.new) out.old out.new) }
-        ensures kept { KeepsClock (over S.seen self.old) (over S.seen self.new) }
-        ensures reads { self.new.machine.chip.reads ≡ reads_more
-            (reads_of_ask (ask_or_late ask self.old.machine.beam self.old.machine.chips))
-            self.old.machine.chip.reads }
+        ensures { MakesAccessWith
+            (ask_or_late ask self.old.machine.beam self.old.machine.chips)
+            (over S.seen self.old) (over S.seen self.new)
+            (Q.seen raster.old) (Q.seen raster.new) out.old out.new result }
     {
         match ask {
             Some(Ask::Plane { ask }) => self.make_access(&Ask::Plane { ask }, out),
@@ -62,26 +51,14 @@ impl<S: Side> Fore<S> {
         raster: &mut Q,
         out: &mut OutFiles,
     ) -> Result<(), OutOfMemory>
-        requires logged { (first : ℕ) × IsLoggedBefore (over S.seen self.old) first
-            (Q.seen raster.old) }
-        requires asked { HasAskedNow
+        requires can { CanAccess
             (ask_or_late ask self.old.machine.beam self.old.machine.chips)
-            (over S.seen self.old) }
-        requires able { CanAsk
-            (ask_or_late ask self.old.machine.beam self.old.machine.chips) }
-        requires wish { IsBlitAsk
-            (ask_or_late ask self.old.machine.beam self.old.machine.chips)
-            (kept_wish self.old.machine.chips) }
+            (over S.seen self.old) (Q.seen raster.old) }
         requires room { self.old.machine.t + 1 < 2 ^ 64 }
-        ensures makes { OnOk result (MakesAskedAccess (over S.seen self.old)
-            (over S.seen self.new)
-            (Q.seen raster.old) (Q.seen raster.new) out.old out.new) }
-        ensures part { OnErr result (AccessesPart (over S.seen self.old)
-            (Q.seen raster.old) (Q.seen raster.new) out.old out.new) }
-        ensures kept { KeepsClock (over S.seen self.old) (over S.seen self.new) }
-        ensures reads { self.new.machine.chip.reads ≡ reads_more
-            (reads_of_ask (ask_or_late ask self.old.machine.beam self.old.machine.chips))
-            self.old.machine.chip.reads }
+        ensures { MakesAccessWith
+            (ask_or_late ask self.old.machine.beam self.old.machine.chips)
+            (over S.seen self.old) (over S.seen self.new)
+            (Q.seen raster.old) (Q.seen raster.new) out.old out.new result }
     {
         let ask = match ask {
             Some(ask) => ask,
@@ -97,22 +74,14 @@ impl<S: Side> Fore<S> {
         raster: &mut Q,
         out: &mut OutFiles,
     ) -> Result<(), OutOfMemory>
-        requires logged { (first : ℕ) × IsLoggedBefore (over S.seen self.old) first
-            (Q.seen raster.old) }
-        requires asked { HasAskedNow (late_ask self.old.machine.beam self.old.machine.chips)
-            (over S.seen self.old) }
-        requires wish { IsBlitAsk (late_ask self.old.machine.beam self.old.machine.chips)
-            (kept_wish self.old.machine.chips) }
+        requires can { CanAccess
+            (late_ask self.old.machine.beam self.old.machine.chips)
+            (over S.seen self.old) (Q.seen raster.old) }
         requires room { self.old.machine.t + 1 < 2 ^ 64 }
-        ensures makes { OnOk result (MakesAskedAccess (over S.seen self.old)
-            (over S.seen self.new)
-            (Q.seen raster.old) (Q.seen raster.new) out.old out.new) }
-        ensures part { OnErr result (AccessesPart (over S.seen self.old)
-            (Q.seen raster.old) (Q.seen raster.new) out.old out.new) }
-        ensures kept { KeepsClock (over S.seen self.old) (over S.seen self.new) }
-        ensures reads { self.new.machine.chip.reads ≡ reads_more
-            (reads_of_ask (late_ask self.old.machine.beam self.old.machine.chips))
-            self.old.machine.chip.reads }
+        ensures { MakesAccessWith
+            (late_ask self.old.machine.beam self.old.machine.chips)
+            (over S.seen self.old) (over S.seen self.new)
+            (Q.seen raster.old) (Q.seen raster.new) out.old out.new result }
     {
         match self.machine.chips.late_owner(&self.machine.beam) {
             LateOwner::Copper => self.access_for_copper(raster, out),
@@ -129,24 +98,14 @@ impl<S: Side> Fore<S> {
         raster: &mut Q,
         out: &mut OutFiles,
     ) -> Result<(), OutOfMemory>
-        requires logged { (first : ℕ) × IsLoggedBefore (over S.seen self.old) first
-            (Q.seen raster.old) }
-        requires asked { HasAskedNow
+        requires can { CanAccess
             (ask_of_late LateOwner.Copper self.old.machine.beam self.old.machine.chips)
-            (over S.seen self.old) }
-        requires wish { IsBlitAsk
-            (ask_of_late LateOwner.Copper self.old.machine.beam self.old.machine.chips)
-            (kept_wish self.old.machine.chips) }
+            (over S.seen self.old) (Q.seen raster.old) }
         requires room { self.old.machine.t + 1 < 2 ^ 64 }
-        ensures makes { OnOk result (MakesAskedAccess (over S.seen self.old)
-            (over S.seen self.new)
-            (Q.seen raster.old) (Q.seen raster.new) out.old out.new) }
-        ensures part { OnErr result (AccessesPart (over S.seen self.old)
-            (Q.seen raster.old) (Q.seen raster.new) out.old out.new) }
-        ensures kept { KeepsClock (over S.seen self.old) (over S.seen self.new) }
-        ensures reads { self.new.machine.chip.reads ≡ reads_more (reads_of_ask
-            (ask_of_late LateOwner.Copper self.old.machine.beam self.old.machine.chips))
-            self.old.machine.chip.reads }
+        ensures { MakesAccessWith
+            (ask_of_late LateOwner.Copper self.old.machine.beam self.old.machine.chips)
+            (over S.seen self.old) (over S.seen self.new)
+            (Q.seen raster.old) (Q.seen raster.new) out.old out.new result }
     {
         match self.machine.chips.copper_wish(&self.machine.beam) {
             Some(at) => self.make_access(&Ask::Copper { at }, out),
@@ -161,24 +120,14 @@ impl<S: Side> Fore<S> {
         raster: &mut Q,
         out: &mut OutFiles,
     ) -> Result<(), OutOfMemory>
-        requires logged { (first : ℕ) × IsLoggedBefore (over S.seen self.old) first
-            (Q.seen raster.old) }
-        requires asked { HasAskedNow
+        requires can { CanAccess
             (ask_of_late LateOwner.Blitter self.old.machine.beam self.old.machine.chips)
-            (over S.seen self.old) }
-        requires wish { IsBlitAsk
-            (ask_of_late LateOwner.Blitter self.old.machine.beam self.old.machine.chips)
-            (kept_wish self.old.machine.chips) }
+            (over S.seen self.old) (Q.seen raster.old) }
         requires room { self.old.machine.t + 1 < 2 ^ 64 }
-        ensures makes { OnOk result (MakesAskedAccess (over S.seen self.old)
-            (over S.seen self.new)
-            (Q.seen raster.old) (Q.seen raster.new) out.old out.new) }
-        ensures part { OnErr result (AccessesPart (over S.seen self.old)
-            (Q.seen raster.old) (Q.seen raster.new) out.old out.new) }
-        ensures kept { KeepsClock (over S.seen self.old) (over S.seen self.new) }
-        ensures reads { self.new.machine.chip.reads ≡ reads_more (reads_of_ask
-            (ask_of_late LateOwner.Blitter self.old.machine.beam self.old.machine.chips))
-            self.old.machine.chip.reads }
+        ensures { MakesAccessWith
+            (ask_of_late LateOwner.Blitter self.old.machine.beam self.old.machine.chips)
+            (over S.seen self.old) (over S.seen self.new)
+            (Q.seen raster.old) (Q.seen raster.new) out.old out.new result }
     {
         match self.machine.chips.blit_ask() {
             Ask::Blit { ask } => self.make_access(&Ask::Blit { ask }, out),
@@ -193,24 +142,14 @@ impl<S: Side> Fore<S> {
         raster: &mut Q,
         out: &mut OutFiles,
     ) -> Result<(), OutOfMemory>
-        requires logged { (first : ℕ) × IsLoggedBefore (over S.seen self.old) first
-            (Q.seen raster.old) }
-        requires asked { HasAskedNow
+        requires can { CanAccess
             (ask_of_late LateOwner.Processor self.old.machine.beam self.old.machine.chips)
-            (over S.seen self.old) }
-        requires wish { IsBlitAsk
-            (ask_of_late LateOwner.Processor self.old.machine.beam self.old.machine.chips)
-            (kept_wish self.old.machine.chips) }
+            (over S.seen self.old) (Q.seen raster.old) }
         requires room { self.old.machine.t + 1 < 2 ^ 64 }
-        ensures makes { OnOk result (MakesAskedAccess (over S.seen self.old)
-            (over S.seen self.new)
-            (Q.seen raster.old) (Q.seen raster.new) out.old out.new) }
-        ensures part { OnErr result (AccessesPart (over S.seen self.old)
-            (Q.seen raster.old) (Q.seen raster.new) out.old out.new) }
-        ensures kept { KeepsClock (over S.seen self.old) (over S.seen self.new) }
-        ensures reads { self.new.machine.chip.reads ≡ reads_more (reads_of_ask
-            (ask_of_late LateOwner.Processor self.old.machine.beam self.old.machine.chips))
-            self.old.machine.chip.reads }
+        ensures { MakesAccessWith
+            (ask_of_late LateOwner.Processor self.old.machine.beam self.old.machine.chips)
+            (over S.seen self.old) (over S.seen self.new)
+            (Q.seen raster.old) (Q.seen raster.new) out.old out.new result }
     {
         match self.machine.chips.processor_wish() {
             Some(ask) => {
@@ -224,7 +163,8 @@ impl<S: Side> Fore<S> {
         }
     }
 
-    /// The access of an owner that asks for this, whoever it is: out of line, for those that seldom come.
+    /// The access of an owner that asks for this, whoever it is: out of line, for those that
+    /// seldom come. The owners of most clocks stand apart: what follows is then that of the one owner.
     #[inline(never)]
     fn access_by<Q: Raster<S>>(
         &mut self,
@@ -232,46 +172,14 @@ impl<S: Side> Fore<S> {
         raster: &mut Q,
         out: &mut OutFiles,
     ) -> Result<(), OutOfMemory>
-        requires logged { (first : ℕ) × IsLoggedBefore (over S.seen self.old) first
-            (Q.seen raster.old) }
-        requires asked { HasAskedNow ask.now (over S.seen self.old) }
-        requires able { CanAsk ask.now }
-        requires wish { IsBlitAsk ask.now (kept_wish self.old.machine.chips) }
+        requires can { CanAccess ask.now (over S.seen self.old) (Q.seen raster.old) }
         requires room { self.old.machine.t + 1 < 2 ^ 64 }
-        ensures makes { OnOk result (MakesAskedAccess (over S.seen self.old)
-            (over S.seen self.new)
-            (Q.seen raster.old) (Q.seen raster.new) out.old out.new) }
-        ensures part { OnErr result (AccessesPart (over S.seen self.old)
-            (Q.seen raster.old) (Q.seen raster.new) out.old out.new) }
-        ensures kept { KeepsClock (over S.seen self.old) (over S.seen self.new) }
-        ensures reads { self.new.machine.chip.reads ≡ reads_more
-            (reads_of_ask ask.now) self.old.machine.chip.reads }
+        ensures { MakesAccessWith ask.now (over S.seen self.old) (over S.seen self.new)
+            (Q.seen raster.old) (Q.seen raster.new) out.old out.new result }
     {
         if is_clx_ask(ask) {
             return self.access_clxdat(ask, raster, out);
         }
-        self.access_asked(ask, out)
-    }
-
-    /// The access, which does not read CLXDAT. The owners of most clocks stand
-    /// apart: what follows is then that of the one owner.
-    #[inline(always)]
-    fn access_asked(&mut self, ask: &Ask, out: &mut OutFiles) -> Result<(), OutOfMemory>
-        requires logged { (first : ℕ) × (seen : RasterValue) × IsLoggedBefore
-            (over S.seen self.old) first seen }
-        requires asked { HasAskedNow ask.now (over S.seen self.old) }
-        requires quiet { is_clx_asked ask.now ≡ false }
-        requires able { CanAsk ask.now }
-        requires wish { IsBlitAsk ask.now (kept_wish self.old.machine.chips) }
-        requires room { self.old.machine.t + 1 < 2 ^ 64 }
-        ensures makes { OnOk result ((seen : RasterValue) → MakesAskedAccess
-            (over S.seen self.old) (over S.seen self.new) seen seen out.old out.new) }
-        ensures part { OnErr result ((seen : RasterValue) → AccessesPart
-            (over S.seen self.old) seen seen out.old out.new) }
-        ensures kept { KeepsClock (over S.seen self.old) (over S.seen self.new) }
-        ensures reads { self.new.machine.chip.reads ≡ reads_more
-            (reads_of_ask ask.now) self.old.machine.chip.reads }
-    {
         match *ask {
             Ask::Free => self.make_access(&Ask::Free, out),
             Ask::Plane { ask } => self.make_access(&Ask::Plane { ask }, out),

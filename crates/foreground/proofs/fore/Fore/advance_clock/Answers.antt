@@ -16,13 +16,11 @@ returns-in_err-run_to_timers-clause-part g c =
     on_err c.from_residual-in_err-run_to_timers.result
     (part_reaching _ _ _ _ _ _ _ _ c.in_ok-clx.ensures.begins c.in_err-run_to_timers.ensures.told)
 
-pub access_alone-requires-clause-logged : goal.access_alone-requires-clause-logged
-access_alone-requires-clause-logged g c = (at_ask _ _ _ _ _ _ _ _ _ _ _ c.requires.underway.1 c.in_ok-clx.ensures.begins
-    (reaches_ask _ _ _ _ _ _ _ c.in_ok-run_to_timers.ensures.events c.ask-ask.ensures.asks (ap (over g.S.Side.seen) c.ask-ask.ensures.same))).1
-
-pub access_alone-requires-clause-asked : goal.access_alone-requires-clause-asked
-access_alone-requires-clause-asked g c = (at_ask _ _ _ _ _ _ _ _ _ _ _ c.requires.underway.1 c.in_ok-clx.ensures.begins
-    (reaches_ask _ _ _ _ _ _ _ c.in_ok-run_to_timers.ensures.events c.ask-ask.ensures.asks (ap (over g.S.Side.seen) c.ask-ask.ensures.same))).0
+pub access_alone-requires-clause-can : goal.access_alone-requires-clause-can
+access_alone-requires-clause-can g c =
+    let at = at_ask _ _ _ _ _ _ _ _ _ _ _ c.requires.underway.1 c.in_ok-clx.ensures.begins
+    (reaches_ask _ _ _ _ _ _ _ c.in_ok-run_to_timers.ensures.events c.ask-ask.ensures.asks (ap (over g.S.Side.seen) c.ask-ask.ensures.same)) in
+    record { logged = at.1; asked = at.0; able = c.ask-ask.ensures.able; wish = c.ask-ask.ensures.wish }
 
 pub returns-in_err-access_alone-clause-part : goal.returns-in_err-access_alone-clause-part
 returns-in_err-access_alone-clause-part g c =

@@ -24,25 +24,16 @@ returns-in_err-go_on-clause-part g c =
     on_err c.from_residual.result
     (begins_no_part (over g.S.Side.seen c.args.self.now) (g.Q.Raster.seen c.args.raster.now) c.args.out.now)
 
-pub access-requires-clause-logged : goal.access-requires-clause-logged
-access-requires-clause-logged g c =
+pub access-requires-clause-can : goal.access-requires-clause-can
+access-requires-clause-can g c =
     let f0 = over g.S.Side.seen c.args.self.now in
     let f1 = over g.S.Side.seen c.go_on.new.self in
     let begins = c.in_ok-go_on.ensures.begins (g.Q.Raster.seen c.args.raster.now) c.args.out.now in
     let runs = runs_none_behind f0 f1 _ _ c.args.out.now (ap (over g.S.Side.seen) c.go_on.ensures.same) c.requires.underway.1 c.requires.inner
     c.requires.due in
     let reaches = reaches_ask _ _ _ _ _ _ _ runs c.ask-ask.ensures.asks (ap (over g.S.Side.seen) c.ask-ask.ensures.same) in
-    (at_ask _ _ _ _ _ _ _ _ _ _ _ c.requires.underway.1 begins reaches).1
-
-pub access-requires-clause-asked : goal.access-requires-clause-asked
-access-requires-clause-asked g c =
-    let f0 = over g.S.Side.seen c.args.self.now in
-    let f1 = over g.S.Side.seen c.go_on.new.self in
-    let begins = c.in_ok-go_on.ensures.begins (g.Q.Raster.seen c.args.raster.now) c.args.out.now in
-    let runs = runs_none_behind f0 f1 _ _ c.args.out.now (ap (over g.S.Side.seen) c.go_on.ensures.same) c.requires.underway.1 c.requires.inner
-    c.requires.due in
-    let reaches = reaches_ask _ _ _ _ _ _ _ runs c.ask-ask.ensures.asks (ap (over g.S.Side.seen) c.ask-ask.ensures.same) in
-    (at_ask _ _ _ _ _ _ _ _ _ _ _ c.requires.underway.1 begins reaches).0
+    let at = at_ask _ _ _ _ _ _ _ _ _ _ _ c.requires.underway.1 begins reaches in
+    record { logged = at.1; asked = at.0; able = c.ask-ask.ensures.able; wish = c.ask-ask.ensures.wish }
 
 pub returns-in_err-access-clause-part : goal.returns-in_err-access-clause-part
 returns-in_err-access-clause-part g c =

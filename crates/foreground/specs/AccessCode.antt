@@ -1,0 +1,24 @@
+-- What the calls of an access ask for, and what they make.
+use Rattle.std.specs.Prelude.{◌≡◌, ℕ, Result, OnOk, OnErr}
+use Rattle.out_files.specs.OutFiles.{OutFilesValue}
+use Rattle.serial_model.specs.declared.bus.Ask.{Ask}
+use Rattle.serial_bands.specs.BusReads.{reads_of_ask}
+use Rattle.chip_set.specs.Chips.{CanAsk, IsBlitAsk, kept_wish}
+use Rattle.band_log.specs.Raster.{RasterValue}
+use Rattle.foreground.specs.Fore.{ForeValue}
+use Rattle.foreground.specs.Steps.{IsLoggedBefore, HasAskedNow, MakesAskedAccess, AccessesPart, KeepsClock, reads_more}
+
+-- the log stands before the access of the clock, and the chips have asked for the slot with this
+pub record CanAccess (ask : Ask) (fore : ForeValue) (seen : RasterValue) : Type 0 where
+  pub logged : (first : ℕ) × IsLoggedBefore fore first seen
+  pub asked : HasAskedNow ask fore
+  pub able : CanAsk ask
+  pub wish : IsBlitAsk ask (kept_wish fore.machine.chips)
+
+-- the access with this ask was made, or, where memory was wanted, a part of the pixels of outstanding bands was given
+pub record MakesAccessWith {A E : Type 0} (ask : Ask) (old new : ForeValue) (seen after : RasterValue) (out given : OutFilesValue)
+    (result : Result A E) : Type 0 where
+  pub makes : OnOk result (MakesAskedAccess old new seen after out given)
+  pub part : OnErr result (AccessesPart old seen after out given)
+  pub kept : KeepsClock old new
+  pub reads : new.machine.chip.reads ≡ reads_more (reads_of_ask ask) old.machine.chip.reads
