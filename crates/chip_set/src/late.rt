@@ -20,8 +20,8 @@ pub enum LateOwner {
 }
 
 impl Chips {
-    /// Who has the slot of a clock for which neither the side nor a plane nor a sprite asks. What the owner asks
-    /// for it says by itself.
+    /// Who has the slot of a clock for which neither the side nor a plane nor a sprite asks. What the owner
+    /// asks for it says by itself.
     #[inline(always)]
     #[tactic(auto, unfolding(crate::specs::Chips::ask_with, serial_model::specs::Owner::owner_of))]
     pub fn late_owner(&self, beam: &Beam) -> LateOwner

@@ -93,8 +93,8 @@ impl<S: Side> Machine<S> {
 
     /// Third step, and the fifth's beginning: the timers of the CIAs tick at each fifth clock, the side
     /// ticks, CIAs and side request their interrupts, and the owner of the slot says what it asks for: None
-    /// where neither the side nor a plane nor a sprite asks, and then the chips say who does (`late_owner`). The
-    /// fetches of bitplanes and sprites are done with it. `answer` is to be called next. Whether there is a
+    /// where neither the side nor a plane nor a sprite asks, and then the chips say who does (`late_owner`).
+    /// The fetches of bitplanes and sprites are done with it. `answer` is to be called next. Whether there is a
     /// side is asked here alone: without one a clock has nothing of it.
     #[inline(always)]
     pub fn ask_in_time(&mut self) -> Option<Ask>

@@ -81,7 +81,8 @@ behind_plane c = record (before_plane c) { registers = c.step-sprite-2.new.regs;
 
 plane : (c : goal.After-chips_ask-2) → HasFetched c.args.beam.now (before_plane c) (behind_plane c) (Some c.in-Some.wish) c.step-sprite-2.result
 plane c =
-    fetched_by_steps c.args.beam.now (before_plane c) (behind_plane c) c.step-plane.new.regs (Some c.in-Some.wish) c.step-sprite-2.result c.step-plane.ensures.begun
+    fetched_by_steps c.args.beam.now (before_plane c) (behind_plane c) c.step-plane.new.regs (Some c.in-Some.wish) c.step-sprite-2.result
+    c.step-plane.ensures.begun
     c.step-plane.ensures.units (sym c.in-Some.is ∙ c.step-plane.ensures.ask) c.step-plane.ensures.moved c.step-sprite-2.ensures.kinds
     c.step-sprite-2.ensures.ask c.step-sprite-2.ensures.moved refl
 
@@ -128,7 +129,8 @@ returns-in_default-clause-wish c =
 pub returns-clause-ask : goal.returns-clause-ask
 returns-clause-ask c =
     subst (λ old. (x : Chips) → IsChipsOf old x → c.chips_ask-2.result ≡ ask_at S.Nothing c.args.beam.now x) c.self.view_is
-    (ask_is_at S.Nothing c.args.beam.now c.chips_ask-2.result (before_plane c) (behind_plane c) (Some c.in-Some.wish) c.step-sprite-2.result (plane c) c.chips_ask-2.ensures)
+    (ask_is_at S.Nothing c.args.beam.now c.chips_ask-2.result (before_plane c) (behind_plane c) (Some c.in-Some.wish) c.step-sprite-2.result
+    (plane c) c.chips_ask-2.ensures)
 
 pub returns-clause-chips : goal.returns-clause-chips
 returns-clause-chips c =
@@ -137,7 +139,8 @@ returns-clause-chips c =
 
 pub returns-clause-able : goal.returns-clause-able
 returns-clause-able c =
-    ask_can S.Nothing c.args.beam.now c.chips_ask-2.result (before_plane c) (behind_plane c) (Some c.in-Some.wish) c.step-sprite-2.result (plane c) c.chips_ask-2.ensures
+    ask_can S.Nothing c.args.beam.now c.chips_ask-2.result (before_plane c) (behind_plane c) (Some c.in-Some.wish) c.step-sprite-2.result
+    (plane c) c.chips_ask-2.ensures
 
 pub returns-clause-wish : goal.returns-clause-wish
 returns-clause-wish c =
