@@ -13,6 +13,13 @@ use crate::state::{Context, Machine, Step, Use};
 use m68k_decode::{CpuRegs, Size, Trap, Under};
 use m68k_except::{frame, vector};
 
+/// What an entry is made for, and the clocks of its instruction's operand mode.
+#[derive(Clone, Copy)]
+struct Entry {
+    kind: Trap,
+    ea: u8,
+}
+
 /// Whether an access of the entry counts as one of an instruction.
 #[tactic(auto, unfolding(m68k_decode::specs::Entries::is_instruction))]
 pub fn is_instruction(kind: &Trap) -> bool
@@ -77,17 +84,18 @@ pub fn start_handler(context: &Context, machine: &mut Machine, clocks: u32, pc: 
 
 /// The frame is written down to an address.
 #[tactic(auto, unfolding(m68k_decode::specs::Entries::vectored))]
-fn read_vector(context: &Context, machine: &mut Machine, kind: Trap, ea: u8, at: u32)
-    ensures { meaning context.now machine.new ≡ vectored kind ea at (run_of context.now machine.old) }
+fn read_vector(context: &Context, machine: &mut Machine, entry: Entry, at: u32)
+    ensures { meaning context.now machine.new
+        ≡ vectored entry.kind entry.ea at (run_of context.now machine.old) }
 {
     machine.regs.set_address(7, at);
-    let clocks = entry_clocks(&kind, ea);
+    let clocks = entry_clocks(&entry.kind, entry.ea);
     read_value(
         context,
         machine,
         Size::Long,
         false,
-        4 * vector(&kind),
+        4 * vector(&entry.kind),
         Use::Handler { clocks },
     );
 }
@@ -112,15 +120,14 @@ fn frame_word(kind: &Trap, regs: &CpuRegs, next: u8) -> Option<u16>
 fn write_frame_word(
     context: &Context,
     machine: &mut Machine,
-    kind: Trap,
-    ea: u8,
+    entry: Entry,
     at: u32,
     word: u16,
     next: u8,
 )
     ensures { meaning context.now machine.new
         ≡ write_word (run_of context.now machine.old) at word
-        (pushes kind ea at (drop next (frame_of kind context.now.start))
+        (pushes entry.kind entry.ea at (drop next (frame_of entry.kind context.now.start))
         (run_of context.now machine.old)) }
 {
     if at & 1 == 1 {
@@ -131,8 +138,8 @@ fn write_frame_word(
         at,
         word,
         next,
-        kind,
-        ea,
+        kind: entry.kind,
+        ea: entry.ea,
     };
 }
 
@@ -143,12 +150,13 @@ pub fn push_frame(context: &Context, machine: &mut Machine, kind: Trap, ea: u8, 
         ≡ pushes kind ea at (drop next (frame_of kind context.now.start))
         (run_of context.now machine.old) }
 {
-    let Some(word) = frame_word(&kind, &context.start, next) else {
-        read_vector(context, machine, kind, ea, at);
+    let entry = Entry { kind, ea };
+    let Some(word) = frame_word(&entry.kind, &context.start, next) else {
+        read_vector(context, machine, entry, at);
         return;
     };
     let at = address_before(Size::Word, at);
-    write_frame_word(context, machine, kind, ea, at, word, next + 1);
+    write_frame_word(context, machine, entry, at, word, next + 1);
 }
 
 /// An entry begins; the registers have its status register.
