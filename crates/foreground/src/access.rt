@@ -1,14 +1,14 @@
 //! The access of a colour clock: each owner of the slot has a way of its own.
 
-ghost use Rattle.std.specs.Prelude.{◌≡◌, ◌+◌, ◌<◌, ◌^◌, ℕ, true, false, OnOk, OnErr};
+ghost use Rattle.std.specs.Prelude.{◌≡◌, ◌+◌, ◌<◌, ◌^◌, true, false, OnOk, OnErr};
 ghost use Rattle.serial_bands.specs.BusReads.{reads_of_ask};
 ghost use Rattle.chip_set.specs.AskLaws.{is_clx_ask as is_clx_asked};
-ghost use Rattle.chip_set.specs.Chips.{CanAsk, IsBlitAsk, kept_wish, late_ask, ask_or_late, ask_of_late};
+ghost use Rattle.chip_set.specs.Chips.{late_ask, ask_or_late, ask_of_late};
 ghost use Rattle.chip_set.specs.declared.late.LateOwner.{LateOwner};
 ghost use Rattle.band_log.specs.Raster.{RasterValue};
 ghost use Rattle.foreground.specs.AccessCode.{CanAccess, MakesAccessWith};
 ghost use Rattle.foreground.specs.Fore.{over};
-ghost use Rattle.foreground.specs.Steps.{IsLoggedBefore, HasAskedNow, MakesAskedAccess, AccessesPart, KeepsClock, reads_more};
+ghost use Rattle.foreground.specs.Steps.{MakesAskedAccess, AccessesPart, KeepsClock, reads_more};
 
 use crate::fore::Fore;
 use crate::touches::touch_of;
@@ -194,12 +194,8 @@ impl<S: Side> Fore<S> {
     /// The access of one owner.
     #[inline(always)]
     fn make_access(&mut self, ask: &Ask, out: &mut OutFiles) -> Result<(), OutOfMemory>
-        requires logged { (first : ℕ) × (seen : RasterValue) × IsLoggedBefore
-            (over S.seen self.old) first seen }
-        requires asked { HasAskedNow ask.now (over S.seen self.old) }
+        requires can { (seen : RasterValue) × CanAccess ask.now (over S.seen self.old) seen }
         requires quiet { is_clx_asked ask.now ≡ false }
-        requires able { CanAsk ask.now }
-        requires wish { IsBlitAsk ask.now (kept_wish self.old.machine.chips) }
         requires room { self.old.machine.t + 1 < 2 ^ 64 }
         ensures makes { OnOk result ((seen : RasterValue) → MakesAskedAccess
             (over S.seen self.old) (over S.seen self.new) seen seen out.old out.new) }
@@ -222,20 +218,10 @@ impl<S: Side> Fore<S> {
         raster: &mut Q,
         out: &mut OutFiles,
     ) -> Result<(), OutOfMemory>
-        requires logged { (first : ℕ) × IsLoggedBefore (over S.seen self.old) first
-            (Q.seen raster.old) }
-        requires asked { HasAskedNow ask.now (over S.seen self.old) }
+        requires can { CanAccess ask.now (over S.seen self.old) (Q.seen raster.old) }
         requires read { is_clx_asked ask.now ≡ true }
-        requires able { CanAsk ask.now }
-        requires wish { IsBlitAsk ask.now (kept_wish self.old.machine.chips) }
-        ensures makes { OnOk result (MakesAskedAccess (over S.seen self.old)
-            (over S.seen self.new)
-            (Q.seen raster.old) (Q.seen raster.new) out.old out.new) }
-        ensures part { OnErr result (AccessesPart (over S.seen self.old)
-            (Q.seen raster.old) (Q.seen raster.new) out.old out.new) }
-        ensures kept { KeepsClock (over S.seen self.old) (over S.seen self.new) }
-        ensures reads { self.new.machine.chip.reads ≡ reads_more
-            (reads_of_ask ask.now) self.old.machine.chip.reads }
+        ensures { MakesAccessWith ask.now (over S.seen self.old) (over S.seen self.new)
+            (Q.seen raster.old) (Q.seen raster.new) out.old out.new result }
     {
         let clx = self.gather_clxdat(raster, true, out)?;
         self.machine.answer(ask, clx, out)?;

@@ -65,11 +65,8 @@ impl<S: Side> Fore<S> {
         if !due || h == 0 || 226 <= h || self.machine.t <= self.log.band.from {
             return Ok(false);
         }
-        if self.machine.chips.is_busy() {
+        if self.machine.chips.is_busy() || !self.machine.side.is_nothing() {
             self.lookout.note(self.machine.t, 0);
-            return Ok(false);
-        }
-        if !self.machine.side.is_nothing() {
             return Ok(false);
         }
         self.pass_in_line(limit)

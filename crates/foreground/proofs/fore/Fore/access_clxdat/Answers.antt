@@ -6,23 +6,24 @@ use Rattle.foreground.proofs.MadeLaws.{stands_at_read, asked_after_read, makes_w
 use Rattle.foreground.proofs.fore.Fore.access_clxdat.Goals as goal
 
 pub gather_clxdat-requires : goal.gather_clxdat-requires
-gather_clxdat-requires g c = stands_at_read _ c.args.ask.now _ c.requires.asked c.requires.read c.requires.logged
+gather_clxdat-requires g c = stands_at_read _ c.args.ask.now _ c.requires.can.asked c.requires.read c.requires.can.logged
 
 pub answer-requires-clause-asked : goal.answer-requires-clause-asked
 answer-requires-clause-asked g c = (
   access_state (over g.S.Side.seen c.args.self.now).run c.args.self.now.machine.t,
-  c.requires.asked.asks,
+  c.requires.can.asked.asks,
   subst (λ (f : ForeValue). HasAskedOf f.machine (access_state (over g.S.Side.seen c.args.self.now).run c.args.self.now.machine.t))
       (sym (ap (over g.S.Side.seen) c.self.view_is))
-      (asked_after_read _ _ _ _ c.args.ask.now _ _ _ _ (c.in_ok-clx.ensures.bits c.requires.logged.0 c.requires.logged.1) c.requires.asked),
+      (asked_after_read _ _ _ _ c.args.ask.now _ _ _ _ (c.in_ok-clx.ensures.bits c.requires.can.logged.0 c.requires.can.logged.1) c.requires.can.asked),
 )
 
-pub returns-in_err-answer-clause-part : goal.returns-in_err-answer-clause-part
-returns-in_err-answer-clause-part g c =
+pub returns-in_err-answer : goal.returns-in_err-answer
+returns-in_err-answer g c =
     let part = part_of_read _ _ _ _ _ _ _ _ c.in_ok-clx.ensures.bits c.in_err-answer.ensures.refused in
     search (rules, part)
 
-pub returns-clause-makes : goal.returns-clause-makes
-returns-clause-makes g c =
-    makes_with_read_of _ _ _ _ c.args.ask.now _ _ _ _ _ _ _ (ap (over g.S.Side.seen) c.self.view_is) c.in_ok-clx.ensures.bits c.requires.asked c.requires.read
-    c.in_ok-answer.ensures.access c.answer.ensures.place c.in_ok-answer.ensures.memory
+pub returns : goal.returns
+returns g c =
+    let makes = makes_with_read_of _ _ _ _ c.args.ask.now _ _ _ _ _ _ _ (ap (over g.S.Side.seen) c.self.view_is) c.in_ok-clx.ensures.bits
+    c.requires.can.asked c.requires.read c.in_ok-answer.ensures.access c.answer.ensures.place c.in_ok-answer.ensures.memory in
+    search (rules, makes)
