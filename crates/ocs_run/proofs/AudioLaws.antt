@@ -1,11 +1,12 @@
 -- What a run sounds, clock by clock, and its file beside the three.
-use Rattle.std.proofs.Common.{◌≡◌, ◌≢◌, ℕ, zero, suc, ◌+◌, ◌<◌, Bool, true, false, List, [], ◌∷◌, ◌++◌, take, drop, Option, Some, None}
-use Rattle.std.proofs.Common.{refl, sym, ap, ◌∙◌, subst, arith, inl, inr, ◌⊎◌, ◌≤◌, Result, Ok, Err, OnOk, OnErr, add-one}
+use Rattle.std.proofs.Common.{◌≡◌, ◌≢◌, ℕ, zero, suc, ◌+◌, ◌-◌, max, ◌<◌, ◌==◌, ◌||◌, if◌then◌else◌, Bool, true, false, List, [], ◌∷◌, ◌++◌, take, drop, Option, Some, None}
+use Rattle.std.proofs.Common.{refl, sym, ap, ◌∙◌, subst, arith, inl, inr, ◌⊎◌, ◌≤◌, Result, Ok, Err, OnOk, OnErr, add-one, append-nil}
 use Rattle.std.specs.Prelude.{option_map}
 use Rattle.std.specs.Prelude.{is_some}
 use Rattle.std.proofs.lemmas.List.{take-append-drop}
 use Rattle.std.specs.FinMap.{insert}
 use Rattle.ocs_base.specs.Script.{ScriptValue}
+use Rattle.ocs_base.specs.Systems.{last_clock}
 use Rattle.ocs_base.specs.declared.beam.Beam.{Beam}
 use Rattle.ocs_io.specs.Place.{Files, with_file, grown}
 use Rattle.ocs_io.proofs.MapLaws.{same_name, same_text, insert_other}
@@ -14,19 +15,20 @@ use Rattle.out_files.specs.OutFiles.{OutNames, OutFilesValue}
 use Rattle.out_files.specs.Together.{three_files, AreTogether, Begins, Completes}
 use Rattle.out_files.proofs.FilesLaws.{grown-with_file, grown-other}
 use Rattle.serial_model.specs.Serial.{state_over, IsEndOver}
-use Rattle.serial_model.specs.Side.{SideValue}
+use Rattle.serial_model.specs.Side.{SideValue, shown_by_side}
 use Rattle.serial_model.specs.State.{State}
 use Rattle.serial_model.specs.MemoryText.{memory_text}
 use Rattle.serial_model.specs.Outputs.{frames_text}
 use Rattle.serial_model.specs.TraceText.{trace_text}
-use Rattle.serial_bands.specs.Run.{RunValue, state_of, IsEndOf}
+use Rattle.serial_bands.specs.Run.{RunValue, state_of, beam_at, IsEndOf}
 use Rattle.band_log.specs.Raster.{RasterValue}
 use Rattle.foreground.specs.Fore.{ForeValue, IsNew}
 use Rattle.foreground.specs.RunTo.{HasRunOn, RunsOn, HasCome}
-use Rattle.ocs_run.specs.Audio.{audio_text, sampled, IsHeard, with_audio, grown_audio, MayHaveMade, MayHaveGrown, IsFourth, IsFourthName}
+use Rattle.rewind_loop.proofs.LineLaws.{IsLater, clocks_on, least_last}
+use Rattle.ocs_run.specs.Audio.{audio_text, is_sampled, sampled, IsHeard, with_audio, grown_audio, MayHaveMade, MayHaveGrown, IsFourth, IsFourthName}
 use Rattle.ocs_run.specs.Prefix.{IsPartOf, LeavesPrefixesOver, LeavesFiles}
 use Rattle.ocs_run.specs.Run.{HasFilesOver, HasAllFiles}
-use Rattle.ocs_run.specs.UnderwayCode.{CanRun, IsFresh, IsWritten, EndsFromStart}
+use Rattle.ocs_run.specs.UnderwayCode.{AreUnsampled, CanRun, IsFresh, IsWritten, EndsFromStart}
 use Rattle.ocs_run.specs.declared.audio.Recording.{Recording}
 use Rattle.ocs_run.proofs.RunLaws.{HasFiles-run, begins_created}
 use Rattle.ocs_run.proofs.PrefixLaws.{LeavesPrefixes-all, LeavesPrefixes-whole, one_end}
@@ -66,17 +68,80 @@ one_clock : (old new : ForeValue) (limit : ℕ) → HasCome limit old new → li
     → new.machine.t ≡ old.machine.t + 1
 one_clock old new limit come is later = omega (arith, come.most, is, later)
 
+-- nothing is taken of clocks that are not sampled
+nothing_here : (b : Beam) (side : SideValue) → is_sampled b ≡ false → sampled b side ≡ []
+nothing_here b side not = ap (λ is. if is then shown_by_side side else []) not
+
+taken_on : (run : RunValue) (t n : ℕ) → ((k : ℕ) → k < n → is_sampled (beam_at run (k + t)) ≡ false) → taken run (n + t) ≡ taken run t
+taken_on run t zero none = ap (λ c. taken run c) (plain t)
+  where
+    plain : (t : ℕ) → 0 + t ≡ t
+    plain t = omega arith
+taken_on run t (suc n) none =
+    ap (λ c. taken run c) (one_more n t)
+    ∙ taken_next run (n + t)
+    ∙ ap (λ text. taken run (n + t) ++ text) (nothing_here (beam_at run (n + t)) (state_of run ((n + t) + 1)).side (none n (omega arith)))
+    ∙ append-nil (taken run (n + t))
+    ∙ taken_on run t n (λ k less. none k (omega (arith, less)))
+  where
+    one_more : (n t : ℕ) → suc n + t ≡ (n + t) + 1
+    one_more n t = omega arith
+
+unsampled_at : (fore : ForeValue) (limit k : ℕ) → beam_at fore.run fore.machine.t ≡ fore.machine.beam → AreUnsampled limit fore
+    → k + fore.machine.t < limit → is_sampled (beam_at fore.run (k + fore.machine.t)) ≡ false
+unsampled_at fore limit zero here are before =
+    let t : ℕ = fore.machine.t in
+    let now : 0 + t ≡ t = omega arith in
+    let h : fore.machine.beam.h ≡ fore.machine.beam.h + 0 = omega arith in
+    ap (λ c. is_sampled (beam_at fore.run c)) now ∙ ap (λ (b : Beam). is_sampled b) here ∙ ap (λ x. (x == 0) || (x == 114)) h
+    ∙ are.none 0 (omega (arith, before))
+unsampled_at fore limit (suc k) here are before =
+    let t : ℕ = fore.machine.t in
+    let first : Beam = beam_at fore.run t in
+    let least : 226 ≤ last_clock fore.run.script.system first.v = least_last fore.run.script.system first.v in
+    let same : first.h ≡ fore.machine.beam.h = ap (λ (b : Beam). b.h) here in
+    let later : IsLater first (beam_at fore.run (suc k + t)) (suc k) =
+    clocks_on fore.run t (suc k) (suc k + t) refl (within first.h _ t limit same are.line before least) in
+    ap (λ x. (x == 0) || (x == 114)) (other_order first.h _ same later.clock) ∙ are.none (suc k) (omega (arith, before))
+  where
+    within : (first h t limit : ℕ) {last : ℕ} → first ≡ h → limit ≤ t + max 1 (227 - h) → suc k + t < limit → 226 ≤ last → suc k + first ≤ last
+    within first h t limit same line before least = omega (arith, same, line, before, least)
+    other_order : (first h : ℕ) {at : ℕ} → first ≡ h → at ≡ suc k + first → at ≡ h + suc k
+    other_order first h same is = omega (arith, same, is)
+
+taken_along : (old new : ForeValue) (seen after : RasterValue) (out given : OutFilesValue) (limit : ℕ) → CanRun old seen → new.run ≡ old.run
+    → HasCome limit old new → old.machine.t < new.machine.t → AreUnsampled limit old
+    → taken new.run new.machine.t ≡ taken old.run old.machine.t
+taken_along old new seen after out given limit can run come later are =
+    let n : ℕ = new.machine.t - old.machine.t in
+    let end : new.machine.t ≡ n + old.machine.t = omega (arith, later) in
+    ap (λ r. taken r new.machine.t) run
+    ∙ ap (λ c. taken old.run c) end
+    ∙ taken_on old.run old.machine.t n
+    (λ k less. unsampled_at old limit k can.stands.at.machine.beam are (below k n old.machine.t new.machine.t limit less end come.most later))
+  where
+    below : (k n t next limit : ℕ) → k < n → next ≡ n + t → next ≤ max t limit → t < next → k + t < limit
+    below k n t next limit less end most later = omega (arith, less, end, most, later)
+
 pub IsHeard-next : (was now : Recording) (old new : ForeValue) (seen after : RasterValue) (out given : OutFilesValue) (limit : ℕ) → CanRun old seen
     → RunsOn old new seen after out given → new.run ≡ old.run → HasCome limit old new → old.machine.t < new.machine.t
-    → (was.on ≡ true → limit ≡ old.machine.t + 1)
+    → (was.on ≡ true → is_sampled old.machine.beam ≡ true → limit ≡ old.machine.t + 1)
+    → (was.on ≡ true → is_sampled old.machine.beam ≡ false → AreUnsampled limit old)
     → (was.on ≡ true → now.bytes.items ≡ was.bytes.items ++ sampled old.machine.beam new.machine.side) → now.on ≡ was.on
     → IsHeard was old → IsHeard now new
-IsHeard-next was now old new seen after out given limit can runs run come later one added same heard = record {
-  taken = λ on. let was_on : was.on ≡ true = sym same ∙ on in
-      added was_on
-      ∙ heard_next old new seen after out given was.bytes.items can runs run (one_clock old new limit come (one was_on) later)
-      (heard.taken was_on);
+IsHeard-next was now old new seen after out given limit can runs run come later one between added same heard = record {
+  taken = λ on. by_place (is_sampled old.machine.beam) refl (sym same ∙ on);
 }
+  where
+    by_place : (here : Bool) → is_sampled old.machine.beam ≡ here → was.on ≡ true → now.bytes.items ≡ taken new.run new.machine.t
+    by_place true here on =
+        added on ∙ heard_next old new seen after out given was.bytes.items can runs run (one_clock old new limit come (one on here) later) (heard.taken on)
+    by_place false here on =
+        added on
+        ∙ ap (λ piece. was.bytes.items ++ piece) (nothing_here old.machine.beam new.machine.side here)
+        ∙ append-nil was.bytes.items
+        ∙ heard.taken on
+        ∙ sym (taken_along old new seen after out given limit can run come later (between on here))
 
 pub IsHeard-start : (audio : Recording) (run : RunValue) (fore : ForeValue) → IsNew run fore → audio.bytes.items ≡ []
     → IsHeard audio fore

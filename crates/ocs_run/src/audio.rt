@@ -1,6 +1,6 @@
 //! What a run sounds: what the side shows at the end of two clocks of each line, and the file of it.
 
-ghost use Rattle.std.specs.Prelude.{◌≡◌, ◌++◌, [], true, option_map, OnOk, OnErr};
+ghost use Rattle.std.specs.Prelude.{◌≡◌, ◌≤◌, ◌<◌, ◌+◌, ◌-◌, max, ℕ, ◌++◌, [], true, false, option_map, OnOk, OnErr};
 ghost use Rattle.crew.specs.Crew.{side_seen};
 ghost use Rattle.ocs_run.specs.Audio.{is_sampled as is_sample_place, sampled, with_audio, grown_audio, IsAudioGrowable, MayHaveMade, MayHaveGrown};
 ghost use Rattle.ocs_run.specs.PlaceCode.{LeavesPlace, WritesRun};
@@ -40,6 +40,22 @@ fn is_sampled(beam: &Beam) -> bool
     ensures { result ≡ is_sample_place beam.now }
 {
     beam.h == 0 || beam.h == 114
+}
+
+/// How many clocks of a line there are from this one on, at least one, before the next that is sampled or
+/// behind the line's clock 226: one where this one is sampled.
+pub fn clocks_to_sample(beam: &Beam) -> u16
+    ensures some { 1 ≤ result }
+    ensures sampled { is_sample_place beam.now ≡ true → result ≡ 1 }
+    ensures line { result ≤ max 1 (227 - beam.now.h) }
+    ensures none { is_sample_place beam.now ≡ false → (k : ℕ) → k < result
+        → is_sample_place (record beam.now { h = beam.now.h + k }) ≡ false }
+{
+    if is_sampled(beam) {
+        return 1;
+    }
+    let next: u16 = if beam.h < 114 { 114 } else { 227 };
+    next.saturating_sub(beam.h).max(1)
 }
 
 /// Creates the audio file, empty, where a run has one. After a refusal it is as before or empty.

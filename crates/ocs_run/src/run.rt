@@ -11,13 +11,13 @@ ghost use Rattle.crew.specs.Crew.{crew_seen};
 ghost use Rattle.foreground.specs.Fore.{is_done, IsNew};
 ghost use Rattle.foreground.specs.RunTo.{RunsOn};
 ghost use Rattle.crew.specs.Crew.{side_seen};
-ghost use Rattle.ocs_run.specs.Audio.{IsHeard, IsFourthName};
+ghost use Rattle.ocs_run.specs.Audio.{is_sampled, IsHeard, IsFourthName};
 ghost use Rattle.ocs_run.specs.PlaceCode.{LeavesPlace, WritesFiles, WritesRun};
 ghost use Rattle.ocs_run.specs.Prefix.{LeavesFiles};
 ghost use Rattle.ocs_run.specs.Run.{HasAllFiles};
-ghost use Rattle.ocs_run.specs.UnderwayCode.{fore_of, run_of, CanRun, Runs, IsStopped, IsFresh, Ends, IsCut, EndsFromStart, IsCutFromStart, IsOfSameRun};
+ghost use Rattle.ocs_run.specs.UnderwayCode.{AreUnsampled, fore_of, run_of, CanRun, Runs, IsStopped, IsFresh, Ends, IsCut, EndsFromStart, IsCutFromStart, IsOfSameRun};
 
-use crate::audio::{Recording, create_audio, listen, write_audio};
+use crate::audio::{Recording, clocks_to_sample, create_audio, listen, write_audio};
 use crate::fault::Fault;
 use band_log::{Raster, Run};
 use crew::{Crew, CrewSide, Gate, with_crew};
@@ -222,21 +222,24 @@ fn run_clocks<P: Place, Q: Raster<CrewSide>>(
     Ok(())
 }
 
-/// The clock up to which a run goes on in one turn: the next one where it is taken what the run sounds,
-/// else the first of the next line.
+/// The clock up to which a run goes on in one turn: the first of the next line or, where it is taken what
+/// the run sounds, one up to which no more than the present clock is sampled.
 fn next_limit(fore: &Fore<CrewSide>, on: bool) -> u64
     requires room { fore.now.machine.t + 228 < 2 ^ 64 }
     ensures later { fore.now.machine.t < result }
-    ensures one { on ≡ true → result ≡ fore.now.machine.t + 1 }
+    ensures sampled { on ≡ true → is_sampled fore.now.machine.beam ≡ true
+        → result ≡ fore.now.machine.t + 1 }
+    ensures between { on ≡ true → is_sampled fore.now.machine.beam ≡ false
+        → AreUnsampled result (fore_of fore.now) }
 {
     if on {
-        fore.clocks() + 1
+        fore.clocks() + clocks_to_sample(&fore.beam()) as u64
     } else {
         fore.next_line()
     }
 }
 
-/// Runs the clocks up to the next line, or one where it is taken what the run sounds.
+/// Runs the clocks up to the next line or, where it is taken what the run sounds, the next sampled clock.
 fn run_some<Q: Raster<CrewSide>>(
     fore: &mut Fore<CrewSide>,
     raster: &mut Q,

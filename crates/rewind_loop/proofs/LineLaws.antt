@@ -26,7 +26,7 @@ use Rattle.rewind_loop.specs.StepsCode.{line_limit}
 -- ---- the clocks of a line
 
 -- a place of the same line, so many clocks on
-record IsLater (b later : Beam) (k : ℕ) : Type 0 where
+pub record IsLater (b later : Beam) (k : ℕ) : Type 0 where
   pub line : later.v ≡ b.v
   pub clock : later.h ≡ k + b.h
 
@@ -36,7 +36,7 @@ next_in_line system lace b inner = record {
   clock = grind (arith, nat_tests, inner);
 }
 
-clocks_on : (run : RunValue) (t k c : ℕ) → c ≡ k + t → k + (beam_at run t).h ≤ last_clock run.script.system (beam_at run t).v
+pub clocks_on : (run : RunValue) (t k c : ℕ) → c ≡ k + t → k + (beam_at run t).h ≤ last_clock run.script.system (beam_at run t).v
     → IsLater (beam_at run t) (beam_at run c) k
 unfolding state_over
 clocks_on run t zero c is within =
@@ -69,7 +69,7 @@ clocks_on run t (suc k) (suc c) is within =
     one_more : (h first : ℕ) → h ≡ k + first → 1 + h ≡ suc k + first
     one_more h first is = omega (arith, is)
 
-least_last : (system : System) (v : ℕ) → 226 ≤ last_clock system v
+pub least_last : (system : System) (v : ℕ) → 226 ≤ last_clock system v
 least_last Pal v = omega arith
 least_last Ntsc v = by_parity (v % 2 == 1)
   where

@@ -27,7 +27,7 @@ returns-clause-heard g c =
     c.in_ok-run_to.ensures.clocks c.run_to.ensures.run c.in_ok-run_to.ensures.come
     (later_clock (fore_of c.args.fore.now) (fore_of c.run_to.new.self) _ _ _ _ _ c.requires.able c.requires.running
     c.in_ok-run_to.ensures.clocks c.in_ok-run_to.ensures.come c.next_limit-limit.ensures.later c.run_to.ensures.run)
-    c.next_limit-limit.ensures.one
+    c.next_limit-limit.ensures.sampled c.next_limit-limit.ensures.between
     (λ on. taken on
     ∙ ap (λ b. c.args.audio.now.bytes.items ++ sampled b (side_seen c.side.result.now)) c.beam-beam.ensures
     ∙ ap (λ s. c.args.audio.now.bytes.items ++ sampled c.args.fore.now.machine.beam (side_seen s)) c.side.ensures)
