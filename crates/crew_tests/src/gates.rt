@@ -10,25 +10,18 @@ use std::sync::atomic::Ordering;
 use std::sync::{Arc, Wait};
 use std::thread::Threads;
 
-/// The status of the command with these words, whose gate holds the bands from one number up to another.
+/// The status of the command with these words and this gate.
 fn status<R: Threads + Wait + Clone + Drop + Send + Sync + 'static>(
     rt: &R,
     alloc: Global,
     words: &str,
-    told: &Arc<Told>,
-    from: u64,
-    to: u64,
+    gate: Watch,
     shelf: &mut Shelf,
 ) -> Result<u8, OutOfMemory> {
     let mut owned = Vec::new(alloc);
     for word in words.split_whitespace() {
         owned.push(String::from_str(alloc, word)?)?;
     }
-    let gate = Watch {
-        told: Arc::try_clone(told)?,
-        from,
-        to,
-    };
     Ok(ocs_main(rt, alloc, &owned, shelf, gate))
 }
 
@@ -47,7 +40,8 @@ fn a_band_is_drawn_beside_another(rt: HostRuntime) -> Result<(), OutOfMemory> {
     let told = Arc::new(alloc, Told::new())?;
     let mut shelf = shelf_of_bars(alloc)?;
     let words = "run image script frames trace memory 20 2";
-    assert_eq!(rt; status(&rt, alloc, words, &told, 0, 1, &mut shelf)?, 0);
+    let gate = Watch::over(&told, 0, 1)?;
+    assert_eq!(rt; status(&rt, alloc, words, gate, &mut shelf)?, 0);
     assert_eq!(rt; told.in_vain.load(Ordering::SeqCst), 0);
     assert_eq!(rt; told.first.load(Ordering::SeqCst), 1);
     assert_eq!(rt; told.later.load(Ordering::SeqCst), BANDS - 1);
@@ -62,7 +56,8 @@ fn two_workers_draw_beside_the_caller(rt: HostRuntime) -> Result<(), OutOfMemory
     let told = Arc::new(alloc, Told::new())?;
     let mut shelf = shelf_of_bars(alloc)?;
     let words = "run image script frames trace memory 20 2";
-    assert_eq!(rt; status(&rt, alloc, words, &told, 0, 2, &mut shelf)?, 0);
+    let gate = Watch::over(&told, 0, 2)?;
+    assert_eq!(rt; status(&rt, alloc, words, gate, &mut shelf)?, 0);
     assert_eq!(rt; told.in_vain.load(Ordering::SeqCst), 0);
     assert_eq!(rt; told.later.load(Ordering::SeqCst), BANDS - 2);
     assert!(rt; shows_bars(alloc, &shelf)?);
@@ -77,7 +72,8 @@ fn workers_draw_a_scene(rt: HostRuntime) -> Result<(), OutOfMemory> {
     let told = Arc::new(alloc, Told::new())?;
     let mut shelf = Shelf::new(alloc);
     let words = "gen 0 20 2";
-    assert_eq!(rt; status(&rt, alloc, words, &told, 1, 3, &mut shelf)?, 0);
+    let gate = Watch::over(&told, 1, 3)?;
+    assert_eq!(rt; status(&rt, alloc, words, gate, &mut shelf)?, 0);
     assert_eq!(rt; told.in_vain.load(Ordering::SeqCst), 0);
     assert_eq!(rt; told.first.load(Ordering::SeqCst), 1);
     assert!(rt; shelf.said().starts_with(b"frames 10\npicture "));

@@ -1,5 +1,6 @@
 //! A gate that counts the bands of which it is told, and may hold the first ones back.
 
+use ocs_base::OutOfMemory;
 use ocs_run::Gate;
 use std::sync::Arc;
 use std::sync::atomic::{AtomicU64, Ordering};
@@ -43,9 +44,20 @@ impl Told {
 /// drawn.
 #[derive(Drop)]
 pub struct Watch {
-    pub told: Arc<Told>,
-    pub from: u64,
-    pub to: u64,
+    told: Arc<Told>,
+    from: u64,
+    to: u64,
+}
+
+impl Watch {
+    /// A gate that tells these counts and holds the bands from one number up to, not including, another.
+    pub fn over(told: &Arc<Told>, from: u64, to: u64) -> Result<Watch, OutOfMemory> {
+        Ok(Watch {
+            told: Arc::try_clone(told)?,
+            from,
+            to,
+        })
+    }
 }
 
 impl Gate for Watch {

@@ -23,6 +23,15 @@ use std::sync::{Arc, Wait};
 use std::test::Fail;
 use std::thread::Threads;
 
+/// The workers of a crew: how many, whom its gate tells of the bands, and whether the clock loop waits until
+/// they have begun.
+#[derive(Clone, Copy)]
+struct Workers<'a> {
+    count: u8,
+    told: &'a Arc<Told>,
+    waits: bool,
+}
+
 /// Where a band is outstanding it may wait until band 0 is about to be drawn.
 fn wait_if_outstanding<Q: Raster<CrewSide>>(raster: &Q, told: &Told, waits: bool) {
     if waits && raster.outstanding() == 1 {
@@ -59,32 +68,26 @@ fn out_files(alloc: Global) -> Result<OutFiles, OutOfMemory> {
     Ok(OutFiles::new(alloc, frames, trace, memory))
 }
 
-/// Runs all clocks of a foreground at reset over a crew of so many workers. The answer says who drew its
-/// bands.
+/// Runs all clocks of a foreground at reset over a crew of these workers. The answer says who drew its bands.
 fn draw_over_crew<R: Threads + Wait + Clone + Drop + Send + Sync + 'static>(
     rt: &R,
     alloc: Global,
-    workers: u8,
-    told: &Arc<Told>,
-    waits: bool,
+    workers: Workers<'_>,
     run: Arc<Run<CrewSide>>,
     fore: &mut Fore<CrewSide>,
     out: &mut OutFiles,
 ) -> Result<Totals, OutOfMemory>
-    requires workers { workers ≤ 32 }
+    requires workers { workers.count ≤ 32 }
     requires new { IsNew (run_of (arc_value run)) (fore_of fore.old) }
 {
-    let gate = Watch {
-        told: Arc::try_clone(told)?,
-        from: 0,
-        to: 0,
-    };
+    let Workers { count, told, waits } = workers;
+    let gate = Watch::over(told, 0, 0)?;
     let mut body = |crew: &mut Crew<R, Watch>| -> Result<(), OutOfMemory>
         requires able { CanRun (fore_of fore.now) (crew_seen crew.old) }
         ensures mark { (crew_seen crew.new).mark ≡ (crew_seen crew.old).mark }
         ensures run { OnOk result ((fore_of fore.exit.now).run ≡ (fore_of fore.entry.now).run) }
     { run_clocks(fore, crew, out, told, waits) };
-    let (answer, totals) = with_crew(rt, alloc, run, workers, gate, &mut body)?;
+    let (answer, totals) = with_crew(rt, alloc, run, count, gate, &mut body)?;
     answer?;
     Ok(totals)
 }
@@ -124,20 +127,18 @@ fn shelf_with(alloc: Global, out: OutFiles) -> Result<Shelf, Fail> {
     Ok(shelf)
 }
 
-/// A run over a crew of so many workers: its files, and who drew its bands.
+/// A run over a crew of these workers: its files, and who drew its bands.
 fn run_over_crew<R: Threads + Wait + Clone + Drop + Send + Sync + 'static>(
     rt: &R,
     alloc: Global,
-    workers: u8,
-    told: &Arc<Told>,
-    waits: bool,
+    workers: Workers<'_>,
 ) -> Result<(Shelf, Totals), Fail>
-    requires { workers ≤ 32 }
+    requires { workers.count ≤ 32 }
 {
     let run = run_of_bars(alloc)?;
     let mut fore = Fore::with_side(alloc, Arc::try_clone(&run)?, CrewSide::Nothing)?;
     let mut out = out_files(alloc)?;
-    let totals = draw_over_crew(rt, alloc, workers, told, waits, run, &mut fore, &mut out)?;
+    let totals = draw_over_crew(rt, alloc, workers, run, &mut fore, &mut out)?;
     Ok((shelf_with(alloc, out)?, totals))
 }
 
@@ -146,7 +147,12 @@ fn run_over_crew<R: Threads + Wait + Clone + Drop + Send + Sync + 'static>(
 fn a_worker_does_not_wait_to_be_collected(rt: HostRuntime) -> Result<(), Fail> {
     let alloc = rt.alloc();
     let told = Arc::new(alloc, Told::new())?;
-    let (shelf, totals) = run_over_crew(&rt, alloc, 1, &told, true)?;
+    let workers = Workers {
+        count: 1,
+        told: &told,
+        waits: true,
+    };
+    let (shelf, totals) = run_over_crew(&rt, alloc, workers)?;
     assert_eq!(rt; told.in_vain.load(Ordering::SeqCst), 0);
     assert!(rt; totals.by_hands > 0);
     assert_eq!(rt; totals.by_hands.saturating_add(totals.by_front), BANDS);
@@ -159,7 +165,12 @@ fn a_worker_does_not_wait_to_be_collected(rt: HostRuntime) -> Result<(), Fail> {
 fn a_crew_without_workers_draws_itself(rt: HostRuntime) -> Result<(), Fail> {
     let alloc = rt.alloc();
     let told = Arc::new(alloc, Told::new())?;
-    let (shelf, totals) = run_over_crew(&rt, alloc, 0, &told, false)?;
+    let workers = Workers {
+        count: 0,
+        told: &told,
+        waits: false,
+    };
+    let (shelf, totals) = run_over_crew(&rt, alloc, workers)?;
     assert_eq!(rt; totals.by_hands, 0);
     assert_eq!(rt; totals.by_front, BANDS);
     assert!(rt; shows_bars(alloc, &shelf)?);

@@ -1,6 +1,7 @@
 -- The answers to an order, from what its inputs were read to be and from how its run ended.
 use Rattle.std.proofs.Common.{◌≡◌, ℕ, ◌≤◌, Bool, true, false, if◌then◌else◌, List, Option, Some, None, Result, Ok, Err, OnOk, OnErr, IfErr}
 use Rattle.std.proofs.Common.{refl, sym, ap, subst, ◌∙◌}
+use Rattle.crew.specs.Crew.{side_seen}
 use Rattle.disk_dma.specs.Disk.{disk_side, new_disk}
 use Rattle.disk_dma.specs.Track.{is_track}
 use Rattle.ocs_base.specs.Script.{ScriptValue}
@@ -8,7 +9,7 @@ use Rattle.ocs_io.specs.Answers.{WhereTold}
 use Rattle.ocs_io.specs.Place.{Files, Outside, file}
 use Rattle.script_read.specs.Grammar.{script_of}
 use Rattle.serial_model.specs.Side.{SideValue}
-use Rattle.ocs_run.specs.Command.{OrderAnswers, RunAnswers, IsDone, IsUnwritten, IsWanting, HasOrdered, LeavesOrdered, out_names}
+use Rattle.ocs_run.specs.Command.{OrderAnswers, IsDone, IsUnwritten, IsWanting, HasOrdered, LeavesOrdered, out_names}
 use Rattle.ocs_run.specs.Fault.{IsRunFault}
 use Rattle.ocs_run.specs.Inputs.{Holds, HoldsRun, HoldsNoTrack}
 use Rattle.ocs_run.specs.Inputs.{AreInputsOf, IsInputFault, IsTrackFault, IsSideOf, IsSideFault}
@@ -16,11 +17,13 @@ use Rattle.ocs_run.specs.Order.{OrderValue, ExtraValue, NoFile, AudioFile, Track
 use Rattle.out_files.specs.OutFiles.{OutNames}
 use Rattle.ocs_run.specs.Run.{HasAllFiles}
 use Rattle.ocs_run.specs.Prefix.{LeavesFiles}
+use Rattle.ocs_run.specs.SetupCode.{IsSetupOf}
 use Rattle.ocs_run.specs.Verdict.{Verdict, Usage as UsageVerdict, Absent, BadImage as BadImageVerdict, BadScript as BadScriptVerdict}
 use Rattle.ocs_run.specs.Verdict.{BadTrack as BadTrackVerdict, Good, Scene, Rewind, of_order, of_extra, of_track}
 use Rattle.ocs_run.specs.declared.fault.Fault.{Fault}
 use Rattle.ocs_run.specs.declared.fault.Fault.TheVariants.{Usage, BadImage, BadScript, BadTrack, Unread, Unwritten, Unsaid, OutOfMemory}
 use Rattle.ocs_run.specs.declared.fault.Input.TheVariants.{Image, Script, Track}
+use Rattle.ocs_run.specs.declared.run.Setup.{Setup}
 use Rattle.ocs_run.proofs.AudioLaws.{LeavesFiles-none}
 use Rattle.ocs_run.proofs.PrefixLaws.{prefixes_kept}
 use Rattle.ocs_run.proofs.VerdictLaws.{told_all, at_told, rose_since, inputs_are, inputs_good, image_verdict, line_verdict}
@@ -204,32 +207,13 @@ run_fault o old mid new image script side OutOfMemory ready kept count is leaves
 
 run_ended : (o : OrderValue) (old mid new : Outside) (image : List ℕ) (script : ScriptValue) (side : SideValue) (answer : Result (Unit {0}) Fault)
     → IsReady old o image script side → mid.files ≡ old.files → old.write_faults ≤ mid.write_faults
-    → RunAnswers o image script side mid new answer → OrderAnswers o old new answer
-run_ended o old mid new image script side (Ok done) ready kept count has =
+    → OnOk answer (HasOrdered o image script side mid.files new.files) → OnErr answer (LeavesOrdered o image script side mid.files new.files)
+    → IfErr answer (IsRunFault (audio_of o.extra) mid new) → OrderAnswers o old new answer
+run_ended o old mid new image script side (Ok done) ready kept count has leaves cause =
     told_all old.files (λ f. IsDone (of_order o f) f new.files) (λ f e. subst (λ v. IsDone v f new.files) (sym (ready f e))
     (subst (λ files. HasOrdered o image script side files new.files) (kept ∙ e) has))
-run_ended o old mid new image script side (Err fault) ready kept count has =
-    run_fault o old mid new image script side fault ready kept count has.0 has.1
-
-pub order_ended : (o : OrderValue) (old made mid new : Outside) (image : List ℕ) (script : ScriptValue) (side : SideValue)
-    (answer : Result (Unit {0}) Fault) → AreInputsOf old o.image o.script image script → made.files ≡ old.files → IsSideOf made script.chip o.extra side
-    → mid.files ≡ old.files → old.write_faults ≤ mid.write_faults → RunAnswers o image script side mid new answer → OrderAnswers o old new answer
-order_ended o old made mid new image script side answer read kept side_made same count answers =
-    run_ended o old mid new image script side answer
-    (λ f e. good_verdict old o image script side f e read (side_by old made o script o.extra side kept side_made)) same count answers
-
--- the answers of a run, from how its files ended
-pub RunAnswers-files : (o : OrderValue) (image : List ℕ) (script : ScriptValue) (side : SideValue) (old new : Outside) (answer : Result (Unit {0}) Fault)
-    → OnOk answer (HasOrdered o image script side old.files new.files) → OnErr answer (LeavesOrdered o image script side old.files new.files)
-    → IfErr answer (IsRunFault (audio_of o.extra) old new) → RunAnswers o image script side old new answer
-RunAnswers-files o image script side old new (Ok done) has leaves cause = has
-RunAnswers-files o image script side old new (Err fault) has leaves cause = (cause, leaves)
-
--- memory was wanting before a file was created
-pub RunAnswers-wanting : (o : OrderValue) (image : List ℕ) (script : ScriptValue) (side : SideValue) (old new : Outside) (fault : Fault)
-    → fault ≡ OutOfMemory → new.files ≡ old.files → RunAnswers o image script side old new (Err fault)
-RunAnswers-wanting o image script side old new fault is same =
-    (subst (λ (f : Fault). IsRunFault (audio_of o.extra) old new f) (sym is) tt, LeavesOrdered-kept o image script side old.files new.files same)
+run_ended o old mid new image script side (Err fault) ready kept count has leaves cause =
+    run_fault o old mid new image script side fault ready kept count cause leaves
 
 -- what a run gives, said of equal values
 moved : (P : Option (List ℕ) → SideValue → List ℕ → ScriptValue → OutNames → Type 0) (a b : Option (List ℕ)) (s t : SideValue) (i j : List ℕ)
@@ -238,14 +222,23 @@ moved P a b s t i j c d n m audio side image script names is =
     subst (λ x. P b t j d x) names (subst (λ x. P b t j x n) script (subst (λ x. P b t x c n) image
     (subst (λ x. P b x i c n) side (subst (λ x. P x s i c n) audio is))))
 
-pub RunAnswers-run : (o : OrderValue) (image now_image : List ℕ) (script now_script : ScriptValue) (side now_side : SideValue) (audio : Option (List ℕ))
-    (names : OutNames) (old new : Outside) (answer : Result (Unit {0}) Fault) → audio ≡ audio_of o.extra → now_side ≡ side → now_image ≡ image
-    → now_script ≡ script → names ≡ out_names o
-    → OnOk answer (HasAllFiles audio now_side now_image now_script names old.files new.files)
-    → OnErr answer (LeavesFiles audio now_side now_image now_script names old.files new.files)
-    → IfErr answer (IsRunFault audio old new) → RunAnswers o image script side old new answer
-RunAnswers-run o image now_image script now_script side now_side audio names old new answer e f g h i has leaves cause =
-    RunAnswers-files o image script side old new answer
-    (moved (λ a s j c n. OnOk answer (HasAllFiles a s j c n old.files new.files)) _ _ _ _ _ _ _ _ _ _ e f g h i has)
-    (moved (λ a s j c n. OnErr answer (LeavesFiles a s j c n old.files new.files)) _ _ _ _ _ _ _ _ _ _ e f g h i leaves)
-    (subst (λ a. IfErr answer (IsRunFault a old new)) e cause)
+-- the run of an order has ended
+pub order_ended : (o : OrderValue) (old made mid new : Outside) (image : List ℕ) (script : ScriptValue) (side : SideValue) (setup : Setup)
+    (audio : Option (List ℕ)) (answer : Result (Unit {0}) Fault) → AreInputsOf old o.image o.script image script → made.files ≡ old.files
+    → IsSideOf made script.chip o.extra side → mid.files ≡ old.files → old.write_faults ≤ mid.write_faults
+    → IsSetupOf o image script side setup → audio ≡ audio_of o.extra
+    → OnOk answer (HasAllFiles audio (side_seen setup.run.side) setup.run.image setup.run.script setup.out.names mid.files new.files)
+    → OnErr answer (LeavesFiles audio (side_seen setup.run.side) setup.run.image setup.run.script setup.out.names mid.files new.files)
+    → IfErr answer (IsRunFault audio mid new) → OrderAnswers o old new answer
+order_ended o old made mid new image script side setup audio answer read kept side_made same count is name has leaves cause =
+    run_ended o old mid new image script side answer
+    (λ f e. good_verdict old o image script side f e read (side_by old made o script o.extra side kept side_made)) same count
+    (moved (λ a s j c n. OnOk answer (HasAllFiles a s j c n mid.files new.files)) _ _ _ _ _ _ _ _ _ _ name is.side_is is.image_is is.script_is
+    is.files.named has)
+    (moved (λ a s j c n. OnErr answer (LeavesFiles a s j c n mid.files new.files)) _ _ _ _ _ _ _ _ _ _ name is.side_is is.image_is is.script_is
+    is.files.named leaves)
+    (subst (λ a. IfErr answer (IsRunFault a mid new)) name cause)
+
+-- memory was wanting before a file was created
+pub order_wanting : (o : OrderValue) (old new : Outside) (fault : Fault) → fault ≡ OutOfMemory → new.files ≡ old.files → OrderAnswers o old new (Err fault)
+order_wanting o old new fault is same = subst (λ (f : Fault). OrderAnswers o old new (Err f)) (sym is) (wants o old new same)

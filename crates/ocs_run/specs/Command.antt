@@ -8,7 +8,7 @@ use Rattle.out_files.specs.OutFiles.{OutNames, OutFilesValue}
 use Rattle.ocs_run.specs.declared.fault.Fault.{Fault}
 use Rattle.ocs_run.specs.declared.fault.Fault.TheVariants.{Usage, BadImage, BadScript, BadTrack, Unread, Unwritten, Unsaid, OutOfMemory}
 use Rattle.ocs_run.specs.declared.fault.Input.TheVariants.{Image, Script, Track}
-use Rattle.ocs_run.specs.Fault.{IsOutputOf, IsRunFault}
+use Rattle.ocs_run.specs.Fault.{IsOutputOf}
 use Rattle.ocs_run.specs.Inputs.{HoldsImage, HoldsRun}
 use Rattle.ocs_run.specs.Order.{OrderValue, HasTrack, audio_of}
 use Rattle.ocs_run.specs.Run.{HasAllFiles}
@@ -40,12 +40,6 @@ HasOrdered order image script side old new = HasAllFiles (audio_of order.extra) 
 
 abbrev pub LeavesOrdered : OrderValue → List ℕ → ScriptValue → SideValue → Option Files → Option Files → Type 0
 LeavesOrdered order image script side old new = LeavesFiles (audio_of order.extra) side image script (out_names order) old new
-
--- what stands after a run of good inputs
-abbrev pub RunAnswers : OrderValue → List ℕ → ScriptValue → SideValue → Outside → Outside → Result (Unit {0}) Fault → Type 0
-RunAnswers order image script side old new (Ok done) = HasOrdered order image script side old.files new.files
-RunAnswers order image script side old new (Err fault) =
-    IsRunFault (audio_of order.extra) old new fault × LeavesOrdered order image script side old.files new.files
 
 -- done: the files of a run are its texts, whole, and every other file is as before; a scene and a rewind leave all files as before
 abbrev pub IsDone : Verdict → Files → Option Files → Type 0

@@ -12,6 +12,7 @@ pub mod RewindText
 pub mod Run
 pub mod SceneAnswers
 pub mod SceneSummary
+pub mod SetupCode
 pub mod Texts
 pub mod Top
 pub mod UnderwayCode

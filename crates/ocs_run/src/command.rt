@@ -6,18 +6,19 @@ ghost use Rattle.ocs_base.specs.Image.{is_image, fits_chip};
 ghost use Rattle.ocs_base.specs.Limits.{IsRunnable};
 ghost use Rattle.ocs_base.specs.Sizes.{bytes_of};
 ghost use Rattle.ocs_run.specs.AskedCode.{value_of, extra_value, AreApart, IsHeight};
-ghost use Rattle.ocs_run.specs.Command.{OrderAnswers, out_names, IsOutOf, RunAnswers, KeepsSaid};
+ghost use Rattle.ocs_run.specs.Command.{OrderAnswers, out_names, IsOutOf, KeepsSaid};
 ghost use Rattle.ocs_run.specs.Inputs.{ReadableTrack};
+ghost use Rattle.ocs_run.specs.SetupCode.{IsSetupOf};
 ghost use Rattle.serial_model.specs.Side.{FitsSide};
 
 use crate::fault::Fault;
 use crate::inputs::{Inputs, read_inputs};
 use crate::order::Order;
-use crate::run::{Drawing, run_files};
+use crate::run::{Drawing, Setup, run_files};
 use crate::sides::{Sides, read_sides};
 use band_log::Run;
 use crew::Gate;
-use ocs_base::{Script, System};
+use ocs_base::System;
 use ocs_io::Place;
 use out_files::OutFiles;
 use std::alloc::Global;
@@ -42,56 +43,39 @@ pub fn run_order<
         (P.outside place.new) result }
     ensures said { KeepsSaid (P.outside place.old) (P.outside place.new) }
 {
-    let Inputs { image, script } = read_inputs(alloc, order.image, order.script, place)?;
-    let sides = read_sides(alloc, order.extra, script.chip_size(), place)?;
-    run_inputs(rt, alloc, order, gate, image, script, sides, place)
-}
-
-/// Runs a good script over a good image that fits its chip memory, with a side that does so too.
-#[tactic(auto, using(crate::proofs::PrefixLaws::prefixes_kept))]
-fn run_inputs<
-    R: Threads + Wait + Clone + Drop + Send + Sync + 'static,
-    P: Place,
-    G: Gate + Drop + Send + Sync + 'static,
->(
-    rt: &R,
-    alloc: Global,
-    order: &Order<'_>,
-    gate: G,
-    image: Vec<u8>,
-    script: Script,
-    sides: Sides,
-    place: &mut P,
-) -> Result<(), Fault>
-    requires image { is_image image.items ≡ true }
-    requires fits { fits_chip script.chip image.items ≡ true }
-    requires script { IsRunnable script }
-    requires side { FitsSide (bytes_of script.chip) (side_seen sides.first) }
-    requires same { side_seen sides.second ≡ side_seen sides.first }
-    requires apart { AreApart order.now }
-    requires height { IsHeight order.now.band }
-    requires few { order.now.workers ≤ 32 }
-    ensures answer { RunAnswers (value_of order.now) image.items script (side_seen sides.first)
-        (P.outside place.old) (P.outside place.new) result }
-    ensures said { KeepsSaid (P.outside place.old) (P.outside place.new) }
-{
-    let out = out_files(alloc, order, script.system())?;
-    let Sides { first, second } = sides;
-    let run = Run::over(image, script, order.band, first);
+    let inputs = read_inputs(alloc, order.image, order.script, place)?;
+    let sides = read_sides(alloc, order.extra, inputs.script.chip_size(), place)?;
+    let setup = setup_of(alloc, order, inputs, sides)?;
     let drawing = Drawing {
         workers: order.workers,
         gate,
     };
-    run_files(
-        rt,
-        alloc,
-        drawing,
+    run_files(rt, alloc, drawing, setup, order.extra.audio(), place)
+}
+
+/// What the run of an order begins with: a good script over a good image that fits its chip memory, a side
+/// that does so too, and new files of the order's names.
+fn setup_of(alloc: Global, order: &Order<'_>, inputs: Inputs, sides: Sides) -> Result<Setup, Fault>
+    requires image { is_image inputs.image.items ≡ true }
+    requires fits { fits_chip inputs.script.chip inputs.image.items ≡ true }
+    requires script { IsRunnable inputs.script }
+    requires side { FitsSide (bytes_of inputs.script.chip) (side_seen sides.first) }
+    requires same { side_seen sides.second ≡ side_seen sides.first }
+    requires apart { AreApart order.now }
+    requires height { IsHeight order.now.band }
+    ensures setup { IfOk result (IsSetupOf (value_of order.now) inputs.image.items inputs.script
+        (side_seen sides.first)) }
+    ensures memory { IfErr result (λ fault. fault ≡ Fault.OutOfMemory) }
+{
+    let Inputs { image, script } = inputs;
+    let Sides { first, second } = sides;
+    let out = out_files(alloc, order, script.system())?;
+    let run = Run::over(image, script, order.band, first);
+    Ok(Setup {
         run,
-        second,
+        side: second,
         out,
-        order.extra.audio(),
-        place,
-    )
+    })
 }
 
 /// Output files of the order's names, of a machine of this system.

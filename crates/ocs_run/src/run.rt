@@ -36,11 +36,32 @@ pub struct Drawing<G> {
     pub gate: G,
 }
 
+/// What a run begins with.
+#[derive(Drop)]
+pub struct Setup {
+    /// The image, the script, the height of a band, and the side as it is at reset.
+    pub run: Run<CrewSide>,
+    /// The side of the foreground, which does what the run's own does.
+    pub side: CrewSide,
+    /// The three files, to which nothing was given yet.
+    pub out: OutFiles,
+}
+
+/// What a run that is under way changes with each clock.
+#[derive(Drop)]
+struct Underway {
+    /// The machine up to the present clock.
+    fore: Fore<CrewSide>,
+    /// The three files, and what is pending for them.
+    out: OutFiles,
+    /// What the run sounded up to the present clock, where it is taken.
+    heard: Recording,
+}
+
 /// Runs the script over the image, in bands of `height` lines that so many workers draw, and writes
 /// the three files, and the audio file where a name is given for it. They are created once the machine
 /// is made, the audio file last. Without a fault they are the texts of the run, whole; after one each of
-/// them is as before or has a part of its text. `side` does what the run's own does. The gate is called
-/// before each band is drawn. It may wait.
+/// them is as before or has a part of its text. The gate is called before each band is drawn. It may wait.
 pub fn run_files<
     R: Threads + Wait + Clone + Drop + Send + Sync + 'static,
     P: Place,
@@ -49,38 +70,40 @@ pub fn run_files<
     rt: &R,
     alloc: Global,
     drawing: Drawing<G>,
-    run: Run<CrewSide>,
-    side: CrewSide,
-    out: OutFiles,
+    setup: Setup,
     audio: Option<&str>,
     place: &mut P,
 ) -> Result<(), Fault>
     requires workers { drawing.workers ≤ 32 }
-    requires fresh { IsFresh run.script.system out }
-    requires side { side_seen side ≡ side_seen run.side }
-    requires apart { IsFourthName out.names (option_map (λ n. n.now) audio) }
+    requires fresh { IsFresh setup.run.script.system setup.out }
+    requires side { side_seen setup.side ≡ side_seen setup.run.side }
+    requires apart { IsFourthName setup.out.names (option_map (λ n. n.now) audio) }
     ensures done { OnOk result (HasAllFiles (option_map (λ n. n.now) audio.entry)
-        (side_seen run.side) run.image run.script out.names
+        (side_seen setup.run.side) setup.run.image setup.run.script setup.out.names
         (P.outside place.old).files (P.outside place.new).files) }
     ensures stopped { OnErr result (LeavesFiles (option_map (λ n. n.now) audio.entry)
-        (side_seen run.side) run.image run.script out.names
+        (side_seen setup.run.side) setup.run.image setup.run.script setup.out.names
         (P.outside place.old).files (P.outside place.new).files) }
     ensures place { WritesRun (option_map (λ n. n.now) audio.entry) result (P.outside place.old)
         (P.outside place.new) }
 {
+    let Setup { run, side, mut out } = setup;
     let _good = run.script();
     let run = share(alloc, run)?;
-    let mut fore = Fore::with_side(alloc, shared(&run)?, side)?;
-    let mut out = out;
-    let mut heard = Recording {
+    let fore = Fore::with_side(alloc, shared(&run)?, side)?;
+    let heard = Recording {
         on: audio.is_some(),
         bytes: Vec::new(alloc),
     };
     out.create(place)?;
     create_audio(audio, place)?;
-    draw_with_crew(
-        rt, alloc, drawing, run, &mut fore, &mut out, &mut heard, place,
-    )?;
+    let mut underway = Underway { fore, out, heard };
+    draw_with_crew(rt, alloc, drawing, run, &mut underway, place)?;
+    let Underway {
+        fore,
+        mut out,
+        heard,
+    } = underway;
     write_memory(fore, &mut out, place)?;
     write_audio(audio, &heard, place)
 }
@@ -95,32 +118,31 @@ fn draw_with_crew<
     alloc: Global,
     drawing: Drawing<G>,
     run: Arc<Run<CrewSide>>,
-    fore: &mut Fore<CrewSide>,
-    out: &mut OutFiles,
-    audio: &mut Recording,
+    underway: &mut Underway,
     place: &mut P,
 ) -> Result<(), WriteFault>
     requires workers { drawing.workers ≤ 32 }
-    requires growable { AreGrowable (P.growable place.old) out.old.names }
-    requires new { IsNew (run_of (arc_value run)) (fore_of fore.old) }
-    requires silent { audio.old.bytes.items ≡ [] }
-    ensures done { OnOk result (EndsFromStart (run_of (arc_value run)) (fore_of fore.old)
-        (fore_of fore.new) out.old out.new
+    requires growable { AreGrowable (P.growable place.old) underway.old.out.names }
+    requires new { IsNew (run_of (arc_value run)) (fore_of underway.old.fore) }
+    requires silent { underway.old.heard.bytes.items ≡ [] }
+    ensures done { OnOk result (EndsFromStart (run_of (arc_value run)) (fore_of underway.old.fore)
+        (fore_of underway.new.fore) underway.old.out underway.new.out
         (P.outside place.old).files (P.outside place.new).files) }
-    ensures stopped { OnErr result (IsCutFromStart (run_of (arc_value run)) (fore_of fore.old)
-        out.old
+    ensures stopped { OnErr result (IsCutFromStart (run_of (arc_value run))
+        (fore_of underway.old.fore) underway.old.out
         (P.outside place.old).files (P.outside place.new).files) }
-    ensures same { OnOk result (IsOfSameRun (fore_of fore.old) (fore_of fore.new) out.old out.new
-        audio.new) }
+    ensures same { OnOk result (IsOfSameRun (fore_of underway.old.fore)
+        (fore_of underway.new.fore) underway.old.out underway.new.out underway.new.heard) }
     ensures place { LeavesPlace (WritesFiles result) P.outside P.readable P.growable place.old
         place.new }
-    ensures on { OnOk result (audio.new.on ≡ audio.old.on) }
+    ensures on { OnOk result (underway.new.heard.on ≡ underway.old.heard.on) }
 {
     let Drawing { workers, gate } = drawing;
+    let Underway { fore, out, heard } = underway;
     let mut body = |crew: &mut Crew<R, G>| -> Result<(), WriteFault>
         requires growable { AreGrowable (P.growable place.now) out.now.names }
         requires able { CanRun (fore_of fore.now) (crew_seen crew.old) }
-        requires heard { IsHeard audio.now (fore_of fore.now) }
+        requires heard { IsHeard heard.now (fore_of fore.now) }
         ensures done { OnOk result (Ends (fore_of fore.entry.now) (fore_of fore.exit.now)
             (crew_seen crew.old)
             out.entry.now out.exit.now (P.outside place.entry.now).files
@@ -129,12 +151,12 @@ fn draw_with_crew<
             out.entry.now
             (P.outside place.entry.now).files (P.outside place.exit.now).files) }
         ensures same { OnOk result (IsOfSameRun (fore_of fore.entry.now) (fore_of fore.exit.now)
-            out.entry.now out.exit.now audio.exit.now) }
+            out.entry.now out.exit.now heard.exit.now) }
         ensures mark { (crew_seen crew.new).mark ≡ (crew_seen crew.old).mark }
         ensures place { LeavesPlace (WritesFiles result) P.outside P.readable P.growable
             place.entry.now place.exit.now }
-        ensures on { OnOk result (audio.exit.now.on ≡ audio.entry.now.on) }
-    { run_whole(fore, crew, out, audio, place) };
+        ensures on { OnOk result (heard.exit.now.on ≡ heard.entry.now.on) }
+    { run_whole(fore, crew, out, heard, place) };
     let (answer, _totals) = with_crew(rt, alloc, run, workers, gate, &mut body)?;
     answer
 }

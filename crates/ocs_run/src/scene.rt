@@ -11,7 +11,7 @@ ghost use Rattle.ocs_run.specs.SceneSummary.{IsSummary, summary_text, number_lin
 
 use crate::command::owned;
 use crate::fault::Fault;
-use crate::run::{Drawing, run_files};
+use crate::run::{Drawing, Setup, run_files};
 use crate::words::SceneOrder;
 use band_log::Run;
 use crew::{CrewSide, Gate};
@@ -77,20 +77,16 @@ fn run_on_shelf<
     let out = out_files(alloc, script.system())?;
     let mut shelf = SureShelf::new(alloc);
     let run = Run::over(image, script, order.band, CrewSide::Nothing);
+    let setup = Setup {
+        run,
+        side: CrewSide::Nothing,
+        out,
+    };
     let drawing = Drawing {
         workers: order.workers,
         gate,
     };
-    run_files(
-        rt,
-        alloc,
-        drawing,
-        run,
-        CrewSide::Nothing,
-        out,
-        None,
-        &mut shelf,
-    )?;
+    run_files(rt, alloc, drawing, setup, None, &mut shelf)?;
     Ok(shelf)
 }
 

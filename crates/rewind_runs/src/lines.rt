@@ -1,6 +1,6 @@
 //! The lines of clocks.
 
-use crate::rewinds::{red_script, says};
+use crate::rewinds::{Inputs, red_inputs, says};
 use std::test::Fail;
 
 /// Of frames 0, 1 and 2 the latest two checkpoints are left, at 71,051 and 142,102; below them the run
@@ -13,7 +13,7 @@ fn from_checkpoints_and_from_reset(rt: HostRuntime) -> Result<(), Fail> {
 22801 0 100 101 1 0000 0f00 0 22800
 ";
     let words = "rewind image script 1 2 150000 80000 22800 22801";
-    assert!(rt; says(&rt, rt.alloc(), words, &[0; 8], red_script(), 0, said)?);
+    assert!(rt; says(&rt, rt.alloc(), words, red_inputs(), 0, said)?);
     Ok(())
 }
 
@@ -26,18 +26,20 @@ fn each_second_frame(rt: HostRuntime) -> Result<(), Fail> {
 142101 1 312 226 1 0000 0f00 0 0
 ";
     let words = "rewind image script 2 64 71051000 150000 142101";
-    assert!(rt; says(&rt, rt.alloc(), words, &[0; 8], red_script(), 0, said)?);
+    assert!(rt; says(&rt, rt.alloc(), words, red_inputs(), 0, said)?);
     Ok(())
 }
 
 /// Behind the last state there is that. DMACON keeps DMAEN, and the memory has the words 1234 and 1.
 #[test]
 fn the_end_and_the_start(rt: HostRuntime) -> Result<(), Fail> {
-    let image = [0x12, 0x34, 0, 1, 0, 0, 0, 0];
-    let script = "ocs 1\ncpu off\nframes 1\nat 0 0 0 poke 096 8200\nend\n";
+    let inputs = Inputs {
+        image: &[0x12, 0x34, 0, 1, 0, 0, 0, 0],
+        script: "ocs 1\ncpu off\nframes 1\nat 0 0 0 poke 096 8200\nend\n",
+    };
     let said = "71051 1 0 0 1 0200 0000 4661 0\n0 0 0 0 1 0000 0000 4661 0\n";
     let words = "rewind image script 1000 64 71051000 0";
-    assert!(rt; says(&rt, rt.alloc(), words, &image, script, 0, said)?);
+    assert!(rt; says(&rt, rt.alloc(), words, inputs, 0, said)?);
     Ok(())
 }
 
@@ -52,19 +54,9 @@ fn sixteen_clocks(rt: HostRuntime) -> Result<(), Fail> {
         words.push_str(" 9")?;
         said.push_str("9 0 0 9 1 0000 0000 0 9\n")?;
     }
-    assert!(rt;
-        says(
-            &rt,
-            alloc,
-            words.as_str(),
-            &[0; 8],
-            red_script(),
-            0,
-            said.as_str()
-        )?
-    );
+    assert!(rt; says(&rt, alloc, words.as_str(), red_inputs(), 0, said.as_str())?);
     words.push_str(" 9")?;
     let usage = "usage: ocs rewind IMAGE SCRIPT EVERY KEEP CLOCK..\n";
-    assert!(rt; says(&rt, alloc, words.as_str(), &[0; 8], red_script(), 2, usage)?);
+    assert!(rt; says(&rt, alloc, words.as_str(), red_inputs(), 2, usage)?);
     Ok(())
 }

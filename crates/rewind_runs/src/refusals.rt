@@ -1,6 +1,6 @@
 //! What is refused of a rewind: inputs, and calls of the place that fail.
 
-use crate::rewinds::{red_script, says, status_of};
+use crate::rewinds::{Inputs, red_script, says, status_of};
 use ocs_io::Shelf;
 use run_cases::place::shelf;
 use std::test::Fail;
@@ -9,12 +9,22 @@ use std::test::Fail;
 fn bad_inputs(rt: HostRuntime) -> Result<(), Fail> {
     let alloc = rt.alloc();
     let words = "rewind image script 1 1 9";
-    let long = vec![in alloc; 0u8; 524_290]?;
-    let bad_script = "ocs 1\ncpu off\nframes 0\nend\n";
-    let bad_line = "bad script: line 3: frames\n";
-    assert!(rt; says(&rt, alloc, words, &[0; 7], red_script(), 3, "bad image\n")?);
-    assert!(rt; says(&rt, alloc, words, &long, red_script(), 3, "bad image\n")?);
-    assert!(rt; says(&rt, alloc, words, &long, bad_script, 4, bad_line)?);
+    let bytes = vec![in alloc; 0u8; 524_290]?;
+    let odd = Inputs {
+        image: &[0; 7],
+        script: red_script(),
+    };
+    let long = Inputs {
+        image: &bytes,
+        script: red_script(),
+    };
+    let bad = Inputs {
+        image: &bytes,
+        script: "ocs 1\ncpu off\nframes 0\nend\n",
+    };
+    assert!(rt; says(&rt, alloc, words, odd, 3, "bad image\n")?);
+    assert!(rt; says(&rt, alloc, words, long, 3, "bad image\n")?);
+    assert!(rt; says(&rt, alloc, words, bad, 4, "bad script: line 3: frames\n")?);
     Ok(())
 }
 

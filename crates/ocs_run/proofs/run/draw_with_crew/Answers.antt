@@ -13,7 +13,7 @@ with_crew-requires-clause-body g c κs within = λ crew new. record {
     c.requires.growable,
     (
       CanRun-start _ _ _ c.requires.new (IsEmpty-lent _ crew lent.now is new),
-      IsHeard-start c.args.audio.now _ (fore_of c.args.fore.now) c.requires.new c.requires.silent,
+      IsHeard-start c.args.underway.now.heard _ (fore_of c.args.underway.now.fore) c.requires.new c.requires.silent,
     ),
   );
   keeps = λ answer after left called.
@@ -22,9 +22,9 @@ with_crew-requires-clause-body g c κs within = λ crew new. record {
 
 pub returns-in_err-answer-clause-stopped : goal.returns-in_err-answer-clause-stopped
 returns-in_err-answer-clause-stopped g c =
-    on_err _ _ (subst (λ p. IsCutFromStart (run_of (arc_value c.args.run)) (fore_of c.args.fore.now) c.args.out.now (g.P.Place.outside c.args.place.now).files
-    (g.P.Place.outside p).files) (search rules)
-    (IsCutFromStart-now _ (fore_of c.args.fore.now) c.args.out.now (g.P.Place.outside c.args.place.now).files c.requires.new))
+    on_err _ _ (subst (λ p. IsCutFromStart (run_of (arc_value c.args.run)) (fore_of c.args.underway.now.fore) c.args.underway.now.out
+    (g.P.Place.outside c.args.place.now).files (g.P.Place.outside p).files) (search rules)
+    (IsCutFromStart-now _ (fore_of c.args.underway.now.fore) c.args.underway.now.out (g.P.Place.outside c.args.place.now).files c.requires.new))
 
 pub returns-clause-done : goal.returns-clause-done
 returns-clause-done g c =
