@@ -6,7 +6,8 @@ use Rattle.out_files.specs.declared.fault.WriteFault.{WriteFault}
 use Rattle.out_files.specs.declared.fault.WriteFault.TheVariants.{Failed, OutOfMemory as NoRoomToWrite}
 use Rattle.ocs_run.specs.Audio.{IsAudioGrowable}
 use Rattle.ocs_run.specs.Fault.{IsRunFault, of_write}
-use Rattle.ocs_run.specs.PlaceCode.{WritesFiles, WritesRun}
+use Rattle.out_files.specs.Places.{WritesFiles}
+use Rattle.ocs_run.specs.PlaceCode.{WritesRun}
 use Rattle.ocs_run.specs.declared.fault.Fault.{Fault}
 use Rattle.ocs_run.specs.declared.fault.Fault.TheVariants.{Usage, BadImage, BadScript, BadTrack, Unread, Unwritten, Unsaid, OutOfMemory}
 use Rattle.ocs_run.proofs.KeptLaws.{OnlyWrites-more}

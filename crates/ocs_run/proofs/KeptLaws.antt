@@ -4,7 +4,7 @@ use Rattle.ocs_io.specs.Place.{Outside, Rose, OnlyWrites, KeepsNames}
 use Rattle.out_files.specs.Answers.{AreGrowable, NamesFile}
 use Rattle.out_files.specs.OutFiles.{OutNames}
 use Rattle.out_files.specs.declared.fault.WriteFault.{WriteFault}
-use Rattle.ocs_run.specs.PlaceCode.{WritesFiles}
+use Rattle.out_files.specs.Places.{WritesFiles}
 
 pub OnlyWrites-more : (a b c : Outside) → OnlyWrites a b → OnlyWrites b c → OnlyWrites a c
 OnlyWrites-more a b c first second = record {

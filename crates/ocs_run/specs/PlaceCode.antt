@@ -1,22 +1,10 @@
 -- What the calls of a command leave of a place.
 use Rattle.std.specs.Prelude.{ℕ, List, Option, Result, IfErr}
-use Rattle.ocs_io.specs.Place.{Outside, Rose, OnlyWrites, KeepsNames}
-use Rattle.out_files.specs.Answers.{NamesFile}
-use Rattle.out_files.specs.declared.fault.WriteFault.{WriteFault}
+use Rattle.ocs_io.specs.Place.{Outside, OnlyWrites}
 use Rattle.ocs_run.specs.Fault.{IsRunFault}
 use Rattle.ocs_run.specs.declared.fault.Fault.{Fault}
 
--- What is seen of the outside has changed in this way, and names that may be read or grown stay so.
-pub record LeavesPlace {P : Type 0} (Changes : Outside → Outside → Type 0) (outside : P → Outside) (readable growable : P → List ℕ → Type 0)
-    (old new : P) : Type 0 where
-  pub seen : Changes (outside old) (outside new)
-  pub names : KeepsNames (readable old) (growable old) (readable new) (growable new)
-
--- Output files were only written, and a fault that names one has its cause there: of the three files of a run, and of all its files
-pub record WritesFiles (result : Result (Unit {0}) WriteFault) (old new : Outside) : Type 0 where
-  pub kept : OnlyWrites old new
-  pub cause : IfErr result (λ fault. NamesFile fault → Rose old.write_faults new.write_faults)
-
+-- Files of the run were only written, its audio file too, and a fault has its cause there.
 pub record WritesRun (audio : Option (List ℕ)) (result : Result (Unit {0}) Fault) (old new : Outside) : Type 0 where
   pub kept : OnlyWrites old new
   pub cause : IfErr result (IsRunFault audio old new)

@@ -3,7 +3,8 @@
 ghost use Rattle.std.specs.Prelude.{◌≡◌, ◌≤◌, ◌<◌, ◌+◌, ◌-◌, max, ℕ, ◌++◌, [], true, false, option_map, OnOk, OnErr};
 ghost use Rattle.crew.specs.Crew.{side_seen};
 ghost use Rattle.ocs_run.specs.Audio.{is_sampled as is_sample_place, sampled, with_audio, grown_audio, IsAudioGrowable, MayHaveMade, MayHaveGrown};
-ghost use Rattle.ocs_run.specs.PlaceCode.{LeavesPlace, WritesRun};
+ghost use Rattle.out_files.specs.Places.{LeavesPlace};
+ghost use Rattle.ocs_run.specs.PlaceCode.{WritesRun};
 
 use crate::fault::{Fault, Output};
 use crew::CrewSide;

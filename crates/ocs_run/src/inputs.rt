@@ -9,7 +9,7 @@ ghost use Rattle.script_read.specs.Grammar.{script_of, Good};
 ghost use Rattle.ocs_base.specs.Image.{is_image as good_image, fits_chip};
 ghost use Rattle.disk_dma.specs.Track.{is_track as good_track};
 ghost use Rattle.ocs_run.specs.Inputs.{IsTrackOf, IsTrackFault};
-ghost use Rattle.ocs_run.specs.PlaceCode.{LeavesPlace};
+ghost use Rattle.out_files.specs.Places.{LeavesPlace};
 
 use crate::fault::{Fault, Input};
 use ocs_base::Script;

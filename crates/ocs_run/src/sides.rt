@@ -6,7 +6,7 @@ ghost use Rattle.ocs_base.specs.Sizes.{bytes_of};
 ghost use Rattle.ocs_io.specs.Place.{OnlyReads};
 ghost use Rattle.ocs_run.specs.AskedCode.{extra_value};
 ghost use Rattle.ocs_run.specs.Inputs.{ReadableTrack, IsSideOf, IsSideFault};
-ghost use Rattle.ocs_run.specs.PlaceCode.{LeavesPlace};
+ghost use Rattle.out_files.specs.Places.{LeavesPlace};
 ghost use Rattle.serial_model.specs.Side.{FitsSide};
 
 use crate::fault::Fault;

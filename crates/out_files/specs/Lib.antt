@@ -2,3 +2,4 @@ pub mod OutFiles
 pub mod Answers
 pub mod PiecesCode
 pub mod Together
+pub mod Places

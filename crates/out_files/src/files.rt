@@ -1,7 +1,6 @@
 //! The three files of a run and the text that is pending for them.
 
-ghost use Rattle.std.specs.Prelude.{◌≡◌, ◌≢◌, [], length, IfErr, OnOk, OnErr, string_bytes};
-ghost use Rattle.ocs_io.specs.Place.{Rose, OnlyWrites, KeepsNames};
+ghost use Rattle.std.specs.Prelude.{◌≡◌, ◌≢◌, [], length, OnOk, OnErr, string_bytes};
 ghost use Rattle.serial_model.specs.MemoryText.{memory_text};
 ghost use Rattle.mem_versions.specs.Chip.{after_reads};
 
@@ -67,7 +66,8 @@ impl Model for OutFiles {
 
 impl OutFiles {
     ghost use Rattle.out_files.specs.OutFiles.{with_pixels, with_line};
-    ghost use Rattle.out_files.specs.Answers.{NamesFile, CreateAnswers, AreGrowable, FlushAnswers, MemoryAnswers};
+    ghost use Rattle.out_files.specs.Answers.{CreateAnswers, AreGrowable, FlushAnswers, MemoryAnswers};
+    ghost use Rattle.out_files.specs.Places.{LeavesPlace, WritesFiles};
     ghost use Rattle.out_files.specs.Together.{Begins, AddsPixels, AddsLine, StayTogether, LeavesParts, Completes};
 
     /// Files of these three different names for a PAL machine, with nothing pending and no frame begun.
@@ -134,11 +134,8 @@ impl OutFiles {
             (Begins self.new (P.outside place.old).files (P.outside place.new).files) }
         ensures growable { OnOk result (AreGrowable (P.growable place.new) self.old.names) }
         ensures same { self.new ≡ self.old }
-        ensures kept { OnlyWrites (P.outside place.old) (P.outside place.new) }
-        ensures cause { IfErr result (λ fault. NamesFile fault
-            → Rose (P.outside place.old).write_faults (P.outside place.new).write_faults) }
-        ensures names { KeepsNames (P.readable place.old) (P.growable place.old)
-            (P.readable place.new) (P.growable place.new) }
+        ensures place { LeavesPlace (WritesFiles result) P.outside P.readable P.growable place.old
+            place.new }
     {
         make(place, self.frames_name.as_str(), OutFile::Frames)?;
         make(place, self.trace_name.as_str(), OutFile::Trace)?;
@@ -190,11 +187,8 @@ impl OutFiles {
             (P.outside place.new).files) }
         ensures parts { OnErr result
             (LeavesParts self.old (P.outside place.old).files (P.outside place.new).files []) }
-        ensures kept { OnlyWrites (P.outside place.old) (P.outside place.new) }
-        ensures cause { IfErr result (λ fault. NamesFile fault
-            → Rose (P.outside place.old).write_faults (P.outside place.new).write_faults) }
-        ensures names { KeepsNames (P.readable place.old) (P.growable place.old)
-            (P.readable place.new) (P.growable place.new) }
+        ensures place { LeavesPlace (WritesFiles result) P.outside P.readable P.growable place.old
+            place.new }
     {
         give(
             place,
@@ -224,11 +218,8 @@ impl OutFiles {
         ensures chip { OnOk result (chip.new ≡ after_reads chip.old (length chip.old.words)) }
         ensures words { chip.new ≡ record chip.old { reads = chip.new.reads } }
         ensures same { self.new ≡ self.old }
-        ensures kept { OnlyWrites (P.outside place.old) (P.outside place.new) }
-        ensures cause { IfErr result (λ fault. NamesFile fault
-            → Rose (P.outside place.old).write_faults (P.outside place.new).write_faults) }
-        ensures names { KeepsNames (P.readable place.old) (P.growable place.old)
-            (P.readable place.new) (P.growable place.new) }
+        ensures place { LeavesPlace (WritesFiles result) P.outside P.readable P.growable place.old
+            place.new }
     {
         let mut text = Vec::new(*self.frames.allocator());
         put_memory(&mut text, chip)?;

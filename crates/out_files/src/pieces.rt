@@ -1,10 +1,9 @@
 //! The creates and appends of one file.
 
-ghost use Rattle.std.specs.Prelude.{◌≡◌, [], IfErr, OnOk};
-ghost use Rattle.ocs_io.specs.Place.{Rose, OnlyWrites, KeepsNames};
+ghost use Rattle.std.specs.Prelude.{◌≡◌, [], OnOk};
 ghost use Rattle.ocs_io.specs.Answers.{GrowsIfOk};
-ghost use Rattle.out_files.specs.Answers.{NamesFile};
 ghost use Rattle.out_files.specs.PiecesCode.{MakeAnswers, GiveAnswers};
+ghost use Rattle.out_files.specs.Places.{LeavesPlace, WritesFiles};
 
 use crate::fault::{OutFile, WriteFault};
 use ocs_io::Place;
@@ -13,11 +12,8 @@ use ocs_io::Place;
 pub fn make<P: Place>(place: &mut P, name: &str, file: OutFile) -> Result<(), WriteFault>
     ensures answer { MakeAnswers name.now file (P.outside place.old) (P.outside place.new) result }
     ensures growable { OnOk result (P.growable place.new name.now) }
-    ensures kept { OnlyWrites (P.outside place.old) (P.outside place.new) }
-    ensures cause { IfErr result (λ fault. NamesFile fault
-        → Rose (P.outside place.old).write_faults (P.outside place.new).write_faults) }
-    ensures names { KeepsNames (P.readable place.old) (P.growable place.old) (P.readable place.new)
-        (P.growable place.new) }
+    ensures place { LeavesPlace (WritesFiles result) P.outside P.readable P.growable place.old
+        place.new }
 {
     match place.create(name) {
         Ok(()) => Ok(()),
@@ -35,11 +31,8 @@ pub fn give<P: Place>(
     requires { P.growable place.old name.now }
     ensures answer { GiveAnswers name.now file pending.old.items pending.new.items
         (P.outside place.old) (P.outside place.new) result }
-    ensures kept { OnlyWrites (P.outside place.old) (P.outside place.new) }
-    ensures cause { IfErr result (λ fault. NamesFile fault
-        → Rose (P.outside place.old).write_faults (P.outside place.new).write_faults) }
-    ensures names { KeepsNames (P.readable place.old) (P.growable place.old) (P.readable place.new)
-        (P.growable place.new) }
+    ensures place { LeavesPlace (WritesFiles result) P.outside P.readable P.growable place.old
+        place.new }
 {
     if pending.is_empty() {
         return Ok(());

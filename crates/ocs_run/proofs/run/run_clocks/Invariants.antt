@@ -1,7 +1,7 @@
 use Rattle.std.proofs.Common.{◌≡◌, ◌-◌, ◌*◌}
 use Rattle.ocs_io.specs.Place.{OnlyWrites}
 use Rattle.out_files.specs.Answers.{AreGrowable}
-use Rattle.ocs_run.specs.PlaceCode.{LeavesPlace}
+use Rattle.out_files.specs.Places.{LeavesPlace}
 use Rattle.ocs_run.specs.UnderwayCode.{fore_of, CanRun, Runs, IsOfSameRun}
 use Rattle.ocs_run.proofs.run.run_clocks.Given as goal
 

@@ -119,15 +119,15 @@ returns-clause-stopped g c =
 pub returns-in_err-create-clause-place : goal.returns-in_err-create-clause-place
 returns-in_err-create-clause-place g c =
     WritesRun-err _ _ _ _ _ _ c.from_residual-in_err-create.ensures.1 (OnlyWrites-none (g.P.Place.outside c.args.place.now))
-    (record { kept = c.create.ensures.kept; cause = c.in_err-create.ensures.cause })
+    c.in_err-create.ensures.place.seen
 
 pub returns-in_err-draw_with_crew-clause-place : goal.returns-in_err-draw_with_crew-clause-place
 returns-in_err-draw_with_crew-clause-place g c =
     WritesRun-err _ _ _ _ _ _ c.from_residual-in_err-draw_with_crew.ensures.1
-    (OnlyWrites-more _ _ _ c.create.ensures.kept c.create_audio.ensures.place.seen.kept) c.in_err-draw_with_crew.ensures.place.seen
+    (OnlyWrites-more _ _ _ c.create.ensures.place.seen.kept c.create_audio.ensures.place.seen.kept) c.in_err-draw_with_crew.ensures.place.seen
 
 pub returns-in_err-write_memory-clause-place : goal.returns-in_err-write_memory-clause-place
 returns-in_err-write_memory-clause-place g c =
     WritesRun-err _ _ _ _ _ _ c.from_residual-in_err-write_memory.ensures.1
-    (OnlyWrites-more _ _ _ (OnlyWrites-more _ _ _ c.create.ensures.kept c.create_audio.ensures.place.seen.kept)
+    (OnlyWrites-more _ _ _ (OnlyWrites-more _ _ _ c.create.ensures.place.seen.kept c.create_audio.ensures.place.seen.kept)
     c.draw_with_crew.ensures.place.seen.kept) c.in_err-write_memory.ensures.place.seen

@@ -42,8 +42,8 @@ returns-in_err-flush-clause-mark g c =
 pub returns-in_err-flush-clause-place : goal.returns-in_err-flush-clause-place
 returns-in_err-flush-clause-place g c = record {
   seen = WritesFiles-err _ _ _ _ _ c.from_residual-in_err-flush.ensures.1 c.run_clocks.ensures.place.seen.kept
-      (record { kept = c.flush.ensures.kept; cause = c.in_err-flush.ensures.cause });
-  names = KeepsNames-more _ _ _ _ _ _ c.run_clocks.ensures.place.names c.flush.ensures.names;
+      c.in_err-flush.ensures.place.seen;
+  names = KeepsNames-more _ _ _ _ _ _ c.run_clocks.ensures.place.names c.flush.ensures.place.names;
 }
 
 pub returns-clause-done : goal.returns-clause-done
@@ -72,6 +72,6 @@ returns-clause-mark g c =
 
 pub returns-clause-place : goal.returns-clause-place
 returns-clause-place g c = record {
-  seen = record { kept = OnlyWrites-more _ _ _ c.run_clocks.ensures.place.seen.kept c.flush.ensures.kept; cause = tt };
-  names = KeepsNames-more _ _ _ _ _ _ c.run_clocks.ensures.place.names c.flush.ensures.names;
+  seen = record { kept = OnlyWrites-more _ _ _ c.run_clocks.ensures.place.seen.kept c.flush.ensures.place.seen.kept; cause = tt };
+  names = KeepsNames-more _ _ _ _ _ _ c.run_clocks.ensures.place.names c.flush.ensures.place.names;
 }
