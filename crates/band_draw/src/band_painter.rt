@@ -8,7 +8,7 @@ ghost use Rattle.serial_model.specs.Picture.{set_picture, clear_line as cleared,
 ghost use Rattle.serial_model.specs.StandsFor.{StandsFor};
 
 use ocs_base::{Beam, System};
-use painter::Painter;
+use painter::{FieldPlace, Painter};
 use planes::Loads;
 use serial_model::Denise;
 
@@ -127,28 +127,26 @@ impl BandPainter {
         self.painter.show(system, beam, into, clx)
     }
 
-    /// The picture steps of `count` clocks of line `v` from clock `h` on, between which nothing touches
-    /// the picture, as `Painter::show_span` has them.
+    /// The picture steps of `count` clocks of a line from a place on, between which nothing touches the
+    /// picture, as `Painter::show_span` has them.
     pub fn show_span(
         &mut self,
-        system: System,
-        v: u16,
-        h: u16,
+        from: FieldPlace,
         count: u16,
         room: &mut [u8],
         filled: usize,
         clx: &mut u16,
     ) -> usize
-        requires place { h + count ≤ 228 }
-        requires room { filled + 12 * visible_clocks system v h count ≤ length room.old }
-        ensures given { (from : ℕ) (p : DeniseValue) → IsBandPainterOf from self.old p
-            → IsSpanGiven from system v h count p
+        requires place { from.h + count ≤ 228 }
+        requires room { filled + 12 * visible_clocks from.system from.v from.h count
+            ≤ length room.old }
+        ensures given { (x : ℕ) (p : DeniseValue) → IsBandPainterOf x self.old p
+            → IsSpanGiven x from.system from.v from.h count p
             self.new (take filled room.old) (take result room.new) clx.old clx.new }
-        ensures filled { result ≡ filled + 12 * visible_clocks system v h count }
+        ensures filled { result ≡ filled + 12 * visible_clocks from.system from.v from.h count }
         ensures keeps { self.new.keeps ≡ self.old.keeps }
         ensures size { length room.new ≡ length room.old }
     {
-        self.painter
-            .show_span(system, v, h, count, room, filled, clx)
+        self.painter.show_span(from, count, room, filled, clx)
     }
 }

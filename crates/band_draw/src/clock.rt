@@ -9,7 +9,6 @@ ghost use Rattle.serial_bands.specs.DrawnTo.{touch_by_address};
 ghost use Rattle.serial_bands.specs.EventReading.{bus_touch_of};
 ghost use Rattle.serial_bands.specs.RightJob.{bus_events};
 ghost use Rattle.band_draw.specs.BandPainter.{IsBandPainterOf, Paints};
-ghost use Rattle.band_draw.specs.Touched.{touched_by_events};
 ghost use Rattle.band_draw.specs.Given.{IsGiven, filled_after};
 
 use crate::band_painter::BandPainter;
@@ -19,40 +18,11 @@ use mem_versions::MemView;
 use ocs_base::{Beam, Clock, System};
 use painter::span::put;
 
-/// The script's events of a clock, which are `due`, and its picture step, whose bytes are put into
-/// the room from the place `filled` on where they are visible, and whose collision bits are added to
-/// `clx`. The answer is how many bytes of the room are filled then.
+/// The picture step of a clock, whose bytes are put into the room from the place `filled` on where
+/// they are visible, and whose collision bits are added to `clx`. The answer is how many bytes of the
+/// room are filled then.
 #[inline(always)]
 pub fn show_clock(
-    painter: &mut BandPainter,
-    system: System,
-    beam: &Beam,
-    due: &[Event],
-    clock: Clock,
-    view: &MemView,
-    room: &mut [u8],
-    filled: usize,
-    clx: &mut u16,
-) -> usize
-    requires covered { Covers view.now clock.0 }
-    requires place { beam.now.h ≤ 227 }
-    requires room { is_visible system beam.now.v beam.now.h ≡ true
-        → filled + 12 ≤ length room.old }
-    ensures given { (p : DeniseValue) → IsBandPainterOf (4 * beam.now.h) painter.old p
-        → IsGiven system beam.now.v beam.now.h
-        (touched_by_events beam.now.h (word_then view.now clock.0) due.now p)
-        painter.new (take filled room.old) (take result room.new) clx.old clx.new }
-    ensures filled { result ≡ filled_after system beam.now.v beam.now.h filled }
-    ensures keeps { painter.new.keeps ≡ painter.old.keeps }
-    ensures size { length room.new ≡ length room.old }
-{
-    touch_all(painter, beam.h, due, clock, view);
-    give(painter, system, beam, room, filled, clx)
-}
-
-/// The picture step of a clock.
-#[inline(always)]
-fn give(
     painter: &mut BandPainter,
     system: System,
     beam: &Beam,

@@ -8,9 +8,11 @@ ghost use Rattle.band_draw.specs.ProgressCode.{IsSource, IsAt, IsEnded};
 use crate::band_painter::BandPainter;
 use crate::clock::{behind, next_place, part, show_clock, touch_access};
 use crate::due::{due_from, find_due};
+use crate::touch::touch_all;
 use band_log::{Cursor, Event, Run};
 use mem_versions::MemView;
 use ocs_base::{Beam, Clock};
+use painter::FieldPlace;
 use serial_model::{Denise, Side};
 
 /// A band of a run that is drawn up to, not including, a clock.
@@ -54,15 +56,14 @@ impl Progress {
         }
         let script = run.script();
         let count = (until - self.clock) as u16;
-        self.filled = self.painter.show_span(
-            script.system(),
-            self.beam.v,
-            self.beam.h,
-            count,
-            room,
-            self.filled,
-            &mut self.clx,
-        );
+        let from = FieldPlace {
+            system: script.system(),
+            v: self.beam.v,
+            h: self.beam.h,
+        };
+        self.filled = self
+            .painter
+            .show_span(from, count, room, self.filled, &mut self.clx);
         self.beam.h += count;
         let due = find_due(script.events(), self.due, &self.beam);
         self.clock = until;
@@ -86,13 +87,11 @@ impl Progress {
         let h = self.beam.h;
         let clock = Clock(self.clock);
         let due = part(events, self.next, self.sets);
+        touch_all(&mut self.painter, h, due, clock, view);
         let filled = show_clock(
             &mut self.painter,
             system,
             &self.beam,
-            due,
-            clock,
-            view,
             room,
             self.filled,
             &mut self.clx,
@@ -130,13 +129,11 @@ impl Progress {
         let h = self.beam.h;
         let clock = Clock(self.clock);
         let due = part(events, self.next, self.sets);
+        touch_all(&mut self.painter, h, due, clock, view);
         show_clock(
             &mut self.painter,
             system,
             &self.beam,
-            due,
-            clock,
-            view,
             room,
             self.filled,
             &mut self.clx,

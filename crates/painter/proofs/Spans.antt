@@ -8,6 +8,7 @@ use Rattle.ocs_base.specs.Systems.{is_visible}
 use Rattle.serial_model.specs.declared.picture.Denise.{Denise}
 use Rattle.serial_model.specs.Picture.{step_of, after_step, pixels, pixel_bytes}
 use Rattle.serial_model.specs.Spans.{after_shows, shown_bytes, shown_clx}
+use Rattle.painter.specs.declared.field_place.FieldPlace.{FieldPlace}
 use Rattle.painter.specs.declared.painter.Painter.{Painter}
 use Rattle.painter.specs.Painter.{IsPainterOf}
 use Rattle.painter.specs.Span.{visible_clocks, IsSpan}
@@ -52,7 +53,7 @@ clx_more system v h n (suc m) p =
     ∙ or_assoc (shown_clx system v h n p) (shown_clx system v (h + n) m (after_shows system v h n p))
     (step_of system v (h + n + m) (after_shows system v (h + n) m (after_shows system v h n p))).clx
 
-pub visible_more : (system : System) (v h n m : ℕ) →
+visible_more : (system : System) (v h n m : ℕ) →
     visible_clocks system v h (n + m) ≡ visible_clocks system v h n + visible_clocks system v (h + n) m
 unfolding visible_clocks
 visible_more system v h n zero = ap (visible_clocks system v h) (add-zero n) ∙ sym (add-zero (visible_clocks system v h n))
@@ -62,6 +63,13 @@ visible_more system v h n (suc m) =
     ∙ ap (λ (k : ℕ). visible_clocks system v h (n + m) + (if is_visible system v k then 1 else 0)) (sym (add_assoc h n m))
     ∙ ap (λ (k : ℕ). k + (if is_visible system v (h + n + m) then 1 else 0)) (visible_more system v h n m)
     ∙ add_assoc (visible_clocks system v h n) (visible_clocks system v (h + n) m) (if is_visible system v (h + n + m) then 1 else 0)
+
+pub visible_further : (from there : FieldPlace) (n m : ℕ) → there ≡ record from { h = from.h + n } →
+    visible_clocks from.system from.v from.h (n + m)
+    ≡ visible_clocks from.system from.v from.h n + visible_clocks there.system there.v there.h m
+visible_further from there n m further =
+    visible_more from.system from.v from.h n m
+    ∙ ap (λ (place : FieldPlace). visible_clocks from.system from.v from.h n + visible_clocks place.system place.v place.h m) (sym further)
 
 -- a span of no clocks
 pub no_span : (system : System) (v h : ℕ) (p : Denise) (now : Painter) (bytes : List ℕ) (clx : ℕ) → IsPainterOf now p →
@@ -74,11 +82,11 @@ no_span system v h p now bytes clx stands = record {
 }
 
 -- a span and the span behind it
-pub joined : (system : System) (v h n m : ℕ) (p : Denise) (now new : Painter) (before between after : List ℕ) (old mid clx : ℕ) →
+joined_at : (system : System) (v h n m : ℕ) (p : Denise) (now new : Painter) (before between after : List ℕ) (old mid clx : ℕ) →
     IsSpan system v h n p now before between old mid →
     IsSpan system v (h + n) m (after_shows system v h n p) new between after mid clx →
     IsSpan system v h (n + m) p new before after old clx
-joined system v h n m p now new before between after old mid clx one two = record {
+joined_at system v h n m p now new before between after old mid clx one two = record {
   painted = subst (λ (d : Denise). IsPainterOf new d) (sym (after_more system v h n m p)) two.painted;
   bytes =
       two.bytes
@@ -91,6 +99,16 @@ joined system v h n m p now new before between after old mid clx one two = recor
       ∙ or_assoc old (shown_clx system v h n p) (shown_clx system v (h + n) m (after_shows system v h n p))
       ∙ ap (bit_or old) (sym (clx_more system v h n m p));
 }
+
+pub joined : (from there : FieldPlace) (n m : ℕ) (p : Denise) (now new : Painter) (before between after : List ℕ) (old mid clx : ℕ) →
+    there ≡ record from { h = from.h + n } →
+    IsSpan from.system from.v from.h n p now before between old mid →
+    IsSpan there.system there.v there.h m (after_shows from.system from.v from.h n p) new between after mid clx →
+    IsSpan from.system from.v from.h (n + m) p new before after old clx
+joined from there n m p now new before between after old mid clx further one two =
+    joined_at from.system from.v from.h n m p now new before between after old mid clx one
+    (subst (λ (place : FieldPlace). IsSpan place.system place.v place.h m (after_shows from.system from.v from.h n p) new between after mid clx)
+    further two)
 
 pub none_visible : (system : System) (v h : ℕ) → visible_clocks system v h 0 ≡ 0
 unfolding visible_clocks
@@ -133,11 +151,12 @@ visible_within system v h k n le =
     let more = visible_more system v h k (n - k) in
     omega arith
 
-pub visible_both : (system : System) (v h k n : ℕ) → k ≤ n →
-    visible_clocks system v h k + visible_clocks system v (h + k) (n - k) ≡ visible_clocks system v h n
-visible_both system v h k n le =
+pub visible_both : (from there : FieldPlace) (k n : ℕ) → there ≡ record from { h = from.h + k } → k ≤ n →
+    visible_clocks from.system from.v from.h k + visible_clocks there.system there.v there.h (n - k)
+    ≡ visible_clocks from.system from.v from.h n
+visible_both from there k n further le =
     let rest : k + (n - k) ≡ n = omega arith in
-    sym (visible_more system v h k (n - k)) ∙ ap (visible_clocks system v h) rest
+    sym (visible_further from there k (n - k) further) ∙ ap (visible_clocks from.system from.v from.h) rest
 
 pub visible_few : (system : System) (v h n : ℕ) → visible_clocks system v h n ≤ n
 unfolding visible_clocks

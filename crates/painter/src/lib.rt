@@ -2,6 +2,7 @@
 //! and the pixels of a clock with what collides there.
 #![tactic(auto)]
 
+mod field_place;
 mod ham;
 mod held;
 mod inks;
@@ -23,4 +24,5 @@ mod visible;
 mod window;
 mod words;
 
+pub use field_place::FieldPlace;
 pub use painter::Painter;

@@ -11,6 +11,7 @@ use crate::ham::{bytes_of, modify, modify_again};
 use crate::held::Held;
 use crate::inks::Inks;
 use crate::line::Line;
+use crate::painter::Painter;
 use crate::span::put;
 
 /// Two pixels outside the display window: COLOR00.
@@ -100,8 +101,7 @@ fn show_pair(
 /// The same of positions whose bits may be known to be the same.
 #[inline(always)]
 fn show_two(
-    inks: &Inks,
-    line: &Line,
+    painter: &Painter,
     paired: bool,
     held: Held,
     x: usize,
@@ -110,19 +110,20 @@ fn show_two(
 ) -> Held
     requires place { at ≤ 2 }
     requires room { x ≤ 1022 }
-    requires pair { paired ≡ true → row_bits line.now x ≡ row_bits line.now (x + 1) }
+    requires pair { paired ≡ true
+        → row_bits painter.now.line x ≡ row_bits painter.now.line (x + 1) }
     ensures pixels { (colour : ℕ) → IsHeld held colour
-        → (let first = modified_at inks.now line.now x colour in
+        → (let first = modified_at painter.now.inks painter.now.line x colour in
         into.new ≡ slice_set (slice_set into.old at (colour_bytes first))
-        (at + 1) (colour_bytes (modified_at inks.now line.now (x + 1) first))) }
+        (at + 1) (colour_bytes (modified_at painter.now.inks painter.now.line (x + 1) first))) }
     ensures held { (colour : ℕ) → IsHeld held colour
-        → (let first = modified_at inks.now line.now x colour in
-        IsHeld result (modified_at inks.now line.now (x + 1) first)) }
+        → (let first = modified_at painter.now.inks painter.now.line x colour in
+        IsHeld result (modified_at painter.now.inks painter.now.line (x + 1) first)) }
 {
     if paired {
-        show_pair(inks, line, held, x, at, into)
+        show_pair(&painter.inks, &painter.line, held, x, at, into)
     } else {
-        show_modified(inks, line, held, x, at, into)
+        show_modified(&painter.inks, &painter.line, held, x, at, into)
     }
 }
 
@@ -173,22 +174,21 @@ pub fn put_inks(room: &mut [u8], at: usize, inks: &Inks, line: &Line, x: usize, 
 /// The four pixels from a position on, inside the display window, in hold-and-modify; the last is held.
 #[inline(always)]
 fn modified_clock(
-    inks: &Inks,
-    line: &Line,
+    painter: &Painter,
     paired: bool,
     held: Held,
     x: usize,
     into: &mut [[u8; 3]; 4],
 ) -> Held
     requires place { x ≤ 1020 }
-    requires pairs { paired ≡ true → ArePaired line.now x }
+    requires pairs { paired ≡ true → ArePaired painter.now.line x }
     ensures pixels { (colour : ℕ) → IsHeld held colour
-        → into.new ≡ modified_pixels inks.now line.now x colour }
+        → into.new ≡ modified_pixels painter.now.inks painter.now.line x colour }
     ensures held { (colour : ℕ) → IsHeld held colour
-        → IsHeld result (modified_along inks.now line.now x colour 4) }
+        → IsHeld result (modified_along painter.now.inks painter.now.line x colour 4) }
 {
-    let second = show_two(inks, line, paired, held, x, 0, into);
-    show_two(inks, line, paired, second, x + 2, 2, into)
+    let second = show_two(painter, paired, held, x, 0, into);
+    show_two(painter, paired, second, x + 2, 2, into)
 }
 
 /// Puts so many clocks of such pixels into a room, from a position on; the last pixel is held.
@@ -196,8 +196,7 @@ fn modified_clock(
 pub fn put_modified(
     room: &mut [u8],
     at: usize,
-    inks: &Inks,
-    line: &Line,
+    painter: &Painter,
     held: Held,
     x: usize,
     count: u16,
@@ -205,17 +204,18 @@ pub fn put_modified(
     requires room { at + 12 * count ≤ length room.old }
     requires place { x + 4 * count ≤ 1024 }
     ensures bytes { (colour : ℕ) → IsHeld held colour → take (at + 12 * count) room.new
-        ≡ take at room.old ++ bytes_of_clocks (all_modified inks.now line.now x colour) count }
+        ≡ take at room.old
+        ++ bytes_of_clocks (all_modified painter.now.inks painter.now.line x colour) count }
     ensures held { (colour : ℕ) → IsHeld held colour
-        → IsHeld result (modified_along inks.now line.now x colour (4 * count)) }
+        → IsHeld result (modified_along painter.now.inks painter.now.line x colour (4 * count)) }
     ensures size { length room.new ≡ length room.old }
 {
-    let paired = line.is_paired_from(x);
+    let paired = painter.line.is_paired_from(x);
     let mut last = held;
     for clock in 0..count {
         let mut pixels = [[0; 3]; 4];
         let here = x + 4 * clock as usize;
-        last = modified_clock(inks, line, paired, last, here, &mut pixels);
+        last = modified_clock(painter, paired, last, here, &mut pixels);
         put(room, at + 12 * clock as usize, &pixels);
     }
     last

@@ -12,13 +12,14 @@ ghost use Rattle.painter.specs.SpanCode.{bytes_of_clocks, AreClocks, AreInside, 
 ghost use Rattle.painter.specs.SpanCode.{all_backdrop, all_inks, quiet_gathered};
 ghost use Rattle.ocs_base.specs.Systems.{is_visible};
 
+use crate::field_place::FieldPlace;
 use crate::ham::{bytes_of, hold};
 use crate::painter::Painter;
 use crate::pixels::{ink_bytes, put_inks, put_modified};
 use crate::span::{fill, put};
 use crate::visible::{Alike, clocks_alike};
 use collisions::do_playfields_meet;
-use ocs_base::{Beam, System};
+use ocs_base::Beam;
 
 /// Clocks that were shown: how many, and the place behind their bytes.
 #[derive(Drop)]
@@ -31,30 +32,30 @@ impl Painter {
     ghost use Rattle.serial_model.specs.declared.picture.Denise.{Denise as DeniseValue};
     ghost use Rattle.painter.specs.Painter.{IsPainterOf};
 
-    /// The picture steps of `count` clocks of line `v` from clock `h` on, between which nothing
-    /// touches the picture state. The bytes of those that are visible are put into the room from the
-    /// place `filled` on; the answer is the place behind them. `clx`, CLXDAT, gathers what collides.
+    /// The picture steps of `count` clocks of a line from a place on, between which nothing touches
+    /// the picture state. The bytes of those that are visible are put into the room from the index
+    /// `filled` on; the answer is the index behind them. `clx`, CLXDAT, gathers what collides.
     pub fn show_span(
         &mut self,
-        system: System,
-        v: u16,
-        h: u16,
+        from: FieldPlace,
         count: u16,
         room: &mut [u8],
         filled: usize,
         clx: &mut u16,
     ) -> usize
-        requires place { h + count ≤ 228 }
-        requires room { filled + 12 * visible_clocks system v h count ≤ length room.old }
-        ensures given { (p : DeniseValue) → IsPainterOf self.old p → IsSpan system v h count p
-            self.new (take filled room.old) (take result room.new) clx.old clx.new }
-        ensures filled { result ≡ filled + 12 * visible_clocks system v h count }
+        requires place { from.h + count ≤ 228 }
+        requires room { filled + 12 * visible_clocks from.system from.v from.h count
+            ≤ length room.old }
+        ensures given { (p : DeniseValue) → IsPainterOf self.old p
+            → IsSpan from.system from.v from.h count p self.new
+            (take filled room.old) (take result room.new) clx.old clx.new }
+        ensures filled { result ≡ filled + 12 * visible_clocks from.system from.v from.h count }
         ensures size { length room.new ≡ length room.old }
     {
         let mut at = filled;
         let mut shown = 0;
         while shown < count {
-            let part = self.show_part(system, v, h + shown, count - shown, room, at, clx);
+            let part = self.show_part(from.further(shown), count - shown, room, at, clx);
             shown += part.count;
             at = part.behind;
         }
@@ -65,27 +66,26 @@ impl Painter {
     /// way.
     fn show_part(
         &mut self,
-        system: System,
-        v: u16,
-        h: u16,
+        from: FieldPlace,
         count: u16,
         room: &mut [u8],
         at: usize,
         clx: &mut u16,
     ) -> Part
-        requires place { h + count ≤ 228 }
+        requires place { from.h + count ≤ 228 }
         requires some { 1 ≤ count }
-        requires room { at + 12 * visible_clocks system v h count ≤ length room.old }
+        requires room { at + 12 * visible_clocks from.system from.v from.h count ≤ length room.old }
         ensures given { (p : DeniseValue) → IsPainterOf self.old p
-            → IsSpan system v h result.count p self.new
+            → IsSpan from.system from.v from.h result.count p self.new
             (take at room.old) (take result.behind room.new) clx.old clx.new }
-        ensures filled { result.behind ≡ at + 12 * visible_clocks system v h result.count }
+        ensures filled { result.behind
+            ≡ at + 12 * visible_clocks from.system from.v from.h result.count }
         ensures some { 1 ≤ result.count }
         ensures most { result.count ≤ count }
         ensures size { length room.new ≡ length room.old }
     {
-        let near = clocks_alike(system, v, h, count);
-        let blank = self.backdrops(v, h, near.count, *clx);
+        let near = clocks_alike(from, count);
+        let blank = self.backdrops(from.v, from.h, near.count, *clx);
         if blank > 0 {
             let behind = self.show_backdrops(blank, near.visible, room, at);
             return Part {
@@ -93,52 +93,52 @@ impl Painter {
                 behind,
             };
         }
-        let inside = self.inside_ahead(v, h, near.count);
+        let inside = self.inside_ahead(from.v, from.h, near.count);
         if near.visible && inside > 0 {
-            let behind = self.show_planes(system, v, h, inside, room, at, clx);
+            let behind = self.show_planes(from, inside, room, at, clx);
             return Part {
                 count: inside,
                 behind,
             };
         }
-        self.show_running(system, v, h, &near, room, at, clx)
+        self.show_running(from, &near, room, at, clx)
     }
 
     /// The picture steps of the next of so many clocks, at least one, in which sprites' words may run:
     /// those up to their end.
     fn show_running(
         &mut self,
-        system: System,
-        v: u16,
-        h: u16,
+        from: FieldPlace,
         near: &Alike,
         room: &mut [u8],
         at: usize,
         clx: &mut u16,
     ) -> Part
-        requires place { h + near.now.count ≤ 228 }
+        requires place { from.h + near.now.count ≤ 228 }
         requires some { 1 ≤ near.now.count }
         requires seen { (k : ℕ) → k < near.now.count
-            → is_visible system v (h + k) ≡ near.now.visible }
-        requires room { at + 12 * visible_clocks system v h near.now.count ≤ length room.old }
+            → is_visible from.system from.v (from.h + k) ≡ near.now.visible }
+        requires room { at + 12 * visible_clocks from.system from.v from.h near.now.count
+            ≤ length room.old }
         ensures given { (p : DeniseValue) → IsPainterOf self.old p
-            → IsSpan system v h result.count p self.new
+            → IsSpan from.system from.v from.h result.count p self.new
             (take at room.old) (take result.behind room.new) clx.old clx.new }
-        ensures filled { result.behind ≡ at + 12 * visible_clocks system v h result.count }
+        ensures filled { result.behind
+            ≡ at + 12 * visible_clocks from.system from.v from.h result.count }
         ensures some { 1 ≤ result.count }
         ensures most { result.count ≤ near.now.count }
         ensures size { length room.new ≡ length room.old }
     {
-        let running = self.sprites.clocks_running(h).max(1).min(near.count);
-        let inside = self.window.clocks_inside(v, h, running);
+        let running = self.sprites.clocks_running(from.h).max(1).min(near.count);
+        let inside = self.window.clocks_inside(from.v, from.h, running);
         if near.visible && inside > 0 {
-            let behind = self.show_covered(system, v, h, inside, room, at, clx);
+            let behind = self.show_covered(from, inside, room, at, clx);
             return Part {
                 count: inside,
                 behind,
             };
         }
-        let behind = self.show_each(system, v, h, running, room, at, clx);
+        let behind = self.show_each(from, running, room, at, clx);
         Part {
             count: running,
             behind,
@@ -149,24 +149,24 @@ impl Painter {
     #[inline(never)]
     fn show_each(
         &mut self,
-        system: System,
-        v: u16,
-        h: u16,
+        from: FieldPlace,
         count: u16,
         room: &mut [u8],
         filled: usize,
         clx: &mut u16,
     ) -> usize
-        requires place { h + count ≤ 228 }
-        requires room { filled + 12 * visible_clocks system v h count ≤ length room.old }
-        ensures given { (p : DeniseValue) → IsPainterOf self.old p → IsSpan system v h count p
-            self.new (take filled room.old) (take result room.new) clx.old clx.new }
-        ensures filled { result ≡ filled + 12 * visible_clocks system v h count }
+        requires place { from.h + count ≤ 228 }
+        requires room { filled + 12 * visible_clocks from.system from.v from.h count
+            ≤ length room.old }
+        ensures given { (p : DeniseValue) → IsPainterOf self.old p
+            → IsSpan from.system from.v from.h count p self.new
+            (take filled room.old) (take result room.new) clx.old clx.new }
+        ensures filled { result ≡ filled + 12 * visible_clocks from.system from.v from.h count }
         ensures size { length room.new ≡ length room.old }
     {
         let mut at = filled;
         for shown in 0..count {
-            at = self.show_one(system, v, h + shown, room, at, clx);
+            at = self.show_one(from.further(shown), room, at, clx);
         }
         at
     }
@@ -202,29 +202,28 @@ impl Painter {
     /// The picture steps of so many such clocks that are visible.
     fn show_planes(
         &mut self,
-        system: System,
-        v: u16,
-        h: u16,
+        from: FieldPlace,
         count: u16,
         room: &mut [u8],
         at: usize,
         clx: &mut u16,
     ) -> usize
-        requires place { h + count ≤ 228 }
+        requires place { from.h + count ≤ 228 }
         requires some { 1 ≤ count }
-        requires inside { AreInside v h count self.old }
-        requires seen { (k : ℕ) → k < count → is_visible system v (h + k) ≡ true }
+        requires inside { AreInside from.v from.h count self.old }
+        requires seen { (k : ℕ) → k < count → is_visible from.system from.v (from.h + k) ≡ true }
         requires room { at + 12 * count ≤ length room.old }
-        ensures given { (p : DeniseValue) → IsPainterOf self.old p → IsSpan system v h count p
-            self.new (take at room.old) (take result room.new) clx.old clx.new }
+        ensures given { (p : DeniseValue) → IsPainterOf self.old p
+            → IsSpan from.system from.v from.h count p self.new
+            (take at room.old) (take result room.new) clx.old clx.new }
         ensures place { result ≡ at + 12 * count }
         ensures size { length room.new ≡ length room.old }
     {
-        self.meet_clocks(v, h, count, clx);
+        self.meet_clocks(from.v, from.h, count, clx);
         if self.inks.holds_colour() {
-            self.show_modified_clocks(h, count, room, at)
+            self.show_modified_clocks(from.h, count, room, at)
         } else {
-            self.show_clocks(h, count, room, at)
+            self.show_clocks(from.h, count, room, at)
         }
     }
 
@@ -240,15 +239,7 @@ impl Painter {
         ensures size { length room.new ≡ length room.old }
     {
         let held = hold(&self.held);
-        let last = put_modified(
-            room,
-            at,
-            &self.inks,
-            &self.line,
-            held,
-            4 * h as usize,
-            count,
-        );
+        let last = put_modified(room, at, self, held, 4 * h as usize, count);
         self.held = bytes_of(last);
         at + 12 * count as usize
     }
@@ -341,30 +332,23 @@ impl Painter {
     }
 
     /// The picture step of one clock, whose bytes are put into the room if it is visible.
-    fn show_one(
-        &mut self,
-        system: System,
-        v: u16,
-        h: u16,
-        room: &mut [u8],
-        at: usize,
-        clx: &mut u16,
-    ) -> usize
-        requires place { h ≤ 227 }
-        requires room { at + 12 * visible_clocks system v h 1 ≤ length room.old }
-        ensures given { (p : DeniseValue) → IsPainterOf self.old p → IsSpan system v h 1 p
-            self.new (take at room.old) (take result room.new) clx.old clx.new }
-        ensures filled { result ≡ at + 12 * visible_clocks system v h 1 }
+    fn show_one(&mut self, place: FieldPlace, room: &mut [u8], at: usize, clx: &mut u16) -> usize
+        requires place { place.h ≤ 227 }
+        requires room { at + 12 * visible_clocks place.system place.v place.h 1 ≤ length room.old }
+        ensures given { (p : DeniseValue) → IsPainterOf self.old p
+            → IsSpan place.system place.v place.h 1 p self.new
+            (take at room.old) (take result room.new) clx.old clx.new }
+        ensures filled { result ≡ at + 12 * visible_clocks place.system place.v place.h 1 }
         ensures size { length room.new ≡ length room.old }
     {
         let beam = Beam {
             frame: 0,
-            v,
-            h,
+            v: place.v,
+            h: place.h,
             lof: true,
         };
         let mut pixels = [[0; 3]; 4];
-        if self.show(system, &beam, &mut pixels, clx) {
+        if self.show(place.system, &beam, &mut pixels, clx) {
             put(room, at, &pixels);
             return at + 12;
         }

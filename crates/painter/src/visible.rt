@@ -3,7 +3,7 @@
 ghost use Rattle.std.specs.Prelude.{◌≡◌, ◌≤◌, ◌<◌, ◌+◌, ℕ};
 ghost use Rattle.ocs_base.specs.Systems.{is_visible};
 
-use ocs_base::System;
+use crate::field_place::FieldPlace;
 
 /// So many clocks of a line that are all visible, or none of them is.
 #[derive(Drop)]
@@ -12,28 +12,29 @@ pub struct Alike {
     pub visible: bool,
 }
 
-/// The clocks of line `v` from `h` on, at most so many, that are visible or not as that of `h` is.
-pub fn clocks_alike(system: System, v: u16, h: u16, count: u16) -> Alike
-    requires place { h + count ≤ 228 }
+/// The clocks of a line from a place on, at most so many, that are visible or not as the first is.
+pub fn clocks_alike(from: FieldPlace, count: u16) -> Alike
+    requires place { from.h + count ≤ 228 }
     requires some { 1 ≤ count }
-    ensures seen { (k : ℕ) → k < result.count → is_visible system v (h + k) ≡ result.visible }
+    ensures seen { (k : ℕ) → k < result.count → is_visible from.system from.v (from.h + k)
+        ≡ result.visible }
     ensures some { 1 ≤ result.count }
     ensures most { result.count ≤ count }
 {
-    if h > 226 || !system.shows_line(v) {
+    if from.h > 226 || !from.system.shows_line(from.v) {
         return Alike {
             count,
             visible: false,
         };
     }
-    if h < 47 {
+    if from.h < 47 {
         return Alike {
-            count: count.min(47 - h),
+            count: count.min(47 - from.h),
             visible: false,
         };
     }
     Alike {
-        count: count.min(227 - h),
+        count: count.min(227 - from.h),
         visible: true,
     }
 }

@@ -3,7 +3,7 @@
 ghost use Rattle.std.specs.Prelude.{◌≡◌, ◌≤◌, ◌<◌, ◌+◌, ◌*◌};
 
 use ocs_base::{Beam, Colour, Reg, System};
-use painter::Painter;
+use painter::{FieldPlace, Painter};
 use planes::Loads;
 
 /// A window of lines 0x2c to 0xf3 and columns 0x81 to 0x1c0, COLOR00 black and COLOR01 red.
@@ -21,7 +21,12 @@ fn show(painter: &mut Painter, h: u16, count: u16, room: &mut [u8; 240], clx: &m
     requires place { h + count ≤ 228 }
     requires room { count ≤ 19 }
 {
-    painter.show_span(System::Pal, 0x64, h, count, room, 12, clx)
+    let from = FieldPlace {
+        system: System::Pal,
+        v: 0x64,
+        h,
+    };
+    painter.show_span(from, count, room, 12, clx)
 }
 
 #[test]

@@ -8,7 +8,7 @@ use Rattle.painter.proofs.pixels.put_modified.Given as goal
 abbrev pub invariant-loop-clock : goal.invariant-loop-clock
 invariant-loop-clock l = record {
   bytes : (colour : ℕ) → IsHeld l.fn.held colour → take (l.at + 12 * l.clock) l.room
-      ≡ take l.at l.initial.room ++ bytes_of_clocks (all_modified l.inks l.line l.x colour) l.clock;
-  held : (colour : ℕ) → IsHeld l.fn.held colour → IsHeld l.last (modified_along l.inks l.line l.x colour (4 * l.clock));
+      ≡ take l.at l.initial.room ++ bytes_of_clocks (all_modified l.painter.inks l.painter.line l.x colour) l.clock;
+  held : (colour : ℕ) → IsHeld l.fn.held colour → IsHeld l.last (modified_along l.painter.inks l.painter.line l.x colour (4 * l.clock));
   size : length l.room ≡ length l.initial.room;
 }

@@ -12,7 +12,7 @@ returns-clause-given c from p is =
         painter = given.painted;
         loads = λ keeps.
             subst (λ (l : List Load). ShowsSame from c.args.self.now.loads l)
-            (sym (loads_shown c.args.system c.args.v c.args.h c.args.count p)) (is.loads keeps);
+            (sym (loads_shown c.args.from.system c.args.from.v c.args.from.h c.args.count p)) (is.loads keeps);
       };
       bytes = given.bytes;
       bits = given.bits;

@@ -50,7 +50,7 @@ pub close-requires : goal.close-requires
 close-requires g c =
     let run = run_over g.S.Side.seen c.args.run.now in
     let p : Progress = c.args.self.now in
-    c.touch_access.ensures.keeps ∙ c.show_clock.ensures.keeps
+    c.touch_access.ensures.keeps ∙ c.show_clock.ensures.keeps ∙ c.touch_all.ensures.keeps
     ∙ keeps_last p.painter.keeps p.to p.clock p.beam.h c.requires.at.kept c.requires.last
     (screen_there run c.args.events.now c.args.room.now p c.requires.at).clock
 
@@ -59,6 +59,7 @@ returns-clause-ended g c =
     let run = run_over g.S.Side.seen c.args.run.now in
     let p : Progress = c.args.self.now in
     let given = c.show_clock in
+    let touched = c.touch_all in
     let access = c.touch_access in
     let system : c.system-system.result ≡ c.args.run.now.script.system =
     c.system-system.ensures ∙ ap (λ (s : ScriptValue). s.system) c.script.ensures.value in
@@ -67,7 +68,7 @@ returns-clause-ended g c =
     (subst (λ s. IsGivenBy s p c.args.events.now c.args.view.now (take p.filled c.args.room.now) (take given.result given.new.room)
     given.new.painter given.new.clx) system
     (given_part _ p c.args.events.now c.args.view.now c.part-due.result.now _ _ given.new.painter given.new.clx c.part-due.ensures.part
-    given.ensures.given))
+    (λ q painted. given.ensures.given _ (touched.ensures.paints (4 * p.beam.h) q (omega arith) painted))))
     (given.ensures.filled ∙ ap (λ s. filled_after s p.beam.v p.beam.h p.filled) system) given.ensures.size
     (subst (λ l. Paints (4 * p.beam.h) (touch_by_address p.beam.h (word_then c.args.view.now p.clock) (bus_touch_of p.clock 0 l))
     given.new.painter access.new.painter)

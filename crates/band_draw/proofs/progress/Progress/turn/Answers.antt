@@ -97,6 +97,7 @@ returns-clause-at g c =
     let run = run_over g.S.Side.seen c.args.run.now in
     let p : Progress = c.args.self.now in
     let given = c.show_clock-filled in
+    let touched = c.touch_all in
     let access = c.touch_access-count in
     let due = c.due_from-coming in
     let rest = c.behind-rest.ensures.part in
@@ -115,7 +116,7 @@ returns-clause-at g c =
       given = subst (λ s. IsGivenBy s p c.args.events.now c.args.view.now (take p.filled c.args.room.now) (take given.result given.new.room)
           given.new.painter given.new.clx) system
           (given_part _ p c.args.events.now c.args.view.now c.part-due.result.now _ _ given.new.painter given.new.clx c.part-due.ensures.part
-          given.ensures.given);
+          (λ q painted. given.ensures.given _ (touched.ensures.paints (4 * p.beam.h) q (omega arith) painted)));
       bytes = given.ensures.filled ∙ ap (λ s. filled_after s p.beam.v p.beam.h p.filled) system;
       size = given.ensures.size;
       place = next;
@@ -131,5 +132,5 @@ returns-clause-at g c =
       kept =
           keeps_next c.next_place.new.beam _ p.painter.keeps c.clear_line.new.self.keeps p.to p.clock (last_clock c.system-system.result p.beam.v)
           p.beam.h c.clear_line.ensures.start
-          (λ on. c.clear_line.ensures.on on ∙ access.ensures.keeps ∙ given.ensures.keeps) refl c.next_place.ensures.clock c.requires.at.kept;
+          (λ on. c.clear_line.ensures.on on ∙ access.ensures.keeps ∙ given.ensures.keeps ∙ touched.ensures.keeps) refl c.next_place.ensures.clock c.requires.at.kept;
     })

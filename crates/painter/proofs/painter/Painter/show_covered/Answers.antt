@@ -1,7 +1,9 @@
 use Rattle.std.proofs.Common.{◌≡◌, ◌≤◌, ◌<◌, ◌∙◌, ◌+◌, ◌-◌, ◌*◌, ℕ, true, take, ap, subst, sym, arith, refl}
+use Rattle.ocs_base.specs.declared.system.System.{System}
 use Rattle.ocs_base.specs.Systems.{is_visible}
 use Rattle.serial_model.specs.Spans.{after_shows}
 use Rattle.serial_model.specs.Window.{is_inside}
+use Rattle.painter.specs.declared.field_place.FieldPlace.{FieldPlace}
 use Rattle.painter.specs.Span.{IsSpan}
 use Rattle.painter.proofs.Spans.{no_span, joined}
 use Rattle.painter.proofs.painter.Painter.show_covered.Goals as goal
@@ -13,18 +15,21 @@ further : (n shown more : ℕ) → n + 12 * shown + 12 * more ≡ n + 12 * (show
 further n shown more = omega arith
 
 -- what is so of many clocks is so of those behind the first
-behind_first : (P : ℕ → Type 0) (h shown count : ℕ) → ((k : ℕ) → k < count → P (h + k)) → shown ≤ count →
-    (k : ℕ) → k < count - shown → P (h + shown + k)
-behind_first P h shown count all most k few =
-    let there : h + (shown + k) ≡ h + shown + k = omega arith in
-    subst P there (all (shown + k) (omega (arith, most, few)))
+behind_first : (P : System → ℕ → ℕ → Type 0) (from there : FieldPlace) (shown count : ℕ) → there ≡ record from { h = from.h + shown } →
+    ((k : ℕ) → k < count → P from.system from.v (from.h + k)) → shown ≤ count →
+    (k : ℕ) → k < count - shown → P there.system there.v (there.h + k)
+behind_first P from there shown count is all most =
+    subst (λ (place : FieldPlace). (k : ℕ) → k < count - shown → P place.system place.v (place.h + k)) (sym is)
+    (λ k few.
+    let same : from.h + (shown + k) ≡ from.h + shown + k = omega arith in
+    subst (P from.system from.v) same (all (shown + k) (omega (arith, most, few))))
 
 pub loop-shown-init : goal.loop-shown-init
 loop-shown-init c = record {
   given = λ p stands.
-      subst (λ (n : ℕ). IsSpan c.args.system c.args.v c.args.h 0 p c.args.self.now (take c.args.filled c.args.room.now)
+      subst (λ (n : ℕ). IsSpan c.args.from.system c.args.from.v c.args.from.h 0 p c.args.self.now (take c.args.filled c.args.room.now)
       (take n c.args.room.now) c.args.clx.now c.args.clx.now) (sym (no_further c.args.filled))
-      (no_span c.args.system c.args.v c.args.h p c.args.self.now (take c.args.filled c.args.room.now) c.args.clx.now stands);
+      (no_span c.args.from.system c.args.from.v c.args.from.h p c.args.self.now (take c.args.filled c.args.room.now) c.args.clx.now stands);
   most = omega arith;
   window = refl;
   size = refl;
@@ -32,22 +37,22 @@ loop-shown-init c = record {
 
 pub show_next-shown-requires-clause-first : goal.show_next-shown-requires-clause-first
 show_next-shown-requires-clause-first c =
-    behind_first (λ (k : ℕ). is_inside c.args.v (2 * k) c.loop-shown.self.window.diwstrt c.loop-shown.self.window.diwstop ≡ true)
-    c.args.h c.loop-shown.shown c.args.count
-    (λ k few. ap (λ window. is_inside c.args.v (2 * (c.args.h + k)) window.diwstrt window.diwstop) c.loop-shown.invariant.window ∙ c.requires.first k few)
+    behind_first (λ (system : System) (v k : ℕ). is_inside v (2 * k) c.loop-shown.self.window.diwstrt c.loop-shown.self.window.diwstop ≡ true)
+    c.args.from c.further.result c.loop-shown.shown c.args.count c.further.ensures
+    (λ k few. ap (λ window. is_inside c.args.from.v (2 * (c.args.from.h + k)) window.diwstrt window.diwstop) c.loop-shown.invariant.window ∙ c.requires.first k few)
     c.loop-shown.invariant.most
 
 pub show_next-shown-requires-clause-second : goal.show_next-shown-requires-clause-second
 show_next-shown-requires-clause-second c =
-    behind_first (λ (k : ℕ). is_inside c.args.v (2 * k + 1) c.loop-shown.self.window.diwstrt c.loop-shown.self.window.diwstop ≡ true)
-    c.args.h c.loop-shown.shown c.args.count
-    (λ k few. ap (λ window. is_inside c.args.v (2 * (c.args.h + k) + 1) window.diwstrt window.diwstop) c.loop-shown.invariant.window ∙ c.requires.second k few)
+    behind_first (λ (system : System) (v k : ℕ). is_inside v (2 * k + 1) c.loop-shown.self.window.diwstrt c.loop-shown.self.window.diwstop ≡ true)
+    c.args.from c.further.result c.loop-shown.shown c.args.count c.further.ensures
+    (λ k few. ap (λ window. is_inside c.args.from.v (2 * (c.args.from.h + k) + 1) window.diwstrt window.diwstop) c.loop-shown.invariant.window ∙ c.requires.second k few)
     c.loop-shown.invariant.most
 
 pub show_next-shown-requires-clause-seen : goal.show_next-shown-requires-clause-seen
 show_next-shown-requires-clause-seen c =
-    behind_first (λ (k : ℕ). is_visible c.args.system c.args.v k ≡ true) c.args.h c.loop-shown.shown c.args.count c.requires.seen
-    c.loop-shown.invariant.most
+    behind_first (λ (system : System) (v k : ℕ). is_visible system v k ≡ true) c.args.from c.further.result c.loop-shown.shown c.args.count
+    c.further.ensures c.requires.seen c.loop-shown.invariant.most
 
 pub show_next-shown-requires-clause-room : goal.show_next-shown-requires-clause-room
 show_next-shown-requires-clause-room c =
@@ -60,14 +65,14 @@ loop-shown-preserved c =
     record {
       given = λ p stands.
           let one = c.loop-shown.invariant.given p stands in
-          subst (λ (k : ℕ). IsSpan c.args.system c.args.v c.args.h (c.loop-shown.shown + c.show_next-shown.result) p c.show_next-shown.new.self
+          subst (λ (k : ℕ). IsSpan c.args.from.system c.args.from.v c.args.from.h (c.loop-shown.shown + c.show_next-shown.result) p c.show_next-shown.new.self
           (take c.args.filled c.args.room.now) (take k c.show_next-shown.new.room) c.args.clx.now c.show_next-shown.new.clx)
           (further c.args.filled n m)
-          (joined c.args.system c.args.v c.args.h n m p c.loop-shown.self c.show_next-shown.new.self
+          (joined c.args.from c.further.result n m p c.loop-shown.self c.show_next-shown.new.self
           (take c.args.filled c.args.room.now) (take (c.args.filled + 12 * c.loop-shown.shown) c.loop-shown.room)
           (take (c.args.filled + 12 * c.loop-shown.shown + 12 * c.show_next-shown.result) c.show_next-shown.new.room)
-          c.args.clx.now c.loop-shown.clx c.show_next-shown.new.clx one
-          (c.show_next-shown.ensures.given (after_shows c.args.system c.args.v c.args.h c.loop-shown.shown p) one.painted));
+          c.args.clx.now c.loop-shown.clx c.show_next-shown.new.clx c.further.ensures one
+          (c.show_next-shown.ensures.given (after_shows c.args.from.system c.args.from.v c.args.from.h c.loop-shown.shown p) one.painted));
       most = omega (arith, c.show_next-shown.ensures.most, c.loop-shown-test.true);
       window = c.show_next-shown.ensures.window ∙ c.loop-shown.invariant.window;
       size = c.show_next-shown.ensures.size ∙ c.loop-shown.invariant.size;
@@ -76,6 +81,6 @@ loop-shown-preserved c =
 pub returns-clause-given : goal.returns-clause-given
 returns-clause-given c p stands =
     let last : c.loop-shown.shown ≡ c.args.count = omega (arith, c.loop-shown-test.false, c.loop-shown.invariant.most) in
-    subst (λ (n : ℕ). IsSpan c.args.system c.args.v c.args.h n p c.loop-shown.self
+    subst (λ (n : ℕ). IsSpan c.args.from.system c.args.from.v c.args.from.h n p c.loop-shown.self
     (take c.args.filled c.args.room.now) (take (c.args.filled + 12 * n) c.loop-shown.room) c.args.clx.now c.loop-shown.clx) last
     (c.loop-shown.invariant.given p stands)

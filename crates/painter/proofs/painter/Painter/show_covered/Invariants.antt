@@ -8,7 +8,7 @@ use Rattle.painter.proofs.painter.Painter.show_covered.Given as goal
 abbrev pub invariant-loop-shown : goal.invariant-loop-shown
 invariant-loop-shown l = record {
   given : (p : Denise) → IsPainterOf l.initial.self p →
-      IsSpan l.system l.v l.h l.shown p l.self (take l.filled l.initial.room) (take (l.filled + 12 * l.shown) l.room) l.initial.clx l.clx;
+      IsSpan l.from.system l.from.v l.from.h l.shown p l.self (take l.filled l.initial.room) (take (l.filled + 12 * l.shown) l.room) l.initial.clx l.clx;
   most : l.shown ≤ l.count;
   window : l.self.window ≡ l.initial.self.window;
   size : length l.room ≡ length l.initial.room;

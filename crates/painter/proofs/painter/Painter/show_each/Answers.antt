@@ -1,34 +1,34 @@
 use Rattle.std.proofs.Common.{◌≡◌, ◌∙◌, ◌+◌, ◌*◌, ℕ, take, ap, subst, arith, refl}
 use Rattle.serial_model.specs.Spans.{after_shows}
 use Rattle.painter.specs.Span.{visible_clocks, IsSpan}
-use Rattle.painter.proofs.Spans.{no_span, none_visible, joined, visible_more, visible_within}
+use Rattle.painter.proofs.Spans.{no_span, none_visible, joined, visible_further, visible_within}
 use Rattle.painter.proofs.painter.Painter.show_each.Goals as goal
 
 pub loop-shown-init : goal.loop-shown-init
 loop-shown-init c =
-    let none = none_visible c.args.system c.args.v c.args.h in
+    let none = none_visible c.args.from.system c.args.from.v c.args.from.h in
     record {
-      given = λ p stands. no_span c.args.system c.args.v c.args.h p c.args.self.now (take c.args.filled c.args.room.now) c.args.clx.now stands;
+      given = λ p stands. no_span c.args.from.system c.args.from.v c.args.from.h p c.args.self.now (take c.args.filled c.args.room.now) c.args.clx.now stands;
       filled = omega arith;
       size = refl;
     }
 
 pub show_one-at-requires-clause-room : goal.show_one-at-requires-clause-room
 show_one-at-requires-clause-room c =
-    let more = visible_more c.args.system c.args.v c.args.h c.loop-shown.shown 1 in
-    let within = visible_within c.args.system c.args.v c.args.h (c.loop-shown.shown + 1) c.args.count (omega (arith, c.loop-shown-test.true)) in
+    let more = visible_further c.args.from c.further.result c.loop-shown.shown 1 c.further.ensures in
+    let within = visible_within c.args.from.system c.args.from.v c.args.from.h (c.loop-shown.shown + 1) c.args.count (omega (arith, c.loop-shown-test.true)) in
     omega (arith, c.requires.room, c.loop-shown.invariant.filled, c.loop-shown.invariant.size)
 
 pub loop-shown-preserved : goal.loop-shown-preserved
 loop-shown-preserved c =
-    let more = visible_more c.args.system c.args.v c.args.h c.loop-shown.shown 1 in
+    let more = visible_further c.args.from c.further.result c.loop-shown.shown 1 c.further.ensures in
     record {
       given = λ p stands.
           let one = c.loop-shown.invariant.given p stands in
-          joined c.args.system c.args.v c.args.h c.loop-shown.shown 1 p c.loop-shown.self c.show_one-at.new.self
+          joined c.args.from c.further.result c.loop-shown.shown 1 p c.loop-shown.self c.show_one-at.new.self
           (take c.args.filled c.args.room.now) (take c.loop-shown.at c.loop-shown.room) (take c.show_one-at.result c.show_one-at.new.room)
-          c.args.clx.now c.loop-shown.clx c.show_one-at.new.clx one
-          (c.show_one-at.ensures.given (after_shows c.args.system c.args.v c.args.h c.loop-shown.shown p) one.painted);
+          c.args.clx.now c.loop-shown.clx c.show_one-at.new.clx c.further.ensures one
+          (c.show_one-at.ensures.given (after_shows c.args.from.system c.args.from.v c.args.from.h c.loop-shown.shown p) one.painted);
       filled = omega (arith, c.show_one-at.ensures.filled, c.loop-shown.invariant.filled);
       size = c.show_one-at.ensures.size ∙ c.loop-shown.invariant.size;
     }
@@ -36,7 +36,7 @@ loop-shown-preserved c =
 pub returns-clause-given : goal.returns-clause-given
 returns-clause-given c p stands =
     let last : c.loop-shown.shown ≡ c.args.count = omega (arith, c.loop-shown-test.false, c.loop-shown.auto.shown-end) in
-    subst (λ (n : ℕ). IsSpan c.args.system c.args.v c.args.h n p c.loop-shown.self
+    subst (λ (n : ℕ). IsSpan c.args.from.system c.args.from.v c.args.from.h n p c.loop-shown.self
     (take c.args.filled c.args.room.now) (take c.loop-shown.at c.loop-shown.room) c.args.clx.now c.loop-shown.clx) last
     (c.loop-shown.invariant.given p stands)
 
@@ -44,4 +44,4 @@ pub returns-clause-filled : goal.returns-clause-filled
 returns-clause-filled c =
     let last : c.loop-shown.shown ≡ c.args.count = omega (arith, c.loop-shown-test.false, c.loop-shown.auto.shown-end) in
     c.loop-shown.invariant.filled
-    ∙ ap (λ (n : ℕ). c.args.filled + 12 * visible_clocks c.args.system c.args.v c.args.h n) last
+    ∙ ap (λ (n : ℕ). c.args.filled + 12 * visible_clocks c.args.from.system c.args.from.v c.args.from.h n) last

@@ -8,7 +8,7 @@ use Rattle.painter.proofs.painter.Painter.show_each.Given as goal
 abbrev pub invariant-loop-shown : goal.invariant-loop-shown
 invariant-loop-shown l = record {
   given : (p : Denise) → IsPainterOf l.initial.self p →
-      IsSpan l.system l.v l.h l.shown p l.self (take l.filled l.initial.room) (take l.at l.room) l.initial.clx l.clx;
-  filled : l.at ≡ l.filled + 12 * visible_clocks l.system l.v l.h l.shown;
+      IsSpan l.from.system l.from.v l.from.h l.shown p l.self (take l.filled l.initial.room) (take l.at l.room) l.initial.clx l.clx;
+  filled : l.at ≡ l.filled + 12 * visible_clocks l.from.system l.from.v l.from.h l.shown;
   size : length l.room ≡ length l.initial.room;
 }

@@ -17,14 +17,14 @@ show_steady-requires-clause-seen c k few = c.requires.seen k (omega (arith, few,
 
 pub show_beginning-requires-clause-first : goal.show_beginning-requires-clause-first
 show_beginning-requires-clause-first c =
-    subst (λ (n : ℕ). is_inside c.args.v (2 * n) c.args.self.now.window.diwstrt c.args.self.now.window.diwstop ≡ true) (here c.args.h)
+    subst (λ (n : ℕ). is_inside c.args.from.v (2 * n) c.args.self.now.window.diwstrt c.args.self.now.window.diwstop ≡ true) (here c.args.from.h)
     (c.requires.first 0 (omega (arith, c.requires.some)))
 
 pub show_beginning-requires-clause-second : goal.show_beginning-requires-clause-second
 show_beginning-requires-clause-second c =
-    subst (λ (n : ℕ). is_inside c.args.v (2 * n + 1) c.args.self.now.window.diwstrt c.args.self.now.window.diwstop ≡ true) (here c.args.h)
+    subst (λ (n : ℕ). is_inside c.args.from.v (2 * n + 1) c.args.self.now.window.diwstrt c.args.self.now.window.diwstop ≡ true) (here c.args.from.h)
     (c.requires.second 0 (omega (arith, c.requires.some)))
 
 pub show_beginning-requires-clause-seen : goal.show_beginning-requires-clause-seen
 show_beginning-requires-clause-seen c =
-    subst (λ (n : ℕ). is_visible c.args.system c.args.v n ≡ true) (here c.args.h) (c.requires.seen 0 (omega (arith, c.requires.some)))
+    subst (λ (n : ℕ). is_visible c.args.from.system c.args.from.v n ≡ true) (here c.args.from.h) (c.requires.seen 0 (omega (arith, c.requires.some)))

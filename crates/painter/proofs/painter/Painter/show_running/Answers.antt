@@ -17,20 +17,20 @@ show_covered-behind-requires-clause-seen c k lt =
 pub show_covered-behind-requires-clause-room : goal.show_covered-behind-requires-clause-room
 show_covered-behind-requires-clause-room c =
     let n : ℕ = c.clocks_inside-inside.result in
-    let all : visible_clocks c.args.system c.args.v c.args.h c.clocks_inside-inside.result ≡ c.clocks_inside-inside.result =
-    all_visible c.args.system c.args.v c.args.h n true
+    let all : visible_clocks c.args.from.system c.args.from.v c.args.from.h c.clocks_inside-inside.result ≡ c.clocks_inside-inside.result =
+    all_visible c.args.from.system c.args.from.v c.args.from.h n true
     (λ k lt. c.requires.seen k (omega (arith, lt, c.clocks_inside-inside.ensures.most)) ∙ c.if-near.true) n (omega arith) in
-    let within = visible_within c.args.system c.args.v c.args.h n c.args.near.now.count (omega (arith, c.clocks_inside-inside.ensures.most)) in
+    let within = visible_within c.args.from.system c.args.from.v c.args.from.h n c.args.near.now.count (omega (arith, c.clocks_inside-inside.ensures.most)) in
     omega (arith, c.requires.room)
 
 pub returns-then-inside-gt0-clause-filled : goal.returns-then-inside-gt0-clause-filled
 returns-then-inside-gt0-clause-filled c =
     let n : ℕ = c.clocks_inside-inside.result in
     c.show_covered-behind.ensures.place
-    ∙ ap (λ (m : ℕ). c.args.at + 12 * m) (sym (all_visible c.args.system c.args.v c.args.h n true
+    ∙ ap (λ (m : ℕ). c.args.at + 12 * m) (sym (all_visible c.args.from.system c.args.from.v c.args.from.h n true
     (λ k lt. c.requires.seen k (omega (arith, lt, c.clocks_inside-inside.ensures.most)) ∙ c.if-near.true) n (omega arith)))
 
 pub show_each-behind-requires-clause-room : goal.show_each-behind-requires-clause-room
 show_each-behind-requires-clause-room c =
-    let within = visible_within c.args.system c.args.v c.args.h c.min-running.result c.args.near.now.count (omega arith) in
+    let within = visible_within c.args.from.system c.args.from.v c.args.from.h c.min-running.result c.args.near.now.count (omega arith) in
     omega (arith, c.requires.room)

@@ -11,15 +11,15 @@ use Rattle.painter.proofs.painter.Painter.show_steady_clock.Goals as goal
 
 pub cover_clock-requires-clause-first : goal.cover_clock-requires-clause-first
 cover_clock-requires-clause-first c =
-    ap (λ window. is_inside c.args.v (2 * c.args.h) window.diwstrt window.diwstop) c.show_inside.ensures.window ∙ c.requires.first
+    ap (λ window. is_inside c.args.place.v (2 * c.args.place.h) window.diwstrt window.diwstop) c.show_inside.ensures.window ∙ c.requires.first
 
 pub cover_clock-requires-clause-second : goal.cover_clock-requires-clause-second
 cover_clock-requires-clause-second c =
-    ap (λ window. is_inside c.args.v (2 * c.args.h + 1) window.diwstrt window.diwstop) c.show_inside.ensures.window ∙ c.requires.second
+    ap (λ window. is_inside c.args.place.v (2 * c.args.place.h + 1) window.diwstrt window.diwstop) c.show_inside.ensures.window ∙ c.requires.second
 
 pub cover_clock-requires-clause-steady : goal.cover_clock-requires-clause-steady
 cover_clock-requires-clause-steady c =
-    steady_same c.args.h c.args.self.now c.show_inside.new.self c.show_inside.ensures.sprites c.requires.steady
+    steady_same c.args.place.h c.args.self.now c.show_inside.new.self c.show_inside.ensures.sprites c.requires.steady
 
 pub cover_clock-requires-clause-attached : goal.cover_clock-requires-clause-attached
 cover_clock-requires-clause-attached c =
@@ -28,17 +28,17 @@ cover_clock-requires-clause-attached c =
 pub returns-clause-given : goal.returns-clause-given
 unfolding step_of
 returns-clause-given c p stands =
-    let v = c.args.v in
-    let h = c.args.h in
+    let v = c.args.place.v in
+    let h = c.args.place.h in
     let now = c.show_inside.new.self in
-    let next : Denise = with_held (held_after c.args.v c.args.h 4 p) p in
+    let next : Denise = with_held (held_after c.args.place.v c.args.place.h 4 p) p in
     let held = c.show_inside.ensures.held p stands in
-    let steady = steady_same c.args.h c.args.self.now c.show_inside.new.self c.show_inside.ensures.sprites c.requires.steady in
-    one_span c.args.system v h p now (take c.args.at c.args.room.now) (take (c.args.at + 12) c.put.new.room)
+    let steady = steady_same c.args.place.h c.args.self.now c.show_inside.new.self c.show_inside.ensures.sprites c.requires.steady in
+    one_span c.args.place.system v h p now (take c.args.at c.args.room.now) (take (c.args.at + 12) c.put.new.room)
     c.args.clx.now c.cover_clock.new.clx
-    (clock_stands c.args.system v h now p (steady_runs h now next held steady))
+    (clock_stands c.args.place.system v h now p (steady_runs h now next held steady))
     (c.put.ensures.bytes
     ∙ ap (λ (l : List ℕ). take c.args.at c.args.room.now ++ l)
-    (clock_shown c.args.system v h (held_after v h 4 p) p c.cover_clock.new.into c.show_inside.new.into c.requires.seen
+    (clock_shown c.args.place.system v h (held_after v h 4 p) p c.cover_clock.new.into c.show_inside.new.into c.requires.seen
     (c.show_inside.ensures.pixels p stands) (c.cover_clock.ensures.pixels next held)))
     (c.cover_clock.ensures.clx next held ∙ ap (bit_or c.args.clx.now) (bits_apart v h (held_after v h 4 p) p))

@@ -1,6 +1,6 @@
 use Rattle.std.proofs.Common.{◌*◌, ◌∙◌, sym, take}
 use Rattle.band_draw.proofs.Giving.{given_visible, given_hidden}
-use Rattle.band_draw.proofs.clock.give.Goals as goal
+use Rattle.band_draw.proofs.clock.show_clock.Goals as goal
 
 pub returns-then-show-clause-given : goal.returns-then-show-clause-given
 returns-then-show-clause-given c p is =
