@@ -17,6 +17,11 @@ part-due-requires g c =
     let run = run_over g.S.Side.seen c.args.run.now in
     part_there run c.args.events.now c.args.room.now c.args.self.now c.requires.at
 
+pub touch_all-requires-clause-place : goal.touch_all-requires-clause-place
+touch_all-requires-clause-place g c =
+    let run = run_over g.S.Side.seen c.args.run.now in
+    omega (arith, (screen_there run c.args.events.now c.args.room.now c.args.self.now c.requires.at).clock)
+
 pub show_clock-requires-clause-place : goal.show_clock-requires-clause-place
 show_clock-requires-clause-place g c =
     let run = run_over g.S.Side.seen c.args.run.now in
