@@ -8,6 +8,7 @@ ghost use Rattle.painter.specs.Inks.{backdrop};
 ghost use Rattle.painter.specs.Line.{row_bits};
 ghost use Rattle.painter.specs.Pixels.{ink_at};
 ghost use Rattle.painter.specs.Span.{visible_clocks, IsSpan};
+ghost use Rattle.painter.specs.StartsCode.{IsIdle};
 ghost use Rattle.painter.specs.SpanCode.{bytes_of_clocks, AreClocks, AreInside, AreModified};
 ghost use Rattle.painter.specs.SpanCode.{all_backdrop, all_inks, quiet_gathered};
 ghost use Rattle.ocs_base.specs.Systems.{is_visible};
@@ -85,7 +86,8 @@ impl Painter {
         ensures size { length room.new ≡ length room.old }
     {
         let near = clocks_alike(from, count);
-        let blank = self.backdrops(from.v, from.h, near.count, *clx);
+        let idle = self.sprites.idle_clocks(from.h, near.count);
+        let blank = self.backdrops(from.v, from.h, idle, *clx);
         if blank > 0 {
             let behind = self.show_backdrops(blank, near.visible, room, at);
             return Part {
@@ -93,7 +95,7 @@ impl Painter {
                 behind,
             };
         }
-        let inside = self.inside_ahead(from.v, from.h, near.count);
+        let inside = self.inside_ahead(from.v, from.h, idle);
         if near.visible && inside > 0 {
             let behind = self.show_planes(from, inside, room, at, clx);
             return Part {
@@ -171,30 +173,30 @@ impl Painter {
         at
     }
 
-    /// How many clocks from `h` on, at most so many, are known to show COLOR00 alone, with no sprite
-    /// near, and to have their collisions gathered already.
-    fn backdrops(&self, v: u16, h: u16, count: u16, clx: u16) -> u16
-        requires { h + count ≤ 228 }
-        ensures most { result ≤ count }
+    /// How many of so many idle clocks from `h` on are known to show COLOR00 alone, and to have their
+    /// collisions gathered already.
+    fn backdrops(&self, v: u16, h: u16, idle: u16, clx: u16) -> u16
+        requires place { h + idle ≤ 228 }
+        requires idle { (k : ℕ) → k < idle → IsIdle (h + k) self.now.sprites }
+        ensures most { result ≤ idle }
         ensures known { AreClocks v h result self.now (all_backdrop self.now) }
         ensures clx { (p : DeniseValue) → IsPainterOf self.now p
             → clx ≡ bit_or clx (quiet_gathered v h result p) }
     {
-        let idle = self.sprites.idle_clocks(h, count);
         if self.line.is_blank_from(4 * h as usize) && self.has_gathered(clx) {
             return idle;
         }
         self.window.clocks_outside(v, h, idle)
     }
 
-    /// How many clocks from `h` on, at most so many, are known to be inside the display window before
-    /// the end of the last load, with no sprite near.
-    fn inside_ahead(&self, v: u16, h: u16, count: u16) -> u16
-        requires { h + count ≤ 228 }
-        ensures most { result ≤ count }
+    /// How many of so many idle clocks from `h` on are known to be inside the display window before the
+    /// end of the last load.
+    fn inside_ahead(&self, v: u16, h: u16, idle: u16) -> u16
+        requires place { h + idle ≤ 228 }
+        requires idle { (k : ℕ) → k < idle → IsIdle (h + k) self.now.sprites }
+        ensures most { result ≤ idle }
         ensures inside { AreInside v h result self.now }
     {
-        let idle = self.sprites.idle_clocks(h, count);
         let inside = self.window.clocks_inside(v, h, idle);
         inside.min(self.line.clocks_before_end(h))
     }

@@ -9,23 +9,23 @@ pub returns-then-has_gathered-clause-known : goal.returns-then-has_gathered-clau
 returns-then-has_gathered-clause-known c =
     let blank = c.is_blank_from.ensures.blank c.if-is_blank_from.true in
     record {
-      idle = λ k lt. c.idle_clocks-idle.ensures.idle k lt;
+      idle = λ k lt. c.requires.idle k lt;
       pixels = λ k held q lt stands.
           unset_clock c.args.v (c.args.h + k) (record c.args.self.now { held = held }) q stands
-          (omega (arith, lt, c.requires, c.idle_clocks-idle.ensures.most)) (λ x from. blank x (omega (arith, from)));
+          (omega (arith, lt, c.requires.place)) (λ x from. blank x (omega (arith, from)));
     }
 
 pub returns-then-has_gathered-clause-clx : goal.returns-then-has_gathered-clause-clx
 returns-then-has_gathered-clause-clx c p stands =
     let blank = c.is_blank_from.ensures.blank c.if-is_blank_from.true in
-    gathered_already (λ (k : ℕ). quiet_collisions c.args.v (c.args.h + k) p) c.args.clx c.idle_clocks-idle.result
+    gathered_already (λ (k : ℕ). quiet_collisions c.args.v (c.args.h + k) p) c.args.clx c.args.idle
     (λ k lt. c.has_gathered.ensures c.if-has_gathered.true c.args.v (c.args.h + k) p
-    (omega (arith, lt, c.requires, c.idle_clocks-idle.ensures.most)) stands (λ x from. blank x (omega (arith, from))))
-    c.idle_clocks-idle.result (omega arith)
+    (omega (arith, lt, c.requires.place)) stands (λ x from. blank x (omega (arith, from))))
+    c.args.idle (omega arith)
 
 pub returns-clause-known : goal.returns-clause-known
 returns-clause-known c = record {
-  idle = λ k lt. c.idle_clocks-idle.ensures.idle k (omega (arith, lt, c.clocks_outside.ensures.most));
+  idle = λ k lt. c.requires.idle k (omega (arith, lt, c.clocks_outside.ensures.most));
   pixels = λ k held q lt stands.
       border_clock c.args.v (c.args.h + k) (record c.args.self.now { held = held }) q stands
       (c.clocks_outside.ensures.first k lt) (c.clocks_outside.ensures.second k lt);

@@ -3,7 +3,7 @@ use Rattle.painter.proofs.painter.Painter.inside_ahead.Goals as goal
 
 pub returns-clause-inside : goal.returns-clause-inside
 returns-clause-inside c = record {
-  idle = λ k lt. c.idle_clocks-idle.ensures.idle k (omega (arith, lt, c.min.ensures, c.clocks_inside-inside.ensures.most));
+  idle = λ k lt. c.requires.idle k (omega (arith, lt, c.min.ensures, c.clocks_inside-inside.ensures.most));
   first = λ k lt. c.clocks_inside-inside.ensures.first k (omega (arith, lt, c.min.ensures));
   second = λ k lt. c.clocks_inside-inside.ensures.second k (omega (arith, lt, c.min.ensures));
 }
