@@ -42,7 +42,7 @@ use Rattle.band_draw.specs.declared.band_painter.BandPainter.{BandPainter}
 use Rattle.band_draw.specs.BandPainter.{IsBandPainterOf, Paints}
 use Rattle.band_draw.specs.ProgressCode.{IsSource, IsSamePlace, IsAt, IsEnded}
 use Rattle.band_draw.specs.SoundCode.{IsSound}
-use Rattle.band_draw.specs.Touched.{touched_by, touched_by_events}
+use Rattle.band_draw.specs.TouchedCode.{touched_by, touched_by_events}
 use Rattle.band_draw.proofs.Sounding.{sound_opening, sound_kept, sound_in_order, sound_after, sound_touched}
 
 -- how many bytes there are

@@ -1,6 +1,6 @@
 pub mod SoundCode
 pub mod BandPainter
-pub mod Touched
+pub mod TouchedCode
 pub mod DueCode
 pub mod Given
 pub mod ProgressCode
