@@ -33,6 +33,9 @@ start:
   call void @llvm.memset.p0.i64(ptr %r0, i8 -86, i64 20, i1 false)
   call void @llvm.memset.p0.i64(ptr %r0, i8 0, i64 20, i1 false)
   call void @"rattle-llvm-checks::Alignment"(i8 %r21)
+  call void @llvm.trap()
+  unreachable
+next:
   ret void
 }
 define internal void @"foreground::apart"() #0 {
@@ -60,6 +63,7 @@ class UnprovedTest(Tools):
             [
                 'define internal void @"foreground::fore::Fore::ask::<#12ab>"(ptr noundef %a0) #91 {',
                 "  call void @llvm.memset.p0.i64(ptr %r0, i8 0, i64 20, i1 false)",
+                "  unreachable",
                 "  ret void",
                 'define internal void @"foreground::apart"() #92 {',
                 'define internal void @"foreground::fore::Fore::plain"() #90 {',
