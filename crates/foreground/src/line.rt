@@ -47,7 +47,10 @@ impl<S: Side> Fore<S> {
     {
         let mut left = self.clocks_in_line(limit);
         while left > 0 && self.log.band.from < self.machine.t {
-            self.advance_in_line(raster, out)?;
+            if let Err(refused) = self.clock_in_line(raster, out) {
+                self.spent = true;
+                return Err(refused);
+            }
             left -= 1;
         }
         Ok(())
@@ -68,47 +71,7 @@ impl<S: Side> Fore<S> {
         self.most_clocks(until)
     }
 
-    /// One of them.
-    #[inline(always)]
-    fn advance_in_line<Q: Raster<S>>(
-        &mut self,
-        raster: &mut Q,
-        out: &mut OutFiles,
-    ) -> Result<(), OutOfMemory>
-        requires underway { (first : ℕ) × IsUnderway (over S.seen self.old) first
-            (Q.seen raster.old) }
-        requires running { is_done (over S.seen self.old) ≡ false }
-        requires inner { 0 < self.old.machine.beam.h }
-        requires last { self.old.machine.beam.h < 226 }
-        requires due { due_events self.old.machine.beam self.old.run.script.events ≡ [] }
-        requires before { self.old.log.band.from < self.old.machine.t }
-        ensures clock { OnOk result (Advances (over S.seen self.old) (over S.seen self.new)
-            (Q.seen raster.old) (Q.seen raster.new) out.old out.new) }
-        ensures place { OnOk result (IsSamePlace (later_beam 1 self.old.machine.beam)
-            self.new.machine.beam) }
-        ensures count { OnOk result (self.new.machine.t ≡ self.old.machine.t + 1) }
-        ensures run { (over S.seen self.new).run ≡ (over S.seen self.old).run }
-        ensures fresh { OnOk result (self.new.spent ≡ self.old.spent) }
-        ensures reads { OnOk result (Rises (bus_reads (over S.seen self.old).run self.old.machine.t)
-            (bus_reads (over S.seen self.old).run self.old.machine.t + looked_up
-            (over S.seen self.old))
-            self.old.machine.chip.reads self.new.machine.chip.reads) }
-        ensures spent { OnErr result (self.new.spent ≡ true) }
-        ensures part { OnErr result (GivesPart (over S.seen self.old)
-            (Q.seen raster.old) (Q.seen raster.new) out.old out.new) }
-        ensures few { OnErr result (Rises 0
-            (bus_reads (over S.seen self.old).run self.old.machine.t + looked_up
-            (over S.seen self.old))
-            self.old.machine.chip.reads self.new.machine.chip.reads) }
-    {
-        let answer = self.clock_in_line(raster, out);
-        if answer.is_err() {
-            self.spent = true;
-        }
-        answer
-    }
-
-    /// The same, where it is not noted that memory was wanted.
+    /// One of them. That memory was wanted is the caller's to note.
     #[inline(always)]
     fn clock_in_line<Q: Raster<S>>(
         &mut self,

@@ -1,6 +1,5 @@
-use Rattle.std.proofs.Common.{◌<◌, arith, refl, ◌∙◌}
-use Rattle.ocs_io.proofs.MapLaws.{on_err}
-use Rattle.foreground.specs.Fore.{over, GivesPart}
+use Rattle.std.proofs.Common.{◌<◌, arith, refl, ◌∙◌, ap, subst, sym}
+use Rattle.foreground.specs.Fore.{over}
 use Rattle.foreground.specs.LineCode.{AreInLine}
 use Rattle.foreground.specs.RunTo.{RisesInSome}
 use Rattle.foreground.proofs.RunToLaws.{runs_none, runs_then, part_behind, can_go_on, no_reads, reads_then, few_behind}
@@ -19,8 +18,8 @@ loop-left-init g c = record {
   line = c.clocks_in_line-left.ensures;
 }
 
-pub advance_in_line-requires : goal.advance_in_line-requires
-advance_in_line-requires g c =
+pub clock_in_line-requires : goal.clock_in_line-requires
+clock_in_line-requires g c =
     let f = over g.S.Side.seen c.loop-left.self in
     let some : 0 < c.loop-left.left = c.loop-left-test.true in
     let are : AreInLine c.args.limit c.loop-left.left f = c.loop-left.invariant.line some in
@@ -38,39 +37,34 @@ loop-left-preserved g c =
     let of = over g.S.Side.seen in
     let f0 = of c.args.self.now in
     let f = of c.loop-left.self in
-    let next = of c.advance_in_line.new.self in
+    let next = of c.clock_in_line.new.self in
     let some : 0 < c.loop-left.left = c.loop-left-test.true in
     let are : AreInLine c.args.limit c.loop-left.left f = c.loop-left.invariant.line some in
-    let one = c.in_ok-advance_in_line.ensures in
+    let one = c.in_default.ensures in
     record {
       able = can_go_on f next _ _ _ _ one.clock c.loop-left.invariant.fresh c.loop-left.invariant.able;
       runs = runs_then f0 f next _ _ _ _ _ _ c.loop-left.invariant.runs one.clock c.loop-left.invariant.run one.count;
-      run = c.advance_in_line.ensures.run ∙ c.loop-left.invariant.run;
+      run = c.clock_in_line.ensures.run ∙ c.loop-left.invariant.run;
       on = omega (arith, c.loop-left.invariant.on, one.count);
       most = omega (arith, are.before, one.count, some);
       reads = reads_then f0 f next _ c.loop-left.invariant.run c.loop-left.invariant.on c.loop-left.invariant.fresh c.loop-left.invariant.able
           c.loop-left.invariant.reads one.reads one.count;
-      fresh = one.fresh ∙ c.loop-left.invariant.fresh;
-      line = λ more. in_line_next c.args.limit c.loop-left.left f next some are c.advance_in_line.ensures.run one.count one.place;
+      fresh = one.spent ∙ c.loop-left.invariant.fresh;
+      line = λ more. in_line_next c.args.limit c.loop-left.left f next some are c.clock_in_line.ensures.run one.count one.place;
     }
 
-pub returns-in_err-advance_in_line-clause-part : goal.returns-in_err-advance_in_line-clause-part
-returns-in_err-advance_in_line-clause-part g c =
+pub returns-in-Err-clause-part : goal.returns-in-Err-clause-part
+returns-in-Err-clause-part g c =
     let of = over g.S.Side.seen in
-    let seen = g.Q.Raster.seen in
-    on_err c.from_residual.result
-    (GivesPart (of c.args.self.now) (seen c.args.raster.now) (seen c.advance_in_line.new.raster) c.args.out.now c.advance_in_line.new.out)
-    (part_behind (of c.args.self.now) (of c.loop-left.self) _ _ _ _ _ _ c.loop-left.invariant.runs c.in_err-advance_in_line.ensures.part
-    c.loop-left.invariant.run)
+    part_behind (of c.args.self.now) (of c.loop-left.self) _ _ _ _ _ _ c.loop-left.invariant.runs c.in-Err.ensures.part c.loop-left.invariant.run
 
-pub returns-in_err-advance_in_line-clause-few : goal.returns-in_err-advance_in_line-clause-few
-returns-in_err-advance_in_line-clause-few g c =
+pub returns-in-Err-clause-few : goal.returns-in-Err-clause-few
+returns-in-Err-clause-few g c =
     let of = over g.S.Side.seen in
     let some : 0 < c.loop-left.left = c.loop-left-test.true in
     let are : AreInLine c.args.limit c.loop-left.left (of c.loop-left.self) = c.loop-left.invariant.line some in
-    on_err c.from_residual.result
-    (RisesInSome c.args.limit (of c.args.self.now).run c.args.self.now.machine.t c.args.self.now.machine.chip.reads
-    c.advance_in_line.new.self.machine.chip.reads)
-    (few_behind (of c.args.self.now) (of c.loop-left.self) (of c.advance_in_line.new.self) _ c.args.limit c.loop-left.invariant.run
+    let same = ap (λ f. f.machine.chip.reads) c.self-in-loop-left-2.view_is in
+    subst (λ reads. RisesInSome c.args.limit (of c.args.self.now).run c.args.self.now.machine.t c.args.self.now.machine.chip.reads reads) (sym same)
+    (few_behind (of c.args.self.now) (of c.loop-left.self) (of c.clock_in_line.new.self) _ c.args.limit c.loop-left.invariant.run
     c.loop-left.invariant.on (omega (arith, are.before, some)) c.loop-left.invariant.fresh c.loop-left.invariant.able c.loop-left.invariant.reads
-    c.in_err-advance_in_line.ensures.few)
+    c.in-Err.ensures.few)
