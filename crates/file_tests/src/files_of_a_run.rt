@@ -71,8 +71,15 @@ fn peeked(offset: u16, word: u16, by: Source) -> TraceLine {
     }
 }
 
+/// Whether the files of a run with this line alone are an empty one of frames, and a trace of this text.
+fn traces(shelf: &mut Shelf, alloc: Global, line: TraceLine, text: &str) -> bool {
+    flushed(shelf, alloc, &[], line).is_ok()
+        && shelf.file("b") == Some(text.as_bytes())
+        && shelf.file("a") == Some([].as_slice())
+}
+
 #[test]
-fn each_line_of_the_trace(rt: HostRuntime) -> Result<(), Fail> {
+fn each_line_of_the_trace(rt: HostRuntime) {
     for (line, text) in [
         (taken(3), "12 0 226 I 3\n"),
         (wrote(0x180, 0xf00, Source::Copper), "0 48 9 W 180 0f00 C\n"),
@@ -83,11 +90,8 @@ fn each_line_of_the_trace(rt: HostRuntime) -> Result<(), Fail> {
         ),
     ] {
         let mut shelf = Shelf::new(rt.alloc());
-        assert!(rt; flushed(&mut shelf, rt.alloc(), &[], line).is_ok());
-        assert!(rt; shelf.file("b") == Some(text.as_bytes()), "{text}");
-        assert!(rt; shelf.file("a") == Some([].as_slice()));
+        assert!(rt; traces(&mut shelf, rt.alloc(), line, text), "{text}");
     }
-    Ok(())
 }
 
 /// So many pixel bytes.
@@ -97,22 +101,41 @@ fn nines(alloc: Global, count: usize) -> Result<Vec<u8>, OutOfMemory> {
     Ok(bytes)
 }
 
+/// Whether a file is there of so many bytes, that begins and ends with these.
+fn is_framed(shelf: &Shelf, name: &str, size: usize, start: &[u8], end: &[u8]) -> bool {
+    match shelf.file(name) {
+        Some(file) => file.len() == size && file.starts_with(start) && file.ends_with(end),
+        None => false,
+    }
+}
+
 #[test]
 fn a_heading_before_each_frame(rt: HostRuntime) -> Result<(), Fail> {
     let bytes = nines(rt.alloc(), 617_761)?;
     let mut shelf = Shelf::new(rt.alloc());
-    assert!(rt; flushed(&mut shelf, rt.alloc(), bytes.as_slice(), taken(1)).is_ok());
-    let Some(file) = shelf.file("a") else {
-        return Err(Fail::from(OutOfMemory));
-    };
-    assert_eq!(rt; file.len(), 617_791);
-    assert!(rt; file.starts_with(b"P6\n720 286\n255\n\x09"));
-    assert!(rt; file.ends_with(b"\x09P6\n720 286\n255\n\x09"));
+    assert!(rt; flushed(&mut shelf, rt.alloc(), &bytes, taken(1)).is_ok());
+    let start = b"P6\n720 286\n255\n\x09";
+    let end = b"\x09P6\n720 286\n255\n\x09";
+    assert!(rt; is_framed(&shelf, "a", 617_791, start, end));
     Ok(())
 }
 
+/// Whether a call that fails ends the run, with a fault of this file.
+fn is_refused(shelf: &mut Shelf, alloc: Global, call: u64, file: OutFile) -> bool {
+    shelf.fail_at(call).is_ok()
+        && flushed(shelf, alloc, &[1, 2, 3], taken(3)) == Err(WriteFault::Failed { file })
+}
+
+/// How many bytes a file has, nothing where it is not there.
+fn size_of(shelf: &Shelf, name: &str) -> Option<usize> {
+    match shelf.file(name) {
+        Some(file) => Some(file.len()),
+        None => None,
+    }
+}
+
 #[test]
-fn a_create_or_append_is_refused(rt: HostRuntime) -> Result<(), Fail> {
+fn a_create_or_append_is_refused(rt: HostRuntime) {
     for (call, file, frames, trace) in [
         (0, OutFile::Frames, None, None),
         (1, OutFile::Trace, Some(0), None),
@@ -121,19 +144,10 @@ fn a_create_or_append_is_refused(rt: HostRuntime) -> Result<(), Fail> {
         (4, OutFile::Trace, Some(18), Some(6)),
     ] {
         let mut shelf = Shelf::new(rt.alloc());
-        shelf.fail_at(call)?;
-        let answer = flushed(&mut shelf, rt.alloc(), &[1, 2, 3], taken(3));
-        assert!(rt; answer == Err(WriteFault::Failed { file }), "at {call}");
-        assert!(rt;
-            shelf.file("a").map(|bytes| bytes.len()) == frames,
-            "at {call}"
-        );
-        assert!(rt;
-            shelf.file("b").map(|bytes| bytes.len()) == trace,
-            "at {call}"
-        );
+        assert!(rt; is_refused(&mut shelf, rt.alloc(), call, file), "at {call}");
+        let sizes = [size_of(&shelf, "a"), size_of(&shelf, "b")];
+        assert!(rt; sizes == [frames, trace], "at {call}");
     }
-    Ok(())
 }
 
 /// Creates the files and appends a memory.
@@ -145,22 +159,12 @@ fn stored(shelf: &mut Shelf, alloc: Global, image: &[u8; 8]) -> Result<(), Write
 }
 
 #[test]
-fn the_memory_file(rt: HostRuntime) -> Result<(), Fail> {
+fn the_memory_file(rt: HostRuntime) {
     let mut shelf = Shelf::new(rt.alloc());
-    assert!(rt;
-        stored(
-            &mut shelf,
-            rt.alloc(),
-            &[0x12, 0x34, 0x56, 0x78, 0, 0, 0, 1]
-        )
-        .is_ok()
-    );
-    let Some(file) = shelf.file("c") else {
-        return Err(Fail::from(OutOfMemory));
-    };
-    assert_eq!(rt; file.len(), 524_288);
-    assert!(rt; file.starts_with(&[0x12, 0x34, 0x56, 0x78, 0, 0, 0, 1, 0]));
-    Ok(())
+    let image = [0x12, 0x34, 0x56, 0x78, 0, 0, 0, 1];
+    assert!(rt; stored(&mut shelf, rt.alloc(), &image).is_ok());
+    let start = [0x12, 0x34, 0x56, 0x78, 0, 0, 0, 1, 0];
+    assert!(rt; is_framed(&shelf, "c", 524_288, &start, &[]));
 }
 
 /// Files of the same names of an NTSC machine.
@@ -187,13 +191,8 @@ fn a_heading_before_each_frame_of_ntsc(rt: HostRuntime) -> Result<(), Fail> {
     ] {
         let bytes = nines(rt.alloc(), given)?;
         let mut shelf = Shelf::new(rt.alloc());
-        assert!(rt; flushed_ntsc(&mut shelf, rt.alloc(), bytes.as_slice()).is_ok());
-        let Some(file) = shelf.file("a") else {
-            return Err(Fail::from(OutOfMemory));
-        };
-        assert_eq!(rt; file.len(), size);
-        assert!(rt; file.starts_with(b"P6\n720 242\n255\n\x09"));
-        assert!(rt; file.ends_with(end));
+        assert!(rt; flushed_ntsc(&mut shelf, rt.alloc(), &bytes).is_ok());
+        assert!(rt; is_framed(&shelf, "a", size, b"P6\n720 242\n255\n\x09", end));
     }
     Ok(())
 }

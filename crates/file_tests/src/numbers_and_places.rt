@@ -1,10 +1,15 @@
 //! Each public call once with ample memory; the numbers and the files are worked by hand.
 
+ghost use Rattle.std.specs.Prelude.{◌≡◌, []};
+
+use ocs_base::OutOfMemory;
 use ocs_io::whole::{Refused, read_whole, write_whole};
 use ocs_io::{
     Folder, Place, ReadRefusal, Shelf, SureShelf, WriteRefusal, dec, hex, put_dec, put_hex,
 };
+use std::alloc::Global;
 use std::io::{ErrorKind, Read, Write};
+use std::rt::Files;
 use std::test::Fail;
 use std::{fs, io, process};
 
@@ -41,15 +46,20 @@ fn hexadecimal_texts(rt: HostRuntime) {
     }
 }
 
+/// Appends numbers of both kinds.
+fn put_numbers(text: &mut Vec<u8>) -> bool {
+    put_dec(0, text).is_ok()
+        && put_dec(u64::MAX, text).is_ok()
+        && put_hex(0x1fe, 3, text).is_ok()
+        && put_hex(0x0f00, 4, text).is_ok()
+        && put_hex(0xa, 2, text).is_ok()
+        && put_hex(0xf, 3, text).is_ok()
+}
+
 #[test]
 fn numbers_are_written(rt: HostRuntime) -> Result<(), Fail> {
     let mut text = Vec::from_slice(rt.alloc(), b"n=")?;
-    put_dec(0, &mut text)?;
-    put_dec(u64::MAX, &mut text)?;
-    put_hex(0x1fe, 3, &mut text)?;
-    put_hex(0x0f00, 4, &mut text)?;
-    put_hex(0xa, 2, &mut text)?;
-    put_hex(0xf, 3, &mut text)?;
+    assert!(rt; put_numbers(&mut text));
     assert_eq!(rt;
         text.as_slice(),
         b"n=0184467440737095516151fe0f000a00f".as_slice()
@@ -59,93 +69,127 @@ fn numbers_are_written(rt: HostRuntime) -> Result<(), Fail> {
 
 /// Whether a shelf has a file of these bytes.
 fn holds(shelf: &Shelf, name: &str, bytes: &[u8]) -> bool {
-    match shelf.file(name) {
-        Some(held) => held == bytes,
-        None => false,
-    }
+    shelf.file(name) == Some(bytes)
+}
+
+/// Files are read, put, created and appended to, and a text is said.
+#[tactic(auto, using(ocs_io::proofs::ShelfLaws::held))]
+fn keeps_files(shelf: &mut Shelf, into: &mut Vec<u8>) -> bool
+    requires { into.old.items ≡ [] }
+{
+    shelf.read("none", 9, into) == Err(ReadRefusal::Failed)
+        && shelf.put("a", b"abc").is_ok()
+        && shelf.read("a", 2, into) == Err(ReadRefusal::TooLong)
+        && shelf.read("a", 3, into).is_ok()
+        && into.as_slice() == b"abc".as_slice()
+        && shelf.append("a", b"de").is_ok()
+        && shelf.create("b").is_ok()
+        && shelf.say(b"said").is_ok()
+        && holds(shelf, "a", b"abcde")
+        && holds(shelf, "b", b"")
+        && shelf.file("c").is_none()
+        && shelf.create("a").is_ok()
+        && holds(shelf, "a", b"")
+        && shelf.said() == b"said".as_slice()
 }
 
 #[test]
-#[tactic(auto, using(ocs_io::proofs::ShelfLaws::held))]
-fn a_shelf_keeps_files(rt: HostRuntime) -> Result<(), Fail> {
+fn a_shelf_keeps_files(rt: HostRuntime) {
     let mut shelf = Shelf::new(rt.alloc());
     let mut into = Vec::new(rt.alloc());
-    assert_eq!(rt; shelf.read("none", 9, &mut into), Err(ReadRefusal::Failed));
-    shelf.put("a", b"abc")?;
-    assert_eq!(rt; shelf.read("a", 2, &mut into), Err(ReadRefusal::TooLong));
-    shelf.read("a", 3, &mut into)?;
-    assert_eq!(rt; into.as_slice(), b"abc".as_slice());
-    shelf.append("a", b"de")?;
-    shelf.create("b")?;
-    shelf.say(b"said")?;
-    assert!(rt; holds(&shelf, "a", b"abcde"));
-    assert!(rt; holds(&shelf, "b", b""));
-    assert!(rt; shelf.file("c").is_none());
-    shelf.create("a")?;
-    assert!(rt; holds(&shelf, "a", b""));
-    assert_eq!(rt; shelf.said(), b"said".as_slice());
+    assert!(rt; keeps_files(&mut shelf, &mut into));
+}
+
+/// Chooses calls that are to fail.
+fn fail_at_all(shelf: &mut Shelf, calls: &[u64]) -> Result<(), OutOfMemory> {
+    for call in calls {
+        shelf.fail_at(*call)?;
+    }
     Ok(())
 }
 
-#[test]
+/// Of the calls 0 to 6 the calls 0, 1, 3 and 4 fail, and putting a file is no call.
 #[tactic(auto, using(ocs_io::proofs::ShelfLaws::held))]
-fn chosen_calls_fail(rt: HostRuntime) -> Result<(), Fail> {
-    let mut shelf = Shelf::new(rt.alloc());
-    shelf.put("a", b"abc")?;
-    for call in [0, 1, 3, 4] {
-        shelf.fail_at(call)?;
-    }
-    let mut into = Vec::new(rt.alloc());
-    assert_eq!(rt; shelf.read("a", 9, &mut into), Err(ReadRefusal::Failed));
-    assert_eq!(rt; shelf.create("a"), Err(WriteRefusal::Failed));
-    shelf.read("a", 9, &mut into)?;
-    assert_eq!(rt; shelf.append("a", b"defgh"), Err(WriteRefusal::Failed));
-    assert_eq!(rt; shelf.say(b"xyz"), Err(WriteRefusal::Failed));
-    shelf.say(b"!")?;
-    assert!(rt; holds(&shelf, "a", b"abcde"));
-    assert_eq!(rt; shelf.said(), b"x!".as_slice());
-    Ok(())
+fn fails_as_chosen(shelf: &mut Shelf, into: &mut Vec<u8>) -> bool
+    requires { into.old.items ≡ [] }
+{
+    shelf.put("a", b"abc").is_ok()
+        && fail_at_all(shelf, &[0, 1, 3, 4]).is_ok()
+        && shelf.read("a", 9, into) == Err(ReadRefusal::Failed)
+        && shelf.create("a") == Err(WriteRefusal::Failed)
+        && shelf.read("a", 9, into).is_ok()
+        && shelf.append("a", b"defgh") == Err(WriteRefusal::Failed)
+        && shelf.say(b"xyz") == Err(WriteRefusal::Failed)
+        && shelf.say(b"!").is_ok()
+        && holds(shelf, "a", b"abcde")
+        && shelf.said() == b"x!".as_slice()
 }
 
 #[test]
+fn chosen_calls_fail(rt: HostRuntime) {
+    let mut shelf = Shelf::new(rt.alloc());
+    let mut into = Vec::new(rt.alloc());
+    assert!(rt; fails_as_chosen(&mut shelf, &mut into));
+}
+
+/// No call fails but a read of a file that is too long.
 #[tactic(auto, using(ocs_io::proofs::ShelfLaws::held))]
-fn a_sure_shelf_never_fails(rt: HostRuntime) -> Result<(), Fail> {
+fn never_fails(shelf: &mut SureShelf, into: &mut Vec<u8>) -> bool
+    requires { into.old.items ≡ [] }
+{
+    shelf.put("a", b"abc").is_ok()
+        && shelf.read("a", 2, into) == Err(ReadRefusal::TooLong)
+        && shelf.read("a", 3, into).is_ok()
+        && shelf.create("b").is_ok()
+        && shelf.append("b", into.as_slice()).is_ok()
+        && shelf.append("b", b"d").is_ok()
+        && shelf.say(b"done").is_ok()
+        && shelf.file("b") == Some(b"abcd".as_slice())
+        && shelf.said() == b"done".as_slice()
+}
+
+#[test]
+fn a_sure_shelf_never_fails(rt: HostRuntime) {
     let mut shelf = SureShelf::new(rt.alloc());
     let mut into = Vec::new(rt.alloc());
-    shelf.put("a", b"abc")?;
-    assert_eq!(rt; shelf.read("a", 2, &mut into), Err(ReadRefusal::TooLong));
-    shelf.read("a", 3, &mut into)?;
-    shelf.create("b")?;
-    shelf.append("b", into.as_slice())?;
-    shelf.append("b", b"d")?;
-    shelf.say(b"done")?;
-    assert_eq!(rt; shelf.file("b").ok_or("b is there")?, b"abcd".as_slice());
-    assert_eq!(rt; shelf.said(), b"done".as_slice());
-    Ok(())
+    assert!(rt; never_fails(&mut shelf, &mut into));
+}
+
+/// A file of the system is made, grown and read; what is not there or too long is refused.
+fn grows_a_file<R: Files + Print>(folder: &mut Folder<R>, name: &str, into: &mut Vec<u8>) -> bool
+    requires { into.old.items ≡ [] }
+{
+    folder.read(name, 9, into) == Err(ReadRefusal::Failed)
+        && folder.append(name, b"abc") == Err(WriteRefusal::Failed)
+        && folder.create(name).is_ok()
+        && folder.append(name, b"abc").is_ok()
+        && folder.append(name, b"de").is_ok()
+        && folder.read(name, 4, into) == Err(ReadRefusal::TooLong)
+        && into.is_empty()
+        && folder.read(name, 5, into).is_ok()
+        && into.as_slice() == b"abcde".as_slice()
+}
+
+/// A file of the system is made anew, a folder is not made, and nothing is said.
+fn empties_a_file<R: Files + Print>(folder: &mut Folder<R>, name: &str, into: &mut Vec<u8>) -> bool
+    requires { into.old.items ≡ [] }
+{
+    folder.create(name).is_ok()
+        && folder.read(name, 0, into).is_ok()
+        && into.is_empty()
+        && folder.create("/") == Err(WriteRefusal::Failed)
+        && folder.say(b"").is_ok()
 }
 
 #[test]
 fn a_folder_on_a_real_file(rt: HostRuntime) -> Result<(), Fail> {
     let name = format!(in rt.alloc(); "/tmp/ocs_io_test_{}", process::id(rt.process()))?;
-    let name = name.as_str();
     let mut folder = Folder::new(&rt);
     let mut into = Vec::new(rt.alloc());
-    assert_eq!(rt; folder.read(name, 9, &mut into), Err(ReadRefusal::Failed));
-    assert_eq!(rt; folder.append(name, b"abc"), Err(WriteRefusal::Failed));
-    folder.create(name)?;
-    folder.append(name, b"abc")?;
-    folder.append(name, b"de")?;
-    assert_eq!(rt; folder.read(name, 4, &mut into), Err(ReadRefusal::TooLong));
-    assert_eq!(rt; into.len(), 0);
-    folder.read(name, 5, &mut into)?;
-    assert_eq!(rt; into.as_slice(), b"abcde".as_slice());
-    folder.create(name)?;
+    assert!(rt; grows_a_file(&mut folder, &name, &mut into));
     let mut empty = Vec::new(rt.alloc());
-    folder.read(name, 0, &mut empty)?;
-    assert_eq!(rt; empty.len(), 0);
-    assert_eq!(rt; folder.create("/"), Err(WriteRefusal::Failed));
-    folder.say(b"")?;
-    fs::remove_file(&rt, name)?;
+    assert!(rt; empties_a_file(&mut folder, &name, &mut empty));
+    fs::remove_file(&rt, &name)?;
     Ok(())
 }
 
@@ -186,6 +230,19 @@ impl Write for Trickle {
     }
 }
 
+/// A stream of the bytes `abcde` is read whole, with this answer.
+fn reads_whole(alloc: Global, cap: usize, want: Result<(), ReadRefusal>) -> Result<bool, Fail> {
+    let mut stream = Trickle {
+        bytes: Vec::from_slice(alloc, b"abcde")?,
+        at: 0,
+        step: 2,
+        room: 0,
+    };
+    let mut into = Vec::new(alloc);
+    let answer = read_whole(&mut stream, cap, &mut into);
+    Ok(answer == want && (want.is_err() || into.as_slice() == b"abcde".as_slice()))
+}
+
 #[test]
 fn short_reads_are_read_on(rt: HostRuntime) -> Result<(), Fail> {
     for (cap, want) in [
@@ -194,23 +251,18 @@ fn short_reads_are_read_on(rt: HostRuntime) -> Result<(), Fail> {
         (4, Err(ReadRefusal::TooLong)),
         (0, Err(ReadRefusal::TooLong)),
     ] {
-        let mut into = Vec::new(rt.alloc());
-        let mut stream = Trickle {
-            bytes: Vec::from_slice(rt.alloc(), b"abcde")?,
-            at: 0,
-            step: 2,
-            room: 0,
-        };
-        assert_eq!(rt; read_whole(&mut stream, cap, &mut into), want, "{cap}");
-        if want.is_ok() {
-            assert_eq!(rt; into.as_slice(), b"abcde".as_slice());
-        }
+        assert!(rt; reads_whole(rt.alloc(), cap, want)?, "{cap}");
     }
     Ok(())
 }
 
+/// The bytes `abcde` are written to a stream, with this answer, and it holds these.
+fn writes_whole(stream: &mut Trickle, want: Result<(), Refused>, held: &[u8]) -> bool {
+    write_whole(stream, b"abcde") == want && stream.bytes.as_slice() == held
+}
+
 #[test]
-fn short_writes_are_written_on(rt: HostRuntime) -> Result<(), Fail> {
+fn short_writes_are_written_on(rt: HostRuntime) {
     for (room, step, want, held) in [
         (9, 2, Ok(()), b"abcde".as_slice()),
         (5, 9, Ok(()), b"abcde".as_slice()),
@@ -223,8 +275,6 @@ fn short_writes_are_written_on(rt: HostRuntime) -> Result<(), Fail> {
             step,
             room,
         };
-        assert_eq!(rt; write_whole(&mut stream, b"abcde"), want, "{room} {step}");
-        assert_eq!(rt; stream.bytes.as_slice(), held);
+        assert!(rt; writes_whole(&mut stream, want, held), "{room} {step}");
     }
-    Ok(())
 }
