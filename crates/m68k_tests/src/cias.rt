@@ -65,17 +65,33 @@ fn time_of(cia: &mut Cia) -> (u8, u8, u8) {
     (high, middle, low)
 }
 
+/// The level, INTREQ and INTENA.
+fn state_of(irq: &Irq) -> (u8, u16, u16) {
+    (irq.level(), irq.req(), irq.ena())
+}
+
 #[test]
 fn a_vertical_blank(rt: HostRuntime) {
     let mut irq = Irq::reset();
     irq.request(0x0020);
     irq.poke_ena(0xc020);
-    assert_eq!(rt; irq.level(), 3);
-    assert_eq!(rt; irq.req(), 0x0020);
-    assert_eq!(rt; irq.ena(), 0x4020);
+    let requested = state_of(&irq);
     irq.poke_req(0x0020);
-    assert_eq!(rt; irq.level(), 0);
-    assert_eq!(rt; irq.req(), 0x0000);
+    let found = [requested, state_of(&irq)];
+    assert_eq!(rt; found, [(3, 0x0020, 0x4020), (0, 0x0000, 0x4020)]);
+}
+
+/// The levels of these requests: all enabled, all but the master bit, and all but the requests.
+fn levels_of(bits: u16) -> [u8; 3] {
+    let mut irq = Irq::reset();
+    irq.request(bits);
+    irq.poke_ena(0xffff);
+    let enabled = irq.level();
+    irq.poke_ena(0x4000);
+    let without_master = irq.level();
+    irq.poke_ena(0xc000);
+    irq.poke_ena(bits & 0x3fff);
+    [enabled, without_master, irq.level()]
 }
 
 #[test]
@@ -101,16 +117,15 @@ fn levels(rt: HostRuntime) {
         (0xc008, 2),
         (0xffff, 6),
     ] {
-        let mut irq = Irq::reset();
-        irq.request(bits);
-        irq.poke_ena(0xffff);
-        assert_eq!(rt; irq.level(), level, "{bits}");
-        irq.poke_ena(0x4000);
-        assert_eq!(rt; irq.level(), 0, "{bits}");
-        irq.poke_ena(0xc000);
-        irq.poke_ena(bits & 0x3fff);
-        assert_eq!(rt; irq.level(), 0, "{bits}");
+        assert_eq!(rt; levels_of(bits), [level, 0, 0], "{bits}");
     }
+}
+
+/// INTREQ and INTENA after a write to each.
+fn kept_of(irq: &mut Irq, req: u16, ena: u16) -> (u16, u16) {
+    irq.poke_req(req);
+    irq.poke_ena(ena);
+    (irq.req(), irq.ena())
 }
 
 #[test]
@@ -125,14 +140,22 @@ fn kept_bits(rt: HostRuntime) {
         (0xffff, 0xffff, 0x3fff, 0x7fff),
         (0x7fff, 0x4000, 0x0000, 0x3fff),
     ] {
-        irq.poke_req(req);
-        irq.poke_ena(ena);
-        assert_eq!(rt; irq.req(), kept_req, "{req}");
-        assert_eq!(rt; irq.ena(), kept_ena, "{ena}");
+        assert_eq!(rt; kept_of(&mut irq, req, ena), (kept_req, kept_ena), "{req}");
     }
 }
 
-/// Timer A from a latch of 2: its counter, CRA and ICR after some ticks.
+/// Timer A from a latch of 2: its counter, low and high, CRA and ICR after some ticks.
+fn timer_a_after(control: u8, ticks: u16) -> [u8; 4] {
+    let mut cia = make_cia(&[(4, 2), (5, 0), (14, control)]);
+    tick(&mut cia, ticks);
+    [
+        read(&mut cia, 4),
+        read(&mut cia, 5),
+        read(&mut cia, 14),
+        read(&mut cia, 13),
+    ]
+}
+
 #[test]
 fn one_timer(rt: HostRuntime) {
     for (control, ticks, counter, kept, flags) in [
@@ -149,12 +172,8 @@ fn one_timer(rt: HostRuntime) {
         (0x41, 1, 1, 0x41, 0),
         (0xd1, 3, 2, 0xc1, 1),
     ] {
-        let mut cia = make_cia(&[(4, 2), (5, 0), (14, control)]);
-        tick(&mut cia, ticks);
-        assert_eq!(rt; read(&mut cia, 4), counter, "{control} {ticks}");
-        assert_eq!(rt; read(&mut cia, 5), 0, "{control} {ticks}");
-        assert_eq!(rt; read(&mut cia, 14), kept, "{control} {ticks}");
-        assert_eq!(rt; read(&mut cia, 13), flags, "{control} {ticks}");
+        let found = timer_a_after(control, ticks);
+        assert_eq!(rt; found, [counter, 0, kept, flags], "{control} {ticks}");
     }
 }
 
@@ -164,15 +183,22 @@ fn one_timer(rt: HostRuntime) {
 fn an_underflow_under_its_mask(rt: HostRuntime) {
     let mut cia = make_cia(&[(4, 0x03), (5, 0x00), (13, 0x81), (14, 0x11)]);
     tick(&mut cia, 3);
-    assert_eq!(rt; cia.line(), false);
+    let before = cia.line();
     tick(&mut cia, 1);
-    assert_eq!(rt; cia.line(), true);
-    assert_eq!(rt; read(&mut cia, 13), 0x81);
-    assert_eq!(rt; read(&mut cia, 13), 0x00);
-    assert_eq!(rt; cia.line(), false);
+    let behind = cia.line();
+    let flags = [read(&mut cia, 13), read(&mut cia, 13)];
+    assert_eq!(rt; flags, [0x81, 0x00]);
+    assert_eq!(rt; [before, behind, cia.line()], [false, true, false]);
 }
 
-/// Timer A from a latch of 1 underflows every second tick; timer B has a latch of 3.
+/// Timer A from a latch of 1 underflows every second tick; timer B has a latch of 3. The counter of B and ICR
+/// after some ticks.
+fn timer_b_after(control: u8, ticks: u16) -> [u8; 2] {
+    let mut cia = make_cia(&[(4, 1), (5, 0), (6, 3), (7, 0), (15, control), (14, 0x01)]);
+    tick(&mut cia, ticks);
+    [read(&mut cia, 6), read(&mut cia, 13)]
+}
+
 #[test]
 fn cascade(rt: HostRuntime) {
     for (control, ticks, counter, flags) in [
@@ -187,10 +213,8 @@ fn cascade(rt: HostRuntime) {
         (0x01, 3, 0, 1),
         (0x01, 4, 3, 3),
     ] {
-        let mut cia = make_cia(&[(4, 1), (5, 0), (6, 3), (7, 0), (15, control), (14, 0x01)]);
-        tick(&mut cia, ticks);
-        assert_eq!(rt; read(&mut cia, 6), counter, "{control} {ticks}");
-        assert_eq!(rt; read(&mut cia, 13), flags, "{control} {ticks}");
+        let found = timer_b_after(control, ticks);
+        assert_eq!(rt; found, [counter, flags], "{control} {ticks}");
     }
 }
 
@@ -225,34 +249,59 @@ fn ticks_passed_over(rt: HostRuntime) {
     assert_eq!(rt; found, want);
 }
 
+/// A counter, low and high, and the control register of its timer.
+fn counter_of(cia: &mut Cia, low: u8, control: u8) -> [u8; 3] {
+    [
+        read(cia, low),
+        read(cia, low.saturating_add(1)),
+        read(cia, control),
+    ]
+}
+
+/// A write of the high byte loads no timer that runs; bit 4 of CRA does, and is not kept.
 #[test]
-fn loads(rt: HostRuntime) {
+fn loads_of_a_running_timer(rt: HostRuntime) {
     let mut cia = make_cia(&[(14, 0x01), (4, 5), (5, 0)]);
     tick(&mut cia, 1);
-    assert_eq!(rt; (read(&mut cia, 4), read(&mut cia, 5)), (0xfe, 0xff));
+    let counting = counter_of(&mut cia, 4, 14);
     write_all(&mut cia, &[(14, 0x11)]);
-    assert_eq!(rt; (read(&mut cia, 4), read(&mut cia, 5)), (5, 0));
-    assert_eq!(rt; read(&mut cia, 14), 0x01);
+    let found = [counting, counter_of(&mut cia, 4, 14)];
+    assert_eq!(rt; found, [[0xfe, 0xff, 0x01], [5, 0, 0x01]]);
+}
+
+/// A write of the high byte loads a timer of one shot, and starts it.
+#[test]
+fn loads_of_one_shot(rt: HostRuntime) {
     let mut cia = make_cia(&[(15, 0x08), (6, 0x34)]);
-    assert_eq!(rt; (read(&mut cia, 6), read(&mut cia, 7)), (0xff, 0xff));
+    let stopped = counter_of(&mut cia, 6, 15);
     write_all(&mut cia, &[(7, 0x12)]);
-    assert_eq!(rt; (read(&mut cia, 6), read(&mut cia, 7)), (0x34, 0x12));
-    assert_eq!(rt; read(&mut cia, 15), 0x09);
+    let started = counter_of(&mut cia, 6, 15);
     tick(&mut cia, 1);
-    assert_eq!(rt; (read(&mut cia, 6), read(&mut cia, 7)), (0x33, 0x12));
+    let counting = counter_of(&mut cia, 6, 15);
     write_all(&mut cia, &[(7, 0x56)]);
-    assert_eq!(rt; (read(&mut cia, 6), read(&mut cia, 7)), (0x34, 0x56));
+    let found = [stopped, started, counting, counter_of(&mut cia, 6, 15)];
+    let want = [
+        [0xff, 0xff, 0x08],
+        [0x34, 0x12, 0x09],
+        [0x33, 0x12, 0x09],
+        [0x34, 0x56, 0x09],
+    ];
+    assert_eq!(rt; found, want);
 }
 
 #[test]
 fn held_time(rt: HostRuntime) {
     let mut cia = make_cia(&[(10, 0x01), (9, 0xff), (8, 0xff)]);
-    assert_eq!(rt; read(&mut cia, 10), 0x01);
+    let high = read(&mut cia, 10);
     cia.count_tod();
-    assert_eq!(rt; read(&mut cia, 9), 0xff);
-    assert_eq!(rt; read(&mut cia, 10), 0x01);
-    assert_eq!(rt; read(&mut cia, 8), 0xff);
-    assert_eq!(rt; read(&mut cia, 8), 0x00);
+    let found = [
+        high,
+        read(&mut cia, 9),
+        read(&mut cia, 10),
+        read(&mut cia, 8),
+        read(&mut cia, 8),
+    ];
+    assert_eq!(rt; found, [0x01, 0xff, 0x01, 0xff, 0x00]);
     assert_eq!(rt; time_of(&mut cia), (0x02, 0x00, 0x00));
 }
 
@@ -272,21 +321,39 @@ fn time_that_stands_still(rt: HostRuntime) {
 #[test]
 fn alarm(rt: HostRuntime) {
     let mut cia = make_cia(&[(15, 0x80), (10, 1), (9, 2), (8, 3)]);
-    assert_eq!(rt; time_of(&mut cia), (0, 0, 0));
+    let at_reset = time_of(&mut cia);
     cia.count_tod();
-    assert_eq!(rt; time_of(&mut cia), (0, 0, 1));
+    let counted = time_of(&mut cia);
     write_all(&mut cia, &[(15, 0x00), (10, 1), (9, 2), (8, 3)]);
-    assert_eq!(rt; read(&mut cia, 13), 0);
+    let written = read(&mut cia, 13);
     write_all(&mut cia, &[(8, 1)]);
     cia.count_tod();
-    assert_eq!(rt; read(&mut cia, 13), 0);
+    let before = read(&mut cia, 13);
     cia.count_tod();
-    assert_eq!(rt; read(&mut cia, 13), 0x04);
-    assert_eq!(rt; time_of(&mut cia), (1, 2, 3));
+    assert_eq!(rt; [written, before, read(&mut cia, 13)], [0, 0, 0x04]);
+    let times = [at_reset, counted, time_of(&mut cia)];
+    assert_eq!(rt; times, [(0, 0, 0), (0, 0, 1), (1, 2, 3)]);
+}
+
+/// The time goes on from its greatest to 0, where the alarm is at reset.
+#[test]
+fn the_time_begins_again(rt: HostRuntime) {
     let mut cia = make_cia(&[(10, 0xff), (9, 0xff), (8, 0xff)]);
     cia.count_tod();
     assert_eq!(rt; time_of(&mut cia), (0, 0, 0));
     assert_eq!(rt; read(&mut cia, 13), 0x04);
+}
+
+/// What both ports of two CIAs read as: with this output and direction of port A, and of port B.
+fn ports_of(output: u8, direction: u8, pins: u8) -> [u8; 4] {
+    let mut a = make_cia(&[(0, output), (2, direction)]);
+    let mut b = make_cia(&[(1, output), (3, direction)]);
+    [
+        a.peek(0, pins),
+        a.peek(1, pins),
+        b.peek(0, pins),
+        b.peek(1, pins),
+    ]
 }
 
 #[test]
@@ -297,22 +364,22 @@ fn ports(rt: HostRuntime) {
         (0xa5, 0xf0, 0x3c, 0xac),
         (0xa5, 0x0f, 0x3c, 0x35),
     ] {
-        let mut a = make_cia(&[(0, output), (2, direction)]);
-        assert_eq!(rt;
-            (a.peek(0, pins), a.peek(1, pins)),
-            (byte, pins),
-            "{direction}"
-        );
-        let mut b = make_cia(&[(1, output), (3, direction)]);
-        assert_eq!(rt;
-            (b.peek(0, pins), b.peek(1, pins)),
-            (pins, byte),
-            "{direction}"
-        );
+        let found = ports_of(output, direction, pins);
+        assert_eq!(rt; found, [byte, pins, pins, byte], "{direction}");
     }
 }
 
-/// A code of the keyboard under masks: the line before ICR is read, and what the read gives.
+/// A code of the keyboard under masks: the line before ICR is read and after it, and the bytes of the code,
+/// of ICR, and of ICR once more.
+fn code_under(first: u8, second: u8) -> ([bool; 2], [u8; 3]) {
+    let mut cia = make_cia(&[(13, first), (13, second)]);
+    cia.key(0x75);
+    let code = read(&mut cia, 12);
+    let line = cia.line();
+    let flags = read(&mut cia, 13);
+    ([line, cia.line()], [code, flags, read(&mut cia, 13)])
+}
+
 #[test]
 fn masks(rt: HostRuntime) {
     for (first, second, line, byte) in [
@@ -325,14 +392,17 @@ fn masks(rt: HostRuntime) {
         (0xe0, 0x00, false, 0x08),
         (0x81, 0x88, true, 0x88),
     ] {
-        let mut cia = make_cia(&[(13, first), (13, second)]);
-        cia.key(0x75);
-        assert_eq!(rt; read(&mut cia, 12), 0x75);
-        assert_eq!(rt; cia.line(), line, "{first} {second}");
-        assert_eq!(rt; read(&mut cia, 13), byte, "{first} {second}");
-        assert_eq!(rt; cia.line(), false);
-        assert_eq!(rt; read(&mut cia, 13), 0);
+        let found = code_under(first, second);
+        assert_eq!(rt; found, ([line, false], [0x75, byte, 0]), "{first} {second}");
     }
+}
+
+/// What a register reads as at reset, and another CIA's after a write of 96 to it, with pins of 5A.
+fn read_around_write(reg: u8) -> [u8; 2] {
+    let mut fresh = Cia::reset();
+    let mut cia = Cia::reset();
+    cia.poke(reg % 16, 0x96);
+    [fresh.peek(reg % 16, 0x5a), cia.peek(reg % 16, 0x5a)]
 }
 
 /// Each register at reset, and after a write of 96 to it, with pins of 5A. At 0 and 1 the pins are
@@ -358,10 +428,6 @@ fn registers(rt: HostRuntime) {
         (14, 0x00, 0x86),
         (15, 0x00, 0x86),
     ] {
-        let mut cia = Cia::reset();
-        assert_eq!(rt; cia.peek(reg % 16, 0x5a), at_reset, "{reg}");
-        let mut cia = Cia::reset();
-        cia.poke(reg % 16, 0x96);
-        assert_eq!(rt; cia.peek(reg % 16, 0x5a), written, "{reg}");
+        assert_eq!(rt; read_around_write(reg), [at_reset, written], "{reg}");
     }
 }
