@@ -2,11 +2,14 @@
 from __future__ import annotations
 
 import os
+import shutil
 import subprocess
+import tempfile
 import unittest
 
 from runs import TOOLS
 
+TOP = os.path.dirname(TOOLS)
 TOOL = os.path.join(TOOLS, "definitions")
 
 
@@ -17,6 +20,20 @@ def run(*words: str) -> subprocess.CompletedProcess[str]:
 class DefinitionsTest(unittest.TestCase):
     def test_table_is_of_this_tree(self) -> None:
         self.assertEqual(run("--ask").returncode, 0, "docs/proofs.md wants tools/definitions")
+
+    def test_another_table_is_told(self) -> None:
+        with tempfile.TemporaryDirectory() as top:
+            shutil.copytree(TOOLS, os.path.join(top, "tools"), ignore=shutil.ignore_patterns("tests"))
+            for name in ("crates", "crates.txt"):
+                os.symlink(os.path.join(TOP, name), os.path.join(top, name))
+            os.mkdir(os.path.join(top, "docs"))
+            with open(os.path.join(TOP, "docs", "proofs.md"), encoding="utf-8") as page:
+                text = page.read()
+            for was, status in (("| `collisions` |", 0), ("| `collision` |", 1)):
+                with open(os.path.join(top, "docs", "proofs.md"), "w", encoding="utf-8") as page:
+                    page.write(text.replace("| `collisions` |", was))
+                asked = subprocess.run([os.path.join(top, "tools", "definitions"), "--ask"], capture_output=True, text=True)
+                self.assertEqual((asked.returncode, asked.stdout, asked.stderr), (status, "", ""))
 
     def test_files_of_a_crate(self) -> None:
         """`clx` of `collisions` says its result by one definition, which cites no other file."""
