@@ -68,16 +68,18 @@ fn words_of(told: &[Arrived], place: usize) -> (u16, u64) {
 #[test]
 fn from_checkpoints_and_from_reset(rt: HostRuntime) -> Result<(), Fail> {
     let told = told_of(rt.alloc(), &[150_000, 80_000, 22_800, 22_801])?;
-    let told = told.as_slice();
-    assert_eq!(rt; clocks_of(told, 0), (150_000, 0));
-    assert_eq!(rt; clocks_of(told, 1), (80_000, 71_051));
-    assert_eq!(rt; clocks_of(told, 2), (22_800, 0));
-    assert_eq!(rt; clocks_of(told, 3), (22_801, 22_800));
-    assert_eq!(rt; beam_of(told, 0), (2, 34, 180));
-    assert_eq!(rt; beam_of(told, 1), (1, 39, 96));
-    assert_eq!(rt; beam_of(told, 2), (0, 100, 100));
-    assert_eq!(rt; words_of(told, 2), (0, 4661));
-    assert_eq!(rt; words_of(told, 3), (0x0f00, 4661));
+    let clocks = [0, 1, 2, 3].map(|place| clocks_of(&told, place));
+    let wanted = [
+        (150_000, 0),
+        (80_000, 71_051),
+        (22_800, 0),
+        (22_801, 22_800),
+    ];
+    assert_eq!(rt; clocks, wanted);
+    let beams = [0, 1, 2].map(|place| beam_of(&told, place));
+    assert_eq!(rt; beams, [(2, 34, 180), (1, 39, 96), (0, 100, 100)]);
+    let words = [2, 3].map(|place| words_of(&told, place));
+    assert_eq!(rt; words, [(0, 4661), (0x0f00, 4661)]);
     Ok(())
 }
 
@@ -85,14 +87,12 @@ fn from_checkpoints_and_from_reset(rt: HostRuntime) -> Result<(), Fail> {
 #[test]
 fn a_loaded_run_goes_on(rt: HostRuntime) -> Result<(), Fail> {
     let told = told_of(rt.alloc(), &[80_000, 75_000, 80_000])?;
-    let told = told.as_slice();
-    assert_eq!(rt; clocks_of(told, 1), (75_000, 71_051));
-    assert_eq!(rt; words_of(told, 1), (0x0f00, 4661));
-    assert_eq!(rt; clocks_of(told, 2), (80_000, 75_000));
-    assert_eq!(rt; words_of(told, 2), (0x00f0, 4661));
-    assert_eq!(rt; words_of(told, 0), (0x00f0, 4661));
-    assert_eq!(rt; beam_of(told, 2), (1, 39, 96));
-    assert_eq!(rt; beam_of(told, 0), (1, 39, 96));
+    let clocks = [1, 2].map(|place| clocks_of(&told, place));
+    assert_eq!(rt; clocks, [(75_000, 71_051), (80_000, 75_000)]);
+    let words = [0, 1, 2].map(|place| words_of(&told, place));
+    assert_eq!(rt; words, [(0x00f0, 4661), (0x0f00, 4661), (0x00f0, 4661)]);
+    let beams = [0, 2].map(|place| beam_of(&told, place));
+    assert_eq!(rt; beams, [(1, 39, 96); 2]);
     Ok(())
 }
 
@@ -100,10 +100,9 @@ fn a_loaded_run_goes_on(rt: HostRuntime) -> Result<(), Fail> {
 #[test]
 fn the_end_of_the_run(rt: HostRuntime) -> Result<(), Fail> {
     let told = told_of(rt.alloc(), &[1_000_000, 213_152])?;
-    let told = told.as_slice();
-    assert_eq!(rt; clocks_of(told, 0), (213_153, 0));
-    assert_eq!(rt; beam_of(told, 0), (3, 0, 0));
-    assert_eq!(rt; clocks_of(told, 1), (213_152, 142_102));
-    assert_eq!(rt; beam_of(told, 1), (2, 312, 226));
+    let clocks = [0, 1].map(|place| clocks_of(&told, place));
+    assert_eq!(rt; clocks, [(213_153, 0), (213_152, 142_102)]);
+    let beams = [0, 1].map(|place| beam_of(&told, place));
+    assert_eq!(rt; beams, [(3, 0, 0), (2, 312, 226)]);
     Ok(())
 }

@@ -148,18 +148,21 @@ fn place_and_words(fore: &Fore<NoSide>) -> (u64, u16, u16, [u16; 3]) {
     (fore.clocks(), beam.v, beam.h, words)
 }
 
+/// The same behind 300 clocks of the run that waits, singly or by one call.
+fn place_and_words_behind(alloc: Global, singly: bool) -> Result<(u64, u16, u16, [u16; 3]), Fail> {
+    let mut raster = Direct::new(alloc)?;
+    let fore = run_clocks(alloc, waiting_run(alloc)?, &mut raster, singly)?;
+    Ok(place_and_words(&fore))
+}
+
 /// Of the 300 clocks 227 are those of line 0. The Copper goes on at clock 60 of line 1, and writes at clock
 /// 64.
 #[test]
 fn a_run_to_a_clock_stands_where_single_clocks_do(rt: HostRuntime) -> Result<(), Fail> {
-    let alloc = rt.alloc();
-    let mut found = [(0, 0, 0, [0; 3]); 2];
-    for (place, singly) in [(0, false), (1, true)] {
-        let mut raster = Direct::new(alloc)?;
-        let fore = run_clocks(alloc, waiting_run(alloc)?, &mut raster, singly)?;
-        found[place] = place_and_words(&fore);
+    for singly in [false, true] {
+        let found = place_and_words_behind(rt.alloc(), singly)?;
+        assert_eq!(rt; found, (300, 1, 73, [0x0280, 0x0f00, 0x0123]), "{singly}");
     }
-    assert_eq!(rt; found, [(300, 1, 73, [0x0280, 0x0f00, 0x0123]); 2]);
     Ok(())
 }
 
@@ -182,17 +185,20 @@ fn clocks_and_pointers(fore: &Fore<NoSide>) -> (u64, [u16; 2]) {
     (fore.clocks(), words)
 }
 
+/// The same behind 300 clocks of the run that fetches, singly or by one call.
+fn clocks_and_pointers_behind(alloc: Global, singly: bool) -> Result<(u64, [u16; 2]), Fail> {
+    let mut raster = Direct::new(alloc)?;
+    let fore = run_clocks(alloc, fetching_run(alloc)?, &mut raster, singly)?;
+    Ok(clocks_and_pointers(&fore))
+}
+
 /// Line 0 has twenty units, of 40 bytes a plane. Up to clock 73 of line 1 plane 2 is fetched at clocks 59 and
 /// 67, and plane 1 at clocks 63 and 71.
 #[test]
 fn planes_are_fetched_where_single_clocks_fetch_them(rt: HostRuntime) -> Result<(), Fail> {
-    let alloc = rt.alloc();
-    let mut found = [(0, [0; 2]); 2];
-    for (place, singly) in [(0, false), (1, true)] {
-        let mut raster = Direct::new(alloc)?;
-        let fore = run_clocks(alloc, fetching_run(alloc)?, &mut raster, singly)?;
-        found[place] = clocks_and_pointers(&fore);
+    for singly in [false, true] {
+        let found = clocks_and_pointers_behind(rt.alloc(), singly)?;
+        assert_eq!(rt; found, (300, [0x1032, 0x202c]), "{singly}");
     }
-    assert_eq!(rt; found, [(300, [0x1032, 0x202c]); 2]);
     Ok(())
 }

@@ -1,7 +1,7 @@
 //! Whole runs of the foreground over rasters that draw at once. The expected pixels, counts and clocks are
 //! worked by hand.
 
-ghost use Rattle.std.specs.Prelude.{◌≡◌, ◌<◌, length};
+ghost use Rattle.std.specs.Prelude.{◌≡◌, ◌≤◌, ◌<◌, length};
 ghost use Rattle.band_log.specs.Right.{IsRightJob};
 ghost use Rattle.band_log.specs.Raster.{Takes, with_submitted, without_first, IsRightForFirst};
 ghost use Rattle.serial_bands.specs.BandShown.{tinted_bytes};
@@ -9,7 +9,10 @@ ghost use Rattle.serial_bands.specs.BandShown.{tinted_bytes};
 use crate::runs::{run_of, run_whole};
 use band_draw::Direct;
 use band_log::{Drawn, Job, Raster, Room};
+use ocs_base::OutOfMemory;
+use ocs_io::Shelf;
 use serial_model::NoSide;
+use std::alloc::Global;
 use std::test::Fail;
 
 const HEADING: &[u8] = b"P6\n720 286\n255\n";
@@ -121,15 +124,8 @@ impl Raster<NoSide> for Counted {
     }
 }
 
-/// A colour is written at clock 100 of line 100, and each byte b of a pixel is given as 255 - b.
-#[test]
-fn pixels_are_those_that_are_collected(rt: HostRuntime) -> Result<(), Fail> {
-    let alloc = rt.alloc();
-    let run = run_of(alloc, &[0; 8], "at 0 100 100 poke 180 0f00\n", 20)?;
-    let mut raster = Inverted {
-        direct: Direct::new(alloc)?,
-    };
-    let (shelf, _reads) = run_whole(alloc, run, &mut raster)?;
+/// The frames file of a picture that is white up to the pixel of clock 100 of line 100, and then cyan.
+fn white_and_cyan(alloc: Global) -> Result<Vec<u8>, OutOfMemory> {
     let mut frames = Vec::from_slice(alloc, HEADING)?;
     for pixel in 0..286 * 720 {
         let colour: &[u8] = if pixel < 74 * 720 + 212 {
@@ -139,6 +135,22 @@ fn pixels_are_those_that_are_collected(rt: HostRuntime) -> Result<(), Fail> {
         };
         frames.extend_from_slice(colour)?;
     }
+    Ok(frames)
+}
+
+/// The files of a run over a raster that inverts, in which COLOR00 becomes red at clock 100 of line 100.
+fn inverted_files(alloc: Global) -> Result<Shelf, Fail> {
+    let run = run_of(alloc, &[0; 8], "at 0 100 100 poke 180 0f00\n", 20)?;
+    let direct = Direct::new(alloc)?;
+    let (shelf, _reads) = run_whole(alloc, run, &mut Inverted { direct })?;
+    Ok(shelf)
+}
+
+/// A colour is written at clock 100 of line 100, and each byte b of a pixel is given as 255 - b.
+#[test]
+fn pixels_are_those_that_are_collected(rt: HostRuntime) -> Result<(), Fail> {
+    let frames = white_and_cyan(rt.alloc())?;
+    let shelf = inverted_files(rt.alloc())?;
     assert!(rt; shelf.file("frames") == Some(frames.as_slice()));
     Ok(())
 }
@@ -150,22 +162,36 @@ at 0 0 0 poke 094 00d0\nat 0 0 0 poke 0e0 0007\nat 0 0 0 poke 0e2 fffe\n\
 at 0 0 0 poke 100 1000\nat 0 0 0 poke 102 000f\nat 0 0 0 poke 108 ffd8\n\
 at 0 0 0 poke 182 0fff\nat 0 0 0 poke 096 8300\n";
 
+/// How many bytes of the frames file are 255.
+fn count_full(shelf: &Shelf) -> u32 {
+    let mut full = 0u32;
+    for byte in shelf.file("frames").unwrap_or(&[]) {
+        if *byte == 0xff {
+            full = full.saturating_add(1);
+        }
+    }
+    full
+}
+
+/// How many bytes of the frames file are 255 in a run of the plane in bands of so many lines, and how many
+/// words of memory are read.
+fn full_and_reads(alloc: Global, height: u16) -> Result<(u32, u64), Fail>
+    requires least { 1 ≤ height }
+    requires most { height ≤ 313 }
+{
+    let run = run_of(alloc, &[0x80, 0, 0, 0, 0, 0, 0, 0], PLANE, height)?;
+    let mut raster = Direct::new(alloc)?;
+    let (shelf, reads) = run_whole(alloc, run, &mut raster)?;
+    Ok((count_full(&shelf), reads))
+}
+
 /// 4,000 words of a plane are shown, and none is read but for what a band opens with.
 #[test]
 fn words_of_planes_are_not_read(rt: HostRuntime) -> Result<(), Fail> {
-    let alloc = rt.alloc();
     for (height, most) in [(313, 1), (100, 3)] {
-        let run = run_of(alloc, &[0x80, 0, 0, 0, 0, 0, 0, 0], PLANE, height)?;
-        let mut raster = Direct::new(alloc)?;
-        let (shelf, reads) = run_whole(alloc, run, &mut raster)?;
+        let (full, reads) = full_and_reads(rt.alloc(), height)?;
         assert!(rt; reads <= most, "{reads} at {height}");
-        let mut white = 0u32;
-        for byte in shelf.file("frames").ok_or("frames")? {
-            if *byte == 0xff {
-                white = white.saturating_add(1);
-            }
-        }
-        assert_eq!(rt; white, 200 * 2 * 3, "at {height}");
+        assert_eq!(rt; full, 200 * 2 * 3, "at {height}");
     }
     Ok(())
 }
@@ -173,10 +199,8 @@ fn words_of_planes_are_not_read(rt: HostRuntime) -> Result<(), Fail> {
 const READS: &str = "at 0 0 0 poke 098 0041\nat 0 0 0 poke 100 1000\nat 0 50 60 poke 110 8000\n\
 at 0 50 61 peek 00e\nat 0 50 62 peek 00e\nat 0 50 62 peek 00e\n";
 
-/// A band begins with each clock in which the collision bits are read, and with no second read of it.
-#[test]
-fn bands_begin_with_reads(rt: HostRuntime) -> Result<(), Fail> {
-    let alloc = rt.alloc();
+/// How many jobs a run with reads makes, and the clocks of the first three.
+fn jobs_of_reads(alloc: Global) -> Result<(usize, [(u64, u64); 3]), Fail> {
     let run = run_of(alloc, &[0; 8], READS, 313)?;
     let mut raster = Counted {
         direct: Direct::new(alloc)?,
@@ -184,11 +208,13 @@ fn bands_begin_with_reads(rt: HostRuntime) -> Result<(), Fail> {
         clocks: [(0, 0); 3],
     };
     let (_shelf, _reads) = run_whole(alloc, run, &mut raster)?;
-    assert_eq!(rt; raster.jobs, 3);
-    assert!(rt;
-        raster.clocks == [(0, 11_411), (11_411, 11_412), (11_412, 71_051)],
-        "{:?}",
-        raster.clocks
-    );
+    Ok((raster.jobs, raster.clocks))
+}
+
+/// A band begins with each clock in which the collision bits are read, and with no second read of it.
+#[test]
+fn bands_begin_with_reads(rt: HostRuntime) -> Result<(), Fail> {
+    let clocks = [(0, 11_411), (11_411, 11_412), (11_412, 71_051)];
+    assert_eq!(rt; jobs_of_reads(rt.alloc())?, (3, clocks));
     Ok(())
 }

@@ -55,21 +55,25 @@ fn read_in_run<Q: Raster<NoSide>>(
 /// Plane 1 alone, and playfield 2 everywhere: they meet where the word shows, from clock 61 on.
 const MEETING: &str = "at 0 0 0 poke 098 0041\nat 0 0 0 poke 100 1000\nat 0 50 60 poke 110 8000\n";
 
+/// The bits that the first read sees, in a run in which they meet and that has this line of events more.
+fn bits_read(alloc: Global, read: &str) -> Result<Option<u16>, Fail> {
+    let mut events = String::from_str(alloc, MEETING)?;
+    events.push_str(read)?;
+    let run = run_of(alloc, &[0; 8], &events, 20)?;
+    let mut raster = Direct::new(alloc)?;
+    read_in_run(alloc, run, &mut raster)
+}
+
 /// A read sees the pixels of the clocks before its own, and the bits of every band that is drawn.
 #[test]
 fn a_read_sees_the_clocks_before_it(rt: HostRuntime) -> Result<(), Fail> {
-    let alloc = rt.alloc();
     for (read, bits) in [
         ("", None),
         ("at 0 50 61 peek 00e\n", Some(0)),
         ("at 0 50 62 peek 00e\n", Some(1)),
         ("at 0 300 0 peek 00e\n", Some(1)),
     ] {
-        let mut events = String::from_str(alloc, MEETING)?;
-        events.push_str(read)?;
-        let run = run_of(alloc, &[0; 8], &events, 20)?;
-        let mut raster = Direct::new(alloc)?;
-        assert_eq!(rt; read_in_run(alloc, run, &mut raster)?, bits, "{read}");
+        assert_eq!(rt; bits_read(rt.alloc(), read)?, bits, "{read}");
     }
     Ok(())
 }

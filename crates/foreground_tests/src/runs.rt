@@ -9,7 +9,7 @@ use band_log::{Raster, Run};
 use foreground::Fore;
 use ocs_base::{ChipSize, OutOfMemory, Script};
 use ocs_io::Shelf;
-use out_files::OutFiles;
+use out_files::{OutFiles, WriteFault};
 use script_read::read_script;
 use serial_model::{NoSide, Side};
 use std::alloc::Global;
@@ -76,6 +76,29 @@ pub fn run_clocks<S: Side, Q: Raster<S>>(
     Ok(())
 }
 
+/// All clocks of a run over a raster that took no band yet: what is written of it, and how many words of memory
+/// were read.
+fn run_out<Q: Raster<NoSide>>(
+    alloc: Global,
+    run: Arc<Run<NoSide>>,
+    raster: &mut Q,
+) -> Result<(OutFiles, u64), Fail>
+    requires empty { (Q.seen raster.old).outstanding ≡ [] }
+    requires first { (Q.seen raster.old).next ≡ 0 }
+    requires unbound { (Q.seen raster.old).bound ≡ None }
+{
+    let mut fore = Fore::new(alloc, run)?;
+    let mut out = out_files(alloc)?;
+    run_clocks(&mut fore, raster, &mut out)?;
+    Ok((out, fore.reads()))
+}
+
+/// Creates the files of a run, and writes its frames and its trace.
+fn write_files(out: &mut OutFiles, shelf: &mut Shelf) -> Result<(), WriteFault> {
+    out.create(shelf)?;
+    out.flush(shelf)
+}
+
 /// A whole run over a raster that took no band yet: its files, and how many words of memory were read.
 pub fn run_whole<Q: Raster<NoSide>>(
     alloc: Global,
@@ -86,11 +109,8 @@ pub fn run_whole<Q: Raster<NoSide>>(
     requires first { (Q.seen raster.old).next ≡ 0 }
     requires unbound { (Q.seen raster.old).bound ≡ None }
 {
-    let mut fore = Fore::new(alloc, run)?;
-    let mut out = out_files(alloc)?;
-    run_clocks(&mut fore, raster, &mut out)?;
+    let (mut out, reads) = run_out(alloc, run, raster)?;
     let mut shelf = Shelf::new(alloc);
-    out.create(&mut shelf)?;
-    out.flush(&mut shelf)?;
-    Ok((shelf, fore.reads()))
+    write_files(&mut out, &mut shelf)?;
+    Ok((shelf, reads))
 }

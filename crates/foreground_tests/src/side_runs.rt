@@ -118,9 +118,7 @@ fn a_side_takes_part_in_the_run(rt: HostRuntime) -> Result<(), Fail> {
     let shelf = files_of(rt.alloc(), fore, out)?;
     let trace: &[u8] = b"0 0 0 W 180 0102 S\n0 0 19 R 01e 0020 S\n0 0 21 R 01e 0122 S\n";
     assert!(rt; shelf.file("trace") == Some(trace));
-    let memory = shelf.file("memory").ok_or("memory")?;
-    assert!(rt;
-        memory.get(64) == Some(&1) && memory.get(65) == Some(&2) && memory.get(66) == Some(&0)
-    );
+    let memory = shelf.file("memory").unwrap_or(&[]);
+    assert!(rt; memory.get(64..67) == Some([1, 2, 0].as_slice()));
     Ok(())
 }

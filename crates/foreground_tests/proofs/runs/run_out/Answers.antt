@@ -4,7 +4,7 @@ use Rattle.serial_model.specs.Side.{no_side}
 use Rattle.serial_bands.specs.Run.{RunValue}
 use Rattle.band_log.specs.Raster.{RasterValue, Takes}
 use Rattle.foreground.specs.Fore.{ForeValue, over, IsNew, IsUnderway}
-use Rattle.foreground_tests.proofs.runs.run_whole.Goals as goal
+use Rattle.foreground_tests.proofs.runs.run_out.Goals as goal
 
 begins : (run : RunValue) (fore : ForeValue) (seen : RasterValue) → IsNew run fore → seen.outstanding ≡ [] → seen.next ≡ 0
     → seen.bound ≡ None → (first : ℕ) × IsUnderway fore first seen
