@@ -106,6 +106,7 @@ unsampled_at fore limit (suc k) here are before =
   where
     within : (first h t limit : ℕ) {last : ℕ} → first ≡ h → limit ≤ t + max 1 (227 - h) → suc k + t < limit → 226 ≤ last → suc k + first ≤ last
     within first h t limit same line before least = omega (arith, same, line, before, least)
+
     other_order : (first h : ℕ) {at : ℕ} → first ≡ h → at ≡ suc k + first → at ≡ h + suc k
     other_order first h same is = omega (arith, same, is)
 
