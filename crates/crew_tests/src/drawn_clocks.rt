@@ -1,51 +1,26 @@
 //! Single clocks worked by hand, and rasters without bands.
 
-ghost use Rattle.std.specs.Prelude.{◌≡◌, [], true, IfOk};
+ghost use Rattle.std.specs.Prelude.{◌≡◌, [], true};
 
 use band_draw::{BandPainter, Direct, bus_count, show_clock};
 use band_log::{Denise, Event, Raster};
-use mem_versions::{Chip, MemView};
 use ocs_base::{Beam, Clock, OutOfMemory, Reg, System};
 use serial_model::{NoSide, Side, SideAsk};
-use std::alloc::Global;
 
-/// The script writes f00 to COLOR00 at clock 100 of line 100: the clock before is black, and from
-/// that one on the picture is red.
+/// A write of f00 to COLOR00 at clock 100 of line 100: the clock before is black, and from that one on the
+/// picture is red.
 #[test]
-fn a_colour_shows_from_its_clock_on(rt: HostRuntime) -> Result<(), OutOfMemory> {
-    let view = small_view(rt.alloc())?;
+fn a_colour_shows_from_its_clock_on(rt: HostRuntime) {
     let mut room = [7; 30];
     let mut clx = 0;
-    let mut before = fresh(&place(100, 99));
-    let filled = show_clock(
-        &mut before,
-        System::Pal,
-        &place(100, 99),
-        &[],
-        Clock(22_799),
-        &view,
-        &mut room,
-        0,
-        &mut clx,
-    );
+    let here = place(100, 99);
+    let mut before = fresh(&here);
+    let filled = show_clock(&mut before, System::Pal, &here, &mut room, 0, &mut clx);
     assert_eq!(rt; filled, 12);
-    let event = Event::Set {
-        at: Clock(22_800),
-        reg: Reg::masked(0x180),
-        word: 0x0f00,
-    };
-    let mut after = fresh(&place(100, 100));
-    let filled = show_clock(
-        &mut after,
-        System::Pal,
-        &place(100, 100),
-        &[event],
-        Clock(22_800),
-        &view,
-        &mut room,
-        12,
-        &mut clx,
-    );
+    let here = place(100, 100);
+    let mut after = fresh(&here);
+    after.set(100, 0x180, 0x0f00);
+    let filled = show_clock(&mut after, System::Pal, &here, &mut room, 12, &mut clx);
     assert_eq!(rt; filled, 24);
     assert_eq!(rt; after.close().palette[0], 0x0f00);
     assert_eq!(rt;
@@ -55,7 +30,6 @@ fn a_colour_shows_from_its_clock_on(rt: HostRuntime) -> Result<(), OutOfMemory> 
             7, 7, 7, 7,
         ]
     );
-    Ok(())
 }
 
 /// A fetch belongs to its own clock, and a write to the access where the script's follow behind it.
@@ -130,12 +104,4 @@ fn place(v: u16, h: u16) -> Beam
         h,
         lof: true,
     }
-}
-
-/// A view of the clocks up to 30,000.
-fn small_view(alloc: Global) -> Result<MemView, OutOfMemory>
-    ensures { IfOk result (λ view. (view.from ≡ 0) × (view.to ≡ 30000)) }
-{
-    let mut chip = Chip::new(alloc, &[7; 8])?;
-    chip.cut(Clock(30_000))
 }
