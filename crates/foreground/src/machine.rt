@@ -94,8 +94,8 @@ impl<S: Side> Machine<S> {
     /// Third step, and the fifth's beginning: the timers of the CIAs tick at each fifth clock, the side
     /// ticks, CIAs and side request their interrupts, and the owner of the slot says what it asks for: None
     /// where neither the side nor a plane nor a sprite asks, and then the chips say who does (`late_owner`).
-    /// The fetches of bitplanes and sprites are done with it. `answer` is to be called next. Whether there is a
-    /// side is asked here alone: without one a clock has nothing of it.
+    /// The fetches of bitplanes and sprites are done with it. `answer` is to be called next. Whether there is
+    /// a side is asked here alone: without one a clock has nothing of it.
     #[inline(always)]
     pub fn ask_in_time(&mut self) -> Option<Ask>
         ensures asks { AsksInTime (ask_or_late result self.new.beam self.new.chips)
@@ -109,7 +109,7 @@ impl<S: Side> Machine<S> {
         } }
     {
         if !self.side.is_nothing() {
-            return self.ask_beside_side();
+            return Some(self.ask_beside_side());
         }
         self.chips.count_timers(self.t, 0);
         self.chips.early_ask(&self.beam)
@@ -118,12 +118,11 @@ impl<S: Side> Machine<S> {
     /// The same with a side.
     #[cold]
     #[inline(never)]
-    fn ask_beside_side(&mut self) -> Option<Ask>
-        ensures asks { AsksInTime (ask_or_late result self.new.beam self.new.chips)
-            (machine_over S.seen self.old) (machine_over S.seen self.new) }
-        ensures able { CanAsk (ask_or_late result self.new.beam self.new.chips) }
-        ensures wish { IsBlitAsk (ask_or_late result self.new.beam self.new.chips)
-            (kept_wish self.new.chips) }
+    fn ask_beside_side(&mut self) -> Ask
+        ensures asks { AsksInTime result (machine_over S.seen self.old)
+            (machine_over S.seen self.new) }
+        ensures able { CanAsk result }
+        ensures wish { IsBlitAsk result (kept_wish self.new.chips) }
         ensures same { self.new ≡ record self.old {
           chips = self.new.chips;
           side = self.new.side;
@@ -147,23 +146,19 @@ impl<S: Side> Machine<S> {
         self.chips.count_timers(self.t, bits);
     }
 
-    /// The beginning of the fifth, where there may be a side: where it wants nothing, planes and sprites are
-    /// asked as without one.
-    fn ask(&mut self) -> Option<Ask>
-        ensures ask { (s : State) → IsMachineOf (machine_over S.seen self.old) s
-            → ask_or_late result self.new.beam self.new.chips ≡ ask_of s }
+    /// The beginning of the fifth, where there may be a side.
+    fn ask(&mut self) -> Ask
+        ensures ask { (s : State) → IsMachineOf (machine_over S.seen self.old) s → result ≡ ask_of
+            s }
         ensures chips { (s : State) → IsMachineOf (machine_over S.seen self.old) s → HasAskedOf
             (machine_over S.seen self.new) s }
-        ensures able { CanAsk (ask_or_late result self.new.beam self.new.chips) }
-        ensures wish { IsBlitAsk (ask_or_late result self.new.beam self.new.chips)
-            (kept_wish self.new.chips) }
+        ensures able { CanAsk result }
+        ensures wish { IsBlitAsk result (kept_wish self.new.chips) }
         ensures same { self.new ≡ record self.old { chips = self.new.chips } }
     {
         let dmacon = self.chips.dmacon();
-        match self.side.ask(&self.beam, dmacon) {
-            SideAsk::Nothing => self.chips.early_ask(&self.beam),
-            wish => Some(self.chips.ask(&self.beam, wish)),
-        }
+        let wish = self.side.ask(&self.beam, dmacon);
+        self.chips.ask(&self.beam, wish)
     }
 
     /// Fifth step, its end: the owner of the slot has its word and makes its access. The answer is

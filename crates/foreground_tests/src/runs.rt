@@ -76,8 +76,8 @@ pub fn run_clocks<S: Side, Q: Raster<S>>(
     Ok(())
 }
 
-/// All clocks of a run over a raster that took no band yet: what is written of it, and how many words of memory
-/// were read.
+/// All clocks of a run over a raster that took no band yet: what is written of it, and how many words of
+/// memory were read.
 fn run_out<Q: Raster<NoSide>>(
     alloc: Global,
     run: Arc<Run<NoSide>>,
