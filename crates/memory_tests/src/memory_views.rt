@@ -43,8 +43,8 @@ fn a_half_of_a_word(rt: HostRuntime) -> Result<(), OutOfMemory> {
     Ok(())
 }
 
-/// After a write to word 1 of page 1: words at the edges of the image and of the memory, and that of the page;
-/// the length of the page; and how many words were read.
+/// After a write to word 1 of page 1: words at the edges of the image and of the memory, and that of the
+/// page; the length of the page; and how many words were read.
 fn words_and_page(chip: &mut Chip) -> Result<([u16; 5], usize, u64), OutOfMemory>
     requires newest { chip.old.newest ≡ 0 }
     requires size { length chip.old.words ≡ 262144 }
@@ -161,8 +161,8 @@ fn a_view_stays_as_it_was(rt: HostRuntime) -> Result<(), OutOfMemory> {
     Ok(())
 }
 
-/// Writes at clock 3 and, of 1 and then 2, at clock 8, and views of cuts at the clocks 8 and 9: the words that
-/// each sees.
+/// Writes at clock 3 and, of 1 and then 2, at clock 8, and views of cuts at the clocks 8 and 9: the words
+/// that each sees.
 fn words_at_a_cut(chip: &mut Chip) -> Result<[u16; 5], OutOfMemory>
     requires newest { chip.old.newest ≡ 0 }
     requires last { chip.old.last ≡ 0 }

@@ -137,5 +137,6 @@ returns-clause-at g c =
       kept =
           keeps_next c.next_place.new.beam _ p.painter.keeps c.clear_line.new.self.keeps p.to p.clock (last_clock c.system-system.result p.beam.v)
           p.beam.h c.clear_line.ensures.start
-          (λ on. c.clear_line.ensures.on on ∙ access.ensures.keeps ∙ given.ensures.keeps ∙ touched.ensures.keeps) refl c.next_place.ensures.clock c.requires.at.kept;
+          (λ on. c.clear_line.ensures.on on ∙ access.ensures.keeps ∙ given.ensures.keeps ∙ touched.ensures.keeps)
+          refl c.next_place.ensures.clock c.requires.at.kept;
     })

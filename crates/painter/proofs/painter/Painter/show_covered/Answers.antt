@@ -39,14 +39,16 @@ pub show_next-shown-requires-clause-first : goal.show_next-shown-requires-clause
 show_next-shown-requires-clause-first c =
     behind_first (λ (system : System) (v k : ℕ). is_inside v (2 * k) c.loop-shown.self.window.diwstrt c.loop-shown.self.window.diwstop ≡ true)
     c.args.from c.further.result c.loop-shown.shown c.args.count c.further.ensures
-    (λ k few. ap (λ window. is_inside c.args.from.v (2 * (c.args.from.h + k)) window.diwstrt window.diwstop) c.loop-shown.invariant.window ∙ c.requires.first k few)
+    (λ k few. ap (λ window. is_inside c.args.from.v (2 * (c.args.from.h + k)) window.diwstrt window.diwstop) c.loop-shown.invariant.window
+    ∙ c.requires.first k few)
     c.loop-shown.invariant.most
 
 pub show_next-shown-requires-clause-second : goal.show_next-shown-requires-clause-second
 show_next-shown-requires-clause-second c =
     behind_first (λ (system : System) (v k : ℕ). is_inside v (2 * k + 1) c.loop-shown.self.window.diwstrt c.loop-shown.self.window.diwstop ≡ true)
     c.args.from c.further.result c.loop-shown.shown c.args.count c.further.ensures
-    (λ k few. ap (λ window. is_inside c.args.from.v (2 * (c.args.from.h + k) + 1) window.diwstrt window.diwstop) c.loop-shown.invariant.window ∙ c.requires.second k few)
+    (λ k few. ap (λ window. is_inside c.args.from.v (2 * (c.args.from.h + k) + 1) window.diwstrt window.diwstop) c.loop-shown.invariant.window
+    ∙ c.requires.second k few)
     c.loop-shown.invariant.most
 
 pub show_next-shown-requires-clause-seen : goal.show_next-shown-requires-clause-seen

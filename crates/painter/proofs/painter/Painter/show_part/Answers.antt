@@ -9,7 +9,8 @@ show_backdrops-behind-requires c visible =
     let n : ℕ = c.backdrops-blank.result in
     let all : visible_clocks c.args.from.system c.args.from.v c.args.from.h c.backdrops-blank.result ≡ c.backdrops-blank.result =
     all_visible c.args.from.system c.args.from.v c.args.from.h n true
-    (λ k lt. c.clocks_alike-near.ensures.seen k (omega (arith, lt, c.backdrops-blank.ensures.most, c.idle_clocks-idle.ensures.most)) ∙ visible) n (omega arith) in
+    (λ k lt. c.clocks_alike-near.ensures.seen k (omega (arith, lt, c.backdrops-blank.ensures.most, c.idle_clocks-idle.ensures.most)) ∙ visible)
+    n (omega arith) in
     let within = visible_within c.args.from.system c.args.from.v c.args.from.h n c.args.count
     (omega (arith, c.clocks_alike-near.ensures.most, c.backdrops-blank.ensures.most, c.idle_clocks-idle.ensures.most)) in
     omega (arith, c.requires.room)
@@ -39,7 +40,8 @@ show_planes-behind-requires-clause-room c =
     let n : ℕ = c.inside_ahead-inside.result in
     let all : visible_clocks c.args.from.system c.args.from.v c.args.from.h c.inside_ahead-inside.result ≡ c.inside_ahead-inside.result =
     all_visible c.args.from.system c.args.from.v c.args.from.h n true
-    (λ k lt. c.clocks_alike-near.ensures.seen k (omega (arith, lt, c.inside_ahead-inside.ensures.most, c.idle_clocks-idle.ensures.most)) ∙ c.if-near.true) n (omega arith) in
+    (λ k lt. c.clocks_alike-near.ensures.seen k (omega (arith, lt, c.inside_ahead-inside.ensures.most, c.idle_clocks-idle.ensures.most))
+    ∙ c.if-near.true) n (omega arith) in
     let within = visible_within c.args.from.system c.args.from.v c.args.from.h n c.args.count
     (omega (arith, c.clocks_alike-near.ensures.most, c.inside_ahead-inside.ensures.most, c.idle_clocks-idle.ensures.most)) in
     omega (arith, c.requires.room)
@@ -49,7 +51,8 @@ returns-then-inside-gt0-clause-filled c =
     let n : ℕ = c.inside_ahead-inside.result in
     c.show_planes-behind.ensures.place
     ∙ ap (λ (m : ℕ). c.args.at + 12 * m) (sym (all_visible c.args.from.system c.args.from.v c.args.from.h n true
-    (λ k lt. c.clocks_alike-near.ensures.seen k (omega (arith, lt, c.inside_ahead-inside.ensures.most, c.idle_clocks-idle.ensures.most)) ∙ c.if-near.true) n (omega arith)))
+    (λ k lt. c.clocks_alike-near.ensures.seen k (omega (arith, lt, c.inside_ahead-inside.ensures.most, c.idle_clocks-idle.ensures.most))
+    ∙ c.if-near.true) n (omega arith)))
 
 pub show_running-requires-clause-room : goal.show_running-requires-clause-room
 show_running-requires-clause-room c =
