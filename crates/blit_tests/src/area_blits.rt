@@ -1,34 +1,8 @@
 //! Area blits worked by hand.
 
-ghost use Rattle.std.specs.Prelude.{◌≡◌};
-
+use crate::first_registers::one_word;
 use blitter_area::{AreaBlit, BlitRegs, SlotAsk};
 use ocs_base::Addr;
-
-/// Registers of a blit from A to D, of one word, with its pointers at 10, 20, 30 and 40.
-fn registers() -> BlitRegs
-    ensures { result.con1 ≡ 0 }
-{
-    BlitRegs {
-        con0: 0x09f0,
-        con1: 0,
-        afwm: 0xffff,
-        alwm: 0xffff,
-        size: 0x0041,
-        adat: 0,
-        bdat: 0,
-        cdat: 0,
-        amod: 0,
-        bmod: 0,
-        cmod: 0,
-        dmod: 0,
-        apt: Addr::at(0x10),
-        bpt: Addr::at(0x20),
-        cpt: Addr::at(0x30),
-        dpt: Addr::at(0x40),
-        aptl: 0x10,
-    }
-}
 
 /// The last word that the blit writes where reads give the words of a list in order.
 fn written(blit: &mut AreaBlit, reads: &[u16]) -> Option<u16> {
@@ -78,7 +52,7 @@ fn fill_of_one_word(rt: HostRuntime) {
         (0x1a, 0x03e0),
         (0x18, 0x0420),
     ] {
-        let mut regs = registers();
+        let mut regs = one_word();
         regs.con1 = con1;
         let mut blit = AreaBlit::start(&regs);
         assert_eq!(rt; written(&mut blit, &[0x0420]), Some(filled), "{con1}");
@@ -87,7 +61,7 @@ fn fill_of_one_word(rt: HostRuntime) {
 
 #[test]
 fn cookie_cut_of_two_words(rt: HostRuntime) {
-    let mut regs = registers();
+    let mut regs = one_word();
     regs.con0 = 0x4fca;
     regs.con1 = 0x4000;
     regs.size = 0x0042;
@@ -130,7 +104,7 @@ fn asks_of_each_code(rt: HostRuntime) {
         (0x0e00, [0x10, 0x20, 0x30, 0]),
         (0x0f00, [0x10, 0x20, 0x30, 0x40]),
     ] {
-        let mut regs = registers();
+        let mut regs = one_word();
         regs.con0 = con0;
         let mut blit = AreaBlit::start(&regs);
         for at in asks {
@@ -144,7 +118,7 @@ fn asks_of_each_code(rt: HostRuntime) {
 #[test]
 fn rows_up_and_down(rt: HostRuntime) {
     for (con1, places) in [(0, [0x10, 0x12, 0x16, 0x18]), (2, [0x10, 0x0e, 0x0a, 0x08])] {
-        let mut regs = registers();
+        let mut regs = one_word();
         regs.con0 = 0x0800;
         regs.con1 = con1;
         regs.size = 0x0082;
@@ -181,7 +155,7 @@ fn pointers_at_the_end_of_their_span(rt: HostRuntime) {
             [0x14, 2],
         ),
     ] {
-        let mut regs = registers();
+        let mut regs = one_word();
         regs.size = 0x0042;
         regs.apt = apt;
         regs.dpt = dpt;
@@ -198,7 +172,7 @@ fn pointers_at_the_end_of_their_span(rt: HostRuntime) {
 
 /// The registers that a blit of two rows of two words leaves, for BLTCON0.
 fn registers_left(con0: u16) -> BlitRegs {
-    let mut regs = registers();
+    let mut regs = one_word();
     regs.con0 = con0;
     regs.size = 0x0082;
     regs.adat = 0x1234;
@@ -224,7 +198,7 @@ fn registers_at_the_end(rt: HostRuntime) {
 #[test]
 fn zero_falls_with_the_last_ask(rt: HostRuntime) {
     for (con0, falls) in [(0x00ff, true), (0x0000, false), (0x08f0, true)] {
-        let mut regs = registers();
+        let mut regs = one_word();
         regs.con0 = con0;
         regs.adat = 0;
         let mut blit = AreaBlit::start(&regs);

@@ -1,29 +1,18 @@
 //! Both kinds of blits, worked by hand.
 
+use crate::first_registers::one_word;
 use blitter::{Blit, BlitRegs, SlotAsk};
-use ocs_base::Addr;
 use std::process::Abort;
 
 /// A blit of one word from A to D, or of one point from C to D at its address.
-fn registers(con0: u16, con1: u16) -> BlitRegs {
+fn word_or_point(con0: u16, con1: u16) -> BlitRegs {
     BlitRegs {
         con0,
         con1,
-        afwm: 0xffff,
-        alwm: 0xffff,
-        size: 0x0041,
         adat: 0x8000,
         bdat: 0xffff,
-        cdat: 0,
-        amod: 0,
-        bmod: 0,
         cmod: 4,
-        dmod: 0,
-        apt: Addr::at(0x10),
-        bpt: Addr::at(0x20),
-        cpt: Addr::at(0x30),
-        dpt: Addr::at(0x40),
-        aptl: 0x10,
+        ..one_word()
     }
 }
 
@@ -50,7 +39,7 @@ fn one_word_and_one_point(rt: HostRuntime) {
         (0x09f0, 0x0012, 0x40, 0x03e0, 0x3e),
         (0x03ca, 0x0041, 0x30, 0x8420, 0x34),
     ] {
-        let mut blit = Blit::start(&registers(con0, con1));
+        let mut blit = Blit::start(&word_or_point(con0, con1));
         assert_eq!(rt; write_of(&rt, &mut blit), Some((at, written)), "{con1}");
         assert!(rt; matches!(blit.next(), SlotAsk::Done), "{con1}");
         assert!(rt; !blit.zero(), "{con1}");

@@ -8,4 +8,6 @@ mod area_blits;
 #[cfg(test)]
 mod blits_of_both_kinds;
 #[cfg(test)]
+mod first_registers;
+#[cfg(test)]
 mod line_blits;

@@ -2,33 +2,44 @@
 
 ghost use Rattle.std.specs.Prelude.{◌≡◌};
 
+use crate::first_registers::one_word;
 use blitter_line::{BlitRegs, LineBlit, SlotAsk};
 use ocs_base::Addr;
 use std::process::Abort;
 
 /// A line of four points from bit 15 of word 40: two to the right in its row and two in the next,
 /// whose distances are 3 and 1.
-fn registers() -> BlitRegs
+fn four_points() -> BlitRegs
     ensures { result.con1 ≡ 0x51 }
 {
     BlitRegs {
         con0: 0x0bca,
         con1: 0x0051,
-        afwm: 0xffff,
-        alwm: 0xffff,
         size: 0x0102,
         adat: 0x8000,
         bdat: 0xffff,
-        cdat: 0,
         amod: -8,
         bmod: 4,
         cmod: 2,
-        dmod: 0,
         apt: Addr::at(0),
         bpt: Addr::at(0),
         cpt: Addr::at(0x40),
         dpt: Addr::at(0),
         aptl: 0xfffe,
+        ..one_word()
+    }
+}
+
+/// A line of two points from bit 15 of word 40, in the direction of this word of BLTCON1.
+fn two_points(con1: u16) -> BlitRegs
+    ensures { result.con1 ≡ con1 }
+{
+    BlitRegs {
+        con0: 0x03ca,
+        con1,
+        size: 0x0082,
+        cmod: 5,
+        ..four_points()
     }
 }
 
@@ -62,7 +73,7 @@ fn word_at(memory: &[u16], at: usize) -> u16 {
 #[test]
 fn line_of_four_points(rt: HostRuntime) {
     let mut memory = [0; 64];
-    let mut blit = LineBlit::start(&registers());
+    let mut blit = LineBlit::start(&four_points());
     assert!(rt; blit.zero());
     assert_eq!(rt; slots(&mut blit, &mut memory), 16);
     assert_eq!(rt; word_at(&memory, 0x40), 0xc000);
@@ -90,13 +101,8 @@ fn second_point_along_y(rt: HostRuntime) {
         (0x41, 0x44, 0x8000),
         (0x45, 0x3c, 0x8000),
     ] {
-        let mut regs = registers();
-        regs.con0 = 0x03ca;
-        regs.con1 = con1;
-        regs.size = 0x0082;
-        regs.cmod = 5;
         let mut memory = [0; 64];
-        let mut blit = LineBlit::start(&regs);
+        let mut blit = LineBlit::start(&two_points(con1));
         assert_eq!(rt; slots(&mut blit, &mut memory), 8, "{con1}");
         assert_eq!(rt; word_at(&memory, at), word, "{con1}");
     }
@@ -112,13 +118,8 @@ fn second_point_along_x(rt: HostRuntime) {
         (0x51, 0x40, 0xc000),
         (0x55, 0x3e, 0x0001),
     ] {
-        let mut regs = registers();
-        regs.con0 = 0x03ca;
-        regs.con1 = con1;
-        regs.size = 0x0082;
-        regs.cmod = 5;
         let mut memory = [0; 64];
-        let mut blit = LineBlit::start(&regs);
+        let mut blit = LineBlit::start(&two_points(con1));
         assert_eq!(rt; slots(&mut blit, &mut memory), 8, "{con1}");
         assert_eq!(rt; word_at(&memory, at), word, "{con1}");
     }
@@ -133,7 +134,7 @@ fn one_dot_a_row_and_texture(rt: HostRuntime) {
         (0x0051, 0x0001, 0x8000),
         (0x0051, 0xc000, 0x6000),
     ] {
-        let mut regs = registers();
+        let mut regs = four_points();
         regs.con0 = 0x03ca;
         regs.con1 = con1;
         regs.bdat = bdat;
@@ -146,7 +147,7 @@ fn one_dot_a_row_and_texture(rt: HostRuntime) {
 
 #[test]
 fn unused_channels_rest(rt: HostRuntime) {
-    let mut regs = registers();
+    let mut regs = four_points();
     regs.con0 = 0x08ca;
     regs.cdat = 0x1234;
     let mut memory = [0; 64];

@@ -2,18 +2,10 @@
 
 ghost use Rattle.std.specs.Prelude.{◌≡◌, ◌≤◌, ◌<◌, ◌+◌};
 
+use crate::written_registers::registers;
 use bitplane_dma::{FetchRules, Fetcher};
 use ocs_base::{Beam, Reg};
 use reg_file::Regs;
-
-/// The registers after these writes.
-fn registers(words: &[(u16, u16)]) -> Regs {
-    let mut regs = Regs::reset();
-    for (offset, word) in words.iter().copied() {
-        let _effect = regs.poke(Reg::masked(offset), word, false);
-    }
-    regs
-}
 
 /// Runs a line from its first clock, with register writes at their clocks. The answer is how many fetches
 /// there were, and the clock and plane of the first and of the last of them.

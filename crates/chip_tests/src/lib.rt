@@ -18,3 +18,5 @@ mod register_file;
 mod slot_owners;
 #[cfg(test)]
 mod sprite_lines;
+#[cfg(test)]
+mod written_registers;

@@ -2,18 +2,10 @@
 
 ghost use Rattle.std.specs.Prelude.{◌<◌};
 
+use crate::written_registers::registers;
 use ocs_base::{Addr, Beam, Reg};
 use reg_file::Regs;
 use sprite_dma::{SpriteAsk, SpriteDma};
-
-/// The registers after these writes.
-fn registers(words: &[(u16, u16)]) -> Regs {
-    let mut regs = Regs::reset();
-    for (offset, word) in words.iter().copied() {
-        let _effect = regs.poke(Reg::masked(offset), word, false);
-    }
-    regs
-}
 
 /// Steps to clocks `from` to `to` of line `v`, with the slot of clock `taken` taken by a bitplane.
 /// The answer is how many control words and words of images were read, and the last ask.
