@@ -3,19 +3,12 @@
 ghost use Rattle.std.specs.Prelude.{◌≡◌};
 
 use band_board::Board;
-use band_log::{Raster, Run};
+use band_log::Raster;
 use crew::{Bands, CrewSide, Gate, NoGate, hand_loop, with_crew};
-use ocs_base::{OutOfMemory, Script};
-use std::alloc::Global;
+use ocs_base::OutOfMemory;
+use small_runs::small_run;
 use std::sync::Arc;
 use std::sync::atomic::{AtomicU64, Ordering};
-
-/// A run of two frames over eight bytes.
-fn small_run(alloc: Global) -> Result<Run<CrewSide>, OutOfMemory> {
-    let mut image = Vec::new(alloc);
-    image.resize(8, 7)?;
-    Ok(Run::over(image, Script::new(alloc, true, 2), 20, CrewSide::Nothing))
-}
 
 /// How many bands are outstanding, whatever draws them.
 fn count_outstanding<Q: Raster<CrewSide>>(raster: &mut Q) -> usize
@@ -27,7 +20,7 @@ fn count_outstanding<Q: Raster<CrewSide>>(raster: &mut Q) -> usize
 #[test]
 fn a_body_that_submits_nothing(rt: HostRuntime) -> Result<(), OutOfMemory> {
     for workers in [0, 2] {
-        let run = Arc::new(rt.alloc(), small_run(rt.alloc())?)?;
+        let run = Arc::new(rt.alloc(), small_run(rt.alloc(), CrewSide::Nothing)?)?;
         let mut calls = 0u8;
         let (outstanding, totals) = with_crew(
             &rt,
@@ -50,7 +43,7 @@ fn a_body_that_submits_nothing(rt: HostRuntime) -> Result<(), OutOfMemory> {
 /// The workers come back where the body's answer is an error.
 #[test]
 fn a_body_that_gives_up(rt: HostRuntime) -> Result<(), OutOfMemory> {
-    let run = Arc::new(rt.alloc(), small_run(rt.alloc())?)?;
+    let run = Arc::new(rt.alloc(), small_run(rt.alloc(), CrewSide::Nothing)?)?;
     let (answer, _totals) = with_crew(
         &rt,
         rt.alloc(),
@@ -80,7 +73,7 @@ fn a_hand_of_a_closed_board_ends(rt: HostRuntime) -> Result<(), OutOfMemory> {
     let gate = Counter {
         bands: AtomicU64::new(0),
     };
-    let run = Arc::new(rt.alloc(), small_run(rt.alloc())?)?;
+    let run = Arc::new(rt.alloc(), small_run(rt.alloc(), CrewSide::Nothing)?)?;
     let (board, mut front) = Board::<Bands>::new(rt.alloc(), run)?;
     let hand = front.split(&board);
     front.close(&board);

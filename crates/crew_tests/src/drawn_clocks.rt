@@ -1,11 +1,12 @@
 //! Single clocks worked by hand, and rasters without bands.
 
-ghost use Rattle.std.specs.Prelude.{◌≡◌, [], true};
+ghost use Rattle.std.specs.Prelude.{◌≡◌, true};
 
 use band_draw::{BandPainter, Direct, bus_count, show_clock};
 use band_log::{Denise, Event, Raster};
 use ocs_base::{Beam, Clock, OutOfMemory, Reg, System};
-use serial_model::{NoSide, Side, SideAsk};
+use serial_model::NoSide;
+use small_runs::Steady;
 
 /// A write of f00 to COLOR00 at clock 100 of line 100: the clock before is black, and from that one on the
 /// picture is red.
@@ -59,34 +60,6 @@ fn a_raster_over_a_side_without_bands(rt: HostRuntime) -> Result<(), OutOfMemory
     let raster = Direct::<Steady>::new(rt.alloc())?;
     assert_eq!(rt; raster.outstanding(), 0);
     Ok(())
-}
-
-/// A side that requests the same bits of INTREQ at each clock and asks for nothing.
-#[derive(Drop)]
-struct Steady {
-    bits: u16,
-}
-
-impl Side for Steady {
-    ghost use Rattle.serial_model.specs.declared.bus.SideAsk.TheVariants.{Nothing};
-
-    ghost seen = { λ side. record {
-      bits = λ later b dmacon. side.bits;
-      ask = λ later b dmacon. Nothing;
-      shows = λ later. [];
-    } };
-
-    fn poke(&mut self, _reg: Reg, _word: u16) {}
-
-    fn tick(&mut self, _beam: &Beam, _dmacon: u16) -> u16 {
-        self.bits
-    }
-
-    fn ask(&self, _beam: &Beam, _dmacon: u16) -> SideAsk {
-        SideAsk::Nothing
-    }
-
-    fn give(&mut self, _word: u16) {}
 }
 
 fn fresh(beam: &Beam) -> BandPainter

@@ -17,6 +17,7 @@ use ocs_base::{OutOfMemory, Script};
 use ocs_io::Shelf;
 use out_files::OutFiles;
 use script_read::read_script;
+use small_runs::out_files;
 use std::alloc::Global;
 use std::sync::atomic::Ordering;
 use std::sync::{Arc, Wait};
@@ -58,14 +59,6 @@ fn run_clocks<Q: Raster<CrewSide>>(
     }
     fore.settle(raster, out)?;
     Ok(())
-}
-
-/// Files named frames, trace and memory.
-fn out_files(alloc: Global) -> Result<OutFiles, OutOfMemory> {
-    let frames = String::from_str(alloc, "frames")?;
-    let trace = String::from_str(alloc, "trace")?;
-    let memory = String::from_str(alloc, "memory")?;
-    Ok(OutFiles::new(alloc, frames, trace, memory))
 }
 
 /// Runs all clocks of a foreground at reset over a crew of these workers. The answer says who drew its bands.

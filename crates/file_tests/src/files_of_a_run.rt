@@ -1,19 +1,12 @@
 //! The three files over files in memory; the texts and the numbers are worked by hand.
 
 use mem_versions::Chip;
-use ocs_base::{Beam, OutOfMemory, Reg};
+use ocs_base::{Beam, OutOfMemory, Reg, System};
 use ocs_io::Shelf;
 use out_files::{OutFile, OutFiles, Source, TraceLine, WriteFault};
+use small_runs::out_files;
 use std::alloc::Global;
 use std::test::Fail;
-
-/// Files named a, b and c.
-fn out_files(alloc: Global) -> Result<OutFiles, OutOfMemory> {
-    let frames = String::from_str(alloc, "a")?;
-    let trace = String::from_str(alloc, "b")?;
-    let memory = String::from_str(alloc, "c")?;
-    Ok(OutFiles::new(alloc, frames, trace, memory))
-}
 
 /// Creates the files, gives these bytes and this line, and flushes.
 fn flushed(
@@ -74,8 +67,8 @@ fn peeked(offset: u16, word: u16, by: Source) -> TraceLine {
 /// Whether the files of a run with this line alone are an empty one of frames, and a trace of this text.
 fn traces(shelf: &mut Shelf, alloc: Global, line: TraceLine, text: &str) -> bool {
     flushed(shelf, alloc, &[], line).is_ok()
-        && shelf.file("b") == Some(text.as_bytes())
-        && shelf.file("a") == Some([].as_slice())
+        && shelf.file("trace") == Some(text.as_bytes())
+        && shelf.file("frames") == Some([].as_slice())
 }
 
 #[test]
@@ -116,7 +109,7 @@ fn a_heading_before_each_frame(rt: HostRuntime) -> Result<(), Fail> {
     assert!(rt; flushed(&mut shelf, rt.alloc(), &bytes, taken(1)).is_ok());
     let start = b"P6\n720 286\n255\n\x09";
     let end = b"\x09P6\n720 286\n255\n\x09";
-    assert!(rt; is_framed(&shelf, "a", 617_791, start, end));
+    assert!(rt; is_framed(&shelf, "frames", 617_791, start, end));
     Ok(())
 }
 
@@ -145,7 +138,7 @@ fn a_create_or_append_is_refused(rt: HostRuntime) {
     ] {
         let mut shelf = Shelf::new(rt.alloc());
         assert!(rt; is_refused(&mut shelf, rt.alloc(), call, file), "at {call}");
-        let sizes = [size_of(&shelf, "a"), size_of(&shelf, "b")];
+        let sizes = [size_of(&shelf, "frames"), size_of(&shelf, "trace")];
         assert!(rt; sizes == [frames, trace], "at {call}");
     }
 }
@@ -164,15 +157,15 @@ fn the_memory_file(rt: HostRuntime) {
     let image = [0x12, 0x34, 0x56, 0x78, 0, 0, 0, 1];
     assert!(rt; stored(&mut shelf, rt.alloc(), &image).is_ok());
     let start = [0x12, 0x34, 0x56, 0x78, 0, 0, 0, 1, 0];
-    assert!(rt; is_framed(&shelf, "c", 524_288, &start, &[]));
+    assert!(rt; is_framed(&shelf, "memory", 524_288, &start, &[]));
 }
 
 /// Files of the same names of an NTSC machine.
 fn ntsc_files(alloc: Global) -> Result<OutFiles, OutOfMemory> {
-    let frames = String::from_str(alloc, "a")?;
-    let trace = String::from_str(alloc, "b")?;
-    let memory = String::from_str(alloc, "c")?;
-    Ok(OutFiles::made(alloc, frames, trace, memory, ocs_base::System::Ntsc))
+    let frames = String::from_str(alloc, "frames")?;
+    let trace = String::from_str(alloc, "trace")?;
+    let memory = String::from_str(alloc, "memory")?;
+    Ok(OutFiles::made(alloc, frames, trace, memory, System::Ntsc))
 }
 
 /// Creates the files of an NTSC machine, gives these bytes, and flushes.
@@ -192,7 +185,7 @@ fn a_heading_before_each_frame_of_ntsc(rt: HostRuntime) -> Result<(), Fail> {
         let bytes = nines(rt.alloc(), given)?;
         let mut shelf = Shelf::new(rt.alloc());
         assert!(rt; flushed_ntsc(&mut shelf, rt.alloc(), &bytes).is_ok());
-        assert!(rt; is_framed(&shelf, "a", size, b"P6\n720 242\n255\n\x09", end));
+        assert!(rt; is_framed(&shelf, "frames", size, b"P6\n720 242\n255\n\x09", end));
     }
     Ok(())
 }

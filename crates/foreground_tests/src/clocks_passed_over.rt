@@ -4,7 +4,7 @@
 ghost use Rattle.std.specs.Prelude.{◌≡◌, ◌≤◌, ◌<◌, ◌+◌, ℕ, [], None, false};
 ghost use Rattle.foreground.specs.Fore.{over, IsUnderway};
 
-use crate::runs::{out_files, run_of};
+use crate::runs::run_of;
 use band_draw::Direct;
 use band_log::{Raster, Run};
 use chip_set::Chips;
@@ -12,6 +12,7 @@ use foreground::Fore;
 use ocs_base::{Beam, ChipSize, OutOfMemory, Reg};
 use out_files::OutFiles;
 use serial_model::{NoSide, Side};
+use small_runs::out_files;
 use std::alloc::Global;
 use std::sync::Arc;
 use std::test::Fail;

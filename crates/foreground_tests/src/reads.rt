@@ -3,13 +3,14 @@
 ghost use Rattle.std.specs.Prelude.{◌≡◌, ℕ, [], None, false, length};
 ghost use Rattle.foreground.specs.Fore.{over, IsUnderway};
 
-use crate::runs::{CLOCKS, out_files, run_of};
+use crate::runs::{CLOCKS, run_of};
 use band_draw::Direct;
 use band_log::{Raster, Run};
 use foreground::Fore;
 use ocs_base::OutOfMemory;
 use out_files::OutFiles;
 use serial_model::{NoSide, Side};
+use small_runs::out_files;
 use std::alloc::Global;
 use std::sync::Arc;
 use std::test::Fail;

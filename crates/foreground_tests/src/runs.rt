@@ -12,6 +12,7 @@ use ocs_io::Shelf;
 use out_files::{OutFiles, WriteFault};
 use script_read::read_script;
 use serial_model::{NoSide, Side};
+use small_runs::out_files;
 use std::alloc::Global;
 use std::sync::Arc;
 use std::test::Fail;
@@ -47,14 +48,6 @@ pub fn script_of(alloc: Global, events: &str) -> Result<Script, Fail>
         ChipSize::Kib512 => Ok(script),
         ChipSize::Mib1 => Err(Fail::from("a script of version 1 is for 512 KiB")),
     }
-}
-
-/// Files named frames, trace and memory.
-pub fn out_files(alloc: Global) -> Result<OutFiles, OutOfMemory> {
-    let frames = String::from_str(alloc, "frames")?;
-    let trace = String::from_str(alloc, "trace")?;
-    let memory = String::from_str(alloc, "memory")?;
-    Ok(OutFiles::new(alloc, frames, trace, memory))
 }
 
 /// Does all clocks of a run of one frame, and gathers the bands that are left.

@@ -5,7 +5,7 @@ ghost use Rattle.std.specs.Prelude.{◌≡◌, ◌≤◌, ℕ, [], false, IfOk};
 ghost use Rattle.std.specs.Arc.{arc_value};
 ghost use Rattle.foreground.specs.Fore.{over, IsUnderway};
 
-use crate::runs::{out_files, run_clocks, script_of};
+use crate::runs::{run_clocks, script_of};
 use band_draw::Direct;
 use band_log::Run;
 use foreground::Fore;
@@ -13,6 +13,7 @@ use ocs_base::{Addr, Beam, Reg};
 use ocs_io::Shelf;
 use out_files::OutFiles;
 use serial_model::{Side, SideAsk};
+use small_runs::out_files;
 use std::alloc::Global;
 use std::sync::Arc;
 use std::test::Fail;

@@ -1,18 +1,21 @@
 //! Each public call once, with ample memory.
 
-ghost use Rattle.std.specs.Prelude.{◌≡◌, [], length};
+ghost use Rattle.std.specs.Prelude.{◌≡◌, length};
 
 use band_log::{Denise, Drawn, Event, Events, Job, Room, Run};
 use mem_versions::{Chip, MemView};
-use ocs_base::{Addr, Beam, Clock, OutOfMemory, Reg, Script};
+use ocs_base::{Addr, Beam, Clock, OutOfMemory, Script};
 use planes::plane_bits;
-use serial_model::{NoSide, Side, SideAsk};
+use serial_model::NoSide;
+use small_runs::{Steady, small_run};
 use std::alloc::Global;
 use std::sync::Arc;
 
 #[test]
 fn a_run_has_what_it_is_made_of(rt: HostRuntime) -> Result<(), OutOfMemory> {
-    let run = small_run(rt.alloc())?;
+    let alloc = rt.alloc();
+    let image = Vec::from_slice(alloc, &[7; 8])?;
+    let run = Run::new(image, Script::new(alloc, true, 2), 20);
     assert_eq!(rt; run.image(), [7; 8].as_slice());
     assert_eq!(rt; run.script().frames(), 2);
     assert!(rt; run.script().cpu());
@@ -104,16 +107,9 @@ fn a_job_and_what_is_drawn_of_it(rt: HostRuntime) -> Result<(), OutOfMemory> {
     Ok(())
 }
 
-/// A run of two frames with the processor, in bands of 20 lines.
-fn small_run(alloc: Global) -> Result<Run<NoSide>, OutOfMemory> {
-    let mut image = Vec::new(alloc);
-    image.resize(8, 7)?;
-    Ok(Run::new(image, Script::new(alloc, true, 2), 20))
-}
-
 /// The job of a band of one picture step.
 fn small_job(alloc: Global) -> Result<Job<NoSide>, OutOfMemory> {
-    let run = Arc::new(alloc, small_run(alloc)?)?;
+    let run = Arc::new(alloc, small_run(alloc, NoSide)?)?;
     let mut events = Events::new(alloc);
     events.push(fetch(0))?;
     Ok(Job {
@@ -157,31 +153,3 @@ fn fill(room: &mut Room, bytes: &[u8])
 }
 
 fn is_shared<T: Send + Sync>(_value: &T) {}
-
-/// A side that requests the same bits of INTREQ at each clock and asks for nothing.
-#[derive(Drop)]
-struct Steady {
-    bits: u16,
-}
-
-impl Side for Steady {
-    ghost use Rattle.serial_model.specs.declared.bus.SideAsk.TheVariants.{Nothing};
-
-    ghost seen = { λ side. record {
-      bits = λ later b dmacon. side.bits;
-      ask = λ later b dmacon. Nothing;
-      shows = λ later. [];
-    } };
-
-    fn poke(&mut self, _reg: Reg, _word: u16) {}
-
-    fn tick(&mut self, _beam: &Beam, _dmacon: u16) -> u16 {
-        self.bits
-    }
-
-    fn ask(&self, _beam: &Beam, _dmacon: u16) -> SideAsk {
-        SideAsk::Nothing
-    }
-
-    fn give(&mut self, _word: u16) {}
-}
