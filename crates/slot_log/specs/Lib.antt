@@ -1,0 +1,4 @@
+pub mod Entry
+pub mod SlotLog
+pub mod SlotLogCode
+pub mod Heading
