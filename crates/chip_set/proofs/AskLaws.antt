@@ -12,6 +12,7 @@ use Rattle.blitter.specs.StandsFor.{slot_shown}
 use Rattle.blitter.specs.declared.Blit.{Blit}
 use Rattle.ocs_base.specs.declared.addr.Addr.{Addr}
 use Rattle.ocs_base.specs.declared.beam.Beam.{Beam}
+use Rattle.ocs_base.specs.declared.reg.Reg.{Reg}
 use Rattle.serial_model.specs.declared.bus.Ask.{Ask}
 use Rattle.serial_model.specs.declared.bus.Ask.TheVariants as A
 use Rattle.serial_model.specs.declared.bus.Made.{Made}
@@ -527,6 +528,12 @@ processor_serves (P.ReadRegister reg) b clx c memory same =
     ap (λ w. if reg.offset == 0x0e then clx else if reg.offset == 0x1c then c.irq.ena else if reg.offset == 0x1e then c.irq.req else w)
     (word_by (reading_at reg.offset) (live_words b c) (fetched_registers b c) c.registers same)
 processor_serves (P.WriteRegister reg word) b clx c memory same = refl
+
+-- so a read gives in the chips that were asked what it gave before
+pub read_once_asked : (reg : Reg) (b : Beam) (clx : ℕ) (c : Chips) (mid : WorkingChips) (word : ℕ) → HasAsked b c mid
+    → ((d : Chips) → IsChipsOf mid d → word ≡ read_word reg.offset b clx d) → word ≡ read_word reg.offset b clx c
+read_once_asked reg b clx c mid word asked is =
+    is (fetched_chips b c) asked.chips ∙ processor_serves (P.ReadRegister reg) b clx c [] (same_words b c mid asked)
 
 serves : (ask : Ask) (b : Beam) (clx : ℕ) (mid : WorkingChips) (c : Chips) (memory : List ℕ) (word : ℕ) → IsAnswer ask b clx mid memory word
     → SameWords (fetched_registers b c) c.registers → IsChipsOf mid (fetched_chips b c) → Serves ask b clx c memory word

@@ -32,3 +32,4 @@ pub mod QuietRuns
 pub mod AskedLaws
 pub mod FetchLaws
 pub mod LineLaws
+pub mod SlotLaws

@@ -134,7 +134,7 @@ word_by : (is : Bool) (other clx rest : ℕ) → (is ≡ true → other ≡ clx)
 word_by true other clx rest read = read refl
 word_by false other clx rest read = refl
 
-read_alike : (offset : ℕ) (b : Beam) (other clx : ℕ) (c : Chips) → ((offset == 0x0e) ≡ true → other ≡ clx)
+pub read_alike : (offset : ℕ) (b : Beam) (other clx : ℕ) (c : Chips) → ((offset == 0x0e) ≡ true → other ≡ clx)
     → read_word offset b other c ≡ read_word offset b clx c
 unfolding read_word
 read_alike offset b other clx c read =

@@ -1,11 +1,14 @@
 -- What the calls of an access ask for, and what they make.
-use Rattle.std.specs.Prelude.{◌≡◌, ℕ, Result, OnOk, OnErr}
+use Rattle.std.specs.Prelude.{◌≡◌, ℕ, Option, Result, OnOk, OnErr}
 use Rattle.out_files.specs.OutFiles.{OutFilesValue}
 use Rattle.serial_model.specs.declared.bus.Ask.{Ask}
+use Rattle.serial_model.specs.State.{State}
+use Rattle.serial_model.specs.Tick.{ask_of, answer_of}
 use Rattle.serial_bands.specs.BusReads.{reads_of_ask}
 use Rattle.chip_set.specs.Chips.{CanAsk, IsBlitAsk, kept_wish}
 use Rattle.band_log.specs.Raster.{RasterValue}
 use Rattle.foreground.specs.Fore.{ForeValue}
+use Rattle.foreground.specs.Slot.{register_word}
 use Rattle.foreground.specs.Steps.{IsLoggedBefore, HasAskedNow, MakesAskedAccess, AccessesPart, KeepsClock, reads_more}
 
 -- the log stands before the access of the clock, and the chips have asked for the slot with this
@@ -22,3 +25,7 @@ pub record MakesAccessWith {A E : Type 0} (ask : Ask) (old new : ForeValue) (see
   pub part : OnErr result (AccessesPart old seen after out given)
   pub kept : KeepsClock old new
   pub reads : new.machine.chip.reads ≡ reads_more (reads_of_ask ask) old.machine.chip.reads
+
+-- the word of a register that answers the access which is made in a state
+abbrev pub IsWordAt : Option ℕ → State → Type 0
+IsWordAt word s = word ≡ register_word (ask_of s) (answer_of s)

@@ -7,6 +7,7 @@ pub mod LogLaws
 pub mod Script
 pub mod Gathered
 pub mod Clock
+pub mod Slot
 pub mod Fore
 pub mod CutsCode
 pub mod Steps

@@ -1,12 +1,13 @@
 //! The access of a colour clock: each owner of the slot has a way of its own.
 
-ghost use Rattle.std.specs.Prelude.{◌≡◌, ◌+◌, ◌<◌, ◌^◌, true, false, OnOk, OnErr};
+ghost use Rattle.std.specs.Prelude.{◌≡◌, ◌+◌, ◌<◌, ◌^◌, true, false, IfOk, OnOk, OnErr};
 ghost use Rattle.serial_bands.specs.BusReads.{reads_of_ask};
 ghost use Rattle.chip_set.specs.AskLaws.{is_clx_ask as is_clx_asked};
 ghost use Rattle.chip_set.specs.Chips.{late_ask, ask_or_late, ask_of_late};
 ghost use Rattle.chip_set.specs.declared.late.LateOwner.{LateOwner};
 ghost use Rattle.band_log.specs.Raster.{RasterValue};
-ghost use Rattle.foreground.specs.AccessCode.{CanAccess, MakesAccessWith};
+ghost use Rattle.foreground.specs.AccessCode.{CanAccess, MakesAccessWith, IsWordAt};
+ghost use Rattle.foreground.specs.Clock.{access_state};
 ghost use Rattle.foreground.specs.Fore.{over};
 ghost use Rattle.foreground.specs.Steps.{MakesAskedAccess, AccessesPart, KeepsClock, reads_more};
 
@@ -43,28 +44,28 @@ impl<S: Side> Fore<S> {
         }
     }
 
-    /// The same of a clock that is made alone, as at the start of a line: out of line, since it comes seldom.
+    /// The same of a clock that is made alone, as at the start of a line, where whoever has the slot asks for this;
+    /// and the word of a register that answers it. Out of line, since it comes seldom.
     #[inline(never)]
-    pub(crate) fn access_alone<Q: Raster<S>>(
+    pub(crate) fn access_with_word<Q: Raster<S>>(
         &mut self,
-        ask: Option<Ask>,
+        ask: &Ask,
         raster: &mut Q,
         out: &mut OutFiles,
-    ) -> Result<(), OutOfMemory>
-        requires can { CanAccess
-            (ask_or_late ask self.old.machine.beam self.old.machine.chips)
-            (over S.seen self.old) (Q.seen raster.old) }
+    ) -> Result<Option<u16>, OutOfMemory>
+        requires can { CanAccess ask.now (over S.seen self.old) (Q.seen raster.old) }
         requires room { self.old.machine.t + 1 < 2 ^ 64 }
-        ensures { MakesAccessWith
-            (ask_or_late ask self.old.machine.beam self.old.machine.chips)
-            (over S.seen self.old) (over S.seen self.new)
+        ensures access { MakesAccessWith ask.now (over S.seen self.old) (over S.seen self.new)
             (Q.seen raster.old) (Q.seen raster.new) out.old out.new result }
+        ensures word { IfOk result (λ word. IsWordAt word
+            (access_state (over S.seen self.old).run self.old.machine.t)) }
     {
-        let ask = match ask {
-            Some(ask) => ask,
-            None => self.machine.chips.late_ask(&self.machine.beam),
-        };
-        self.access_by(&ask, raster, out)
+        if is_clx_ask(ask) {
+            return self.read_clxdat_by(ask, raster, out);
+        }
+        let word = self.machine.register_word(ask, 0);
+        self.access_by(ask, raster, out)?;
+        Ok(word)
     }
 
     /// The access of a slot for which neither the side nor a plane nor a sprite asks.
@@ -223,8 +224,27 @@ impl<S: Side> Fore<S> {
         ensures { MakesAccessWith ask.now (over S.seen self.old) (over S.seen self.new)
             (Q.seen raster.old) (Q.seen raster.new) out.old out.new result }
     {
-        let clx = self.gather_clxdat(raster, true, out)?;
-        self.machine.answer(ask, clx, out)?;
+        self.read_clxdat_by(ask, raster, out)?;
         Ok(())
+    }
+
+    /// The same, and the word that it reads.
+    fn read_clxdat_by<Q: Raster<S>>(
+        &mut self,
+        ask: &Ask,
+        raster: &mut Q,
+        out: &mut OutFiles,
+    ) -> Result<Option<u16>, OutOfMemory>
+        requires can { CanAccess ask.now (over S.seen self.old) (Q.seen raster.old) }
+        requires read { is_clx_asked ask.now ≡ true }
+        ensures access { MakesAccessWith ask.now (over S.seen self.old) (over S.seen self.new)
+            (Q.seen raster.old) (Q.seen raster.new) out.old out.new result }
+        ensures word { IfOk result (λ word. IsWordAt word
+            (access_state (over S.seen self.old).run self.old.machine.t)) }
+    {
+        let clx = self.gather_clxdat(raster, true, out)?;
+        let word = self.machine.register_word(ask, clx);
+        self.machine.answer(ask, clx, out)?;
+        Ok(word)
     }
 }

@@ -1,11 +1,13 @@
 //! The foreground's call for one clock.
 
-ghost use Rattle.std.specs.Prelude.{◌≡◌, ◌+◌, true, false, IsErr, OnOk, OnErr};
+ghost use Rattle.std.specs.Prelude.{◌≡◌, ◌+◌, true, false, IsErr, IfOk, OnOk, OnErr};
 ghost use Rattle.serial_bands.specs.BusReads.{bus_reads};
-ghost use Rattle.foreground.specs.Clock.{Rises};
+ghost use Rattle.foreground.specs.Clock.{Rises, access_state};
+ghost use Rattle.foreground.specs.Slot.{IsSlotOf};
 ghost use Rattle.foreground.specs.Fore.{over, CanGo, Advances, GivesPart, is_done, looked_up};
 
 use crate::fore::Fore;
+use crate::slot::Slot;
 use band_log::Raster;
 use ocs_base::OutOfMemory;
 use out_files::OutFiles;
@@ -13,19 +15,21 @@ use serial_model::Side;
 
 impl<S: Side> Fore<S> {
     /// One colour clock. The output files are given the lines that it adds to the trace, and the pixels
-    /// of bands that were gathered, from the first of those outstanding on. After a refusal, for want
-    /// of memory alone, a part of these was given, and each later call refuses and gives nothing. It
-    /// may wait for a band.
+    /// of bands that were gathered, from the first of those outstanding on. The answer is what the slot of
+    /// the clock was. After a refusal, for want of memory alone, a part of these was given, and each later
+    /// call refuses and gives nothing. It may wait for a band.
     #[inline(always)]
     pub fn advance<Q: Raster<S>>(
         &mut self,
         raster: &mut Q,
         out: &mut OutFiles,
-    ) -> Result<(), OutOfMemory>
+    ) -> Result<Slot, OutOfMemory>
         requires fits { CanGo (over S.seen self.old) (Q.seen raster.old) }
         requires running { self.old.spent ≡ false → is_done (over S.seen self.old) ≡ false }
         ensures clock { OnOk result (Advances (over S.seen self.old) (over S.seen self.new)
             (Q.seen raster.old) (Q.seen raster.new) out.old out.new) }
+        ensures slot { IfOk result (λ slot. IsSlotOf slot
+            (access_state (over S.seen self.old).run self.old.machine.t)) }
         ensures count { OnOk result (self.new.machine.t ≡ self.old.machine.t + 1) }
         ensures run { (over S.seen self.new).run ≡ (over S.seen self.old).run }
         ensures fresh { OnOk result (self.new.spent ≡ false) }

@@ -1,6 +1,6 @@
 //! One colour clock.
 
-ghost use Rattle.std.specs.Prelude.{◌≡◌, ◌+◌, ◌<◌, ◌^◌, ℕ, Bool, false, OnOk, OnErr};
+ghost use Rattle.std.specs.Prelude.{◌≡◌, ◌+◌, ◌<◌, ◌^◌, ℕ, Bool, false, IfOk, OnOk, OnErr};
 ghost use Rattle.serial_model.specs.Beam.{IsOnScreen, next_place};
 ghost use Rattle.serial_model.specs.Events.{due_events, touches_of};
 ghost use Rattle.serial_bands.specs.Bands.{has_clx_read};
@@ -11,26 +11,29 @@ ghost use Rattle.foreground.specs.Machine.{KeepsPlace};
 ghost use Rattle.foreground.specs.MachineStepsCode.{AsksInTime};
 ghost use Rattle.foreground.specs.Log.{with_script_touches};
 ghost use Rattle.foreground.specs.Script.{IsMachine, MakesEvents};
-ghost use Rattle.foreground.specs.Clock.{Rises};
+ghost use Rattle.foreground.specs.Clock.{Rises, access_state};
+ghost use Rattle.foreground.specs.Slot.{IsSlotOf};
 ghost use Rattle.foreground.specs.Fore.{over, HasScript, IsUnderway, Advances, GivesPart, is_done, looked_up};
 ghost use Rattle.foreground.specs.Steps.{HasScriptBehind, RunsEvents};
 ghost use Rattle.foreground.specs.Steps.{EndsClock};
 
 use crate::fore::Fore;
 use crate::script::{reads_clxdat, run_script};
+use crate::slot::Slot;
 use band_log::{Cursor, Raster};
 use ocs_base::OutOfMemory;
 use out_files::OutFiles;
 use serial_model::{Ask, Side};
 
 impl<S: Side> Fore<S> {
-    /// One colour clock. Memory may be wanted, and then a part of what the clock gives was given.
+    /// One colour clock, and what its slot was. Memory may be wanted, and then a part of what the clock gives
+    /// was given.
     #[inline(always)]
     pub(crate) fn advance_clock<Q: Raster<S>>(
         &mut self,
         raster: &mut Q,
         out: &mut OutFiles,
-    ) -> Result<(), OutOfMemory>
+    ) -> Result<Slot, OutOfMemory>
         requires underway { (first : ℕ) × IsUnderway (over S.seen self.old) first
             (Q.seen raster.old) }
         requires running { is_done (over S.seen self.old) ≡ false }
@@ -38,6 +41,8 @@ impl<S: Side> Fore<S> {
             (Q.seen raster.old) (Q.seen raster.new) out.old out.new) }
         ensures part { OnErr result (GivesPart (over S.seen self.old)
             (Q.seen raster.old) (Q.seen raster.new) out.old out.new) }
+        ensures slot { IfOk result (λ slot. IsSlotOf slot
+            (access_state (over S.seen self.old).run self.old.machine.t)) }
         ensures count { OnOk result (self.new.machine.t ≡ self.old.machine.t + 1) }
         ensures run { (over S.seen self.new).run ≡ (over S.seen self.old).run }
         ensures spent { OnOk result (self.new.spent ≡ self.old.spent) }
@@ -52,9 +57,10 @@ impl<S: Side> Fore<S> {
     {
         let clx = self.begin_clock(raster, out)?;
         self.run_to_timers(clx, out)?;
-        let ask = self.ask();
-        self.access_alone(ask, raster, out)?;
-        self.end_clock(out)
+        let ask = self.ask_alone();
+        let read = self.access_with_word(&ask, raster, out)?;
+        self.end_clock(out)?;
+        Ok(Slot { ask, read })
     }
 
     /// Whether the script reads CLXDAT in this clock.
@@ -99,6 +105,31 @@ impl<S: Side> Fore<S> {
         ensures chip { self.new.machine.chip ≡ self.old.machine.chip }
     {
         self.machine.ask_in_time()
+    }
+
+    /// The same, and what whoever has the slot asks for.
+    #[inline(always)]
+    fn ask_alone(&mut self) -> Ask
+        ensures asks { AsksInTime result
+            (over S.seen self.old).machine (over S.seen self.new).machine }
+        ensures able { CanAsk result }
+        ensures wish { IsBlitAsk result (kept_wish self.new.machine.chips) }
+        ensures same { self.new ≡ record self.old { machine = self.new.machine } }
+        ensures chip { self.new.machine.chip ≡ self.old.machine.chip }
+    {
+        let early = self.ask();
+        self.early_or_late(early)
+    }
+
+    /// What whoever has the slot asks for, where the side, a plane or a sprite asks for this.
+    #[inline(always)]
+    fn early_or_late(&self, early: Option<Ask>) -> Ask
+        ensures { result ≡ ask_or_late early self.now.machine.beam self.now.machine.chips }
+    {
+        match early {
+            Some(ask) => ask,
+            None => self.machine.chips.late_ask(&self.machine.beam),
+        }
     }
 
     /// Second step: the script's events of the clock. Once none is left there is nothing to do.

@@ -18,6 +18,7 @@ mod line;
 mod log;
 mod lookout;
 mod machine;
+mod memory_bytes;
 mod memory_sum;
 mod quiet;
 mod reading;
@@ -27,7 +28,9 @@ mod script;
 mod settle;
 mod shadow;
 mod shown_count;
+mod slot;
 mod touches;
 
 pub use checkpoint::Checkpoint;
 pub use fore::Fore;
+pub use slot::Slot;

@@ -9,11 +9,13 @@ ghost use Rattle.serial_model.specs.Made.{is_clx_read};
 ghost use Rattle.serial_model.specs.Registers.{is_interlaced};
 ghost use Rattle.serial_model.specs.Tick.{start_clock, count_timers as count_timers_of};
 ghost use Rattle.serial_model.specs.State.{State};
-ghost use Rattle.serial_model.specs.Tick.{ask_of, run_processor, advance_beam};
-ghost use Rattle.chip_set.specs.AskLaws.{is_clx_ask};
+ghost use Rattle.serial_model.specs.Bus.{answer_processor};
+ghost use Rattle.serial_model.specs.Tick.{ask_of, answer_of, run_processor, advance_beam};
+ghost use Rattle.chip_set.specs.AskLaws.{is_clx_ask, reads_clx};
 ghost use Rattle.chip_set.specs.Chips.{CanAsk, CanDo, IsBlitAsk, kept_wish, ask_or_late};
 ghost use Rattle.foreground.specs.Machine.{machine_over, IsMachineOf, IsReset, Makes, MakesQuietly, MakesEvent, MakesAccess};
 ghost use Rattle.foreground.specs.Machine.{HasAskedOf, StoresMade, StaysInPlace, KeepsPlace, reads_after};
+ghost use Rattle.foreground.specs.Slot.{register_word, word_of_processor};
 ghost use Rattle.foreground.specs.MachineStepsCode.{WritesRegister, AsksInTime, GivesSide, Does};
 
 use chip_set::Chips;
@@ -21,7 +23,7 @@ use mem_versions::Chip;
 use ocs_base::{Act, Addr, Beam, ChipSize, Clock, OutOfMemory, Reg, System};
 use out_files::OutFiles;
 use reg_file::Effect;
-use serial_model::{Ask, Half, Made, Side, SideAsk, Source, TraceLine};
+use serial_model::{Ask, Half, Made, ProcessorAsk, Side, SideAsk, Source, TraceLine};
 use std::alloc::Global;
 
 /// The machine without its picture: how many clocks are done since reset, the beam, the chip memory, the
@@ -159,6 +161,38 @@ impl<S: Side> Machine<S> {
         let dmacon = self.chips.dmacon();
         let wish = self.side.ask(&self.beam, dmacon);
         self.chips.ask(&self.beam, wish)
+    }
+
+    /// The word of a register that will answer the ask, where it reads one: between `ask_in_time` and `answer`.
+    pub fn register_word(&self, ask: &Ask, clx: u16) -> Option<u16>
+        ensures { (s : State) → HasAskedOf (machine_over S.seen self.now) s → ask.now ≡ ask_of s
+            → (is_clx_ask ask.now ≡ true → s.clx ≡ clx)
+            → result ≡ register_word (ask_of s) (answer_of s) }
+    {
+        match *ask {
+            Ask::Processor { ask } => self.word_of_processor(&ask, clx),
+            Ask::Free
+            | Ask::Side { .. }
+            | Ask::Plane { .. }
+            | Ask::Sprite { .. }
+            | Ask::Copper { .. }
+            | Ask::Blit { .. } => None,
+        }
+    }
+
+    /// The same where the processor asks.
+    fn word_of_processor(&self, ask: &ProcessorAsk, clx: u16) -> Option<u16>
+        ensures { (s : State) → HasAskedOf (machine_over S.seen self.now) s
+            → (reads_clx ask.now ≡ true → s.clx ≡ clx)
+            → result ≡ word_of_processor ask.now
+            (answer_processor ask.now s.beam s.clx s.chips s.memory) }
+    {
+        match *ask {
+            ProcessorAsk::ReadRegister { reg } => Some(self.chips.peek(reg, &self.beam, clx)),
+            ProcessorAsk::Read { .. }
+            | ProcessorAsk::Write { .. }
+            | ProcessorAsk::WriteRegister { .. } => None,
+        }
     }
 
     /// Fifth step, its end: the owner of the slot has its word and makes its access. The answer is

@@ -11,3 +11,4 @@ mod words;
 pub use fault::{OutFile, WriteFault};
 pub use files::OutFiles;
 pub use serial_model::{Source, TraceLine};
+pub use words::put_memory;

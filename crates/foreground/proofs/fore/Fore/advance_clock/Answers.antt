@@ -1,11 +1,10 @@
 use Rattle.std.proofs.Common.{ap, refl}
 use Rattle.mem_versions.specs.Chip.{ChipValue}
-use Rattle.std.proofs.lemmas.Result.{on_err_weaker}
 use Rattle.foreground.specs.Fore.{over, looked_up}
-use Rattle.foreground.proofs.MadeLaws.{on_err, on_ok_two}
-use Rattle.foreground.proofs.KeptLaws.{on_ok}
+use Rattle.foreground.proofs.MadeLaws.{on_err}
 use Rattle.foreground.proofs.AskedLaws.{reaches_ask, at_ask, makes_from_ask, part_from_ask, kept_from_ask, rises_from_ask}
 use Rattle.foreground.proofs.AdvanceLaws.{advances, part_reaching, part_accessing, part_ending, machine_at_begin}
+use Rattle.foreground.proofs.SlotLaws.{slot_from_ask}
 use Rattle.foreground.proofs.fore.Fore.advance_clock.Goals as goal
 
 pub run_to_timers-requires-clause-some : goal.run_to_timers-requires-clause-some
@@ -16,53 +15,62 @@ returns-in_err-run_to_timers-clause-part g c =
     on_err c.from_residual-in_err-run_to_timers.result
     (part_reaching _ _ _ _ _ _ _ _ c.in_ok-clx.ensures.begins c.in_err-run_to_timers.ensures.told)
 
-pub access_alone-requires-clause-can : goal.access_alone-requires-clause-can
-access_alone-requires-clause-can g c =
+pub access_with_word-requires-clause-can : goal.access_with_word-requires-clause-can
+access_with_word-requires-clause-can g c =
     let at = at_ask _ _ _ _ _ _ _ _ _ _ _ c.requires.underway.1 c.in_ok-clx.ensures.begins
-    (reaches_ask _ _ _ _ _ _ _ c.in_ok-run_to_timers.ensures.events c.ask-ask.ensures.asks (ap (over g.S.Side.seen) c.ask-ask.ensures.same)) in
-    record { logged = at.1; asked = at.0; able = c.ask-ask.ensures.able; wish = c.ask-ask.ensures.wish }
+    (reaches_ask _ _ _ _ _ _ _ c.in_ok-run_to_timers.ensures.events c.ask_alone-ask.ensures.asks (ap (over g.S.Side.seen) c.ask_alone-ask.ensures.same)) in
+    record { logged = at.1; asked = at.0; able = c.ask_alone-ask.ensures.able; wish = c.ask_alone-ask.ensures.wish }
 
-pub returns-in_err-access_alone-clause-part : goal.returns-in_err-access_alone-clause-part
-returns-in_err-access_alone-clause-part g c =
-    let reaches = reaches_ask _ _ _ _ _ _ _ c.in_ok-run_to_timers.ensures.events c.ask-ask.ensures.asks (ap (over g.S.Side.seen) c.ask-ask.ensures.same) in
-    on_err c.from_residual-in_err-access_alone.result
+pub returns-in_err-read-clause-part : goal.returns-in_err-read-clause-part
+returns-in_err-read-clause-part g c =
+    let reaches = reaches_ask _ _ _ _ _ _ _ c.in_ok-run_to_timers.ensures.events c.ask_alone-ask.ensures.asks (ap (over g.S.Side.seen) c.ask_alone-ask.ensures.same) in
+    on_err c.from_residual-in_err-read.result
     (part_accessing _ _ _ _ _ _ _ _ _ _ _ c.in_ok-clx.ensures.begins reaches.reaches
-    (part_from_ask _ _ _ _ _ _ _ _ _ reaches c.in_err-access_alone.ensures.part))
+    (part_from_ask _ _ _ _ _ _ _ _ _ reaches c.in_err-read.ensures.access.part))
 
-pub returns-in_err-access_alone-clause-few : goal.returns-in_err-access_alone-clause-few
-returns-in_err-access_alone-clause-few g c =
-    on_err c.from_residual-in_err-access_alone.result (rises_from_ask _ _ _ _ _ _ (looked_up (over g.S.Side.seen c.args.self.now)) _ _ _ _ _ _ _
+pub returns-in_err-read-clause-few : goal.returns-in_err-read-clause-few
+returns-in_err-read-clause-few g c =
+    on_err c.from_residual-in_err-read.result (rises_from_ask _ _ _ _ _ _ (looked_up (over g.S.Side.seen c.args.self.now)) _ _ _ _ _ _ _
     c.requires.underway.1 c.in_ok-clx.ensures.begins c.in_ok-clx.ensures.reads
-    (reaches_ask _ _ _ _ _ _ _ c.in_ok-run_to_timers.ensures.events c.ask-ask.ensures.asks (ap (over g.S.Side.seen) c.ask-ask.ensures.same))
-    c.in_err-access_alone.ensures.reads refl).1
+    (reaches_ask _ _ _ _ _ _ _ c.in_ok-run_to_timers.ensures.events c.ask_alone-ask.ensures.asks (ap (over g.S.Side.seen) c.ask_alone-ask.ensures.same))
+    c.in_err-read.ensures.access.reads refl).1
+
+pub returns-in_err-end_clock-clause-part : goal.returns-in_err-end_clock-clause-part
+returns-in_err-end_clock-clause-part g c =
+    let reaches = reaches_ask _ _ _ _ _ _ _ c.in_ok-run_to_timers.ensures.events c.ask_alone-ask.ensures.asks (ap (over g.S.Side.seen) c.ask_alone-ask.ensures.same) in
+    on_err c.from_residual-in_err-end_clock.result
+    (part_ending _ _ _ _ _ _ _ _ _ _ _ _ _ c.in_ok-clx.ensures.begins
+    reaches.reaches (makes_from_ask _ _ _ _ _ _ _ _ _ _ reaches c.in_ok-read.ensures.access.makes)
+    (kept_from_ask _ _ _ _ _ _ _ reaches c.in_ok-read.ensures.access.kept) c.in_err-end_clock.ensures.refused)
+
+pub returns-in_err-end_clock-clause-few : goal.returns-in_err-end_clock-clause-few
+returns-in_err-end_clock-clause-few g c =
+    on_err c.from_residual-in_err-end_clock.result (rises_from_ask _ _ _ _ _ _ (looked_up (over g.S.Side.seen c.args.self.now)) _ _ _ _ _ _ _
+    c.requires.underway.1 c.in_ok-clx.ensures.begins c.in_ok-clx.ensures.reads
+    (reaches_ask _ _ _ _ _ _ _ c.in_ok-run_to_timers.ensures.events c.ask_alone-ask.ensures.asks (ap (over g.S.Side.seen) c.ask_alone-ask.ensures.same))
+    c.in_ok-read.ensures.access.reads
+    (ap (λ (x : ChipValue). x.reads) c.in_err-end_clock.ensures.chip)).1
 
 pub returns-clause-clock : goal.returns-clause-clock
 returns-clause-clock g c =
-    let reaches = reaches_ask _ _ _ _ _ _ _ c.in_ok-run_to_timers.ensures.events c.ask-ask.ensures.asks (ap (over g.S.Side.seen) c.ask-ask.ensures.same) in
-    on_ok_two c.end_clock.result (λ end place. advances _ _ _ _ _ _ place.0 _ _ _ _ _ _ _ _ c.requires.running c.in_ok-clx.ensures.begins
-    reaches.reaches (makes_from_ask _ _ _ _ _ _ _ _ _ _ reaches c.in_ok-access_alone.ensures.makes)
-    (kept_from_ask _ _ _ _ _ _ _ reaches c.in_ok-access_alone.ensures.kept) end place.1)
-    c.end_clock.ensures.ends c.end_clock.ensures.place
+    let reaches = reaches_ask _ _ _ _ _ _ _ c.in_ok-run_to_timers.ensures.events c.ask_alone-ask.ensures.asks (ap (over g.S.Side.seen) c.ask_alone-ask.ensures.same) in
+    let place = c.in_ok-end_clock.ensures.place in
+    advances _ _ _ _ _ _ place.0 _ _ _ _ _ _ _ _ c.requires.running c.in_ok-clx.ensures.begins
+    reaches.reaches (makes_from_ask _ _ _ _ _ _ _ _ _ _ reaches c.in_ok-read.ensures.access.makes)
+    (kept_from_ask _ _ _ _ _ _ _ reaches c.in_ok-read.ensures.access.kept) c.in_ok-end_clock.ensures.ends place.1
 
-pub returns-clause-part : goal.returns-clause-part
-returns-clause-part g c =
-    let reaches = reaches_ask _ _ _ _ _ _ _ c.in_ok-run_to_timers.ensures.events c.ask-ask.ensures.asks (ap (over g.S.Side.seen) c.ask-ask.ensures.same) in
-    on_err_weaker c.end_clock.result (λ same. part_ending _ _ _ _ _ _ _ _ _ _ _ _ _ c.in_ok-clx.ensures.begins
-    reaches.reaches (makes_from_ask _ _ _ _ _ _ _ _ _ _ reaches c.in_ok-access_alone.ensures.makes)
-    (kept_from_ask _ _ _ _ _ _ _ reaches c.in_ok-access_alone.ensures.kept) same) c.end_clock.ensures.refused
+pub returns-clause-slot : goal.returns-clause-slot
+returns-clause-slot g c =
+    let reaches = reaches_ask _ _ _ _ _ _ _ c.in_ok-run_to_timers.ensures.events c.ask_alone-ask.ensures.asks
+    (ap (over g.S.Side.seen) c.ask_alone-ask.ensures.same) in
+    let at = at_ask _ _ _ _ _ _ _ _ _ _ _ c.requires.underway.1 c.in_ok-clx.ensures.begins reaches in
+    slot_from_ask _ _ _ _ _ _ _ _ _ _ _ _ c.requires.underway.1 c.in_ok-clx.ensures.begins reaches
+    (record { ask = at.0.asks; read = c.in_ok-read.ensures.word })
 
 pub returns-clause-reads : goal.returns-clause-reads
 returns-clause-reads g c =
-    on_ok c.end_clock.result (rises_from_ask _ _ _ _ _ _ (looked_up (over g.S.Side.seen c.args.self.now)) _ _ _ _ _ _ _
+    (rises_from_ask _ _ _ _ _ _ (looked_up (over g.S.Side.seen c.args.self.now)) _ _ _ _ _ _ _
     c.requires.underway.1 c.in_ok-clx.ensures.begins c.in_ok-clx.ensures.reads
-    (reaches_ask _ _ _ _ _ _ _ c.in_ok-run_to_timers.ensures.events c.ask-ask.ensures.asks (ap (over g.S.Side.seen) c.ask-ask.ensures.same))
-    c.in_ok-access_alone.ensures.reads
-    (ap (λ (x : ChipValue). x.reads) c.end_clock.ensures.chip)).0
-
-pub returns-clause-few : goal.returns-clause-few
-returns-clause-few g c =
-    on_err c.end_clock.result (rises_from_ask _ _ _ _ _ _ (looked_up (over g.S.Side.seen c.args.self.now)) _ _ _ _ _ _ _
-    c.requires.underway.1 c.in_ok-clx.ensures.begins c.in_ok-clx.ensures.reads
-    (reaches_ask _ _ _ _ _ _ _ c.in_ok-run_to_timers.ensures.events c.ask-ask.ensures.asks (ap (over g.S.Side.seen) c.ask-ask.ensures.same))
-    c.in_ok-access_alone.ensures.reads
-    (ap (λ (x : ChipValue). x.reads) c.end_clock.ensures.chip)).1
+    (reaches_ask _ _ _ _ _ _ _ c.in_ok-run_to_timers.ensures.events c.ask_alone-ask.ensures.asks (ap (over g.S.Side.seen) c.ask_alone-ask.ensures.same))
+    c.in_ok-read.ensures.access.reads
+    (ap (λ (x : ChipValue). x.reads) c.in_ok-end_clock.ensures.chip)).0
