@@ -9,7 +9,7 @@ use Rattle.ocs_run.specs.Fault.{IsRunFault, of_write}
 use Rattle.out_files.specs.Places.{WritesFiles}
 use Rattle.ocs_run.specs.PlaceCode.{WritesRun}
 use Rattle.ocs_run.specs.declared.fault.Fault.{Fault}
-use Rattle.ocs_run.specs.declared.fault.Fault.TheVariants.{Usage, BadImage, BadScript, BadTrack, Unread, Unwritten, Unsaid, OutOfMemory}
+use Rattle.ocs_run.specs.declared.fault.Fault.TheVariants.{Usage, Inputs, BadTrack, UnreadTrack, Unwritten, Unsaid, OutOfMemory}
 use Rattle.ocs_run.proofs.KeptLaws.{OnlyWrites-more}
 
 rose_since : (a b c : ℕ) → a ≤ b → Rose b c → Rose a c
@@ -25,10 +25,9 @@ run_fault_of audio old new NoRoomToWrite cause = tt
 pub fault_since : (audio : Option (List ℕ)) (a b c : Outside) (fault : Fault) → a.write_faults ≤ b.write_faults → IsRunFault audio b c fault
     → IsRunFault audio a c fault
 fault_since audio a b c Usage le is = absurd is
-fault_since audio a b c BadImage le is = absurd is
-fault_since audio a b c (BadScript line kind) le is = absurd is
+fault_since audio a b c (Inputs fault) le is = absurd is
 fault_since audio a b c BadTrack le is = absurd is
-fault_since audio a b c (Unread input) le is = absurd is
+fault_since audio a b c UnreadTrack le is = absurd is
 fault_since audio a b c (Unwritten output) le is = (rose_since a.write_faults b.write_faults c.write_faults le is.0, is.1)
 fault_since audio a b c Unsaid le is = absurd is
 fault_since audio a b c OutOfMemory le is = tt

@@ -2,14 +2,12 @@ pub mod AudioLaws
 pub mod CrewLaws
 pub mod EndLaws
 pub mod FaultLaws
-pub mod InputLaws
 pub mod KeptLaws
 pub mod NameLaws
 pub mod OrderLaws
 pub mod ReadableLaws
 pub mod RunLaws
 pub mod SceneLaws
-pub mod TextLaws
 pub mod TopLaws
 pub mod GrowthLaws
 pub mod PrefixLaws

@@ -7,26 +7,25 @@ use Rattle.disk_dma.specs.Track.{is_track}
 use Rattle.ocs_base.specs.Script.{ScriptValue}
 use Rattle.ocs_io.specs.Answers.{WhereTold}
 use Rattle.ocs_io.specs.Place.{Files, Outside, file}
-use Rattle.script_read.specs.Grammar.{script_of}
 use Rattle.serial_model.specs.Side.{SideValue}
 use Rattle.ocs_run.specs.Command.{OrderAnswers, IsDone, IsUnwritten, IsWanting, HasOrdered, LeavesOrdered, out_names}
 use Rattle.ocs_run.specs.Fault.{IsRunFault}
-use Rattle.ocs_run.specs.Inputs.{Holds, HoldsRun, HoldsNoTrack}
-use Rattle.ocs_run.specs.Inputs.{AreInputsOf, IsInputFault, IsTrackFault, IsSideOf, IsSideFault}
+use Rattle.run_inputs.specs.Inputs.{Holds, HoldsRun, AreInputsOf}
+use Rattle.run_inputs.proofs.VerdictLaws.{told_all, at_told}
 use Rattle.ocs_run.specs.Order.{OrderValue, ExtraValue, NoFile, AudioFile, TrackFile, HasTrack, audio_of}
 use Rattle.out_files.specs.OutFiles.{OutNames}
 use Rattle.ocs_run.specs.Run.{HasAllFiles}
 use Rattle.ocs_run.specs.Prefix.{LeavesFiles}
 use Rattle.ocs_run.specs.SetupCode.{IsSetupOf}
+use Rattle.ocs_run.specs.Sides.{HoldsNoTrack, IsTrackFault, IsSideOf, IsSideFault}
 use Rattle.ocs_run.specs.Verdict.{Verdict, Usage as UsageVerdict, Absent, BadImage as BadImageVerdict, BadScript as BadScriptVerdict}
 use Rattle.ocs_run.specs.Verdict.{BadTrack as BadTrackVerdict, Good, Scene, Rewind, of_order, of_extra, of_track}
 use Rattle.ocs_run.specs.declared.fault.Fault.{Fault}
-use Rattle.ocs_run.specs.declared.fault.Fault.TheVariants.{Usage, BadImage, BadScript, BadTrack, Unread, Unwritten, Unsaid, OutOfMemory}
-use Rattle.ocs_run.specs.declared.fault.Input.TheVariants.{Image, Script, Track}
+use Rattle.ocs_run.specs.declared.fault.Fault.TheVariants.{Usage, Inputs, BadTrack, UnreadTrack, Unwritten, Unsaid, OutOfMemory}
 use Rattle.ocs_run.specs.declared.run.Setup.{Setup}
 use Rattle.ocs_run.proofs.AudioLaws.{LeavesFiles-none}
 use Rattle.ocs_run.proofs.PrefixLaws.{prefixes_kept}
-use Rattle.ocs_run.proofs.VerdictLaws.{told_all, at_told, rose_since, inputs_are, inputs_good, image_verdict, line_verdict}
+use Rattle.ocs_run.proofs.VerdictLaws.{rose_since, inputs_are, inputs_good}
 
 -- ---- the verdict of an order is no usage and no scene
 
@@ -93,32 +92,11 @@ wanting_kept (Good image script order side) f new run same = LeavesOrdered-kept 
 wanting_kept (Scene number band workers) f new run same = absurd run
 wanting_kept (Rewind image script every keep clocks) f new run same = absurd run
 
-wants : (o : OrderValue) (old new : Outside) → new.files ≡ old.files → OrderAnswers o old new (Err OutOfMemory)
+pub wants : (o : OrderValue) (old new : Outside) → new.files ≡ old.files → OrderAnswers o old new (Err OutOfMemory)
 wants o old new same =
     told_all old.files (λ f. IsWanting (of_order o f) f new.files) (λ f is. wanting_kept (of_order o f) f new.files (of_run o f) (same ∙ is))
 
--- ---- the faults of the inputs
-
-pub input_fault : (o : OrderValue) (old new : Outside) (fault : Fault) → IsInputFault old new o.image o.script fault → new.files ≡ old.files
-    → OrderAnswers o old new (Err fault)
-input_fault o old new Usage is same = absurd is
-input_fault o old new BadImage is same = (
-  told_all old.files (λ f. of_order o f ≡ BadImageVerdict)
-      (λ f e. image_verdict (λ image script. of_extra o f image script o.extra) o.image o.script f old e is),
-  same,
-)
-input_fault o old new (BadScript line kind) is same = (
-  told_all old.files (λ f. of_order o f ≡ BadScriptVerdict line kind)
-      (λ f e. line_verdict (λ image script. of_extra o f image script o.extra) o.image o.script f old line kind e is),
-  same,
-)
-input_fault o old new BadTrack is same = absurd is
-input_fault o old new (Unread Image) is same = (is, same)
-input_fault o old new (Unread Script) is same = (is.0, same, is.1)
-input_fault o old new (Unread Track) is same = absurd is
-input_fault o old new (Unwritten output) is same = absurd is
-input_fault o old new Unsaid is same = absurd is
-input_fault o old new OutOfMemory is same = wants o old new same
+-- ---- the faults of the track
 
 -- a track that was read and is none
 bad_track : (old : Outside) (o : OrderValue) (image : List ℕ) (script : ScriptValue) (f : Files) (name : List ℕ) (extra : ExtraValue) → old.files ≡ Some f
@@ -132,8 +110,7 @@ module _ (o : OrderValue) (old mid new : Outside) (image : List ℕ) (script : S
   track_fault : (name : List ℕ) (fault : Fault) → o.extra ≡ TrackFile name → AreInputsOf old o.image o.script image script → mid.files ≡ old.files
       → old.read_faults ≤ mid.read_faults → IsTrackFault mid new name fault → new.files ≡ mid.files → OrderAnswers o old new (Err fault)
   track_fault name Usage extra read kept count is same = absurd is
-  track_fault name BadImage extra read kept count is same = absurd is
-  track_fault name (BadScript line kind) extra read kept count is same = absurd is
+  track_fault name (Inputs fault) extra read kept count is same = absurd is
   track_fault name BadTrack extra read kept count is same = (
     told_all old.files (λ f. of_order o f ≡ BadTrackVerdict)
         (λ f e. inputs_good (λ image script. of_extra o f image script o.extra) o.image o.script f old image script e read
@@ -141,9 +118,7 @@ module _ (o : OrderValue) (old mid new : Outside) (image : List ℕ) (script : S
     same ∙ kept,
     subst HasTrack (sym extra) tt,
   )
-  track_fault name (Unread Image) extra read kept count is same = absurd is
-  track_fault name (Unread Script) extra read kept count is same = absurd is
-  track_fault name (Unread Track) extra read kept count is same = (
+  track_fault name UnreadTrack extra read kept count is same = (
     rose_since old.read_faults mid.read_faults new.read_faults count is,
     same ∙ kept,
     told_all old.files (HoldsRun o.image o.script) (λ f e. record {
@@ -190,10 +165,9 @@ run_fault : (o : OrderValue) (old mid new : Outside) (image : List ℕ) (script 
     → IsReady old o image script side → mid.files ≡ old.files → old.write_faults ≤ mid.write_faults
     → IsRunFault (audio_of o.extra) mid new fault → LeavesOrdered o image script side mid.files new.files → OrderAnswers o old new (Err fault)
 run_fault o old mid new image script side Usage ready kept count is leaves = absurd is
-run_fault o old mid new image script side BadImage ready kept count is leaves = absurd is
-run_fault o old mid new image script side (BadScript line kind) ready kept count is leaves = absurd is
+run_fault o old mid new image script side (Inputs fault) ready kept count is leaves = absurd is
 run_fault o old mid new image script side BadTrack ready kept count is leaves = absurd is
-run_fault o old mid new image script side (Unread input) ready kept count is leaves = absurd is
+run_fault o old mid new image script side UnreadTrack ready kept count is leaves = absurd is
 run_fault o old mid new image script side (Unwritten output) ready kept count is leaves = (
   rose_since old.write_faults mid.write_faults new.write_faults count is.0,
   told_all old.files (λ f. IsUnwritten (of_order o f) f new.files) (λ f e. subst (λ v. IsUnwritten v f new.files) (sym (ready f e))

@@ -3,17 +3,16 @@ use Rattle.std.proofs.Common.{◌≡◌, ℕ, List, Err, sym, ap, subst, ◌∙�
 use Rattle.ocs_base.specs.Script.{ScriptValue}
 use Rattle.ocs_io.specs.Answers.{WhereTold}
 use Rattle.ocs_io.specs.Place.{Outside, Rose, OnlyReads, said_more}
-use Rattle.ocs_run.specs.Command.{KeepsSaid}
-use Rattle.ocs_run.specs.Inputs.{AreInputsOf, IsInputFault}
+use Rattle.run_inputs.specs.Inputs.{AreInputsOf, IsInputFault}
+use Rattle.run_inputs.specs.Texts.{KeepsSaid}
+use Rattle.run_inputs.specs.declared.fault.InputFault.{InputFault}
+use Rattle.run_inputs.proofs.VerdictLaws.{told_all}
 use Rattle.ocs_run.specs.RewindAnswers.{RewindAnswers, AreLinesOf, SaysLines, SaysLinesPart}
 use Rattle.ocs_run.specs.RewindOrder.{RewindOrderValue}
 use Rattle.ocs_run.specs.RewindText.{AreLines}
 use Rattle.ocs_run.specs.Verdict.{Verdict, Rewind, of_rewind}
-use Rattle.ocs_run.specs.Verdict.{BadImage as BadImageVerdict, BadScript as BadScriptVerdict}
-use Rattle.ocs_run.specs.declared.fault.Fault.{Fault}
-use Rattle.ocs_run.specs.declared.fault.Fault.TheVariants.{Usage, BadImage, BadScript, BadTrack, Unread, Unwritten, Unsaid, OutOfMemory}
-use Rattle.ocs_run.specs.declared.fault.Input.TheVariants.{Image, Script, Track}
-use Rattle.ocs_run.proofs.VerdictLaws.{told_all, inputs_good, image_verdict, line_verdict}
+use Rattle.ocs_run.specs.declared.fault.Fault.TheVariants.{Inputs}
+use Rattle.ocs_run.proofs.VerdictLaws.{inputs_good}
 
 -- what is asked of good inputs
 abbrev pub asked_by : RewindOrderValue → List ℕ → ScriptValue → Verdict
@@ -22,25 +21,9 @@ asked_by o image script = Rewind image script o.every o.keep o.clocks
 pub reads_keep : (old new : Outside) → OnlyReads old new → KeepsSaid old new
 reads_keep old new kept = record { said = kept.said; faults = kept.say_faults }
 
-pub rewind_fault : (o : RewindOrderValue) (old new : Outside) (fault : Fault) → IsInputFault old new o.image o.script fault → OnlyReads old new
-    → RewindAnswers o old new (Err fault)
-rewind_fault o old new Usage is kept = absurd is
-rewind_fault o old new BadImage is kept = (
-  told_all old.files (λ f. of_rewind o f ≡ BadImageVerdict) (λ f e. image_verdict (asked_by o) o.image o.script f old e is),
-  reads_keep old new kept,
-)
-rewind_fault o old new (BadScript line kind) is kept = (
-  told_all old.files (λ f. of_rewind o f ≡ BadScriptVerdict line kind)
-      (λ f e. line_verdict (asked_by o) o.image o.script f old line kind e is),
-  reads_keep old new kept,
-)
-rewind_fault o old new BadTrack is kept = absurd is
-rewind_fault o old new (Unread Image) is kept = (is, reads_keep old new kept)
-rewind_fault o old new (Unread Script) is kept = (is.0, reads_keep old new kept, is.1)
-rewind_fault o old new (Unread Track) is kept = absurd is
-rewind_fault o old new (Unwritten output) is kept = absurd is
-rewind_fault o old new Unsaid is kept = absurd is
-rewind_fault o old new OutOfMemory is kept = reads_keep old new kept
+pub rewind_fault : (o : RewindOrderValue) (old new : Outside) (fault : InputFault) → IsInputFault old new o.image o.script fault → OnlyReads old new
+    → RewindAnswers o old new (Err (Inputs fault))
+rewind_fault o old new fault is kept = (is, reads_keep old new kept)
 
 -- the lines are those of the inputs that were read
 lines_told : (o : RewindOrderValue) (old : Outside) (image text : List ℕ) (script : ScriptValue) → AreInputsOf old o.image o.script image script

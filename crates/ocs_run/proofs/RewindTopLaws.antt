@@ -2,7 +2,8 @@
 use Rattle.std.proofs.Common.{◌≡◌, ℕ, ◌≤◌, ◌⊎◌, List, Option, Some, None, Err, inl, inr, refl, sym, subst, ◌∙◌, arith}
 use Rattle.ocs_io.specs.Answers.{WhereTold}
 use Rattle.ocs_io.specs.Place.{Files, Outside, Rose, OnlySays}
-use Rattle.ocs_run.specs.Command.{IsDone, IsUnwritten, IsWanting, KeepsSaid}
+use Rattle.ocs_run.specs.Command.{IsDone, IsUnwritten, IsWanting}
+use Rattle.run_inputs.specs.Texts.{KeepsSaid}
 use Rattle.ocs_run.specs.Fault.{status_of}
 use Rattle.ocs_run.specs.RewindAnswers.{RewindAnswers, AreLinesOf, SaysLines, SaysLinesPart}
 use Rattle.ocs_run.specs.RewindOrder.{RewindOrderValue}
@@ -10,10 +11,11 @@ use Rattle.ocs_run.specs.Top.{HasBadImage, HasBadScript, Completed, IsToldOfRewi
 use Rattle.ocs_run.specs.Verdict.{Verdict, Usage as UsageVerdict, Absent, BadImage as BadImageVerdict}
 use Rattle.ocs_run.specs.Verdict.{BadScript as BadScriptVerdict, BadTrack as BadTrackVerdict, Good, Scene, Rewind, of_rewind}
 use Rattle.ocs_run.specs.declared.fault.Fault.{Fault}
-use Rattle.ocs_run.specs.declared.fault.Fault.TheVariants.{Usage, BadImage, BadScript, BadTrack, Unread, Unwritten, Unsaid, OutOfMemory}
-use Rattle.ocs_run.specs.declared.fault.Input.TheVariants.{Image, Script, Track}
+use Rattle.ocs_run.specs.declared.fault.Fault.TheVariants.{Usage, Inputs, BadTrack, UnreadTrack, Unwritten, Unsaid, OutOfMemory}
+use Rattle.run_inputs.specs.declared.fault.InputFault.TheVariants.{BadImage, BadScript, Unread, OutOfMemory as NoRoomForInputs}
+use Rattle.run_inputs.proofs.FaultLaws.{not_two, not_six, not_nine, image_cause, script_cause, unread_cause, told_of_inputs}
 use Rattle.ocs_run.proofs.RewindOrderLaws.{asked_by}
-use Rattle.ocs_run.proofs.VerdictLaws.{inputs_are}
+use Rattle.ocs_run.proofs.VerdictLaws.{inputs_are, no_image, no_script}
 
 -- ---- the verdict of a rewind is no usage, no track, no run and no scene
 
@@ -112,20 +114,18 @@ module _ (order : RewindOrderValue) (old : Outside) where
   module _ (mid : Outside) (s : ℕ) where
     pub rewind_two : (fault : Fault) → RewindAnswers order old mid (Err fault) → s ≡ status_of fault → s ≡ 2 → ⊥
     rewind_two Usage is e two = is
-    rewind_two BadImage is e two = omega arith
-    rewind_two (BadScript line kind) is e two = omega arith
+    rewind_two (Inputs fault) is e two = not_two fault (sym e ∙ two)
     rewind_two BadTrack is e two = is
-    rewind_two (Unread input) is e two = omega arith
+    rewind_two UnreadTrack is e two = is
     rewind_two (Unwritten output) is e two = is
     rewind_two Unsaid is e two = omega arith
     rewind_two OutOfMemory is e two = omega arith
 
     pub rewind_nine : (fault : Fault) → RewindAnswers order old mid (Err fault) → s ≡ status_of fault → s ≡ 9 → ⊥
     rewind_nine Usage is e nine = is
-    rewind_nine BadImage is e nine = omega arith
-    rewind_nine (BadScript line kind) is e nine = omega arith
+    rewind_nine (Inputs fault) is e nine = not_nine fault (sym e ∙ nine)
     rewind_nine BadTrack is e nine = is
-    rewind_nine (Unread input) is e nine = omega arith
+    rewind_nine UnreadTrack is e nine = is
     rewind_nine (Unwritten output) is e nine = is
     rewind_nine Unsaid is e nine = omega arith
     rewind_nine OutOfMemory is e nine = omega arith
@@ -133,10 +133,10 @@ module _ (order : RewindOrderValue) (old : Outside) where
     pub rewind_image : (fault : Fault) → RewindAnswers order old mid (Err fault) → s ≡ status_of fault → s ≡ 3
         → WhereTold old.files (λ files. HasBadImage (of_rewind order files))
     rewind_image Usage is e three = absurd is
-    rewind_image BadImage is e three = is.0
-    rewind_image (BadScript line kind) is e three = absurd (omega arith)
+    rewind_image (Inputs fault) is e three =
+        no_image (λ f. asked_by order) order.image order.script old.files (image_cause old mid order.image order.script fault is.0 (sym e ∙ three))
     rewind_image BadTrack is e three = absurd is
-    rewind_image (Unread input) is e three = absurd (omega arith)
+    rewind_image UnreadTrack is e three = absurd is
     rewind_image (Unwritten output) is e three = absurd is
     rewind_image Unsaid is e three = absurd (omega arith)
     rewind_image OutOfMemory is e three = absurd (omega arith)
@@ -144,12 +144,10 @@ module _ (order : RewindOrderValue) (old : Outside) where
     pub rewind_script : (fault : Fault) → RewindAnswers order old mid (Err fault) → s ≡ status_of fault → s ≡ 4
         → WhereTold old.files (λ files. HasBadScript (of_rewind order files))
     rewind_script Usage is e four = absurd is
-    rewind_script BadImage is e four = absurd (omega arith)
-    rewind_script (BadScript line kind) is e four =
-        by_told old.files (λ f. of_rewind order f ≡ BadScriptVerdict line kind) (λ f. HasBadScript (of_rewind order f))
-        (λ f there v. (line, kind, v)) is.0
+    rewind_script (Inputs fault) is e four =
+        no_script (λ f. asked_by order) order.image order.script old.files (script_cause old mid order.image order.script fault is.0 (sym e ∙ four))
     rewind_script BadTrack is e four = absurd is
-    rewind_script (Unread input) is e four = absurd (omega arith)
+    rewind_script UnreadTrack is e four = absurd is
     rewind_script (Unwritten output) is e four = absurd is
     rewind_script Unsaid is e four = absurd (omega arith)
     rewind_script OutOfMemory is e four = absurd (omega arith)
@@ -164,12 +162,9 @@ module _ (order : RewindOrderValue) (old : Outside) where
       pub rewind_unread : (fault : Fault) → RewindAnswers order old mid (Err fault) → s ≡ status_of fault → s ≡ 5
           → Rose old.read_faults new.read_faults
       rewind_unread Usage is e five = absurd is
-      rewind_unread BadImage is e five = absurd (omega arith)
-      rewind_unread (BadScript line kind) is e five = absurd (omega arith)
+      rewind_unread (Inputs fault) is e five = read_rose (unread_cause old mid order.image order.script fault is.0 (sym e ∙ five))
       rewind_unread BadTrack is e five = absurd is
-      rewind_unread (Unread Image) is e five = read_rose is.0
-      rewind_unread (Unread Script) is e five = read_rose is.0
-      rewind_unread (Unread Track) is e five = absurd is
+      rewind_unread UnreadTrack is e five = absurd is
       rewind_unread (Unwritten output) is e five = absurd is
       rewind_unread Unsaid is e five = absurd (omega arith)
       rewind_unread OutOfMemory is e five = absurd (omega arith)
@@ -177,10 +172,9 @@ module _ (order : RewindOrderValue) (old : Outside) where
       pub rewind_refused : (fault : Fault) → RewindAnswers order old mid (Err fault) → s ≡ status_of fault → s ≡ 6
           → Rose old.say_faults new.say_faults
       rewind_refused Usage is e six = absurd is
-      rewind_refused BadImage is e six = absurd (omega arith)
-      rewind_refused (BadScript line kind) is e six = absurd (omega arith)
+      rewind_refused (Inputs fault) is e six = absurd (not_six fault (sym e ∙ six))
       rewind_refused BadTrack is e six = absurd is
-      rewind_refused (Unread input) is e six = absurd (omega arith)
+      rewind_refused UnreadTrack is e six = absurd is
       rewind_refused (Unwritten output) is e six = absurd is
       rewind_refused Unsaid is e six = say_rose is.refused
       rewind_refused OutOfMemory is e six = absurd (omega arith)
@@ -188,10 +182,9 @@ module _ (order : RewindOrderValue) (old : Outside) where
       pub rewind_unsaid : (fault : Fault) → RewindAnswers order old mid (Err fault) → s ≡ status_of fault → new.files ≡ old.files → s ≡ 6
           → WhereTold old.files (λ files. IsUnwritten (of_rewind order files) files new.files)
       rewind_unsaid Usage is e same six = absurd is
-      rewind_unsaid BadImage is e same six = absurd (omega arith)
-      rewind_unsaid (BadScript line kind) is e same six = absurd (omega arith)
+      rewind_unsaid (Inputs fault) is e same six = absurd (not_six fault (sym e ∙ six))
       rewind_unsaid BadTrack is e same six = absurd is
-      rewind_unsaid (Unread input) is e same six = absurd (omega arith)
+      rewind_unsaid UnreadTrack is e same six = absurd is
       rewind_unsaid (Unwritten output) is e same six = absurd is
       rewind_unsaid Unsaid is e same six =
           by_told old.files (λ f. AreLinesOf is.text (of_rewind order f)) (λ f. IsUnwritten (of_rewind order f) f new.files)
@@ -208,18 +201,21 @@ module _ (order : RewindOrderValue) (old : Outside) where
       pub rewind_complete : (fault : Fault) → RewindAnswers order old mid (Err fault) → s ≡ status_of fault
           → WhereTold old.files (λ files. Completed (of_rewind order files) old new s)
       rewind_complete Usage is e = absurd is
-      rewind_complete BadImage is e =
-          by_told old.files _ (λ f. Completed (of_rewind order f) old new s)
-          (λ f there v. subst (λ w. Completed w old new s) (sym v) (inr (inl e))) is.0
-      rewind_complete (BadScript line kind) is e =
-          by_told old.files _ (λ f. Completed (of_rewind order f) old new s)
-          (λ f there v. subst (λ w. Completed w old new s) (sym v) (inr (inl e))) is.0
+      rewind_complete (Inputs BadImage) is e =
+          by_told old.files (λ f. of_rewind order f ≡ BadImageVerdict) (λ f. Completed (of_rewind order f) old new s)
+          (λ f there v. subst (λ w. Completed w old new s) (sym v) (inr (inl e)))
+          (rewind_image (Inputs BadImage) is e e)
+      rewind_complete (Inputs (BadScript line kind)) is e =
+          by_told old.files (λ f. HasBadScript (of_rewind order f)) (λ f. Completed (of_rewind order f) old new s)
+          (λ f there v. subst (λ w. Completed w old new s) (sym v.2) (inr (inl e)))
+          (rewind_script (Inputs (BadScript line kind)) is e e)
+      rewind_complete (Inputs (Unread input)) is e =
+          everywhere (λ v. Completed v old new s)
+          (λ f. unread_completes _ old new s (is_of_rewind order f) e (rewind_unread (Inputs (Unread input)) is e e))
+      rewind_complete (Inputs NoRoomForInputs) is e =
+          everywhere (λ v. Completed v old new s) (λ f. wanting_completes _ old new s (is_of_rewind order f) e)
       rewind_complete BadTrack is e = absurd is
-      rewind_complete (Unread Image) is e =
-          everywhere (λ v. Completed v old new s) (λ f. unread_completes _ old new s (is_of_rewind order f) e (read_rose is.0))
-      rewind_complete (Unread Script) is e =
-          everywhere (λ v. Completed v old new s) (λ f. unread_completes _ old new s (is_of_rewind order f) e (read_rose is.0))
-      rewind_complete (Unread Track) is e = absurd is
+      rewind_complete UnreadTrack is e = absurd is
       rewind_complete (Unwritten output) is e = absurd is
       rewind_complete Unsaid is e =
           by_told old.files (λ f. AreLinesOf is.text (of_rewind order f)) (λ f. Completed (of_rewind order f) old new s)
@@ -240,12 +236,9 @@ module _ (order : RewindOrderValue) (old : Outside) where
 pub rewind_said : (order : RewindOrderValue) (old mid : Outside) (fault : Fault) → RewindAnswers order old mid (Err fault)
     → ((fault ≡ Unsaid) × SaysLinesPart order old mid) ⊎ (KeepsSaid old mid × IsToldOfRewind order old fault)
 rewind_said order old mid Usage is = absurd is
-rewind_said order old mid BadImage is = inr (is.1, tt)
-rewind_said order old mid (BadScript line kind) is = inr (is.1, is.0)
+rewind_said order old mid (Inputs fault) is = inr (is.1, told_of_inputs old mid order.image order.script fault is.0)
 rewind_said order old mid BadTrack is = absurd is
-rewind_said order old mid (Unread Image) is = inr (is.1, tt)
-rewind_said order old mid (Unread Script) is = inr (is.1, is.2)
-rewind_said order old mid (Unread Track) is = absurd is
+rewind_said order old mid UnreadTrack is = absurd is
 rewind_said order old mid (Unwritten output) is = absurd is
 rewind_said order old mid Unsaid is = inl (refl, is)
 rewind_said order old mid OutOfMemory is = inr (is, tt)

@@ -1,38 +1,37 @@
 -- The clauses of the top call, from what stands after the command and what was said.
 use Rattle.std.proofs.Common.{◌≡◌, ℕ, zero, suc, ◌≤◌, ◌⊎◌, ◌↔◌, List, [], take}
 use Rattle.std.proofs.Common.{Option, Some, None, Ok, Err, inl, inr, refl, sym, ap, subst, ◌∙◌, append-nil, arith}
+use Rattle.ocs_base.specs.Script.{ScriptValue}
 use Rattle.ocs_io.specs.Answers.{WhereTold}
 use Rattle.ocs_io.specs.Place.{Files, Outside, Rose, OnlySays, said_more}
-use Rattle.ocs_run.specs.Command.{OrderAnswers, IsDone, IsUnwritten, IsWanting, KeepsSaid}
+use Rattle.run_inputs.specs.Texts.{Says, SaysSurely, KeepsSaid}
+use Rattle.ocs_run.specs.Command.{OrderAnswers, IsDone, IsUnwritten, IsWanting}
 use Rattle.ocs_run.specs.Fault.{status_of}
 use Rattle.ocs_run.specs.Order.{OrderValue}
 use Rattle.ocs_run.specs.SceneAnswers.{SceneAnswers, SaysSummaryPart}
-use Rattle.ocs_run.specs.Texts.{usage_text, fault_text, text_of, Says, SaysSurely}
+use Rattle.ocs_run.specs.Texts.{usage_text, fault_text, text_of}
 use Rattle.ocs_run.specs.RewindAnswers.{SaysLinesPart}
 use Rattle.ocs_run.specs.RewindOrder.{RewindOrderValue}
 use Rattle.ocs_run.specs.Top.{UsageAnswers, CommandAnswers, SaysNothingElse, IsEarly, WritesNoFile, IsRefused}
 use Rattle.ocs_run.specs.Top.{HasBadImage, HasBadScript, HasBadTrack, Completed, IsToldOfRun, IsToldOfRewind, IsTold, SaysFault, SaysOwn, SaysStatus}
-use Rattle.ocs_run.specs.Verdict.{Verdict, Usage as UsageVerdict, Absent, BadImage as BadImageVerdict}
+use Rattle.ocs_run.specs.Verdict.{Verdict, Usage as UsageVerdict, Absent, BadImage as BadImageVerdict, of_extra}
 use Rattle.ocs_run.specs.Verdict.{BadScript as BadScriptVerdict, BadTrack as BadTrackVerdict, Good, Scene, Rewind as RewindVerdict, of_order, of_command}
 use Rattle.ocs_run.specs.Words.{CommandValue, Run, Gen, Rewind, command_of}
 use Rattle.ocs_run.specs.declared.fault.Fault.{Fault}
-use Rattle.ocs_run.specs.declared.fault.Fault.TheVariants.{Usage, BadImage, BadScript, BadTrack, Unread, Unwritten, Unsaid, OutOfMemory}
-use Rattle.ocs_run.specs.declared.fault.Input.TheVariants.{Image, Script, Track}
-use Rattle.ocs_run.proofs.OrderLaws.{IsOfRun, of_run}
+use Rattle.ocs_run.specs.declared.fault.Fault.TheVariants.{Usage, Inputs, BadTrack, UnreadTrack, Unwritten, Unsaid, OutOfMemory}
+use Rattle.run_inputs.specs.declared.fault.InputFault.TheVariants.{BadImage, BadScript, Unread, OutOfMemory as NoRoomForInputs}
+use Rattle.run_inputs.proofs.FaultLaws.{told_more, not_two, not_six, not_nine, image_cause, script_cause, unread_cause, told_of_inputs}
+use Rattle.ocs_run.proofs.OrderLaws.{IsOfRun, of_run, wants}
 use Rattle.ocs_run.proofs.RewindTopLaws.{rewind_done, rewind_two, rewind_nine, rewind_image, rewind_script, rewind_unread, rewind_refused}
 use Rattle.ocs_run.proofs.RewindTopLaws.{rewind_unsaid, rewind_complete, rewind_wanting, rewind_said}
-
-told_more : (files : Option Files) (P Q : Files → Type 0) → ((f : Files) → P f → Q f) → WhereTold files P → WhereTold files Q
-told_more None P Q f told = tt
-told_more (Some files) P Q f told = f files told
+use Rattle.ocs_run.proofs.VerdictLaws.{no_image, no_script}
 
 -- what the faults of each command are
 usage_fault : (old mid : Outside) (fault : Fault) → UsageAnswers old mid (Err fault) → (fault ≡ Usage) × (mid.files ≡ old.files)
 usage_fault old mid Usage is = (refl, is)
-usage_fault old mid BadImage is = absurd is
-usage_fault old mid (BadScript line kind) is = absurd is
+usage_fault old mid (Inputs fault) is = absurd is
 usage_fault old mid BadTrack is = absurd is
-usage_fault old mid (Unread input) is = absurd is
+usage_fault old mid UnreadTrack is = absurd is
 usage_fault old mid (Unwritten output) is = absurd is
 usage_fault old mid Unsaid is = absurd is
 usage_fault old mid OutOfMemory is = absurd is
@@ -40,10 +39,9 @@ usage_fault old mid OutOfMemory is = absurd is
 scene_fault : (number : ℕ) (old mid : Outside) (fault : Fault) → SceneAnswers number old mid (Err fault)
     → ((fault ≡ Unsaid) × SaysSummaryPart number old mid) ⊎ ((fault ≡ OutOfMemory) × KeepsSaid old mid)
 scene_fault number old mid Usage is = absurd is
-scene_fault number old mid BadImage is = absurd is
-scene_fault number old mid (BadScript line kind) is = absurd is
+scene_fault number old mid (Inputs fault) is = absurd is
 scene_fault number old mid BadTrack is = absurd is
-scene_fault number old mid (Unread input) is = absurd is
+scene_fault number old mid UnreadTrack is = absurd is
 scene_fault number old mid (Unwritten output) is = absurd is
 scene_fault number old mid Unsaid is = inl (refl, is)
 scene_fault number old mid OutOfMemory is = inr (refl, is)
@@ -58,14 +56,17 @@ scene_status number old mid fault s is e = step (scene_fault number old mid faul
     step (inl part) = let six : s ≡ 6 = e ∙ ap status_of part.0 in omega arith
     step (inr none) = let seven : s ≡ 7 = e ∙ ap status_of none.0 in omega arith
 
+-- what is asked of good inputs
+abbrev asked_in : OrderValue → Files → List ℕ → ScriptValue → Verdict
+asked_in order f image script = of_extra order f image script order.extra
+
 order_script : (order : OrderValue) (old mid : Outside) (fault : Fault) (s : ℕ) → OrderAnswers order old mid (Err fault) → s ≡ status_of fault
     → s ≡ 4 → WhereTold old.files (λ files. HasBadScript (of_order order files))
 order_script order old mid Usage s is e four = absurd is
-order_script order old mid BadImage s is e four = absurd (omega arith)
-order_script order old mid (BadScript line kind) s is e four =
-    told_more old.files (λ f. of_order order f ≡ BadScriptVerdict line kind) (λ f. HasBadScript (of_order order f)) (λ f v. (line, kind, v)) is.0
+order_script order old mid (Inputs fault) s is e four =
+    no_script (asked_in order) order.image order.script old.files (script_cause old mid order.image order.script fault is.0 (sym e ∙ four))
 order_script order old mid BadTrack s is e four = absurd (omega arith)
-order_script order old mid (Unread input) s is e four = absurd (omega arith)
+order_script order old mid UnreadTrack s is e four = absurd (omega arith)
 order_script order old mid (Unwritten output) s is e four = absurd (omega arith)
 order_script order old mid Unsaid s is e four = absurd is
 order_script order old mid OutOfMemory s is e four = absurd (omega arith)
@@ -81,10 +82,9 @@ script_clause (Some (Rewind order)) old mid fault s is e four = rewind_script or
 order_track : (order : OrderValue) (old mid : Outside) (fault : Fault) (s : ℕ) → OrderAnswers order old mid (Err fault) → s ≡ status_of fault
     → s ≡ 9 → WhereTold old.files (λ files. HasBadTrack (of_order order files))
 order_track order old mid Usage s is e nine = absurd is
-order_track order old mid BadImage s is e nine = absurd (omega arith)
-order_track order old mid (BadScript line kind) s is e nine = absurd (omega arith)
+order_track order old mid (Inputs fault) s is e nine = absurd (not_nine fault (sym e ∙ nine))
 order_track order old mid BadTrack s is e nine = is.0
-order_track order old mid (Unread input) s is e nine = absurd (omega arith)
+order_track order old mid UnreadTrack s is e nine = absurd (omega arith)
 order_track order old mid (Unwritten output) s is e nine = absurd (omega arith)
 order_track order old mid Unsaid s is e nine = absurd is
 order_track order old mid OutOfMemory s is e nine = absurd (omega arith)
@@ -114,12 +114,9 @@ not_early s n e big small (inr (inr (inr (inr nine)))) = omega arith
 order_kept : (order : OrderValue) (old mid new : Outside) (fault : Fault) (s : ℕ) → OrderAnswers order old mid (Err fault) → s ≡ status_of fault
     → OnlySays mid new → IsEarly s → new.files ≡ old.files
 order_kept order old mid new BadTrack s is e says early = says.files ∙ is.1
-order_kept order old mid new (Unread Track) s is e says early = says.files ∙ is.1
+order_kept order old mid new UnreadTrack s is e says early = says.files ∙ is.1
 order_kept order old mid new Usage s is e says early = absurd is
-order_kept order old mid new BadImage s is e says early = says.files ∙ is.1
-order_kept order old mid new (BadScript line kind) s is e says early = says.files ∙ is.1
-order_kept order old mid new (Unread Image) s is e says early = says.files ∙ is.1
-order_kept order old mid new (Unread Script) s is e says early = says.files ∙ is.1
+order_kept order old mid new (Inputs fault) s is e says early = says.files ∙ is.1
 order_kept order old mid new (Unwritten output) s is e says early = absurd (not_early s 6 e (omega arith) (omega arith) early)
 order_kept order old mid new Unsaid s is e says early = absurd is
 order_kept order old mid new OutOfMemory s is e says early = absurd (not_early s 7 e (omega arith) (omega arith) early)
@@ -179,20 +176,46 @@ always : (files : Option Files) (Q : Files → Type 0) → ((f : Files) → Q f)
 always None Q f = tt
 always (Some files) Q f = f files
 
+order_image : (order : OrderValue) (old mid : Outside) (fault : Fault) (s : ℕ) → OrderAnswers order old mid (Err fault) → s ≡ status_of fault
+    → s ≡ 3 → WhereTold old.files (λ files. HasBadImage (of_order order files))
+order_image order old mid Usage s is e three = absurd is
+order_image order old mid (Inputs fault) s is e three =
+    no_image (asked_in order) order.image order.script old.files (image_cause old mid order.image order.script fault is.0 (sym e ∙ three))
+order_image order old mid BadTrack s is e three = absurd (omega arith)
+order_image order old mid UnreadTrack s is e three = absurd (omega arith)
+order_image order old mid (Unwritten output) s is e three = absurd (omega arith)
+order_image order old mid Unsaid s is e three = absurd is
+order_image order old mid OutOfMemory s is e three = absurd (omega arith)
+
+order_unread : (order : OrderValue) (old mid new : Outside) (fault : Fault) (s : ℕ) → OrderAnswers order old mid (Err fault) → s ≡ status_of fault
+    → OnlySays mid new → s ≡ 5 → Rose old.read_faults new.read_faults
+order_unread order old mid new Usage s is e says five = absurd is
+order_unread order old mid new (Inputs fault) s is e says five =
+    rose_read old mid new says (unread_cause old mid order.image order.script fault is.0 (sym e ∙ five))
+order_unread order old mid new BadTrack s is e says five = absurd (omega arith)
+order_unread order old mid new UnreadTrack s is e says five = rose_read old mid new says is.0
+order_unread order old mid new (Unwritten output) s is e says five = absurd (omega arith)
+order_unread order old mid new Unsaid s is e says five = absurd is
+order_unread order old mid new OutOfMemory s is e says five = absurd (omega arith)
+
 order_complete : (order : OrderValue) (old mid new : Outside) (fault : Fault) (s : ℕ) → OrderAnswers order old mid (Err fault) → s ≡ status_of fault
     → OnlySays mid new → WhereTold old.files (λ files. Completed (of_order order files) old new s)
 order_complete order old mid new Usage s is e says = absurd is
-order_complete order old mid new BadImage s is e says =
-    told_more old.files _ (λ f. Completed (of_order order f) old new s) (λ f v. subst (λ w. Completed w old new s) (sym v) (inr (inl e))) is.0
-order_complete order old mid new (BadScript line kind) s is e says =
-    told_more old.files _ (λ f. Completed (of_order order f) old new s) (λ f v. subst (λ w. Completed w old new s) (sym v) (inr (inl e))) is.0
+order_complete order old mid new (Inputs BadImage) s is e says =
+    told_more old.files (λ f. HasBadImage (of_order order f)) (λ f. Completed (of_order order f) old new s)
+    (λ f v. subst (λ w. Completed w old new s) (sym v) (inr (inl e))) (order_image order old mid (Inputs BadImage) s is e e)
+order_complete order old mid new (Inputs (BadScript line kind)) s is e says =
+    told_more old.files (λ f. HasBadScript (of_order order f)) (λ f. Completed (of_order order f) old new s)
+    (λ f v. subst (λ w. Completed w old new s) (sym v.2) (inr (inl e))) (order_script order old mid (Inputs (BadScript line kind)) s is e e)
+order_complete order old mid new (Inputs (Unread input)) s is e says =
+    always old.files (λ f. Completed (of_order order f) old new s)
+    (λ f. unread _ old new s (of_run order f) e (order_unread order old mid new (Inputs (Unread input)) s is e says e))
+order_complete order old mid new (Inputs NoRoomForInputs) s is e says =
+    told_more old.files (λ f. IsWanting (of_order order f) f mid.files) (λ f. Completed (of_order order f) old new s)
+    (λ f w. wanting _ f mid.files old new s w e) (wants order old mid is.1)
 order_complete order old mid new BadTrack s is e says =
     told_more old.files _ (λ f. Completed (of_order order f) old new s) (λ f v. subst (λ w. Completed w old new s) (sym v) (inr (inl e))) is.0
-order_complete order old mid new (Unread Track) s is e says =
-    always old.files (λ f. Completed (of_order order f) old new s) (λ f. unread _ old new s (of_run order f) e (rose_read old mid new says is.0))
-order_complete order old mid new (Unread Image) s is e says =
-    always old.files (λ f. Completed (of_order order f) old new s) (λ f. unread _ old new s (of_run order f) e (rose_read old mid new says is.0))
-order_complete order old mid new (Unread Script) s is e says =
+order_complete order old mid new UnreadTrack s is e says =
     always old.files (λ f. Completed (of_order order f) old new s) (λ f. unread _ old new s (of_run order f) e (rose_read old mid new says is.0))
 order_complete order old mid new (Unwritten output) s is e says =
     told_more old.files (λ f. IsUnwritten (of_order order f) f mid.files) (λ f. Completed (of_order order f) old new s)
@@ -232,10 +255,9 @@ complete_clause (Some (Rewind order)) old mid new fault s is e says = rewind_com
 order_refused : (order : OrderValue) (old mid new : Outside) (fault : Fault) (s : ℕ) → OrderAnswers order old mid (Err fault) → s ≡ status_of fault
     → OnlySays mid new → s ≡ 6 → Rose old.write_faults new.write_faults
 order_refused order old mid new Usage s is e says six = absurd is
-order_refused order old mid new BadImage s is e says six = absurd (omega arith)
-order_refused order old mid new (BadScript line kind) s is e says six = absurd (omega arith)
+order_refused order old mid new (Inputs fault) s is e says six = absurd (not_six fault (sym e ∙ six))
 order_refused order old mid new BadTrack s is e says six = absurd (omega arith)
-order_refused order old mid new (Unread input) s is e says six = absurd (omega arith)
+order_refused order old mid new UnreadTrack s is e says six = absurd (omega arith)
 order_refused order old mid new (Unwritten output) s is e says six = rose_write old mid new says is.0
 order_refused order old mid new Unsaid s is e says six = absurd is
 order_refused order old mid new OutOfMemory s is e says six = absurd (omega arith)
@@ -255,19 +277,6 @@ refused_clause (Some (Run order)) old mid new fault s is e says six = order_refu
 refused_clause (Some (Gen scene)) old mid new fault s is e says six = scene_refused scene.number old mid new fault s is.0 e says six
 refused_clause (Some (Rewind order)) old mid new fault s is e says six = rewind_refused order old mid s new says fault is.0 e six
 
-order_unread : (order : OrderValue) (old mid new : Outside) (fault : Fault) (s : ℕ) → OrderAnswers order old mid (Err fault) → s ≡ status_of fault
-    → OnlySays mid new → s ≡ 5 → Rose old.read_faults new.read_faults
-order_unread order old mid new Usage s is e says five = absurd is
-order_unread order old mid new BadImage s is e says five = absurd (omega arith)
-order_unread order old mid new (BadScript line kind) s is e says five = absurd (omega arith)
-order_unread order old mid new BadTrack s is e says five = absurd (omega arith)
-order_unread order old mid new (Unread Image) s is e says five = rose_read old mid new says is.0
-order_unread order old mid new (Unread Script) s is e says five = rose_read old mid new says is.0
-order_unread order old mid new (Unread Track) s is e says five = rose_read old mid new says is.0
-order_unread order old mid new (Unwritten output) s is e says five = absurd (omega arith)
-order_unread order old mid new Unsaid s is e says five = absurd is
-order_unread order old mid new OutOfMemory s is e says five = absurd (omega arith)
-
 pub unread_clause : (command : Option CommandValue) (old mid new : Outside) (fault : Fault) (s : ℕ) → CommandAnswers command old mid (Err fault)
     → s ≡ status_of fault → OnlySays mid new → s ≡ 5 → Rose old.read_faults new.read_faults
 unread_clause None old mid new fault s is e says five = absurd (let two : s ≡ 2 = usage_status old mid fault s is e in omega arith)
@@ -280,10 +289,9 @@ unread_clause (Some (Rewind order)) old mid new fault s is e says five = rewind_
 order_unwritten : (order : OrderValue) (old mid new : Outside) (fault : Fault) (s : ℕ) → OrderAnswers order old mid (Err fault) → s ≡ status_of fault
     → OnlySays mid new → s ≡ 6 → WhereTold old.files (λ files. IsUnwritten (of_order order files) files new.files)
 order_unwritten order old mid new Usage s is e says six = absurd is
-order_unwritten order old mid new BadImage s is e says six = absurd (omega arith)
-order_unwritten order old mid new (BadScript line kind) s is e says six = absurd (omega arith)
+order_unwritten order old mid new (Inputs fault) s is e says six = absurd (not_six fault (sym e ∙ six))
 order_unwritten order old mid new BadTrack s is e says six = absurd (omega arith)
-order_unwritten order old mid new (Unread input) s is e says six = absurd (omega arith)
+order_unwritten order old mid new UnreadTrack s is e says six = absurd (omega arith)
 order_unwritten order old mid new (Unwritten output) s is e says six =
     subst (λ after. WhereTold old.files (λ files. IsUnwritten (of_order order files) files after)) (sym says.files) is.1
 order_unwritten order old mid new Unsaid s is e says six = absurd is
@@ -305,12 +313,9 @@ unwritten_clause (Some (Rewind order)) old mid new fault s is e says six = rewin
 
 told : (order : OrderValue) (old mid : Outside) (fault : Fault) → OrderAnswers order old mid (Err fault) → IsToldOfRun order old fault
 told order old mid Usage is = absurd is
-told order old mid BadImage is = tt
-told order old mid (BadScript line kind) is = is.0
+told order old mid (Inputs fault) is = told_of_inputs old mid order.image order.script fault is.0
 told order old mid BadTrack is = is.2
-told order old mid (Unread Image) is = tt
-told order old mid (Unread Script) is = is.2
-told order old mid (Unread Track) is = (is.2, is.3)
+told order old mid UnreadTrack is = (is.2, is.3)
 told order old mid (Unwritten output) is = is.2
 told order old mid Unsaid is = absurd is
 told order old mid OutOfMemory is = tt
@@ -325,10 +330,9 @@ says_from text old mid new kept (inr none) = inr (none ∙ kept.said)
 order_no_usage : (order : OrderValue) (old mid : Outside) (fault : Fault) (s : ℕ) → OrderAnswers order old mid (Err fault) → s ≡ status_of fault
     → s ≡ 2 → ⊥
 order_no_usage order old mid Usage s is e two = is
-order_no_usage order old mid BadImage s is e two = omega arith
-order_no_usage order old mid (BadScript line kind) s is e two = omega arith
+order_no_usage order old mid (Inputs fault) s is e two = not_two fault (sym e ∙ two)
 order_no_usage order old mid BadTrack s is e two = omega arith
-order_no_usage order old mid (Unread input) s is e two = omega arith
+order_no_usage order old mid UnreadTrack s is e two = omega arith
 order_no_usage order old mid (Unwritten output) s is e two = omega arith
 order_no_usage order old mid Unsaid s is e two = is
 order_no_usage order old mid OutOfMemory s is e two = omega arith
@@ -493,17 +497,6 @@ usage_iff_clause None old mid fault s is e = (λ two. refl, λ none. usage_statu
 usage_iff_clause (Some command) old mid fault s is e =
     (λ two. (usage_of (Some command) old mid fault s is e two).0, λ none. absurd (some_is_none command none))
 
-order_image : (order : OrderValue) (old mid : Outside) (fault : Fault) (s : ℕ) → OrderAnswers order old mid (Err fault) → s ≡ status_of fault
-    → s ≡ 3 → WhereTold old.files (λ files. HasBadImage (of_order order files))
-order_image order old mid Usage s is e three = absurd is
-order_image order old mid BadImage s is e three = is.0
-order_image order old mid (BadScript line kind) s is e three = absurd (omega arith)
-order_image order old mid BadTrack s is e three = absurd (omega arith)
-order_image order old mid (Unread input) s is e three = absurd (omega arith)
-order_image order old mid (Unwritten output) s is e three = absurd (omega arith)
-order_image order old mid Unsaid s is e three = absurd is
-order_image order old mid OutOfMemory s is e three = absurd (omega arith)
-
 pub image_clause : (command : Option CommandValue) (old mid : Outside) (fault : Fault) (s : ℕ) → CommandAnswers command old mid (Err fault)
     → s ≡ status_of fault → s ≡ 3 → WhereTold old.files (λ files. HasBadImage (of_command command files))
 image_clause None old mid fault s is e three = absurd (let two : s ≡ 2 = usage_status old mid fault s is e in omega arith)
@@ -515,10 +508,9 @@ image_clause (Some (Rewind order)) old mid fault s is e three = rewind_image ord
 order_wanting : (order : OrderValue) (old mid new : Outside) (fault : Fault) (s : ℕ) → OrderAnswers order old mid (Err fault) → s ≡ status_of fault
     → OnlySays mid new → s ≡ 7 → WhereTold old.files (λ files. IsWanting (of_order order files) files new.files)
 order_wanting order old mid new Usage s is e says seven = absurd is
-order_wanting order old mid new BadImage s is e says seven = absurd (omega arith)
-order_wanting order old mid new (BadScript line kind) s is e says seven = absurd (omega arith)
+order_wanting order old mid new (Inputs fault) s is e says seven = wants order old new (says.files ∙ is.1)
 order_wanting order old mid new BadTrack s is e says seven = absurd (omega arith)
-order_wanting order old mid new (Unread input) s is e says seven = absurd (omega arith)
+order_wanting order old mid new UnreadTrack s is e says seven = absurd (omega arith)
 order_wanting order old mid new (Unwritten output) s is e says seven = absurd (omega arith)
 order_wanting order old mid new Unsaid s is e says seven = absurd is
 order_wanting order old mid new OutOfMemory s is e says seven =

@@ -6,10 +6,9 @@ use Rattle.ocs_io.specs.Answers.{WhereTold}
 use Rattle.ocs_io.specs.Place.{Files, Outside, Rose}
 use Rattle.out_files.specs.OutFiles.{OutNames, OutFilesValue}
 use Rattle.ocs_run.specs.declared.fault.Fault.{Fault}
-use Rattle.ocs_run.specs.declared.fault.Fault.TheVariants.{Usage, BadImage, BadScript, BadTrack, Unread, Unwritten, Unsaid, OutOfMemory}
-use Rattle.ocs_run.specs.declared.fault.Input.TheVariants.{Image, Script, Track}
+use Rattle.ocs_run.specs.declared.fault.Fault.TheVariants.{Usage, Inputs, BadTrack, UnreadTrack, Unwritten, Unsaid, OutOfMemory}
 use Rattle.ocs_run.specs.Fault.{IsOutputOf}
-use Rattle.ocs_run.specs.Inputs.{HoldsImage, HoldsRun}
+use Rattle.run_inputs.specs.Inputs.{HoldsRun, IsInputFault}
 use Rattle.ocs_run.specs.Order.{OrderValue, HasTrack, audio_of}
 use Rattle.ocs_run.specs.Run.{HasAllFiles}
 use Rattle.ocs_run.specs.Prefix.{LeavesFiles}
@@ -28,11 +27,6 @@ pub record IsOutOf (names : OutNames) (system : System) (out : OutFilesValue) : 
   pub frames : out.frames ≡ []
   pub trace : out.trace ≡ []
   pub given : out.given ≡ 0
-
--- nothing was said, and no say was refused
-pub record KeepsSaid (old new : Outside) : Type 0 where
-  pub said : new.said ≡ old.said
-  pub faults : new.say_faults ≡ old.say_faults
 
 -- the files of a run that came to its end, or was stopped
 abbrev pub HasOrdered : OrderValue → List ℕ → ScriptValue → SideValue → Option Files → Option Files → Type 0
@@ -75,22 +69,15 @@ IsWanting BadImageVerdict files new = new ≡ Some files
 IsWanting (BadScriptVerdict line kind) files new = new ≡ Some files
 IsWanting BadTrackVerdict files new = new ≡ Some files
 
--- What stands after an answer to the words, where they are those of an order. The script is read only where the image has the form
--- of one; that it fits the script's chip memory is seen later, and the track is read only where it does.
+-- What stands after an answer to the words, where they are those of an order. The track is read only where the image fits the chip
+-- memory of the good script.
 abbrev pub OrderAnswers : OrderValue → Outside → Outside → Result (Unit {0}) Fault → Type 0
 OrderAnswers order old new (Ok done) = WhereTold old.files (λ files. IsDone (of_order order files) files new.files)
 OrderAnswers order old new (Err Usage) = ⊥
-OrderAnswers order old new (Err BadImage) =
-    WhereTold old.files (λ files. of_order order files ≡ BadImageVerdict) × (new.files ≡ old.files)
-OrderAnswers order old new (Err (BadScript line kind)) =
-    WhereTold old.files (λ files. of_order order files ≡ BadScriptVerdict line kind) × (new.files ≡ old.files)
+OrderAnswers order old new (Err (Inputs fault)) = IsInputFault old new order.image order.script fault × (new.files ≡ old.files)
 OrderAnswers order old new (Err BadTrack) =
     WhereTold old.files (λ files. of_order order files ≡ BadTrackVerdict) × (new.files ≡ old.files) × HasTrack order.extra
-OrderAnswers order old new (Err (Unread Image)) = Rose old.read_faults new.read_faults × (new.files ≡ old.files)
-OrderAnswers order old new (Err (Unread Script)) =
-    Rose old.read_faults new.read_faults × (new.files ≡ old.files)
-    × WhereTold old.files (HoldsImage order.image)
-OrderAnswers order old new (Err (Unread Track)) =
+OrderAnswers order old new (Err UnreadTrack) =
     Rose old.read_faults new.read_faults × (new.files ≡ old.files)
     × WhereTold old.files (HoldsRun order.image order.script) × HasTrack order.extra
 OrderAnswers order old new (Err (Unwritten output)) =

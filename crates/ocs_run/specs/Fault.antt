@@ -4,9 +4,10 @@ use Rattle.out_files.specs.declared.fault.WriteFault.TheVariants.{Failed, OutOfM
 use Rattle.std.specs.Prelude.{ℕ, List, Option, Some, None}
 use Rattle.ocs_io.specs.Place.{Outside, Rose}
 use Rattle.ocs_run.specs.declared.fault.Fault.{Fault}
-use Rattle.ocs_run.specs.declared.fault.Fault.TheVariants.{Usage, BadImage, BadScript, BadTrack, Unread, Unwritten, Unsaid, OutOfMemory as NoRoom}
+use Rattle.ocs_run.specs.declared.fault.Fault.TheVariants.{Usage, Inputs, BadTrack, UnreadTrack, Unwritten, Unsaid, OutOfMemory as NoRoom}
 use Rattle.ocs_run.specs.declared.fault.Output.{Output}
 use Rattle.ocs_run.specs.declared.fault.Output.TheVariants.{File, Audio}
+use Rattle.run_inputs.specs.Fault.{status_of as status_of_inputs}
 
 -- that of a run, whose files could not be written or which wanted memory
 abbrev pub of_write : WriteFault → Fault
@@ -16,9 +17,8 @@ of_write NoRoomToWrite = NoRoom
 -- the exit status of the command
 abbrev pub status_of : Fault → ℕ
 status_of Usage = 2
-status_of BadImage = 3
-status_of (BadScript line kind) = 4
-status_of (Unread input) = 5
+status_of (Inputs fault) = status_of_inputs fault
+status_of UnreadTrack = 5
 status_of (Unwritten output) = 6
 status_of Unsaid = 6
 status_of NoRoom = 7
@@ -34,10 +34,9 @@ IsOutputOf (Some name) Audio = Unit {0}
 -- wanting
 abbrev pub IsRunFault : Option (List ℕ) → Outside → Outside → Fault → Type 0
 IsRunFault audio old new Usage = ⊥
-IsRunFault audio old new BadImage = ⊥
-IsRunFault audio old new (BadScript line kind) = ⊥
+IsRunFault audio old new (Inputs fault) = ⊥
 IsRunFault audio old new BadTrack = ⊥
-IsRunFault audio old new (Unread input) = ⊥
+IsRunFault audio old new UnreadTrack = ⊥
 IsRunFault audio old new (Unwritten output) = Rose old.write_faults new.write_faults × IsOutputOf audio output
 IsRunFault audio old new Unsaid = ⊥
 IsRunFault audio old new NoRoom = Unit {0}

@@ -2,7 +2,6 @@ pub mod AskedCode
 pub mod Audio
 pub mod Command
 pub mod Fault
-pub mod Inputs
 pub mod Order
 pub mod PlaceCode
 pub mod Prefix
@@ -13,6 +12,7 @@ pub mod Run
 pub mod SceneAnswers
 pub mod SceneSummary
 pub mod SetupCode
+pub mod Sides
 pub mod Texts
 pub mod Top
 pub mod UnderwayCode

@@ -1,6 +1,7 @@
 -- The words of the command line.
-use Rattle.std.specs.Prelude.{ℕ, Bool, true, not, ◌&&◌, ◌==◌, nat_le, if◌then◌else◌, List, [], ◌∷◌, length, codes, bytes_eq, Option, Some, None}
+use Rattle.std.specs.Prelude.{ℕ, if◌then◌else◌, List, [], ◌∷◌, codes, bytes_eq, Option, Some, None}
 use Rattle.ocs_io.specs.Numbers.{dec_of}
+use Rattle.run_inputs.specs.Names.{are_names, kept_within}
 
 -- the file that a run has besides the two that every run reads and the three that it writes
 pub data ExtraValue : Type 0 where
@@ -21,20 +22,6 @@ pub record OrderValue : Type 0 where
   pub extra : ExtraValue
   pub band : ℕ
   pub workers : ℕ
-
--- a name is not empty, and none of the others
-abbrev pub is_new : List ℕ → List (List ℕ) → Bool
-is_new name [] = not (length name == 0)
-is_new name (other ∷ others) = not (bytes_eq name other) && is_new name others
-
--- names that are not empty, and no two of them one
-abbrev pub are_names : List (List ℕ) → Bool
-are_names [] = true
-are_names (name ∷ names) = is_new name names && are_names names
-
-abbrev pub kept_within : ℕ → ℕ → Option ℕ → Option ℕ
-kept_within least most None = None
-kept_within least most (Some n) = if nat_le least n && nat_le n most then Some n else None
 
 -- how many lines a band has, 1 to 313
 abbrev pub band_of : List ℕ → Option ℕ

@@ -2,15 +2,14 @@
 use Rattle.std.specs.Prelude.{◌≡◌, ℕ, List, take, Result, Ok, Err}
 use Rattle.ocs_io.specs.Answers.{WhereTold}
 use Rattle.ocs_io.specs.Place.{Outside, Rose, said_more}
-use Rattle.ocs_run.specs.Command.{KeepsSaid}
-use Rattle.ocs_run.specs.Inputs.{HoldsImage}
+use Rattle.run_inputs.specs.Inputs.{IsInputFault}
+use Rattle.run_inputs.specs.Texts.{KeepsSaid}
 use Rattle.ocs_run.specs.RewindOrder.{RewindOrderValue}
 use Rattle.ocs_run.specs.RewindText.{AreLines}
 use Rattle.ocs_run.specs.Verdict.{Verdict, Usage as UsageVerdict, Absent, BadImage as BadImageVerdict, BadScript as BadScriptVerdict}
 use Rattle.ocs_run.specs.Verdict.{BadTrack as BadTrackVerdict, Good, Scene, Rewind, of_rewind}
 use Rattle.ocs_run.specs.declared.fault.Fault.{Fault}
-use Rattle.ocs_run.specs.declared.fault.Fault.TheVariants.{Usage, BadImage, BadScript, BadTrack, Unread, Unwritten, Unsaid, OutOfMemory}
-use Rattle.ocs_run.specs.declared.fault.Input.TheVariants.{Image, Script, Track}
+use Rattle.ocs_run.specs.declared.fault.Fault.TheVariants.{Usage, Inputs, BadTrack, UnreadTrack, Unwritten, Unsaid, OutOfMemory}
 
 -- the text is the lines that a verdict asks for, which only that of a rewind does
 abbrev pub AreLinesOf : List ℕ → Verdict → Type 0
@@ -41,15 +40,9 @@ pub record SaysLinesPart (order : RewindOrderValue) (old new : Outside) : Type 0
 abbrev pub RewindAnswers : RewindOrderValue → Outside → Outside → Result (Unit {0}) Fault → Type 0
 RewindAnswers order old new (Ok done) = SaysLines order old new
 RewindAnswers order old new (Err Usage) = ⊥
-RewindAnswers order old new (Err BadImage) =
-    WhereTold old.files (λ files. of_rewind order files ≡ BadImageVerdict) × KeepsSaid old new
-RewindAnswers order old new (Err (BadScript line kind)) =
-    WhereTold old.files (λ files. of_rewind order files ≡ BadScriptVerdict line kind) × KeepsSaid old new
+RewindAnswers order old new (Err (Inputs fault)) = IsInputFault old new order.image order.script fault × KeepsSaid old new
 RewindAnswers order old new (Err BadTrack) = ⊥
-RewindAnswers order old new (Err (Unread Image)) = Rose old.read_faults new.read_faults × KeepsSaid old new
-RewindAnswers order old new (Err (Unread Script)) =
-    Rose old.read_faults new.read_faults × KeepsSaid old new × WhereTold old.files (HoldsImage order.image)
-RewindAnswers order old new (Err (Unread Track)) = ⊥
+RewindAnswers order old new (Err UnreadTrack) = ⊥
 RewindAnswers order old new (Err (Unwritten output)) = ⊥
 RewindAnswers order old new (Err Unsaid) = SaysLinesPart order old new
 RewindAnswers order old new (Err OutOfMemory) = KeepsSaid old new

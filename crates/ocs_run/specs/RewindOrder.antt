@@ -1,7 +1,7 @@
 -- The words of the command `rewind`.
 use Rattle.std.specs.Prelude.{ℕ, ◌&&◌, nat_le, if◌then◌else◌, List, [], ◌∷◌, length, Option, Some, None}
 use Rattle.ocs_io.specs.Numbers.{dec_of}
-use Rattle.ocs_run.specs.Order.{kept_within, are_names}
+use Rattle.run_inputs.specs.Names.{are_names, kept_within}
 
 -- what the words of `rewind` ask for
 pub record RewindOrderValue : Type 0 where

@@ -4,11 +4,11 @@ use Rattle.std.specs.FinMap.{empty}
 use Rattle.ocs_io.specs.Place.{Files, Outside, Rose, said_more}
 use Rattle.out_files.specs.OutFiles.{OutNames}
 use Rattle.scene_gen.specs.Scene.{scene_image, scene_script}
-use Rattle.ocs_run.specs.Command.{KeepsSaid}
+use Rattle.run_inputs.specs.Texts.{KeepsSaid}
 use Rattle.ocs_run.specs.Run.{HasFiles}
 use Rattle.ocs_run.specs.SceneSummary.{IsSummary}
 use Rattle.ocs_run.specs.declared.fault.Fault.{Fault}
-use Rattle.ocs_run.specs.declared.fault.Fault.TheVariants.{Usage, BadImage, BadScript, BadTrack, Unread, Unwritten, Unsaid, OutOfMemory}
+use Rattle.ocs_run.specs.declared.fault.Fault.TheVariants.{Usage, Inputs, BadTrack, UnreadTrack, Unwritten, Unsaid, OutOfMemory}
 
 -- the summary was said, whole
 pub record SaysSummary (number : ℕ) (old new : Outside) : Type 0 where
@@ -28,10 +28,9 @@ pub record SaysSummaryPart (number : ℕ) (old new : Outside) : Type 0 where
 abbrev pub SceneAnswers : ℕ → Outside → Outside → Result (Unit {0}) Fault → Type 0
 SceneAnswers number old new (Ok done) = SaysSummary number old new
 SceneAnswers number old new (Err Usage) = ⊥
-SceneAnswers number old new (Err BadImage) = ⊥
-SceneAnswers number old new (Err (BadScript line kind)) = ⊥
+SceneAnswers number old new (Err (Inputs fault)) = ⊥
 SceneAnswers number old new (Err BadTrack) = ⊥
-SceneAnswers number old new (Err (Unread input)) = ⊥
+SceneAnswers number old new (Err UnreadTrack) = ⊥
 SceneAnswers number old new (Err (Unwritten output)) = ⊥
 SceneAnswers number old new (Err Unsaid) = SaysSummaryPart number old new
 SceneAnswers number old new (Err OutOfMemory) = KeepsSaid old new

@@ -1,21 +1,16 @@
 -- What each status says.
-use Rattle.std.specs.Prelude.{◌≡◌, ℕ, if◌then◌else◌, List, [], ◌++◌, ◌⊎◌, take, codes, decimal, Option, Some, None, unwrap_or}
-use Rattle.ocs_io.specs.Place.{Outside, Rose, said_more}
+use Rattle.std.specs.Prelude.{ℕ, if◌then◌else◌, List, [], ◌++◌, codes, Option, Some, None, unwrap_or}
 use Rattle.out_files.specs.declared.fault.OutFile.TheVariants.{Frames, Trace as TraceOut, Memory}
-use Rattle.script_read.specs.KindName.{kind_name}
+use Rattle.run_inputs.specs.Texts.{input_fault_text}
 use Rattle.ocs_run.specs.declared.fault.Fault.{Fault}
-use Rattle.ocs_run.specs.declared.fault.Fault.TheVariants.{Usage, BadImage, BadScript, BadTrack, Unread, Unwritten, Unsaid, OutOfMemory}
-use Rattle.ocs_run.specs.declared.fault.Input.{Input}
-use Rattle.ocs_run.specs.declared.fault.Input.TheVariants.{Image, Script, Track}
+use Rattle.ocs_run.specs.declared.fault.Fault.TheVariants.{Usage, Inputs, BadTrack, UnreadTrack, Unwritten, Unsaid, OutOfMemory}
 use Rattle.ocs_run.specs.declared.fault.Output.{Output}
 use Rattle.ocs_run.specs.declared.fault.Output.TheVariants.{File, Audio}
 use Rattle.ocs_run.specs.Order.{OrderValue, NoFile, audio_of, track_of}
 use Rattle.ocs_run.specs.Words.{CommandValue, Run, Gen, Rewind, command_of, begins_with}
 
-abbrev pub input_name : OrderValue → Input → List ℕ
-input_name order Image = order.image
-input_name order Script = order.script
-input_name order Track = unwrap_or (track_of order.extra) []
+abbrev pub track_name : OrderValue → List ℕ
+track_name order = unwrap_or (track_of order.extra) []
 
 abbrev pub output_name : OrderValue → Output → List ℕ
 output_name order (File Frames) = order.frames
@@ -35,10 +30,9 @@ usage_text words =
 -- the text of a fault of a command with this text of its form and this order; a summary or lines that could not be said have none
 unfoldable pub fault_text : List ℕ → OrderValue → Fault → List ℕ
 fault_text usage order Usage = usage
-fault_text usage order BadImage = codes "bad image\n"
-fault_text usage order (BadScript line kind) = codes "bad script: line " ++ decimal line ++ codes ": " ++ kind_name kind ++ codes "\n"
+fault_text usage order (Inputs fault) = input_fault_text order.image order.script fault
 fault_text usage order BadTrack = codes "bad track\n"
-fault_text usage order (Unread input) = codes "cannot read " ++ input_name order input ++ codes "\n"
+fault_text usage order UnreadTrack = codes "cannot read " ++ track_name order ++ codes "\n"
 fault_text usage order (Unwritten output) = codes "cannot write " ++ output_name order output ++ codes "\n"
 fault_text usage order Unsaid = []
 fault_text usage order OutOfMemory = codes "out of memory\n"
@@ -56,13 +50,3 @@ order_or_none (Some (Rewind order)) = record no_order { image = order.image; scr
 
 abbrev pub text_of : List (List ℕ) → Fault → List ℕ
 text_of words fault = fault_text (usage_text words) (order_or_none (command_of words)) fault
-
--- a text was said: all of it, or a part of it where the outside refused
-abbrev pub SaysSurely : List ℕ → Outside → Outside → Type 0
-SaysSurely text old new =
-    (new.said ≡ said_more old.said text)
-    ⊎ ((n : ℕ) × (new.said ≡ said_more old.said (take n text)) × Rose old.say_faults new.say_faults)
-
--- a text was said so, or nothing where memory was wanting
-abbrev pub Says : List ℕ → Outside → Outside → Type 0
-Says text old new = SaysSurely text old new ⊎ (new.said ≡ old.said)

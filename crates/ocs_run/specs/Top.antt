@@ -5,20 +5,21 @@ use Rattle.ocs_io.specs.Place.{Outside, Rose}
 use Rattle.scene_gen.specs.Scene.{scene_image, scene_script}
 use Rattle.script_read.specs.declared.fault.BadKind.{BadKind}
 use Rattle.serial_model.specs.Serial.{IsEnd, IsEndOver}
-use Rattle.ocs_run.specs.Command.{OrderAnswers, KeepsSaid}
+use Rattle.run_inputs.specs.Inputs.{HoldsRun, IsToldOfInputs}
+use Rattle.run_inputs.specs.Texts.{Says, KeepsSaid}
+use Rattle.ocs_run.specs.Command.{OrderAnswers}
 use Rattle.ocs_run.specs.Fault.{IsOutputOf, status_of}
-use Rattle.ocs_run.specs.Inputs.{HoldsImage, HoldsRun, ReadableTrack}
 use Rattle.ocs_run.specs.Order.{OrderValue, HasTrack, audio_of}
 use Rattle.ocs_run.specs.SceneAnswers.{SceneAnswers, SaysSummary, SaysSummaryPart}
-use Rattle.ocs_run.specs.Texts.{text_of, Says}
+use Rattle.ocs_run.specs.Sides.{ReadableTrack}
+use Rattle.ocs_run.specs.Texts.{text_of}
 use Rattle.ocs_run.specs.Verdict.{Verdict, Usage as UsageVerdict, Absent, BadImage as BadImageVerdict, BadScript as BadScriptVerdict}
-use Rattle.ocs_run.specs.Verdict.{BadTrack as BadTrackVerdict, Good, Scene, Rewind as RewindVerdict, of_order, of_rewind}
+use Rattle.ocs_run.specs.Verdict.{BadTrack as BadTrackVerdict, Good, Scene, Rewind as RewindVerdict}
 use Rattle.ocs_run.specs.RewindAnswers.{RewindAnswers, SaysLines, SaysLinesPart}
 use Rattle.ocs_run.specs.RewindOrder.{RewindOrderValue}
 use Rattle.ocs_run.specs.Words.{CommandValue, Run, Gen, Rewind, command_of}
 use Rattle.ocs_run.specs.declared.fault.Fault.{Fault}
-use Rattle.ocs_run.specs.declared.fault.Fault.TheVariants.{Usage, BadImage, BadScript, BadTrack, Unread, Unwritten, Unsaid, OutOfMemory}
-use Rattle.ocs_run.specs.declared.fault.Input.TheVariants.{Image, Script, Track}
+use Rattle.ocs_run.specs.declared.fault.Fault.TheVariants.{Usage, Inputs, BadTrack, UnreadTrack, Unwritten, Unsaid, OutOfMemory}
 
 -- the place lets the input files of an order be read
 pub record ReadableOrder (readable : List ℕ → Type 0) (order : OrderValue) : Type 0 where
@@ -47,10 +48,9 @@ ReadableCommand readable (Some (Rewind order)) = readable order.image × readabl
 abbrev pub UsageAnswers : Outside → Outside → Result (Unit {0}) Fault → Type 0
 UsageAnswers old new (Ok done) = ⊥
 UsageAnswers old new (Err Usage) = new.files ≡ old.files
-UsageAnswers old new (Err BadImage) = ⊥
-UsageAnswers old new (Err (BadScript line kind)) = ⊥
+UsageAnswers old new (Err (Inputs fault)) = ⊥
 UsageAnswers old new (Err BadTrack) = ⊥
-UsageAnswers old new (Err (Unread input)) = ⊥
+UsageAnswers old new (Err UnreadTrack) = ⊥
 UsageAnswers old new (Err (Unwritten output)) = ⊥
 UsageAnswers old new (Err Unsaid) = ⊥
 UsageAnswers old new (Err OutOfMemory) = ⊥
@@ -122,16 +122,13 @@ Completed (RewindVerdict image script every keep clocks) old new status =
     (Rose old.read_faults new.read_faults ⊎ Rose old.say_faults new.say_faults)
     ⊎ ((status ≡ 0) ⊎ (status ≡ 7))
 
--- the fault is one of a run, and what its text tells is so: the bad line of the script; and the script is named only where the
--- image has the form of one, the track, of a command that reads one, only where the image fits the good script's chip memory
+-- the fault is one of a run, and what its text tells is so: the track is named, of a command that reads one, only where the image fits
+-- the good script's chip memory
 abbrev pub IsToldOfRun : OrderValue → Outside → Fault → Type 0
 IsToldOfRun order old Usage = ⊥
-IsToldOfRun order old BadImage = Unit {0}
-IsToldOfRun order old (BadScript line kind) = WhereTold old.files (λ files. of_order order files ≡ BadScriptVerdict line kind)
+IsToldOfRun order old (Inputs fault) = IsToldOfInputs old order.image order.script fault
 IsToldOfRun order old BadTrack = HasTrack order.extra
-IsToldOfRun order old (Unread Image) = Unit {0}
-IsToldOfRun order old (Unread Script) = WhereTold old.files (HoldsImage order.image)
-IsToldOfRun order old (Unread Track) = WhereTold old.files (HoldsRun order.image order.script) × HasTrack order.extra
+IsToldOfRun order old UnreadTrack = WhereTold old.files (HoldsRun order.image order.script) × HasTrack order.extra
 IsToldOfRun order old (Unwritten output) = IsOutputOf (audio_of order.extra) output
 IsToldOfRun order old Unsaid = ⊥
 IsToldOfRun order old OutOfMemory = Unit {0}
@@ -139,12 +136,9 @@ IsToldOfRun order old OutOfMemory = Unit {0}
 -- the same of a rewind
 abbrev pub IsToldOfRewind : RewindOrderValue → Outside → Fault → Type 0
 IsToldOfRewind order old Usage = ⊥
-IsToldOfRewind order old BadImage = Unit {0}
-IsToldOfRewind order old (BadScript line kind) = WhereTold old.files (λ files. of_rewind order files ≡ BadScriptVerdict line kind)
+IsToldOfRewind order old (Inputs fault) = IsToldOfInputs old order.image order.script fault
 IsToldOfRewind order old BadTrack = ⊥
-IsToldOfRewind order old (Unread Image) = Unit {0}
-IsToldOfRewind order old (Unread Script) = WhereTold old.files (HoldsImage order.image)
-IsToldOfRewind order old (Unread Track) = ⊥
+IsToldOfRewind order old UnreadTrack = ⊥
 IsToldOfRewind order old (Unwritten output) = ⊥
 IsToldOfRewind order old Unsaid = ⊥
 IsToldOfRewind order old OutOfMemory = Unit {0}

@@ -2,11 +2,10 @@
 use Rattle.std.specs.Prelude.{ℕ, if◌then◌else◌, List, Option, Some, None}
 use Rattle.disk_dma.specs.Disk.{disk_side, new_disk}
 use Rattle.disk_dma.specs.Track.{is_track}
-use Rattle.ocs_base.specs.Image.{is_image, fits_chip}
 use Rattle.ocs_base.specs.Script.{ScriptValue}
 use Rattle.ocs_io.specs.Place.{Files, file}
 use Rattle.paula_audio.specs.Paula.{paula_side, reset_paula}
-use Rattle.script_read.specs.Grammar.{script_of, Good as GoodScript, Bad as BadLine, Verdict as ScriptVerdict}
+use Rattle.run_inputs.specs.Verdict.{InputsVerdict, Absent as NoInput, BadImage as NoImage, BadScript as NoScript, Good as GoodInputs, inputs_verdict}
 use Rattle.script_read.specs.declared.fault.BadKind.{BadKind}
 use Rattle.serial_model.specs.Side.{SideValue, no_side}
 use Rattle.ocs_run.specs.Order.{OrderValue, ExtraValue, NoFile, AudioFile, TrackFile}
@@ -46,22 +45,15 @@ of_extra order files image script NoFile = Good image script order no_side
 of_extra order files image script (AudioFile name) = Good image script order (paula_side (reset_paula script.chip))
 of_extra order files image script (TrackFile name) = of_track order image script name (file files name)
 
--- What the two inputs come to that a run and a rewind read, and what is asked of an image and a script whose chip memory it fits
-abbrev pub of_script : (List ℕ → ScriptValue → Verdict) → List ℕ → ScriptVerdict → Verdict
-of_script asked image (GoodScript script) = if fits_chip script.chip image then asked image script else BadImage
-of_script asked image (BadLine line kind) = BadScript line kind
-
-abbrev pub of_text : (List ℕ → ScriptValue → Verdict) → List ℕ → List ℕ → Option (List ℕ) → Verdict
-of_text asked script_name image None = Absent script_name
-of_text asked script_name image (Some text) = of_script asked image (script_of text)
-
-abbrev pub of_image : (List ℕ → ScriptValue → Verdict) → List ℕ → List ℕ → Files → Option (List ℕ) → Verdict
-of_image asked image_name script_name files None = Absent image_name
-of_image asked image_name script_name files (Some image) =
-    if is_image image then of_text asked script_name image (file files script_name) else BadImage
+-- what is asked of an image and a script whose chip memory it fits, and else what the two inputs come to
+abbrev pub with_inputs : (List ℕ → ScriptValue → Verdict) → InputsVerdict → Verdict
+with_inputs asked (NoInput name) = Absent name
+with_inputs asked NoImage = BadImage
+with_inputs asked (NoScript line kind) = BadScript line kind
+with_inputs asked (GoodInputs image script) = asked image script
 
 abbrev pub of_inputs : (List ℕ → ScriptValue → Verdict) → List ℕ → List ℕ → Files → Verdict
-of_inputs asked image_name script_name files = of_image asked image_name script_name files (file files image_name)
+of_inputs asked image_name script_name files = with_inputs asked (inputs_verdict image_name script_name files)
 
 abbrev pub of_order : OrderValue → Files → Verdict
 of_order order files = of_inputs (λ image script. of_extra order files image script order.extra) order.image order.script files

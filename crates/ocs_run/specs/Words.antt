@@ -1,7 +1,8 @@
 -- The words of the command line: which command they are, and what it is asked.
 use Rattle.std.specs.Prelude.{ℕ, Bool, false, if◌then◌else◌, List, [], ◌∷◌, codes, bytes_eq, Option, Some, None, option_map}
 use Rattle.ocs_io.specs.Numbers.{dec_of}
-use Rattle.ocs_run.specs.Order.{OrderValue, order_of, kept_within, band_of, workers_of}
+use Rattle.run_inputs.specs.Names.{kept_within}
+use Rattle.ocs_run.specs.Order.{OrderValue, order_of, band_of, workers_of}
 use Rattle.ocs_run.specs.RewindOrder.{RewindOrderValue, rewind_order_of}
 
 -- what the words of `gen` ask for

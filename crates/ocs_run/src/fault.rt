@@ -2,15 +2,7 @@
 
 use ocs_base::OutOfMemory;
 use out_files::{OutFile, WriteFault};
-use script_read::BadKind;
-
-/// One of the files that a run reads: the image of chip memory, the script, and the track of a disk.
-#[derive(Clone, Copy, PartialEq, Eq, Debug)]
-pub enum Input {
-    Image,
-    Script,
-    Track,
-}
+use run_inputs::InputFault;
 
 /// One of the files that a run writes: those of every run, and what it sounds.
 #[derive(Clone, Copy, PartialEq, Eq, Debug)]
@@ -19,16 +11,15 @@ pub enum Output {
     Audio,
 }
 
-/// Why a command did not do what it was asked: the words are not of the form, an input file could not
-/// be read, the image, the script or the track is bad, a file could not be written, the summary of a scene
-/// could not be said, or memory was wanting.
+/// Why a command did not do what it was asked: the words are not of the form, image and script were not
+/// read, the track is bad or could not be read, a file could not be written, the summary of a scene or the
+/// lines of a rewind could not be said, or memory was wanting.
 #[derive(Clone, Copy, Debug)]
 pub enum Fault {
     Usage,
-    BadImage,
-    BadScript { line: u32, kind: BadKind },
+    Inputs { fault: InputFault },
     BadTrack,
-    Unread { input: Input },
+    UnreadTrack,
     Unwritten { output: Output },
     Unsaid,
     OutOfMemory,
@@ -42,6 +33,17 @@ impl From<OutOfMemory> for Fault {
 
     fn from(_refused: OutOfMemory) -> Fault {
         Fault::OutOfMemory
+    }
+}
+
+impl From<InputFault> for Fault {
+    ghost use Rattle.std.specs.Prelude.{◌≡◌};
+    ghost use Rattle.ocs_run.specs.declared.fault.Fault.{Fault};
+
+    ghost from_gives = { λ from fault. fault ≡ Fault.Inputs from };
+
+    fn from(fault: InputFault) -> Fault {
+        Fault::Inputs { fault }
     }
 }
 
@@ -71,9 +73,8 @@ impl Fault {
     {
         match self {
             Fault::Usage => 2,
-            Fault::BadImage => 3,
-            Fault::BadScript { .. } => 4,
-            Fault::Unread { .. } => 5,
+            Fault::Inputs { fault } => fault.status(),
+            Fault::UnreadTrack => 5,
             Fault::Unwritten { .. } | Fault::Unsaid => 6,
             Fault::OutOfMemory => 7,
             Fault::BadTrack => 9,

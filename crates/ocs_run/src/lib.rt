@@ -4,7 +4,6 @@
 mod audio;
 mod command;
 mod fault;
-mod inputs;
 mod order;
 mod rewind;
 mod rewind_order;

@@ -1,11 +1,13 @@
 //! The words of the command line.
 
 ghost use Rattle.std.specs.Prelude.{◌≡◌, ◌<◌, ◌≤◌, ◌∷◌, map, length, string_bytes, IfSome};
-ghost use Rattle.ocs_run.specs.Order.{order_of, order_from, run_words_of, is_new as new_name, are_names as names_of, band_of, workers_of};
+ghost use Rattle.ocs_run.specs.Order.{order_of, order_from, run_words_of, band_of, workers_of};
 ghost use Rattle.ocs_run.specs.Order.{extra_of, extra_names};
 ghost use Rattle.ocs_run.specs.AskedCode.{AreApart, IsHeight, IsOrder, AreRunWords, words_value, IsExtra, extra_value};
+ghost use Rattle.run_inputs.specs.Names.{are_names as names_of};
 
 use ocs_io::dec;
+use run_inputs::are_names;
 
 /// The file that a run has besides those of every run: none, the name of the file to which what it
 /// sounds is written, or the name of the file from which its disk is read.
@@ -186,26 +188,6 @@ fn have_names(words: &RunWords<'_>) -> bool
         Extra::None => are_names(&[image, script, frames, trace, memory]),
         Extra::Audio(name) => are_names(&[image, script, frames, trace, memory, name]),
         Extra::Track(name) => are_names(&[image, script, frames, trace, memory, name]),
-    }
-}
-
-/// Whether names are not empty, and no two of them one.
-pub fn are_names(names: &[&str]) -> bool
-    ensures { result ≡ names_of (map (λ name. name.now) names.now) }
-{
-    match names {
-        [] => true,
-        [name, rest @ ..] => is_new(name, rest) && are_names(rest),
-    }
-}
-
-/// Whether the name is not empty, and none of the others.
-fn is_new(name: &str, others: &[&str]) -> bool
-    ensures { result ≡ new_name name.now (map (λ other. other.now) others.now) }
-{
-    match others {
-        [] => !name.is_empty(),
-        [other, rest @ ..] => name != *other && is_new(name, rest),
     }
 }
 

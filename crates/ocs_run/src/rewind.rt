@@ -8,13 +8,13 @@ ghost use Rattle.ocs_run.specs.RewindAnswers.{RewindAnswers};
 ghost use Rattle.ocs_run.specs.RewindText.{AreLines};
 
 use crate::fault::Fault;
-use crate::inputs::{Inputs, read_inputs};
 use crate::rewind_order::RewindOrder;
 use crate::rewind_text::make_lines;
 use band_log::Run;
 use ocs_base::{OutOfMemory, Script};
 use ocs_io::{Place, WriteRefusal};
 use rewind_loop::Rewind;
+use run_inputs::{Inputs, read_inputs};
 use serial_model::NoSide;
 use std::alloc::Global;
 use std::sync::Arc;

@@ -4,9 +4,9 @@ ghost use Rattle.std.specs.Prelude.{◌≡◌, map, string_bytes, Some, None, If
 ghost use Rattle.ocs_run.specs.RewindOrder.{rewind_order_of, every_of, keep_of, clock_of, clocks_of};
 ghost use Rattle.ocs_run.specs.AskedCode.{IsRewindOrder, HasRanges};
 
-use crate::order::are_names;
 use arrayvec::ArrayVec;
 use ocs_io::dec;
+use run_inputs::are_names;
 
 /// The most clocks that are asked for at once.
 const MOST_CLOCKS: usize = 16;

@@ -2,22 +2,25 @@
 
 ghost use Rattle.std.specs.Prelude.{◌≡◌, IfOk, IfErr};
 ghost use Rattle.crew.specs.Crew.{side_seen};
+ghost use Rattle.disk_dma.specs.Track.{is_track as good_track};
 ghost use Rattle.ocs_base.specs.Sizes.{bytes_of};
 ghost use Rattle.ocs_io.specs.Place.{OnlyReads};
 ghost use Rattle.ocs_run.specs.AskedCode.{extra_value};
-ghost use Rattle.ocs_run.specs.Inputs.{ReadableTrack, IsSideOf, IsSideFault};
+ghost use Rattle.ocs_run.specs.Sides.{ReadableTrack, IsSideOf, IsSideFault, IsTrackOf, IsTrackFault};
 ghost use Rattle.out_files.specs.Places.{LeavesPlace};
 ghost use Rattle.serial_model.specs.Side.{FitsSide};
 
 use crate::fault::Fault;
-use crate::inputs::read_track;
 use crate::order::Extra;
 use crew::CrewSide;
 use disk_dma::Disk;
 use ocs_base::ChipSize;
-use ocs_io::Place;
+use ocs_io::{Place, ReadRefusal};
 use paula_audio::Paula;
 use std::alloc::Global;
+
+/// The most bytes of a track.
+const TRACK_BYTES: usize = 32_768;
 
 /// One side twice: a run keeps the first, and the second is its foreground's.
 #[derive(Drop)]
@@ -59,4 +62,28 @@ pub fn read_sides<P: Place>(
             })
         }
     }
+}
+
+/// Reads the track: an even number of 2 to 32,768 bytes.
+fn read_track<P: Place>(alloc: Global, name: &str, place: &mut P) -> Result<Vec<u8>, Fault>
+    requires { P.readable place.old name.now }
+    ensures good { IfOk result (λ track. IsTrackOf (P.outside place.old) name.now track.items) }
+    ensures fault { IfErr result (IsTrackFault (P.outside place.old)
+        (P.outside place.new) name.now) }
+    ensures place { LeavesPlace OnlyReads P.outside P.readable P.growable place.old place.new }
+{
+    let mut track = Vec::new(alloc);
+    match place.read(name, TRACK_BYTES, &mut track) {
+        Ok(()) if is_track(&track) => Ok(track),
+        Ok(()) | Err(ReadRefusal::TooLong) => Err(Fault::BadTrack),
+        Err(ReadRefusal::Failed) => Err(Fault::UnreadTrack),
+        Err(ReadRefusal::OutOfMemory) => Err(Fault::OutOfMemory),
+    }
+}
+
+/// Whether bytes have the form of a track.
+fn is_track(track: &[u8]) -> bool
+    ensures { result ≡ good_track track.now }
+{
+    track.len() % 2 == 0 && 2 <= track.len() && track.len() <= TRACK_BYTES
 }

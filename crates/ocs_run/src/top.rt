@@ -8,7 +8,8 @@ ghost use Rattle.ocs_run.specs.Verdict.{of_command};
 ghost use Rattle.ocs_run.specs.Command.{IsDone, IsUnwritten, IsWanting};
 ghost use Rattle.ocs_run.specs.Top.{ReadableInputs, ReadableCommand, CommandAnswers, SaysNothingElse, SaysStatus, IsEarly};
 ghost use Rattle.ocs_run.specs.Top.{WritesNoFile, IsRefused, HasBadImage, HasBadScript, HasBadTrack, Completed, HasRunEnd};
-ghost use Rattle.ocs_run.specs.Texts.{SaysSurely, usage_text};
+ghost use Rattle.ocs_run.specs.Texts.{usage_text};
+ghost use Rattle.run_inputs.specs.Texts.{SaysSurely};
 
 use crate::command::run_order;
 use crate::fault::Fault;

@@ -2,17 +2,17 @@ use Rattle.std.proofs.Common.{arith, subst, ◌∙◌}
 use Rattle.crew.specs.Crew.{side_seen}
 use Rattle.ocs_run.specs.AskedCode.{value_of, extra_value}
 use Rattle.ocs_run.specs.Command.{OrderAnswers}
-use Rattle.ocs_run.specs.Inputs.{IsSideOf}
-use Rattle.ocs_run.proofs.OrderLaws.{input_fault, side_fault, order_ended, order_wanting}
+use Rattle.ocs_run.specs.Sides.{IsSideOf}
+use Rattle.ocs_run.specs.declared.fault.Fault.TheVariants.{Inputs}
+use Rattle.ocs_run.proofs.OrderLaws.{side_fault, order_ended, order_wanting}
 use Rattle.ocs_run.proofs.VerdictLaws.{by_err}
 use Rattle.ocs_run.proofs.command.run_order.Goals as goal
 
 pub returns-in_err-inputs-clause-answer : goal.returns-in_err-inputs-clause-answer
 returns-in_err-inputs-clause-answer g c =
     by_err (λ r. OrderAnswers (value_of c.args.order.now) (g.P.Place.outside c.args.place.now) (g.P.Place.outside c.read_inputs.new.place) r) _
-    c.in_err-inputs.field-0.0 c.from_residual.ensures.1
-    (input_fault (value_of c.args.order.now) (g.P.Place.outside c.args.place.now) (g.P.Place.outside c.read_inputs.new.place) _
-    c.in_err-inputs.ensures.fault c.read_inputs.ensures.place.seen.files)
+    (Inputs c.in_err-inputs.field-0.0) c.from_residual.ensures.1
+    (c.in_err-inputs.ensures.fault, c.read_inputs.ensures.place.seen.files)
 
 pub returns-in_err-sides-clause-answer : goal.returns-in_err-sides-clause-answer
 returns-in_err-sides-clause-answer g c =

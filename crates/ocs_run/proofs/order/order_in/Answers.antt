@@ -1,7 +1,8 @@
 use Rattle.std.proofs.Common.{◌≡◌, ◌∷◌, true, arith, rules}
 use Rattle.std.proofs.lemmas.Grind.{common_steps}
 use Rattle.ocs_run.specs.AskedCode.{extra_value}
-use Rattle.ocs_run.specs.Order.{are_names, extra_names}
+use Rattle.run_inputs.specs.Names.{are_names}
+use Rattle.ocs_run.specs.Order.{extra_names}
 use Rattle.ocs_run.proofs.NameLaws.{three_apart, audio_apart}
 use Rattle.ocs_run.proofs.order.order_in.Goals as goal
 

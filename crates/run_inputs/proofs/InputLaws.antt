@@ -6,7 +6,7 @@ use Rattle.ocs_io.specs.Place.{Files}
 use Rattle.script_read.specs.declared.fault.BadKind.TheVariants.{Long}
 use Rattle.script_read.specs.Grammar.{script_of, from_header, Bad}
 use Rattle.script_read.specs.Split.{lines_of}
-use Rattle.ocs_run.specs.Inputs.{HoldsBadScript}
+use Rattle.run_inputs.specs.Inputs.{HoldsBadScript}
 
 long_text : (text : List ℕ) → 4194304 < length text → script_of text ≡ Bad 0 Long
 unfolding script_of

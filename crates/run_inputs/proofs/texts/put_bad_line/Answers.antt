@@ -1,7 +1,7 @@
 use Rattle.std.proofs.Common.{codes, decimal}
 use Rattle.script_read.specs.KindName.{kind_name}
-use Rattle.ocs_run.proofs.TextLaws.{put_three}
-use Rattle.ocs_run.proofs.texts.put_bad_line.Goals as goal
+use Rattle.run_inputs.proofs.TextLaws.{put_three}
+use Rattle.run_inputs.proofs.texts.put_bad_line.Goals as goal
 
 pub returns : goal.returns
 returns c =

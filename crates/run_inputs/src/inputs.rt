@@ -1,17 +1,15 @@
-//! The input files: the image of chip memory, the script, and the track of a disk.
+//! The inputs of a run: the image of chip memory, and the script.
 
 ghost use Rattle.std.specs.Prelude.{◌≡◌, true, IfOk, IfErr};
 ghost use Rattle.ocs_io.specs.Place.{OnlyReads};
-ghost use Rattle.ocs_run.specs.Inputs.{AreInputsOf, IsInputFault};
-ghost use Rattle.ocs_run.specs.Inputs.{IsImageOf, IsImageFault, IsScriptOf, IsScriptFault, IsTextFault};
+ghost use Rattle.run_inputs.specs.Inputs.{AreInputsOf, IsInputFault};
+ghost use Rattle.run_inputs.specs.Inputs.{IsImageOf, IsImageFault, IsScriptOf, IsScriptFault, IsTextFault};
 ghost use Rattle.ocs_base.specs.Limits.{IsRunnable};
 ghost use Rattle.script_read.specs.Grammar.{script_of, Good};
 ghost use Rattle.ocs_base.specs.Image.{is_image as good_image, fits_chip};
-ghost use Rattle.disk_dma.specs.Track.{is_track as good_track};
-ghost use Rattle.ocs_run.specs.Inputs.{IsTrackOf, IsTrackFault};
 ghost use Rattle.out_files.specs.Places.{LeavesPlace};
 
-use crate::fault::{Fault, Input};
+use crate::fault::{InputFault, InputFile};
 use ocs_base::Script;
 use ocs_io::{Place, ReadRefusal};
 use script_read::{BadKind, ScriptFault, read_script};
@@ -23,10 +21,7 @@ const IMAGE_BYTES: usize = 1_048_576;
 /// The most bytes of a script.
 const SCRIPT_BYTES: usize = 4_194_304;
 
-/// The most bytes of a track.
-const TRACK_BYTES: usize = 32_768;
-
-/// The inputs of a run and of a rewind: a good image and a good script, whose chip memory it fits.
+/// The inputs of a run: a good image and a good script, whose chip memory it fits.
 #[derive(Drop)]
 pub struct Inputs {
     pub image: Vec<u8>,
@@ -40,7 +35,7 @@ pub fn read_inputs<P: Place>(
     image: &str,
     script: &str,
     place: &mut P,
-) -> Result<Inputs, Fault>
+) -> Result<Inputs, InputFault>
     requires image { P.readable place.old image.now }
     requires script { P.readable place.old script.now }
     ensures good { IfOk result (λ inputs. AreInputsOf (P.outside place.old) image.now script.now
@@ -52,7 +47,7 @@ pub fn read_inputs<P: Place>(
     let image = read_image(alloc, image, place)?;
     let script = read_script_file(alloc, script, place)?;
     if !fits(&image, &script) {
-        return Err(Fault::BadImage);
+        return Err(InputFault::BadImage);
     }
     Ok(Inputs { image, script })
 }
@@ -66,7 +61,7 @@ fn fits(image: &[u8], script: &Script) -> bool
 
 /// Reads the image: an even number of 8 to 1,048,576 bytes. Whether they fit the machine's chip memory
 /// the script says, which is read later.
-fn read_image<P: Place>(alloc: Global, name: &str, place: &mut P) -> Result<Vec<u8>, Fault>
+fn read_image<P: Place>(alloc: Global, name: &str, place: &mut P) -> Result<Vec<u8>, InputFault>
     requires { P.readable place.old name.now }
     ensures good { IfOk result (λ image. IsImageOf (P.outside place.old) name.now image.items) }
     ensures fault { IfErr result (IsImageFault (P.outside place.old)
@@ -76,11 +71,11 @@ fn read_image<P: Place>(alloc: Global, name: &str, place: &mut P) -> Result<Vec<
     let mut image = Vec::new(alloc);
     match place.read(name, IMAGE_BYTES, &mut image) {
         Ok(()) if is_image(&image) => Ok(image),
-        Ok(()) | Err(ReadRefusal::TooLong) => Err(Fault::BadImage),
-        Err(ReadRefusal::Failed) => Err(Fault::Unread {
-            input: Input::Image,
+        Ok(()) | Err(ReadRefusal::TooLong) => Err(InputFault::BadImage),
+        Err(ReadRefusal::Failed) => Err(InputFault::Unread {
+            input: InputFile::Image,
         }),
-        Err(ReadRefusal::OutOfMemory) => Err(Fault::OutOfMemory),
+        Err(ReadRefusal::OutOfMemory) => Err(InputFault::OutOfMemory),
     }
 }
 
@@ -92,7 +87,11 @@ fn is_image(image: &[u8]) -> bool
 }
 
 /// Reads the script. A text that is longer than a script may be is bad at line 0.
-fn read_script_file<P: Place>(alloc: Global, name: &str, place: &mut P) -> Result<Script, Fault>
+fn read_script_file<P: Place>(
+    alloc: Global,
+    name: &str,
+    place: &mut P,
+) -> Result<Script, InputFault>
     requires { P.readable place.old name.now }
     ensures good { IfOk result (λ script. IsScriptOf (P.outside place.old) name.now script) }
     ensures fault { IfErr result (IsScriptFault (P.outside place.old)
@@ -102,52 +101,26 @@ fn read_script_file<P: Place>(alloc: Global, name: &str, place: &mut P) -> Resul
     let mut text = Vec::new(alloc);
     match place.read(name, SCRIPT_BYTES, &mut text) {
         Ok(()) => parse(alloc, &text),
-        Err(ReadRefusal::TooLong) => Err(Fault::BadScript {
+        Err(ReadRefusal::TooLong) => Err(InputFault::BadScript {
             line: 0,
             kind: BadKind::Long,
         }),
-        Err(ReadRefusal::Failed) => Err(Fault::Unread {
-            input: Input::Script,
+        Err(ReadRefusal::Failed) => Err(InputFault::Unread {
+            input: InputFile::Script,
         }),
-        Err(ReadRefusal::OutOfMemory) => Err(Fault::OutOfMemory),
+        Err(ReadRefusal::OutOfMemory) => Err(InputFault::OutOfMemory),
     }
 }
 
 /// The script of a text.
-fn parse(alloc: Global, text: &[u8]) -> Result<Script, Fault>
+fn parse(alloc: Global, text: &[u8]) -> Result<Script, InputFault>
     ensures good { IfOk result (λ script. script_of text.now ≡ Good script) }
     ensures runnable { IfOk result IsRunnable }
     ensures fault { IfErr result (IsTextFault text.now) }
 {
     match read_script(alloc, text) {
         Ok(script) => Ok(script),
-        Err(ScriptFault::Bad { line, kind }) => Err(Fault::BadScript { line, kind }),
-        Err(ScriptFault::OutOfMemory) => Err(Fault::OutOfMemory),
+        Err(ScriptFault::Bad { line, kind }) => Err(InputFault::BadScript { line, kind }),
+        Err(ScriptFault::OutOfMemory) => Err(InputFault::OutOfMemory),
     }
-}
-
-/// Reads the track: an even number of 2 to 32,768 bytes.
-pub fn read_track<P: Place>(alloc: Global, name: &str, place: &mut P) -> Result<Vec<u8>, Fault>
-    requires { P.readable place.old name.now }
-    ensures good { IfOk result (λ track. IsTrackOf (P.outside place.old) name.now track.items) }
-    ensures fault { IfErr result (IsTrackFault (P.outside place.old)
-        (P.outside place.new) name.now) }
-    ensures place { LeavesPlace OnlyReads P.outside P.readable P.growable place.old place.new }
-{
-    let mut track = Vec::new(alloc);
-    match place.read(name, TRACK_BYTES, &mut track) {
-        Ok(()) if is_track(&track) => Ok(track),
-        Ok(()) | Err(ReadRefusal::TooLong) => Err(Fault::BadTrack),
-        Err(ReadRefusal::Failed) => Err(Fault::Unread {
-            input: Input::Track,
-        }),
-        Err(ReadRefusal::OutOfMemory) => Err(Fault::OutOfMemory),
-    }
-}
-
-/// Whether bytes have the form of a track.
-fn is_track(track: &[u8]) -> bool
-    ensures { result ≡ good_track track.now }
-{
-    track.len() % 2 == 0 && 2 <= track.len() && track.len() <= TRACK_BYTES
 }

@@ -1,5 +1,5 @@
 use Rattle.std.proofs.Common.{length}
-use Rattle.ocs_run.proofs.order.+are_names.Given as goal
+use Rattle.run_inputs.proofs.names.+are_names.Given as goal
 
 abbrev pub decreases-are_names : goal.decreases-are_names
 decreases-are_names l = length l.names.now

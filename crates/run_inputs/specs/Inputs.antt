@@ -1,21 +1,15 @@
 -- What reading the inputs tells.
 use Rattle.std.specs.Prelude.{◌≡◌, ℕ, true, false, ◌⊎◌, List, Some}
-use Rattle.disk_dma.specs.Disk.{disk_side, new_disk}
-use Rattle.disk_dma.specs.Track.{is_track}
 use Rattle.ocs_base.specs.Image.{is_image, fits_chip}
 use Rattle.ocs_base.specs.Limits.{IsRunnable}
 use Rattle.ocs_base.specs.Script.{ScriptValue}
 use Rattle.ocs_io.specs.Answers.{WhereTold}
 use Rattle.ocs_io.specs.Place.{Files, Outside, Rose, file}
-use Rattle.ocs_base.specs.declared.chip_size.ChipSize.{ChipSize}
-use Rattle.paula_audio.specs.Paula.{paula_side, reset_paula}
 use Rattle.script_read.specs.declared.fault.BadKind.{BadKind}
 use Rattle.script_read.specs.Grammar.{script_of, Good, Bad}
-use Rattle.ocs_run.specs.declared.fault.Fault.{Fault}
-use Rattle.ocs_run.specs.declared.fault.Fault.TheVariants.{Usage, BadImage, BadScript, BadTrack, Unread, Unwritten, Unsaid, OutOfMemory}
-use Rattle.ocs_run.specs.declared.fault.Input.TheVariants.{Image, Script, Track}
-use Rattle.ocs_run.specs.Order.{ExtraValue, NoFile, AudioFile, TrackFile}
-use Rattle.serial_model.specs.Side.{SideValue, no_side}
+use Rattle.run_inputs.specs.declared.fault.InputFault.{InputFault}
+use Rattle.run_inputs.specs.declared.fault.InputFault.TheVariants.{BadImage, BadScript, Unread, OutOfMemory}
+use Rattle.run_inputs.specs.declared.fault.InputFile.TheVariants.{Image, Script}
 
 -- the file is there with these bytes
 abbrev pub Holds : List ℕ → List ℕ → Files → Type 0
@@ -54,28 +48,17 @@ pub record HoldsRun (image_name script_name : List ℕ) (files : Files) : Type 0
   pub script_good : HoldsScript script_name script files
   pub fits : fits_chip script.chip image ≡ true
 
--- the file is there, and has not the form of a track
-pub record HoldsNoTrack (name : List ℕ) (files : Files) : Type 0 where
-  pub bytes : List ℕ
-  pub there : file files name ≡ Some bytes
-  pub bad : is_track bytes ≡ false
-
 -- an image was read
 pub record IsImageOf (old : Outside) (name image : List ℕ) : Type 0 where
   pub holds : WhereTold old.files (Holds name image)
   pub good : is_image image ≡ true
 
 -- why no image was read
-abbrev pub IsImageFault : Outside → Outside → List ℕ → Fault → Type 0
-IsImageFault old new name Usage = ⊥
+abbrev pub IsImageFault : Outside → Outside → List ℕ → InputFault → Type 0
 IsImageFault old new name BadImage = WhereTold old.files (HoldsNoImage name)
 IsImageFault old new name (BadScript line kind) = ⊥
-IsImageFault old new name BadTrack = ⊥
 IsImageFault old new name (Unread Image) = Rose old.read_faults new.read_faults
 IsImageFault old new name (Unread Script) = ⊥
-IsImageFault old new name (Unread Track) = ⊥
-IsImageFault old new name (Unwritten output) = ⊥
-IsImageFault old new name Unsaid = ⊥
 IsImageFault old new name OutOfMemory = Unit {0}
 
 -- a script was read
@@ -84,27 +67,18 @@ pub record IsScriptOf (old : Outside) (name : List ℕ) (script : ScriptValue) :
   pub runnable : IsRunnable script
 
 -- why no script was read
-abbrev pub IsScriptFault : Outside → Outside → List ℕ → Fault → Type 0
-IsScriptFault old new name Usage = ⊥
+abbrev pub IsScriptFault : Outside → Outside → List ℕ → InputFault → Type 0
 IsScriptFault old new name BadImage = ⊥
 IsScriptFault old new name (BadScript line kind) = WhereTold old.files (HoldsBadScript name line kind)
-IsScriptFault old new name BadTrack = ⊥
 IsScriptFault old new name (Unread Image) = ⊥
 IsScriptFault old new name (Unread Script) = Rose old.read_faults new.read_faults
-IsScriptFault old new name (Unread Track) = ⊥
-IsScriptFault old new name (Unwritten output) = ⊥
-IsScriptFault old new name Unsaid = ⊥
 IsScriptFault old new name OutOfMemory = Unit {0}
 
 -- why a text is no script
-abbrev pub IsTextFault : List ℕ → Fault → Type 0
-IsTextFault text Usage = ⊥
+abbrev pub IsTextFault : List ℕ → InputFault → Type 0
 IsTextFault text BadImage = ⊥
 IsTextFault text (BadScript line kind) = script_of text ≡ Bad line kind
-IsTextFault text BadTrack = ⊥
 IsTextFault text (Unread input) = ⊥
-IsTextFault text (Unwritten output) = ⊥
-IsTextFault text Unsaid = ⊥
 IsTextFault text OutOfMemory = Unit {0}
 
 -- image and script were read, are good, and fit
@@ -127,49 +101,18 @@ pub record HoldsBadLine (image_name script_name : List ℕ) (line : ℕ) (kind :
   pub image : HoldsImage image_name files
   pub script : HoldsBadScript script_name line kind files
 
--- why the two inputs of a run and of a rewind were not read
-abbrev pub IsInputFault : Outside → Outside → List ℕ → List ℕ → Fault → Type 0
-IsInputFault old new image script Usage = ⊥
+-- why the two inputs of a run were not read
+abbrev pub IsInputFault : Outside → Outside → List ℕ → List ℕ → InputFault → Type 0
 IsInputFault old new image script BadImage = WhereTold old.files (HoldsNoImage image) ⊎ WhereTold old.files (HoldsMisfit image script)
 IsInputFault old new image script (BadScript line kind) = WhereTold old.files (HoldsBadLine image script line kind)
-IsInputFault old new image script BadTrack = ⊥
 IsInputFault old new image script (Unread Image) = Rose old.read_faults new.read_faults
 IsInputFault old new image script (Unread Script) = Rose old.read_faults new.read_faults × WhereTold old.files (HoldsImage image)
-IsInputFault old new image script (Unread Track) = ⊥
-IsInputFault old new image script (Unwritten output) = ⊥
-IsInputFault old new image script Unsaid = ⊥
 IsInputFault old new image script OutOfMemory = Unit {0}
 
--- the place lets the track be read, where there is one
-abbrev pub ReadableTrack : (List ℕ → Type 0) → ExtraValue → Type 0
-ReadableTrack readable extra = (name : List ℕ) → extra ≡ TrackFile name → readable name
-
--- a track was read
-pub record IsTrackOf (old : Outside) (name track : List ℕ) : Type 0 where
-  pub holds : WhereTold old.files (Holds name track)
-  pub good : is_track track ≡ true
-
--- why no track was read
-abbrev pub IsTrackFault : Outside → Outside → List ℕ → Fault → Type 0
-IsTrackFault old new name Usage = ⊥
-IsTrackFault old new name BadImage = ⊥
-IsTrackFault old new name (BadScript line kind) = ⊥
-IsTrackFault old new name BadTrack = WhereTold old.files (HoldsNoTrack name)
-IsTrackFault old new name (Unread Image) = ⊥
-IsTrackFault old new name (Unread Script) = ⊥
-IsTrackFault old new name (Unread Track) = Rose old.read_faults new.read_faults
-IsTrackFault old new name (Unwritten output) = ⊥
-IsTrackFault old new name Unsaid = ⊥
-IsTrackFault old new name OutOfMemory = Unit {0}
-
--- what stands beside the chips as the run begins: nothing, the four channels of sound, or the disk with the track that was read
-abbrev pub IsSideOf : Outside → ChipSize → ExtraValue → SideValue → Type 0
-IsSideOf old chip NoFile side = side ≡ no_side
-IsSideOf old chip (AudioFile name) side = side ≡ paula_side (reset_paula chip)
-IsSideOf old chip (TrackFile name) side = (track : List ℕ) × IsTrackOf old name track × (side ≡ disk_side (new_disk track chip))
-
--- why it was not made
-abbrev pub IsSideFault : Outside → Outside → ExtraValue → Fault → Type 0
-IsSideFault old new NoFile fault = ⊥
-IsSideFault old new (AudioFile name) fault = ⊥
-IsSideFault old new (TrackFile name) fault = IsTrackFault old new name fault
+-- what the text of such a fault tells is so: the bad line of the script; and the script is named only where the image has the form of one
+abbrev pub IsToldOfInputs : Outside → List ℕ → List ℕ → InputFault → Type 0
+IsToldOfInputs old image script BadImage = Unit {0}
+IsToldOfInputs old image script (BadScript line kind) = WhereTold old.files (HoldsBadLine image script line kind)
+IsToldOfInputs old image script (Unread Image) = Unit {0}
+IsToldOfInputs old image script (Unread Script) = WhereTold old.files (HoldsImage image)
+IsToldOfInputs old image script OutOfMemory = Unit {0}

@@ -1,5 +1,5 @@
 use Rattle.std.proofs.Common.{length}
-use Rattle.ocs_run.proofs.order.+is_new.Given as goal
+use Rattle.run_inputs.proofs.names.+is_new.Given as goal
 
 abbrev pub decreases-is_new : goal.decreases-is_new
 decreases-is_new l = length l.others.now

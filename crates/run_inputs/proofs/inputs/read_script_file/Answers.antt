@@ -1,5 +1,5 @@
-use Rattle.ocs_run.proofs.InputLaws.{too_long}
-use Rattle.ocs_run.proofs.inputs.read_script_file.Goals as goal
+use Rattle.run_inputs.proofs.InputLaws.{too_long}
+use Rattle.run_inputs.proofs.inputs.read_script_file.Goals as goal
 
 pub returns-in-Err-TooLong-clause-fault : goal.returns-in-Err-TooLong-clause-fault
 returns-in-Err-TooLong-clause-fault g c =

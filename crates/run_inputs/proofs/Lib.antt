@@ -1,0 +1,4 @@
+pub mod FaultLaws
+pub mod InputLaws
+pub mod TextLaws
+pub mod VerdictLaws

@@ -1,0 +1,5 @@
+pub mod Fault
+pub mod Inputs
+pub mod Names
+pub mod Texts
+pub mod Verdict
