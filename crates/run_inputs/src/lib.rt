@@ -1,12 +1,14 @@
-//! What a command has before it runs the machine: the names in its words, the image of chip memory and the
-//! script, and what is said where they are bad.
+//! What a command has before it runs the machine: its words and the names in them, the image of chip memory
+//! and the script, and what is said where they are bad.
 #![tactic(auto)]
 
+mod arguments;
 pub mod fault;
 pub mod inputs;
 pub mod names;
 pub mod texts;
 
+pub use arguments::words_behind_name;
 pub use fault::{InputFault, InputFile};
 pub use inputs::{Inputs, read_inputs};
 pub use names::are_names;

@@ -1,0 +1,51 @@
+//! A run that is told as a text, and the bytes of its log.
+
+use ocs_io::{Shelf, dec, hex};
+use run_cases::CaseFault;
+use run_cases::case::{image, script};
+use run_cases::place::shelf;
+use slots_run::slots_main;
+use std::alloc::Global;
+
+/// The processor reads its two vectors and its first instruction while the Copper makes a MOVE; it writes
+/// a word at 200, writes COLOR00, reads DMACONR, and stops. A blit of one word writes ffff to 300. In
+/// line 100 the word at 100 is fetched for plane 1, in one unit that begins with clock 56.
+pub fn run_told() -> &'static str {
+    "run Each owner of a slot.
+cpu on
+frames 2
+image 0000 2000 0000 0100 0180 0f00 ffff fffe 120*0000
+image 33c0 0000 0200 33c0 00df f180 3039 00df f002 4e72 2700
+at 0 0 0: 082=0008 088=0000 096=82c0
+at 0 0 60: 040=01ff 056=0300 058=0041
+at 0 100 0: 08e=2c81 090=f4c1 092=0038 094=0038 0e2=0100 100=1000 096=8100
+at 0 101 0: 096=0100"
+}
+
+/// The two inputs of that run.
+pub fn inputs(alloc: Global) -> Result<Shelf, CaseFault> {
+    let image = image(alloc, run_told())?;
+    shelf(alloc, &image, script(alloc, run_told())?.as_str())
+}
+
+/// The status of the words of a text.
+pub fn status(alloc: Global, text: &str, shelf: &mut Shelf) -> Result<u8, CaseFault> {
+    let mut words = Vec::new(alloc);
+    for word in text.split(' ') {
+        words.push(String::from_str(alloc, word)?)?;
+    }
+    Ok(slots_main(alloc, &words, shelf))
+}
+
+/// The bytes of a text: each of two hexadecimal digits, and `13*00` for one that stands so often.
+pub fn bytes(alloc: Global, text: &str) -> Result<Vec<u8>, CaseFault> {
+    let mut bytes = Vec::new(alloc);
+    for item in text.split_whitespace() {
+        let (count, digits) = item.split_once('*').unwrap_or(("1", item));
+        let byte = hex(digits.as_bytes()).ok_or("a byte is told")?;
+        for _ in 0..dec(count.as_bytes()).ok_or("a count is told")? {
+            bytes.push((byte % 256) as u8)?;
+        }
+    }
+    Ok(bytes)
+}

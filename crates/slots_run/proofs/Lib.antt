@@ -1,0 +1,5 @@
+pub mod ClockLaws
+pub mod LogLaws
+pub mod OrderLaws
+pub mod SlotRunLaws
+pub mod TopLaws

@@ -1,0 +1,61 @@
+//! The log of the slots of frames of a run, as a text.
+
+ghost use Rattle.std.specs.Prelude.{◌≡◌, ◌≤◌, true, IfOk};
+ghost use Rattle.ocs_base.specs.Image.{is_image, fits_chip};
+ghost use Rattle.ocs_base.specs.Limits.{IsRunnable};
+ghost use Rattle.slots_run.specs.Log.{IsLogOf, run_of};
+ghost use Rattle.slots_run.specs.SlotRunCode.{run_in, Stands};
+
+use crate::slot_run::SlotRun;
+use band_log::Run;
+use ocs_base::{OutOfMemory, Script};
+use serial_model::NoSide;
+use slot_log::{SlotLog, put_heading};
+use std::alloc::Global;
+use std::sync::Arc;
+
+/// The height of the bands, in lines, on which nothing that is written depends.
+const BAND_LINES: u16 = 313;
+
+/// The log of the slots of the frames `from` up to `to`, which is not among them, of the run of a good script
+/// over a good image that fits its chip memory: of those of these frames that the run has.
+#[tactic(auto, unfolding(slot_log::specs::SlotLog::slots_file))]
+pub fn make_log(
+    alloc: Global,
+    image: Vec<u8>,
+    script: Script,
+    from: u32,
+    to: u32,
+) -> Result<Vec<u8>, OutOfMemory>
+    requires image { is_image image.items ≡ true }
+    requires fits { fits_chip script.chip image.items ≡ true }
+    requires script { IsRunnable script }
+    requires order { from ≤ to }
+    ensures { IfOk result (λ text. IsLogOf image.items script from to text.items) }
+{
+    let system = script.system();
+    let bytes = script.chip();
+    let frames = script.frames();
+    let mut run = begin_run(alloc, image, script)?;
+    run.go_to_frame(from.min(frames))?;
+    let mut text = Vec::new(alloc);
+    put_heading(system, from, to, bytes, &mut text)?;
+    run.put_memory(&mut text)?;
+    let mut log = SlotLog::new(alloc, system);
+    run.note_to_frame(to.min(frames), &mut log)?;
+    text.extend_from_slice(log.text())?;
+    Ok(text)
+}
+
+/// The run at its reset.
+fn begin_run(alloc: Global, image: Vec<u8>, script: Script) -> Result<SlotRun, OutOfMemory>
+    requires image { is_image image.items ≡ true }
+    requires fits { fits_chip script.chip image.items ≡ true }
+    requires script { IsRunnable script }
+    ensures stands { IfOk result Stands }
+    ensures run { IfOk result (λ r. run_in r ≡ run_of image.items script) }
+    ensures first { IfOk result (λ r. r.fore.machine.t ≡ 0) }
+{
+    let run = Arc::new(alloc, Run::over(image, script, BAND_LINES, NoSide))?;
+    SlotRun::new(alloc, run)
+}

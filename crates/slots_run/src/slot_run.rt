@@ -1,0 +1,136 @@
+//! A run of which the slots are looked at.
+
+ghost use Rattle.std.specs.Prelude.{◌≡◌, ◌≤◌, ◌<◌, ◌+◌, ◌-◌, ◌++◌, [], ◌∷◌, List, IfOk, OnOk};
+ghost use Rattle.std.specs.Arc.{arc_value};
+ghost use Rattle.serial_bands.specs.Run.{run_over};
+ghost use Rattle.serial_model.specs.MemoryText.{memory_text};
+ghost use Rattle.serial_model.specs.Side.{no_side};
+ghost use Rattle.slot_log.specs.Entry.{SlotClock};
+ghost use Rattle.slot_log.specs.SlotLog.{log_of};
+ghost use Rattle.slots_run.specs.Log.{slot_clock, slot_clocks};
+ghost use Rattle.slots_run.specs.SlotRunCode.{run_in, frame_in, Stands, GoesOn, Comes};
+
+use band_draw::Direct;
+use band_log::Run;
+use foreground::Fore;
+use ocs_base::{Beam, OutOfMemory};
+use out_files::OutFiles;
+use serial_model::NoSide;
+use slot_log::SlotLog;
+use std::alloc::Global;
+use std::sync::Arc;
+
+/// A run without a side, at some clock of it.
+#[derive(Drop)]
+pub struct SlotRun {
+    alloc: Global,
+    fore: Fore<NoSide>,
+    raster: Direct<NoSide>,
+    /// What the foreground is given for its texts, anew with each frame; nobody reads it.
+    out: OutFiles,
+}
+
+impl SlotRun {
+    /// A run at its reset.
+    pub fn new(alloc: Global, run: Arc<Run<NoSide>>) -> Result<SlotRun, OutOfMemory>
+        ensures stands { IfOk result Stands }
+        ensures run { IfOk result (λ r. run_in r ≡ run_over (λ side. no_side) (arc_value run)) }
+        ensures first { IfOk result (λ r. r.fore.machine.t ≡ 0) }
+    {
+        Ok(SlotRun {
+            alloc,
+            fore: Fore::new(alloc, run)?,
+            raster: Direct::new(alloc)?,
+            out: unread_files(alloc)?,
+        })
+    }
+
+    /// Goes on to the first clock of a frame, or to the run's end where that is the number of its frames.
+    pub fn go_to_frame(&mut self, frame: u32) -> Result<(), OutOfMemory>
+        requires stands { Stands self.old }
+        requires least { frame_in self.old ≤ frame }
+        requires most { frame ≤ (run_in self.old).script.frames }
+        ensures { OnOk result (Comes frame self.old self.new) }
+    {
+        while self.fore.beam().frame < frame {
+            self.go_to_line()?;
+        }
+        Ok(())
+    }
+
+    /// Goes on to the first clock of the next line.
+    fn go_to_line(&mut self) -> Result<(), OutOfMemory>
+        requires stands { Stands self.old }
+        requires running { frame_in self.old < (run_in self.old).script.frames }
+        ensures { OnOk result (GoesOn self.old self.new) }
+    {
+        renew_at_frame(self.alloc, &self.fore.beam(), &mut self.out)?;
+        let limit = self.fore.next_line();
+        self.fore.run_to(limit, &mut self.raster, &mut self.out)?;
+        Ok(())
+    }
+
+    /// Appends the words of the memory as it is now, the high byte of each first. After a refusal a part may
+    /// have been appended.
+    pub fn put_memory(&mut self, text: &mut Vec<u8>) -> Result<(), OutOfMemory>
+        requires stands { Stands self.old }
+        ensures text { OnOk result (text.new.items ≡ text.old.items
+            ++ memory_text self.old.fore.machine.chip.words) }
+        ensures stands { OnOk result (Stands self.new) }
+        ensures run { OnOk result (run_in self.new ≡ run_in self.old) }
+        ensures clock { OnOk result (self.new.fore.machine.t ≡ self.old.fore.machine.t) }
+        ensures frame { OnOk result (frame_in self.new ≡ frame_in self.old) }
+    {
+        self.fore.put_memory(text)?;
+        Ok(())
+    }
+
+    /// Goes on as `go_to_frame` does, and notes each clock in a log that has none yet.
+    pub fn note_to_frame(&mut self, frame: u32, log: &mut SlotLog) -> Result<(), OutOfMemory>
+        requires stands { Stands self.old }
+        requires least { frame_in self.old ≤ frame }
+        requires most { frame ≤ (run_in self.old).script.frames }
+        requires none { log.old ≡ log_of log.old.system [] }
+        ensures comes { OnOk result (Comes frame self.old self.new) }
+        ensures noted { OnOk result (log.new ≡ log_of log.old.system (slot_clocks (run_in self.old)
+            self.old.fore.machine.t (self.new.fore.machine.t - self.old.fore.machine.t))) }
+    {
+        while self.fore.beam().frame < frame {
+            self.note_clock(log)?;
+        }
+        Ok(())
+    }
+
+    /// One clock, which is noted in the log.
+    fn note_clock(&mut self, log: &mut SlotLog) -> Result<(), OutOfMemory>
+        requires stands { Stands self.old }
+        requires running { frame_in self.old < (run_in self.old).script.frames }
+        ensures goes { OnOk result (GoesOn self.old self.new) }
+        ensures count { OnOk result (self.new.fore.machine.t ≡ self.old.fore.machine.t + 1) }
+        ensures noted { OnOk result ((past : List SlotClock) → log.old ≡ log_of log.old.system past →
+            log.new ≡ log_of log.old.system
+            (slot_clock (run_in self.old) self.old.fore.machine.t ∷ past)) }
+    {
+        let beam = self.fore.beam();
+        renew_at_frame(self.alloc, &beam, &mut self.out)?;
+        let slot = self.fore.advance(&mut self.raster, &mut self.out)?;
+        log.note(&beam, &slot.ask, slot.read)?;
+        Ok(())
+    }
+}
+
+/// Files that nobody reads, with nothing pending.
+fn unread_files(alloc: Global) -> Result<OutFiles, OutOfMemory> {
+    let frames = String::from_str(alloc, "f")?;
+    let trace = String::from_str(alloc, "t")?;
+    let memory = String::from_str(alloc, "m")?;
+    Ok(OutFiles::new(alloc, frames, trace, memory))
+}
+
+/// At the start of a frame the files are made anew: what was pending for the frame before is given up.
+fn renew_at_frame(alloc: Global, beam: &Beam, out: &mut OutFiles) -> Result<(), OutOfMemory> {
+    if beam.v == 0 && beam.h == 0 {
+        *out = unread_files(alloc)?;
+    }
+    Ok(())
+}
