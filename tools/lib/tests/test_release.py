@@ -63,10 +63,11 @@ class Release(Tools):
         return subprocess.run(words, env=self.environment(), check=True, capture_output=True, text=True).stdout
 
     def stand_in(self, data: bytes) -> None:
-        """Puts a program where tools/build leaves it, with its mark."""
-        place = self.write("top/crates/ocs/out/ocs", data)
-        os.chmod(place, 0o755)
-        self.write("top/crates/ocs/out/ocs-sources", f"{self.sources()}{hashlib.sha256(data).hexdigest()}  -\n")
+        """Puts a program where tools/build leaves it, with its mark, in place of both."""
+        for crate in ("ocs", "ocs_slots"):
+            place = self.write(f"top/crates/{crate}/out/{crate}", data)
+            os.chmod(place, 0o755)
+            self.write(f"top/crates/{crate}/out/{crate}-sources", f"{self.sources()}{hashlib.sha256(data).hexdigest()}  -\n")
 
     def gate(self, passed: str, failed: str) -> None:
         self.write("top/out/gate.log", self.sources() + GATE.format(passed, failed))
@@ -96,6 +97,12 @@ class RefusalTest(Release):
         self.assertIn("is not the proved program of these sources", self.refused_release())
         os.remove(os.path.join(self.top, "crates/ocs/out/ocs"))
         self.assertIn("is not the proved program of these sources", self.refused_release())
+
+    def test_second_program(self) -> None:
+        with open("/bin/true", "rb") as file:
+            self.stand_in(file.read())
+        self.write("top/crates/ocs_slots/out/ocs_slots", b"another")
+        self.assertIn("crates/ocs_slots/out/ocs_slots: is not the proved program of these sources", self.refused_release())
 
     def test_program_that_is_none(self) -> None:
         self.assertIn("is no program for Linux on x86-64", self.refused_release())
@@ -174,7 +181,7 @@ class PackedTest(Release):
             text = tar.extractfile(f"{top}/RELEASE").read().decode()
         self.assertEqual(names, sorted(names))
         self.assertEqual({(member.mtime, member.uid, member.gid, member.uname) for member in members}, {(946684800, 0, 0, "")})
-        tops = ("ocs", "README.md", "LICENSE", "CHANGELOG.md", "RELEASE", "SHA256SUMS")
+        tops = ("ocs", "ocs-slots", "README.md", "LICENSE", "CHANGELOG.md", "RELEASE", "SHA256SUMS")
         for name in (*tops, "licences/itoa/LICENSE", "tools/look", "tools/when"):
             self.assertIn(name, names)
         self.assertFalse([name for name in names if name.startswith(("crates", "tools/test-", "tools/build", "tools/release"))])
