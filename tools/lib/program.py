@@ -12,17 +12,26 @@ TOP = os.path.dirname(os.path.dirname(os.path.dirname(os.path.realpath(__file__)
 BUILD = os.path.join(TOP, "tools", "build")
 BUILT = os.path.join(TOP, "crates", "ocs", "out", "ocs")
 RELEASED = os.path.join(TOP, "ocs")
+# the program that writes the log of slots: the one that the environment names so, else that of a release
+SLOTS_NAME = "OCS_SLOTS"
+RELEASED_SLOTS = os.path.join(TOP, "ocs-slots")
 
 
-def named_program() -> str | None:
-    """The program that OCS names, by its whole place; None where it names none."""
-    name = os.environ.get("OCS")
+def named_program(variable: str = "OCS") -> str | None:
+    """The program that a variable of the environment names, by its whole place; None where it names none."""
+    name = os.environ.get(variable)
     if not name:
         return None
     place = shutil.which(name)
     if place is None:
-        raise BadFile(name, "is no program, and the environment's OCS names it")
+        raise BadFile(name, f"is no program, and the environment's {variable} names it")
     return os.path.abspath(place)
+
+
+def slots_program() -> str | None:
+    """The program that writes the log of a run's slots; None where there is none."""
+    named = named_program(SLOTS_NAME)
+    return named or (RELEASED_SLOTS if os.access(RELEASED_SLOTS, os.X_OK) else None)
 
 
 def built_program() -> str | None:
