@@ -106,6 +106,11 @@ function counted(number) {
   return number.toLocaleString("en");
 }
 
+/** A count with its noun. */
+function countOf(number, noun) {
+  return `${counted(number)} ${noun}${number === 1 ? "" : "s"}`;
+}
+
 function cssColour(word) {
   return "#" + hex(word & 0xfff, 3);
 }

@@ -30,6 +30,17 @@ class List {
     return Math.max(1, Math.floor(this.box.clientHeight / ROW_HEIGHT) - 1);
   }
 
+  /** How many rows a key goes down, or up where that is below 0; 0 for other keys. */
+  stepOf(key) {
+    const page = this.rowsInView;
+    return { ArrowUp: -1, ArrowDown: 1, PageUp: -page, PageDown: page, Home: -Infinity, End: Infinity }[key] ?? 0;
+  }
+
+  /** The position so many rows below another, or above, that the list has. */
+  positionBelow(position, step) {
+    return Math.min(this.items.length - 1, Math.max(0, position + step));
+  }
+
   /** How many pixels of rows one pixel of scrolling moves: 1, but for very long lists. */
   pace() {
     const view = this.box.clientHeight;
@@ -47,7 +58,7 @@ class List {
       row.hidden = false;
       row.style.top = scrolled + at * ROW_HEIGHT - top + "px";
       row.dataset.at = at;
-      row.id = "row-" + at;
+      row.id = `${this.box.id}-${at}`;
       row.setAttribute("aria-posinset", at + 1);
       row.setAttribute("aria-setsize", this.items.length);
       this.drawRow(row, this.items[at]);

@@ -19,6 +19,7 @@ class Look {
     this.list = new List(byId("list"), byId("list-space"), (row, at) => this.drawRow(row, at), choose);
     this.reading = new Reading(trace, data.system, data.inputs, choose);
     this.filter = new Filter(data.registers, data.system.lines, () => this.applyFilter());
+    this.slotView = data.slots ? new SlotView(this, data.slots) : null;
     this.tip = element("div", "tip");
     this.tip.hidden = true;
     document.body.append(this.tip);
@@ -36,6 +37,7 @@ class Look {
     this.picture.whenZoomed = (zoom, fitted) => {
       byId("zoom-label").textContent = (fitted ? zoom.toFixed(2).replace(/\.?0+$/, "") : zoom) + "\u00d7";
       byId("fit").setAttribute("aria-pressed", String(fitted));
+      this.slotView?.whenZoomed(zoom, fitted);
     };
   }
 
@@ -71,6 +73,7 @@ class Look {
     this.showFrame();
     this.applyFilter();
     this.showCounts();
+    this.slotView?.showFrame();
   }
 
   showFrame() {
@@ -158,17 +161,22 @@ class Look {
     this.showDetail(at);
     const position = at < 0 ? -1 : this.list.positionOf(at);
     if (position >= 0) this.list.reveal(position);
-    byId("list").setAttribute("aria-activedescendant", position >= 0 ? "row-" + position : "");
+    byId("list").setAttribute("aria-activedescendant", position >= 0 ? "list-" + position : "");
     this.list.redraw();
     this.picture.redraw();
   }
 
   /** Goes to the frame and the place of a trace line, where the page has its frame. */
   goToLine(at) {
-    const index = this.data.frames.findIndex((frame) => frame.number === this.trace.frame[at]);
+    this.goToPlace(this.trace.frame[at], this.trace.line[at], this.trace.clock[at]);
+  }
+
+  /** Goes to a clock of a line of a frame, where the page has that. */
+  goToPlace(frame, line, clock) {
+    const index = this.data.frames.findIndex((one) => one.number === frame);
     if (index < 0) return;
     if (index !== this.index) this.goToFrame(index);
-    const place = { x: this.trace.clock[at] * PIXELS_A_CLOCK, line: this.trace.line[at] };
+    const place = { x: clock * PIXELS_A_CLOCK, line };
     this.picture.cursor = place;
     this.picture.reveal(place.x, place.line);
     this.showReading();
@@ -191,7 +199,9 @@ class Look {
   // the pointer
 
   showReading() {
-    this.reading.show(this.frame, this.image, this.picture.hover || this.picture.cursor);
+    const place = this.picture.hover || this.picture.cursor;
+    this.reading.show(this.frame, this.image, place);
+    this.slotView?.showPlace(place, this.reading.colour);
   }
 
   /** Shows what is at a place: the trace line of a mark, or the trace of that line of the picture. */
@@ -202,6 +212,7 @@ class Look {
     if (mark >= 0) this.choose(mark, false);
     else this.showLine(place.line);
     this.showReading();
+    this.slotView?.showClicked(place);
     const column = place.x - FIRST_CLOCK * PIXELS_A_CLOCK;
     history.replaceState(null, "", `#frame=${this.frame}&line=${place.line}&column=${column}`);
   }
@@ -240,7 +251,10 @@ class Look {
     click("help-button", () => byId("help").showModal());
     change("this-frame", () => this.changeReach());
     change("marks", (shown) => this.picture.show({ marksShown: shown }));
-    change("blanking", (shown) => this.picture.show({ blanking: shown }));
+    change("blanking", (shown) => {
+      this.picture.show({ blanking: shown });
+      this.slotView?.show({ blanking: shown });
+    });
     byId("frame-slider").addEventListener("input", (event) => this.goToFrame(Number(event.target.value)));
     document.addEventListener("keydown", (event) => this.press(event));
     window.addEventListener("hashchange", () => this.followAddress());
@@ -271,6 +285,7 @@ class Look {
     this.filter.clear();
     this.picture.cursor = null;
     this.markedLine = -1;
+    this.slotView?.blits.choose(-1);
     this.choose(-1, false);
     this.showReading();
   }
@@ -279,7 +294,7 @@ class Look {
   pressInPart(event) {
     if (event.target === this.picture.canvas) return this.pressInPicture(event);
     if (event.target === this.list.box && this.list.items.length) return this.pressInList(event);
-    return false;
+    return this.slotView?.press(event) ?? false;
   }
 
   pressInPicture(event) {
@@ -292,9 +307,7 @@ class Look {
   }
 
   pressInList(event) {
-    const page = this.list.rowsInView;
-    const steps = { ArrowUp: -1, ArrowDown: 1, PageUp: -page, PageDown: page, Home: -Infinity, End: Infinity };
-    const down = steps[event.key];
+    const down = this.list.stepOf(event.key);
     if (down) this.moveChosen(down);
     else if (event.key === "Enter" && this.chosen >= 0) this.choose(this.chosen, true);
     else return false;
@@ -328,7 +341,7 @@ class Look {
   moveChosen(step) {
     const items = this.list.items, position = this.list.positionOf(this.chosen);
     const from = position >= 0 ? position : this.list.positionFrom(this.chosen) - (step > 0 ? 1 : 0);
-    const at = items[Math.min(items.length - 1, Math.max(0, from + step))];
+    const at = items[this.list.positionBelow(from, step)];
     this.choose(at, this.trace.frame[at] === this.frame);
   }
 
@@ -347,13 +360,25 @@ class Look {
       0: () => this.picture.fit(),
       m: () => byId("marks").click(),
       b: () => byId("blanking").click(),
-      "/": () => byId("filter-register").focus(),
+      s: () => this.slotView?.nextMode(),
+      "/": () => this.focusFilter(),
       "?": () => byId("help").showModal(),
     };
     const same = { PageUp: ",", ArrowLeft: ",", PageDown: ".", ArrowRight: ".", "=": "+" };
-    const act = acts[same[key] || key];
+    const act = acts[same[key] || key] ?? this.panelKey(key);
     if (act) act();
     return Boolean(act);
+  }
+
+  /** What a key does that shows a panel. */
+  panelKey(key) {
+    const name = this.slotView?.tabs.names[Number(key) - 1];
+    return name && (() => this.slotView.tabs.show(name));
+  }
+
+  focusFilter() {
+    this.slotView?.tabs.show("trace");
+    byId("filter-register").focus();
   }
 
   /** Goes to the place that the page's address names, as a click leaves it there. */

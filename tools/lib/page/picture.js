@@ -32,6 +32,8 @@ class Picture {
     this.chosen = -1;
     this.hover = null;
     this.cursor = null;
+    // a map of the slots that is drawn over the field, or in place of its picture
+    this.overlay = this.ground = null;
     this.sheet = new OffscreenCanvas(WIDTH, system.height);
     this.redraw = onceBeforeDrawing(() => this.draw());
     new ResizeObserver(() => this.resize()).observe(this.viewport);
@@ -156,7 +158,9 @@ class Picture {
     const pen = this.canvas.getContext("2d");
     pen.setTransform(scale, 0, 0, scale, 0, 0);
     pen.clearRect(0, 0, this.canvas.clientWidth, this.canvas.clientHeight);
-    this.drawField(pen);
+    if (this.ground) this.ground.draw(pen, this);
+    else this.drawField(pen);
+    this.overlay?.draw(pen, this);
     if (this.marksShown) this.drawMarks(pen);
     this.drawPlace(pen, this.cursor, "#ffffff");
     if (this.hover) this.drawPlace(pen, this.hover, "#ffffff80");

@@ -47,6 +47,7 @@ class Reading {
   }
 
   draw() {
+    this.colour = null;
     if (this.place) this.drawPlace();
     else this.drawNothing();
     byId("watched").replaceChildren(...this.watched.map((register) => this.watchedRow(register)));
@@ -65,6 +66,7 @@ class Reading {
     const column = this.place.x - FIRST_CLOCK * PIXELS_A_CLOCK, row = this.place.line - this.system.firstLine;
     const inside = column >= 0 && column < WIDTH && row >= 0 && row < this.system.height;
     const colour = inside ? colourAt(this.image, column, row) : null;
+    this.colour = colour;
     byId("beam").textContent = `${this.place.line}, ${this.clock}`;
     byId("ask").textContent = this.isClock() ? this.command() : NOTHING;
     byId("column").textContent = inside ? `${column}, ${row}` : "off the picture";

@@ -100,9 +100,12 @@ class Trace {
 
   /** The index of the last write to a register that the pixels of a clock come after; -1 where there is none. */
   lastWrite(register, frame, line, clock) {
-    const list = this.writes.get(register);
-    if (!list) return -1;
-    const end = this.countBefore(frame, line, clock);
+    return this.writes.has(register) ? this.lastWriteBefore(register, this.countBefore(frame, line, clock)) : -1;
+  }
+
+  /** The index of the last write to a register among the lines before `end`; -1 where there is none. */
+  lastWriteBefore(register, end) {
+    const list = this.writes.get(register) ?? [];
     let low = 0, high = list.length;
     while (low < high) {
       const middle = (low + high) >> 1;

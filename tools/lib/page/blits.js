@@ -1,0 +1,100 @@
+// The blits of a frame as bars over its time, and what each was.
+
+const BLIT_REGISTERS = [
+  ["Control", ["040", "042"]], ["Masks of A", ["044", "046"]], ["Modulos A, B, C, D", ["064", "062", "060", "066"]],
+  ["Data A, B, C", ["074", "072", "070"]],
+];
+
+// the fields of BLTCON1 in a blit that draws a line
+const LINE_FIELDS = [[15, 12, "BSH"], [6, 6, "SIGN"], [4, 4, "SUD"], [3, 3, "SUL"], [2, 2, "AUL"], [1, 1, "SING"]];
+
+class BlitPanel {
+  /** `whenChosen(blit)` is called with a blit that the user wants to see. */
+  constructor(blits, field, trace, whenChosen) {
+    Object.assign(this, { blits, field, trace, whenChosen });
+    this.chosen = null;
+    this.list = new List(byId("blit-list"), byId("blit-space"), (row, at) => this.drawRow(row, at), (at) => this.choose(at));
+  }
+
+  /** Shows the blits that run in a frame of `clocks` clocks. */
+  show(frame, clocks) {
+    Object.assign(this, { frame, clocks });
+    const items = [];
+    this.blits.forEach((blit, at) => {
+      if (blit.start[0] <= frame && frame <= blit.end?.[0] || (blit.start[0] === frame && !blit.end)) items.push(at);
+    });
+    this.list.setItems(items, `No blit runs in frame ${frame}.`);
+    const busy = items.reduce((sum, at) => sum + this.clocksOf(this.blits[at]), 0);
+    byId("blit-count").textContent = items.length ? `${countOf(items.length, "blit")}, busy for ${counted(busy)} of ${counted(clocks)} clocks` : "";
+    if (!items.includes(this.blits.indexOf(this.chosen))) this.choose(-1);
+  }
+
+  /** The first clock of a blit in the frame that is shown, and the one behind its last. */
+  range({ start, end }) {
+    const from = start[0] < this.frame ? 0 : this.field.indexOf(start[1], start[2]);
+    const last = end && end[0] === this.frame ? this.field.indexOf(end[1], end[2]) : end && end[0] > this.frame ? this.clocks - 1 : from;
+    return [from, last + 1];
+  }
+
+  clocksOf(blit) {
+    const [from, end] = this.range(blit);
+    return end - from;
+  }
+
+  drawRow(row, at) {
+    const blit = this.blits[at], bar = element("span", "bar-of"), [from, end] = this.range(blit);
+    const part = element("i");
+    part.style.left = (100 * from) / this.clocks + "%";
+    part.style.width = `max(2px, ${(100 * (end - from)) / this.clocks}%)`;
+    bar.append(part);
+    row.classList.toggle("chosen", blit === this.chosen);
+    const place = blit.start[0] === this.frame ? `${blit.start[1]}, ${blit.start[2]}` : `frame ${blit.start[0]}`;
+    const texts = [place, blit.number ? blit.channels || "none" : "?", this.sizeOf(blit), counted(end - from)];
+    row.replaceChildren(...texts.map((text) => element("span", "", text)), bar);
+  }
+
+  sizeOf(blit) {
+    if (!blit.number) return "from before";
+    return blit.line ? `line ${blit.size[0]}` : `${blit.size[1]} x ${blit.size[0]}`;
+  }
+
+  choose(at) {
+    this.chosen = this.blits[at] ?? null;
+    this.list.redraw();
+    byId("blit-detail").replaceChildren(...(this.chosen ? this.detail(this.chosen) : ["Choose a blit: its clocks are marked in the map."]));
+    this.whenChosen(this.chosen);
+  }
+
+  /** Chooses the blit so many rows further. */
+  move(step) {
+    const items = this.list.items, position = this.list.positionBelow(items.indexOf(this.blits.indexOf(this.chosen)), step);
+    this.choose(items[position]);
+    this.list.reveal(position);
+  }
+
+  detail(blit) {
+    if (!blit.number) return ["A blit that began before the log: its registers are not known."];
+    const [reads, writes, rests] = blit.slots, taken = reads + writes + rests;
+    const head = element("p", "strong", this.headline(blit));
+    const part = Math.round((100 * taken) / Math.max(1, blit.clocks));
+    const rest = taken < blit.asks ? ` It has not ended in the log: ${counted(blit.asks)} slots are wanted.` : "";
+    const slots = `${counted(taken)} slots in ${counted(blit.clocks)} clocks (${part} %): ${counted(reads)} reads, ${counted(writes)} writes, ${counted(rests)} rests.${rest}`;
+    const table = element("dl", "facts wide");
+    for (const [channel, [first, last]] of Object.entries(blit.addresses)) table.append(this.fact(`Channel ${channel}`, `${hex(first, 5)} to ${hex(last, 5)}`));
+    for (const [name, registers] of BLIT_REGISTERS) table.append(this.fact(name, registers.map((one) => hex(blit.words[one] ?? 0, 4)).join(" ")));
+    return [head, element("p", "faint", slots), table];
+  }
+
+  headline(blit) {
+    const kind = blit.line ? `Line of ${counted(blit.size[0])} points` : `${blit.size[1]} words by ${blit.size[0]} rows`;
+    const first = blit.words["040"] ?? 0, fields = blit.line ? LINE_FIELDS : this.trace.registers["042"][3];
+    const control = [`LF ${hex(first & 255, 2)}`, `ASH ${first >> 12}`, fieldsOf(fields, blit.words["042"] ?? 0)].join(", ");
+    return `${kind}, channels ${blit.channels || "none"}: ${control}`;
+  }
+
+  fact(name, text) {
+    const row = element("div");
+    row.append(element("dt", "", name), element("dd", "mono", text));
+    return row;
+  }
+}
