@@ -14,7 +14,7 @@ SYMBOL = re.compile(r"([0-9a-fA-F]{1,16}) (?:[0-9a-fA-F]{1,16} )?([A-Za-z?-]) (\
 NO_SYMBOL = re.compile(r"(?: +[A-Za-z] \S.*|\S.*:|)")
 # the letters of functions, and of symbols that are the program's too; all others, as absolute numbers, are at no place of it
 OF_TEXT, OF_DATA = "TtWw", "BbDdGgRrSsVv"
-UNKNOWN = "(before the first fetch)"
+UNKNOWN = "(before its first read)"
 
 
 class Symbols:
@@ -49,22 +49,22 @@ class Symbols:
 
 
 class Profile:
-    """The clocks of a frame by function: each clock counts for the function from which the processor has fetched last."""
+    """The clocks of a frame by function: each clock counts for the function from which the processor has read last."""
 
     def __init__(self, symbols: Symbols) -> None:
         self.symbols = symbols
         self.known: dict[int, int] = {}
         self.function = -1
         self.clocks: Counter[int] = Counter()
-        self.fetches: Counter[int] = Counter()
+        self.counts: Counter[int] = Counter()
 
     def begin_frame(self) -> None:
         self.clocks.clear()
-        self.fetches.clear()
+        self.counts.clear()
 
     def take_line(self, line: SlotLine) -> None:
         before = 0
-        for clock in self.reads(line):
+        for clock in self.read_clocks(line):
             address = line.addresses[clock]
             if address not in self.known:
                 self.known[address] = self.symbols.function(address)
@@ -72,12 +72,12 @@ class Profile:
             if function < 0:
                 continue
             self.clocks[self.function] += clock - before
-            self.fetches[function] += 1
+            self.counts[function] += 1
             self.function, before = function, clock
         self.clocks[self.function] += len(line.codes) - before
 
     @staticmethod
-    def reads(line: SlotLine) -> Iterable[int]:
+    def read_clocks(line: SlotLine) -> Iterable[int]:
         """The clocks at which the processor reads memory."""
         at = line.codes.find(READ)
         while at >= 0:
@@ -85,5 +85,5 @@ class Profile:
             at = line.codes.find(READ, at + 1)
 
     def rows(self) -> list[list[int]]:
-        """Of each function its number, its clocks and its fetches, the most clocks first."""
-        return [[number, clocks, self.fetches[number]] for number, clocks in self.clocks.most_common() if clocks]
+        """Of each function its number, its clocks and its reads, the most clocks first."""
+        return [[number, clocks, self.counts[number]] for number, clocks in self.clocks.most_common() if clocks]

@@ -16,14 +16,14 @@ class BlitPanel {
     this.list = new List(byId("blit-list"), byId("blit-space"), (row, at) => this.drawRow(row, at), (at) => this.choose(at));
   }
 
-  /** Shows the blits that run in a frame of `clocks` clocks. */
+  /** Shows the blits that run in a frame of `clocks` clocks; 0 of a frame of which the log has no slots. */
   show(frame, clocks) {
     Object.assign(this, { frame, clocks });
     const items = [];
     this.blits.forEach((blit, at) => {
       if (blit.start[0] <= frame && frame <= blit.end?.[0] || (blit.start[0] === frame && !blit.end)) items.push(at);
     });
-    this.list.setItems(items, `No blit runs in frame ${frame}.`);
+    this.list.setItems(clocks ? items : [], clocks ? `No blit runs in frame ${frame}.` : `The log has no slots of frame ${frame}.`);
     const busy = items.reduce((sum, at) => sum + this.clocksOf(this.blits[at]), 0);
     byId("blit-count").textContent = items.length ? `${countOf(items.length, "blit")}, busy for ${counted(busy)} of ${counted(clocks)} clocks` : "";
     if (!items.includes(this.blits.indexOf(this.chosen))) this.choose(-1);
@@ -65,6 +65,17 @@ class BlitPanel {
     this.whenChosen(this.chosen);
   }
 
+  /** Chooses the blit that runs at a clock of the field, if one does. */
+  chooseAt(index) {
+    const at = this.list.items.findIndex((item) => {
+      const [from, end] = this.range(this.blits[item]);
+      return from <= index && index < end;
+    });
+    if (at < 0) return;
+    this.choose(this.list.items[at]);
+    this.list.reveal(at);
+  }
+
   /** Chooses the blit so many rows further. */
   move(step) {
     const items = this.list.items, position = this.list.positionBelow(items.indexOf(this.blits.indexOf(this.chosen)), step);
@@ -78,15 +89,20 @@ class BlitPanel {
     const head = element("p", "strong", this.headline(blit));
     const part = Math.round((100 * taken) / Math.max(1, blit.clocks));
     const rest = taken < blit.asks ? ` It has not ended in the log: ${counted(blit.asks)} slots are wanted.` : "";
-    const slots = `${counted(taken)} slots in ${counted(blit.clocks)} clocks (${part} %): ${counted(reads)} reads, ${counted(writes)} writes, ${counted(rests)} rests.${rest}`;
+    const kinds = `${countOf(reads, "read")}, ${countOf(writes, "write")}, ${countOf(rests, "rest")}`;
+    const slots = `${countOf(taken, "slot")} in ${countOf(blit.clocks, "clock")} (${part} %): ${kinds}.${rest}`;
     const table = element("dl", "facts wide");
-    for (const [channel, [first, last]] of Object.entries(blit.addresses)) table.append(this.fact(`Channel ${channel}`, `${hex(first, 5)} to ${hex(last, 5)}`));
-    for (const [name, registers] of BLIT_REGISTERS) table.append(this.fact(name, registers.map((one) => hex(blit.words[one] ?? 0, 4)).join(" ")));
+    for (const [channel, [first, last]] of Object.entries(blit.addresses)) {
+      table.append(this.fact(`Channel ${channel}`, `${hex(first, 5)} to ${hex(last, 5)}`));
+    }
+    for (const [name, registers] of BLIT_REGISTERS) {
+      table.append(this.fact(name, registers.map((one) => hex(blit.words[one] ?? 0, 4)).join(" ")));
+    }
     return [head, element("p", "faint", slots), table];
   }
 
   headline(blit) {
-    const kind = blit.line ? `Line of ${counted(blit.size[0])} points` : `${blit.size[1]} words by ${blit.size[0]} rows`;
+    const kind = blit.line ? `Line of ${countOf(blit.size[0], "point")}` : `${countOf(blit.size[1], "word")} by ${countOf(blit.size[0], "row")}`;
     const first = blit.words["040"] ?? 0, fields = blit.line ? LINE_FIELDS : this.trace.registers["042"][3];
     const control = [`LF ${hex(first & 255, 2)}`, `ASH ${first >> 12}`, fieldsOf(fields, blit.words["042"] ?? 0)].join(", ");
     return `${kind}, channels ${blit.channels || "none"}: ${control}`;

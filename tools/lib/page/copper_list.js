@@ -58,10 +58,11 @@ class CopperPanel {
   }
 
   show(slots, frame) {
-    if (this.slots === slots) return;
-    Object.assign(this, { slots, frame, chosen: -1 });
+    if (this.slots === slots && this.frame === frame) return;
+    Object.assign(this, { slots, frame, chosen: -1, markedLine: -1 });
     this.instructions = slots ? copperInstructions(slots, this.trace, frame) : [];
-    this.list.setItems(this.instructions.map((_, at) => at), `The Copper reads nothing in frame ${frame}.`);
+    const none = slots ? `The Copper reads nothing in frame ${frame}.` : `The log has no slots of frame ${frame}.`;
+    this.list.setItems(this.instructions.map((_, at) => at), none);
     byId("copper-count").textContent = this.instructions.length ? `${countOf(this.instructions.length, "instruction")} ran in frame ${frame}` : "";
   }
 
@@ -72,6 +73,7 @@ class CopperPanel {
     const next = this.instructions[at + 1];
     if (words.kind === "WAIT" && next) text.append(element("i", "says", this.until(next)));
     row.classList.toggle("chosen", at === this.chosen);
+    row.classList.toggle("on-line", at !== this.chosen && line === this.markedLine);
     const cells = [String(line), String(clock), hex(one.address, 5), words.kind].map((cell) => element("span", "", cell));
     row.replaceChildren(...cells, text);
     row.title = `${hex(one.first, 4)}${one.second < 0 ? "" : " " + hex(one.second, 4)}`;
@@ -87,8 +89,10 @@ class CopperPanel {
   reveal(place) {
     if (!this.slots || !place) return;
     const index = this.slots.field.indexOf(place.line, place.x >> 2);
+    this.markedLine = place.line;
     const after = this.instructions.findIndex((one) => one.end > index);
     this.list.reveal(Math.max(0, (after < 0 ? this.instructions.length : after) - 1), 2);
+    this.list.redraw();
   }
 
   /** Chooses the instruction so many rows further. */

@@ -1,7 +1,7 @@
 // The field as a map: each clock in the colour of the owner of its slot.
 
 // how much of the picture is left where the map is over it: below a slot, and where the slot is free
-const LEFT_BELOW = 0.25, LEFT_FREE = 0.55;
+const LEFT_BELOW = 0.25, LEFT_FREE = 0.7;
 
 class SlotMap {
   constructor(system, field) {
@@ -13,6 +13,8 @@ class SlotMap {
     this.colours = OWNERS.map((owner) => rgbOf(getComputedStyle(document.documentElement).getPropertyValue(owner.colour).trim()));
     // the first clock of the field that is marked, and the one behind the last; none where they are equal
     this.marked = [0, 0];
+    // the places of the slots that a pixel comes from
+    this.sources = [];
   }
 
   /** Paints the slots of a frame; nothing where there are none. */
@@ -43,6 +45,15 @@ class SlotMap {
     pen.drawImage(this.sheet, clock, region.line, across, region.height, left, top, across * width, region.height * height);
     pen.imageSmoothingEnabled = false;
     this.drawMarked(pen, picture);
+    for (const { line, clock } of this.sources) this.drawSource(pen, ...picture.toCanvas(clock * PIXELS_A_CLOCK, line), width, height);
+  }
+
+  drawSource(pen, x, y, width, height) {
+    pen.lineWidth = 1;
+    pen.strokeStyle = "#000";
+    pen.strokeRect(x - 2.5, y - 2.5, width + 5, height + 5);
+    pen.strokeStyle = "#fff";
+    pen.strokeRect(x - 1.5, y - 1.5, width + 3, height + 3);
   }
 
   /** Darkens all clocks but those that are marked. */

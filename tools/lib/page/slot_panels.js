@@ -143,15 +143,13 @@ class SlotView {
 
   paint() {
     this.map.paint(this.current);
-    this.look.picture.redraw();
-    this.beside?.redraw();
+    this.redrawMaps();
   }
 
   markBlit(blit) {
     this.map.marked = blit ? this.blits.range(blit) : [0, 0];
     if (blit && this.mode === "off") this.setMode("over");
-    this.look.picture.redraw();
-    this.beside?.redraw();
+    this.redrawMaps();
   }
 
   // frames and places
@@ -164,7 +162,7 @@ class SlotView {
       label.hidden = !shares[at];
       number.textContent = percent(shares[at], all);
     });
-    this.blits.show(this.look.frame, all || this.field.lineStart(this.look.system.lines));
+    this.blits.show(this.look.frame, all);
     if (slots || !this.slots.has(this.look.frame)) this.paint();
     this.showPanel();
     this.showPlace(this.place, this.colour);
@@ -191,9 +189,12 @@ class SlotView {
     return [signOfOwner(OWNERS[OWNER_OF[slots.codes[index]]]), " ", text];
   }
 
-  /** After a click on a place: the Copper's list goes to what ran there. */
+  /** After a click on a place: the Copper's list goes to what ran there, that of blits to the one that ran then. */
   showClicked(place) {
+    const slots = this.current;
+    if (!slots || !slots.has(place.line, place.x >> 2)) return;
     if (this.tabs.shown === "copper") this.copper.reveal(place);
+    if (this.tabs.shown === "blits") this.blits.chooseAt(this.field.indexOf(place.line, place.x >> 2));
   }
 
   /** Keys in the lists of blits and of the Copper's instructions; whether there was one. */
@@ -205,7 +206,15 @@ class SlotView {
   }
 
   drawWhy() {
-    if (this.tabs.shown === "why") this.why.show(this.current, this.look.frame, this.place, this.colour);
+    const shown = this.tabs.shown === "why";
+    if (shown) this.why.show(this.current, this.look.frame, this.place, this.colour);
+    this.map.sources = shown ? this.why.sources : [];
+    this.redrawMaps();
+  }
+
+  redrawMaps() {
+    this.look.picture.redraw();
+    this.beside?.redraw();
   }
 
   goToWrite(at) {
@@ -289,16 +298,16 @@ class SlotView {
     const wanted = all ? Object.values(functions) : [functions[this.look.frame] ?? []];
     const sums = new Map();
     for (const rows of wanted) {
-      for (const [number, clocks, fetches] of rows) {
+      for (const [number, clocks, reads] of rows) {
         const [before, read] = sums.get(number) ?? [0, 0];
-        sums.set(number, [before + clocks, read + fetches]);
+        sums.set(number, [before + clocks, read + reads]);
       }
     }
     const whole = [...sums.values()].reduce((sum, [clocks]) => sum + clocks, 0);
     const sorted = [...sums].sort((a, b) => b[1][0] - a[1][0]);
-    const rows = sorted.map(([number, [clocks, fetches]]) => {
+    const rows = sorted.map(([number, [clocks, reads]]) => {
       const name = number < 0 ? symbols.unknown : symbols.names[number];
-      return shareRow("", name, [counted(clocks), counted(fetches)], clocks, whole, "--processor");
+      return shareRow("", name, [counted(clocks), counted(reads)], clocks, whole, "--processor");
     });
     byId("functions").replaceChildren(...rows);
     byId("functions-title").textContent = all ? "All frames of the page" : `Frame ${this.look.frame}`;

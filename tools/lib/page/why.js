@@ -12,6 +12,7 @@ class Why {
   /** Shows why a pixel is so; `slots` are those of the frame, or null, and `colour` is what the frame has, or null. */
   show(slots, frame, place, colour) {
     const known = slots && place && slots.has(place.line, place.x >> 2);
+    this.sources = [];
     if (!known) {
       this.box.replaceChildren(element("p", "empty", place ? this.lacking(slots) : "Point at the picture, or click a pixel."));
       return;
@@ -19,7 +20,20 @@ class Why {
     this.line = new DeniseLine(this.trace, slots, frame, place.line);
     this.frame = frame;
     const pixel = this.line.pixel(place.x), denise = this.line.denise;
+    this.sources = this.sourcesOf(pixel, denise, place.x >> 1);
     this.box.replaceChildren(...this.parts(pixel, denise, place, colour));
+  }
+
+  /** The places of this frame at which the words were fetched that a pixel shows. */
+  sourcesOf(pixel, denise, x) {
+    const planes = (pixel.planes ?? []).map(({ plane, load, place }) => (place < 0 ? null : load.causes[plane - 1]));
+    const words = pixel.inside ? this.runningAt(denise, x).flatMap((sprite) => denise.runs[sprite].causes.slice(2)) : [];
+    return [...planes, ...words].filter((cause) => cause && cause.address >= 0 && cause.frame === this.frame);
+  }
+
+  /** The sprites whose words run at a low-resolution position. */
+  runningAt(denise, x) {
+    return ALL_SPRITES.filter((sprite) => denise.runs[sprite] && x - denise.runs[sprite].x < SPRITE_RUN);
   }
 
   lacking(slots) {
@@ -145,7 +159,7 @@ class Why {
   // sprites
 
   spriteParts(pixel, denise, x) {
-    const runs = ALL_SPRITES.filter((sprite) => denise.runs[sprite] && x - denise.runs[sprite].x < SPRITE_RUN);
+    const runs = this.runningAt(denise, x);
     const parts = [];
     if (runs.length) {
       const table = this.table("sprites", ["Sprite", "Value", "DATB, DATA", "At", "Read", "Pair"]);
@@ -161,12 +175,13 @@ class Why {
     const [, , data, datb] = run.causes, at = [datb, data].map((cause) => this.address(cause)).join(", ");
     const words = `${hex(run.datb, 4)}, ${hex(run.data, 4)} bit ${15 - (x - run.x)}`;
     const value = String(denise.spriteValue(sprite, x));
-    return this.row([`${sprite}`, value, words, at, this.when(data), `${pair}${denise.isAttached(pair) ? ", attached" : ""}`]);
+    return this.row([`${sprite}`, value, words, at, this.when(data), `${pair}`]);
   }
 
   priority({ front, hidden, field }, runs) {
     if (!front) return runs.length ? "All sprites here are transparent." : "No sprite runs here.";
-    const name = this.trace.name(FIRST_COLOUR + 2 * front.number), of = `The sprite of pair ${front.pair} (${name})`;
+    const name = this.trace.name(FIRST_COLOUR + 2 * front.number), what = `value ${front.value}, ${name}`;
+    const of = front.attached ? `The attached pair ${front.pair} (${what})` : `The sprite of pair ${front.pair} (${what})`;
     const code = `${field.chosen === 1 ? "PF1P" : "PF2P"} is ${field.code}`;
     if (hidden) return `${of} is hidden: the playfield's value is not 0, and ${code}, which lets pairs below ${field.code} before it.`;
     return field.value ? `${of} is in front: ${code}, and its pair is below that.` : `${of} is in front: the playfield is transparent here.`;

@@ -127,7 +127,8 @@ class BlitsTest(Tools):
     def test_area(self) -> None:
         """A blit of two words from A to D, which the script starts and whose registers cannot be written while it runs."""
         entries = {10: far(4, 0x100), 12: far(5, 0x200, 1), 13: near(4), 14: near(5, 2), 20: near(2)}
-        texts = ("0 0 9 W 040 09f0 S", "0 0 10 W 058 0042 S", "0 0 11 W 040 0fff C", "0 0 14 W 058 0041 S", "0 0 16 W 040 0100 C", "0 0 18 W 058 0041 C")
+        texts = ["0 0 9 W 040 09f0 S", "0 0 10 W 058 0042 S", "0 0 11 W 040 0fff C", "0 0 14 W 058 0041 S"]
+        texts += ["0 0 16 W 040 0100 C", "0 0 18 W 058 0041 C"]
         first, second = self.blits([line(entries)], *texts).all
         self.assertEqual((first.start, first.end, first.clocks, first.asks), ((0, 0, 10), (0, 0, 14), 5, 4))
         self.assertEqual((first.channels, first.size, first.registers[0x40], first.number), ("AD", (1, 2), 0x09F0, 2))

@@ -1,0 +1,207 @@
+"""Checks of tools/test-look on pages with a log of slots: on one that is made by hand, and on logs of examples."""
+from __future__ import annotations
+
+import os
+import subprocess
+from typing import Any
+
+from example import MADE, words_of
+from faults import plural
+from frames import PAL, PIXELS_A_CLOCK, ROW_BYTES
+from program import TOP, program
+from slots import OWNER_OF, OWNERS, SlotsFile
+
+RED = b"\xff\0\0"
+TABS = ("trace", "why", "slots", "blits", "copper")
+COLOURS = {"free": "#1d2027", "refresh": "#7c8696", "bitplanes": "#3f82f0", "Copper": "#ff9d4d", "blitter": "#ee5555", "processor": "#3ddbd9"}
+# what is said of the clocks of the run that is made by hand, by line and clock
+SAID = {
+    (100, 60): "Copper reads 0180 at 00100", (100, 62): "Copper reads 0f00 at 00102", (100, 1): "refresh", (100, 0): "free",
+    (101, 10): "blitter reads 0180 at 00100", (101, 12): "blitter writes 1234 at 00200", (101, 14): "processor writes DMACON 8200",
+    (101, 16): "bitplane 1 reads 1234 at 00200",
+}
+# frame, line and position of the pixel of the example sprites that README shows
+PICTURED = 9, 176, 524
+WIDE, NARROW = (1280, 800), (390, 844)
+# the pixels of some frames of a page that its scripts make of slots and trace: how many, how many differ from the frame, and the first that does
+PIXELS = """(async () => {
+    const { system, slotView: view } = look, later = () => new Promise((done) => setTimeout(done, 5));
+    let all = 0, wrong = 0, first = '';
+    for (const index of %s) {
+        const number = look.data.frames[index].number;
+        while (!look.frames.pixels(index) || !view.slots.frame(number)) await later();
+        const image = look.frames.pixels(index), slots = view.slots.frame(number);
+        for (let row = 0; row < system.height; row++) {
+            if (!slots.has(row + system.firstLine, 0)) continue;
+            const line = new DeniseLine(look.trace, slots, number, row + system.firstLine);
+            for (let column = 0; column < WIDTH; column++, all++) {
+                if (line.pixel(column + FIRST_CLOCK * PIXELS_A_CLOCK).colour === colourAt(image, column, row)) continue;
+                wrong++;
+                first ||= `frame ${number}, line ${row + system.firstLine}, column ${column}`;
+            }
+        }
+    }
+    return [all, wrong, first];
+})()"""
+# how many slots each owner has in the frame that is shown, and the Copper's instructions that wrote a register
+COUNTS = "OWNERS.map((_, owner) => look.slotView.current.codes.filter((code) => OWNER_OF[code] === owner).length)"
+MOVES = """look.slotView.copper.instructions.filter(({ first, second }) => first % 2 === 0 && second >= 0).map(({ first, second, end }) => {
+    const { line, clock } = look.slotView.field.beam(end);
+    return [line, clock, first & 0x1fe, second];
+})"""
+
+
+def write_small_run(run: str) -> str:
+    """A run of one frame that is black up to a clock of line 100 and red from there on, and its log; gives the log's place."""
+    from slot_bytes import far, field, heading, line, memory, near
+
+    os.mkdir(run)
+    row, column = 100 - PAL.first_line, 4 * 63 - 188
+    black = row * ROW_BYTES + 3 * column
+    with open(os.path.join(run, MADE[0]), "wb") as file:
+        file.write(PAL.heading + bytes(black) + RED * ((PAL.pixel_bytes - black) // 3))
+    with open(os.path.join(run, MADE[1]), "w", encoding="ascii") as file:
+        file.write("0 100 62 W 180 0f00 C\n0 101 5 W 040 09f0 S\n0 101 9 W 058 0041 S\n0 101 14 W 096 8200 M\n")
+    first = line({60: far(3, 0x100), 62: near(3)})
+    second = line({10: far(4, 0x100), 12: far(5, 0x200, 0x1234), 14: near(11, 0x96, 0x8200), 16: far(33, 0x200)})
+    log = os.path.join(run, "slots")
+    with open(log, "wb") as file:
+        file.write(heading() + memory({0x100: 0x0180, 0x102: 0x0F00}) + field([*[line({})] * 100, first, second]))
+    return log
+
+
+def rgb(colour: str) -> list[int]:
+    return [int(colour[at : at + 2], 16) for at in (1, 3, 5)]
+
+
+def go_to(page: Any, line: int, clock: int) -> None:
+    page.browser.value(f"look.goToPlace(look.frame, {line}, {clock})")
+    page.browser.settle()
+
+
+def check_slot_texts(page: Any) -> None:
+    """What is said of clocks, and why pixels are as they are."""
+    for (line, clock), said in SAID.items():
+        go_to(page, line, clock)
+        page.checks.equal(f"slot of line {line}, clock {clock}", page.text("slot").strip(), said)
+    page.key("2")
+    for clock, said in ((62, "000: COLOR00, which was never written."), (63, "f00: COLOR00, written by the Copper at line 100, clock 62.")):
+        go_to(page, 100, clock)
+        page.checks.holds(f"why at clock {clock}", said in page.text("why"))
+
+
+def check_map(page: Any) -> None:
+    """The colours of the map beside the picture, and the way from one to the other."""
+    browser, checks = page.browser, page.checks
+    for mode in ("over", "beside"):
+        page.key("s")
+        checks.equal("mode of the map", browser.value("look.slotView.mode"), mode)
+    browser.value("look.slotView.beside.cursor = look.picture.cursor = null; look.picture.zoomTo(3)")
+    browser.settle()
+    checks.equal("zooms", browser.value("[look.picture.zoom, look.slotView.beside.zoom]"), [3, 3])
+    for (line, clock), said in SAID.items():
+        owner = said.split()[0].replace("bitplane", "bitplanes")
+        browser.value(f"look.slotView.beside.reveal({PIXELS_A_CLOCK * clock}, {line})")
+        browser.settle()
+        place = f"look.slotView.beside.toCanvas({PIXELS_A_CLOCK * clock + 2}, {line})"
+        found = browser.value(f"(([x, y]) => [...byId('map').getContext('2d').getImageData(x, y + 3, 1, 1).data])({place})")
+        checks.equal(f"colour of the map at {line}, {clock}", found[:3], rgb(COLOURS[owner]))
+    page.key("0")
+    page.key("s")
+    checks.equal("mode of the map", browser.value("look.slotView.mode"), "off")
+
+
+def check_panels(page: Any) -> None:
+    """The panels by their keys, and what they have of the run that is made by hand."""
+    browser, checks = page.browser, page.checks
+    cells = "[...document.querySelectorAll('{}')].map((cell) => cell.textContent)"
+    page.key("3")
+    shares = browser.value(cells.format("#shares td:nth-child(2)"))
+    checks.equal("shares", shares, ["69,793", "1,252", "0", "0", "1", "0", "2", "2", "1", "71,051"])
+    page.key("4")
+    checks.equal("blits", browser.value(cells.format("#blit-list .row:not([hidden]) span"))[:4], ["101, 9", "AD", "1 x 1", "4"])
+    browser.value("byId('blit-list').focus()")
+    page.key("ArrowDown")
+    checks.holds("a blit that is chosen", "1 word by 1 row, channels AD: LF f0, ASH 0" in page.text("blit-detail"))
+    checks.equal("its clocks", browser.value("look.slotView.map.marked"), [101 * 227 + 9, 101 * 227 + 13])
+    page.key("Escape")
+    checks.equal("no blit after Escape", browser.value("look.slotView.map.marked"), [0, 0])
+    page.key("5")
+    checks.equal("Copper", browser.value(cells.format("#copper-list .row:not([hidden]) > span")), ["100", "62", "00100", "MOVE", "COLOR00 0f00"])
+    page.key("1")
+    seen = [name for name in TABS if page.is_seen(name + "-panel")]
+    checks.equal("the panel that is seen", seen, ["trace"])
+
+
+def check_narrow_slots(page: Any, place: str, too_wide: str) -> None:
+    """Nothing has to be slid sideways in any panel or mode, at two sizes of the window."""
+    for size in (WIDE, NARROW):
+        page.browser.resize(*size)
+        page.browser.open("file://" + place)
+        page.browser.wait_for("look.picture.image !== null")
+        for mode in ("off", "over", "beside"):
+            for tab in TABS:
+                page.browser.value(f"look.slotView.setMode('{mode}'); look.slotView.tabs.show('{tab}')")
+                go_to(page, 100, 100)
+                page.checks.equal(f"too wide at {size}, {mode}, {tab}", page.browser.value(too_wide), [])
+
+
+def check_example(page: Any, log: str) -> None:
+    """A page of an example: all pixels of two frames, the shares of each owner, and the Copper's writes, against frames, log and trace."""
+    browser, checks = page.browser, page.checks
+    last = browser.value("look.data.frames.length") - 1
+    all_pixels, wrong, first = browser.value(PIXELS % [0, last])
+    checks.holds(f"{page.frames}: {wrong} of {all_pixels} pixels differ, the first at {first}", all_pixels > 0 and wrong == 0)
+    counts = [0] * len(OWNERS)
+    for line in SlotsFile(log).lines():
+        if line.frame == 0:
+            for code in line.codes:
+                counts[OWNER_OF[code]] += 1
+    browser.value("look.goToFrame(0)")
+    browser.wait_for("look.slotView.current !== null")
+    checks.equal(f"{page.frames}: clocks by owner", browser.value(COUNTS), counts)
+    checks.equal(f"{page.frames}: shares", browser.value("look.slotView.slots.shares(0)"), counts)
+    page.key("5")
+    traced = [line.text.split() for line in page.lines if line.beam[0] == 0 and line.written is not None and line.text.endswith("C")]
+    wanted = [[int(words[1]), int(words[2]), int(words[4], 16), int(words[5], 16)] for words in traced]
+    checks.equal(f"{page.frames}: MOVEs of the Copper", browser.value(MOVES), wanted)
+    page.key("1")
+
+
+def take_picture(page: Any, place: str) -> None:
+    """The screenshot that README shows: why a pixel of a sprite is as it is, with the map over the picture."""
+    browser, (frame, line, x) = page.browser, PICTURED
+    browser.value(f"look.goToFrame({frame}); look.slotView.setMode('over')")
+    browser.wait_for("look.picture.image !== null && look.slotView.current !== null")
+    browser.value(f"look.clickAt({{ x: {x}, line: {line} }}, -1); look.slotView.tabs.show('why'); document.activeElement.blur()")
+    browser.settle()
+    browser.screenshot(place)
+
+
+def run_with_log(name: str, folder: str, slots_writer: str, frames: int, script: str | None = None) -> tuple[str, str]:
+    """Runs an example, without sound and disk, by its own script or another one; gives the folder of its files and the place of its log."""
+    example, run = os.path.join(TOP, "examples", name), os.path.join(folder, f"{name}-slots")
+    os.mkdir(run)
+    words = words_of(example, run, script)
+    subprocess.run([program(), "run", *words[1:6], *words[-2:]], check=True, stdout=subprocess.DEVNULL)
+    log = os.path.join(run, "slots")
+    subprocess.run([slots_writer, *words[1:3], "0", str(frames), log], check=True, stdout=subprocess.DEVNULL)
+    return run, log
+
+
+def longer_script(name: str, frames: int, folder: str) -> str:
+    """The script of an example with another number of frames."""
+    with open(os.path.join(TOP, "examples", name, "script"), encoding="ascii") as file:
+        lines = file.read().splitlines()
+    lines[2] = f"frames {frames}"
+    place = os.path.join(folder, f"{name}-{frames}")
+    with open(place, "w", encoding="ascii") as file:
+        file.write("\n".join(lines) + "\n")
+    return place
+
+
+def say_opened(page: Any, place: str, frames: int) -> None:
+    """Says how long a page of many frames took to open."""
+    size = os.path.getsize(place)
+    print(f"{plural(frames, 'frame')} with slots: page of {size:,} bytes, opened in {page.seconds:.2f} s")
+
