@@ -12,13 +12,13 @@ from program import TOP, program
 from slots import OWNER_OF, OWNERS, SlotsFile
 
 RED = b"\xff\0\0"
-TABS = ("trace", "why", "slots", "blits", "copper")
+TABS = ("trace", "why", "slots", "blits", "copper", "functions")
 COLOURS = {"free": "#1d2027", "refresh": "#7c8696", "bitplanes": "#3f82f0", "Copper": "#ff9d4d", "blitter": "#ee5555", "processor": "#3ddbd9"}
 # what is said of the clocks of the run that is made by hand, by line and clock
 SAID = {
     (100, 60): "Copper reads 0180 at 00100", (100, 62): "Copper reads 0f00 at 00102", (100, 1): "refresh", (100, 0): "free",
     (101, 10): "blitter reads 0180 at 00100", (101, 12): "blitter writes 1234 at 00200", (101, 14): "processor writes DMACON 8200",
-    (101, 16): "bitplane 1 reads 1234 at 00200",
+    (101, 16): "bitplane 1 reads 1234 at 00200", (101, 20): "processor reads 0000 at 00300 in main",
 }
 # frame, line and position of the pixel of the example sprites that README shows
 PICTURED = 9, 176, 524
@@ -51,8 +51,8 @@ MOVES = """look.slotView.copper.instructions.filter(({ first, second }) => first
 })"""
 
 
-def write_small_run(run: str) -> str:
-    """A run of one frame that is black up to a clock of line 100 and red from there on, and its log; gives the log's place."""
+def write_small_run(run: str) -> list[str]:
+    """A run of one frame that is black up to a clock of line 100 and red from there on, and its log; gives the words of the tool that name them."""
     from slot_bytes import far, field, heading, line, memory, near
 
     os.mkdir(run)
@@ -63,11 +63,13 @@ def write_small_run(run: str) -> str:
     with open(os.path.join(run, MADE[1]), "w", encoding="ascii") as file:
         file.write("0 100 62 W 180 0f00 C\n0 101 5 W 040 09f0 S\n0 101 9 W 058 0041 S\n0 101 14 W 096 8200 M\n")
     first = line({60: far(3, 0x100), 62: near(3)})
-    second = line({10: far(4, 0x100), 12: far(5, 0x200, 0x1234), 14: near(11, 0x96, 0x8200), 16: far(33, 0x200)})
-    log = os.path.join(run, "slots")
+    second = line({10: far(4, 0x100), 12: far(5, 0x200, 0x1234), 14: near(11, 0x96, 0x8200), 16: far(33, 0x200), 20: far(6, 0x300)})
+    log, names = os.path.join(run, "slots"), os.path.join(run, "names")
+    with open(names, "w", encoding="ascii") as file:
+        file.write("00000300 T main\n")
     with open(log, "wb") as file:
         file.write(heading() + memory({0x100: 0x0180, 0x102: 0x0F00}) + field([*[line({})] * 100, first, second]))
-    return log
+    return ["--slots", log, "--symbols", names]
 
 
 def rgb(colour: str) -> list[int]:
@@ -117,7 +119,7 @@ def check_panels(page: Any) -> None:
     cells = "[...document.querySelectorAll('{}')].map((cell) => cell.textContent)"
     page.key("3")
     shares = browser.value(cells.format("#shares td:nth-child(2)"))
-    checks.equal("shares", shares, ["69,793", "1,252", "0", "0", "1", "0", "2", "2", "1", "71,051"])
+    checks.equal("shares", shares, ["69,792", "1,252", "0", "0", "1", "0", "2", "2", "2", "71,051"])
     page.key("4")
     checks.equal("blits", browser.value(cells.format("#blit-list .row:not([hidden]) span"))[:4], ["101, 9", "AD", "1 x 1", "4"])
     browser.value("byId('blit-list').focus()")
@@ -128,6 +130,10 @@ def check_panels(page: Any) -> None:
     checks.equal("no blit after Escape", browser.value("look.slotView.map.marked"), [0, 0])
     page.key("5")
     checks.equal("Copper", browser.value(cells.format("#copper-list .row:not([hidden]) > span")), ["100", "62", "00100", "MOVE", "COLOR00 0f00"])
+    page.key("6")
+    functions = browser.value(cells.format("#functions tr > *"))
+    counts = ["48,104", "1", "67.7 %", ""], ["22,947", "0", "32.3 %", ""]
+    checks.equal("functions", functions, [" main", *counts[0], " (before its first read)", *counts[1]])
     page.key("1")
     seen = [name for name in TABS if page.is_seen(name + "-panel")]
     checks.equal("the panel that is seen", seen, ["trace"])
@@ -180,8 +186,8 @@ def take_picture(page: Any, place: str) -> None:
 
 def run_with_log(name: str, folder: str, slots_writer: str, frames: int, script: str | None = None) -> tuple[str, str]:
     """Runs an example, without sound and disk, by its own script or another one; gives the folder of its files and the place of its log."""
-    example, run = os.path.join(TOP, "examples", name), os.path.join(folder, f"{name}-slots")
-    os.mkdir(run)
+    example, run = os.path.join(TOP, "examples", name), os.path.join(folder, "logs", name)
+    os.makedirs(run)
     words = words_of(example, run, script)
     subprocess.run([program(), "run", *words[1:6], *words[-2:]], check=True, stdout=subprocess.DEVNULL)
     log = os.path.join(run, "slots")

@@ -12,8 +12,9 @@ TOP = os.path.dirname(os.path.dirname(os.path.dirname(os.path.realpath(__file__)
 BUILD = os.path.join(TOP, "tools", "build")
 BUILT = os.path.join(TOP, "crates", "ocs", "out", "ocs")
 RELEASED = os.path.join(TOP, "ocs")
-# the program that writes the log of slots: the one that the environment names so, else that of a release
+# the program that writes the log of slots: the one that the environment names so, else the built one, or that of a release
 SLOTS_NAME = "OCS_SLOTS"
+BUILT_SLOTS = os.path.join(TOP, "crates", "ocs_slots", "out", "ocs_slots")
 RELEASED_SLOTS = os.path.join(TOP, "ocs-slots")
 
 
@@ -31,7 +32,12 @@ def named_program(variable: str = "OCS") -> str | None:
 def slots_program() -> str | None:
     """The program that writes the log of a run's slots; None where there is none."""
     named = named_program(SLOTS_NAME)
-    return named or (RELEASED_SLOTS if os.access(RELEASED_SLOTS, os.X_OK) else None)
+    if named:
+        return named
+    if not os.path.exists(BUILD):
+        return RELEASED_SLOTS if os.access(RELEASED_SLOTS, os.X_OK) else None
+    stands = os.path.exists(BUILT_SLOTS) and subprocess.run([BUILD, "ocs-slots", "--ask"]).returncode == 0
+    return BUILT_SLOTS if stands else None
 
 
 def built_program() -> str | None:

@@ -172,10 +172,11 @@ class SlotsPage:
     def notes(self) -> list[str]:
         """What a user should know of the log, in sentences."""
         name, notes = os.path.basename(self.file.path), []
-        missing = len(self.numbers) - len(self.frames)
-        if missing:
-            held = f"{min(self.frames)} to {max(self.frames)}" if self.frames else "none"
-            notes.append(f"{name} has slots of frames {held}; the others of this page have no map.")
+        if not self.frames:
+            notes.append(f"{name} has slots of none of these frames.")
+        elif len(self.frames) < len(self.numbers):
+            held = f"frames {min(self.frames)} to {max(self.frames)}"
+            notes.append(f"{name} has slots of {held}; the others of this page have no map.")
         if self.file.first > 0:
             before = f"what planes and sprites had fetched before frame {self.file.first}, and a blit under way then, are not known"
             notes.append(f"{name} begins later than the run: {before}.")

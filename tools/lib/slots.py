@@ -22,6 +22,10 @@ READ, WRITE, WRITE_HIGH, WRITE_LOW, READ_REGISTER, WRITE_REGISTER, DISK_WRITE = 
 AUDIO, PLANE = 16, 32
 CONTROL, CONTROL_SECOND, IMAGE, IMAGE_SECOND = 40, 48, 56, 64
 
+# clocks one behind the other of which the log has the code alone
+IDLE = re.compile(rb"[\x00-\x02]+")
+NOWHERE = [-1] * 228
+
 OWNERS = ("free", "refresh", "disk", "audio", "bitplanes", "sprites", "Copper", "blitter", "processor")
 
 
@@ -136,14 +140,14 @@ class SlotsFile:
 
     def take(self, made: SlotLine, data: bytes, at: int) -> int:
         """Takes the entries of a line's clocks from `at` on; gives where they end."""
-        codes, addresses, words = made.codes, made.addresses, made.words
-        for _ in range(self.clocks_of(made.line)):
-            head = data[at]
-            if head <= REST:
-                codes.append(head)
-                addresses.append(-1)
-                words.append(-1)
-                at += 1
+        count = self.clocks_of(made.line)
+        while len(made.codes) < count:
+            idle = IDLE.match(data, at, at + count - len(made.codes))
+            if idle:
+                made.codes += idle[0]
+                made.addresses += NOWHERE[: len(idle[0])]
+                made.words += NOWHERE[: len(idle[0])]
+                at = idle.end()
             else:
                 at = self.take_access(made, data, at)
         return at

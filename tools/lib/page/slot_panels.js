@@ -245,16 +245,17 @@ class SlotView {
 
   showShares() {
     const frame = this.look.frame, body = byId("shares");
-    byId("shares-title").textContent = `Frame ${frame}`;
-    if (!this.slots.has(frame)) {
-      body.replaceChildren(element("tr"));
+    const has = this.slots.has(frame);
+    byId("shares-title").textContent = has ? `Frame ${frame}` : `The log has no slots of frame ${frame}`;
+    this.drawChart();
+    if (!has) {
+      body.replaceChildren();
       return;
     }
     const shares = this.slots.shares(frame), all = shares.reduce((sum, one) => sum + one, 0);
     const rows = OWNERS.map((owner, at) => shareRow(signOfOwner(owner), owner.name, [counted(shares[at])], shares[at], all, owner.colour));
     const total = shareRow("", "All", [counted(all)], all, all, "");
     body.replaceChildren(...rows, total);
-    this.drawChart();
   }
 
   buildChart() {
