@@ -117,6 +117,8 @@ class SlotsPage:
     """Reads a log once, from its begin to the last frame that the page shows."""
 
     def __init__(self, path: str, trace_path: str, numbers: range, system: System, symbols: str | None) -> None:
+        if not os.path.isfile(trace_path):
+            raise BadFile(trace_path, "is no regular file, and a trace is read more than once with a log: copy it into one first")
         self.file = SlotsFile(path)
         self.numbers = numbers
         if self.file.system != system:

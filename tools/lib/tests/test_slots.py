@@ -252,6 +252,7 @@ class SlotsPageTest(Tools):
         for name, said in cases.items():
             self.assertEqual(self.refused(*run, name), f"look: {said}")
         self.assertIn("is one of the files of the run", self.refused(*run, "whole", "-o", "whole"))
+        self.assertIn("/dev/null: is no regular file", self.refused("look", "run/frames", "/dev/null", "--slots", "whole"))
         self.assertIn("--symbols wants --slots", self.refused("look", "run/frames", "run/trace", "--symbols", "run/trace"))
         self.assertEqual(self.refused(*run, "whole", "--symbols", "run/trace")[:38], "look: run/trace: is not what nm prints")
         self.assertEqual(self.bytes_of("whole"), whole)
