@@ -125,6 +125,8 @@ def check_panels(page: Any) -> None:
     browser.value("byId('blit-list').focus()")
     page.key("ArrowDown")
     checks.holds("a blit that is chosen", "1 word by 1 row, channels AD: LF f0, ASH 0" in page.text("blit-detail"))
+    checks.holds("who started it", "Started by the script at line 101, clock 9." in page.text("blit-detail"))
+    checks.equal("bars of the frame", browser.value("byId('blit-strip').children.length"), 1)
     checks.equal("its clocks", browser.value("look.slotView.map.marked"), [101 * 227 + 9, 101 * 227 + 13])
     page.key("Escape")
     checks.equal("no blit after Escape", browser.value("look.slotView.map.marked"), [0, 0])

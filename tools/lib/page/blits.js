@@ -9,10 +9,15 @@ const BLIT_REGISTERS = [
 const LINE_FIELDS = [[15, 12, "BSH"], [6, 6, "SIGN"], [4, 4, "SUD"], [3, 3, "SUL"], [2, 2, "AUL"], [1, 1, "SING"]];
 
 class BlitPanel {
-  /** `whenChosen(blit)` is called with a blit that the user wants to see. */
-  constructor(blits, field, trace, whenChosen) {
-    Object.assign(this, { blits, field, trace, whenChosen });
+  /** `whenChosen(blit)` is called with a blit that the user wants to see, `whenWritten(at)` with the index of the write that starts one. */
+  constructor(blits, field, trace, whenChosen, whenWritten) {
+    Object.assign(this, { blits, field, trace, whenChosen, whenWritten });
     this.chosen = null;
+    const strip = byId("blit-strip");
+    strip.addEventListener("click", (event) => {
+      const left = event.clientX - strip.getBoundingClientRect().left;
+      this.chooseNear(Math.floor((left / strip.clientWidth) * this.clocks));
+    });
     this.list = new List(byId("blit-list"), byId("blit-space"), (row, at) => this.drawRow(row, at), (at) => this.choose(at));
   }
 
@@ -21,12 +26,22 @@ class BlitPanel {
     Object.assign(this, { frame, clocks });
     const items = [];
     this.blits.forEach((blit, at) => {
-      if (blit.start[0] <= frame && frame <= blit.end?.[0] || (blit.start[0] === frame && !blit.end)) items.push(at);
+      const last = blit.end ? blit.end[0] : blit.start[0];
+      if (blit.start[0] <= frame && frame <= last) items.push(at);
     });
     this.list.setItems(clocks ? items : [], clocks ? `No blit runs in frame ${frame}.` : `The log has no slots of frame ${frame}.`);
     const busy = items.reduce((sum, at) => sum + this.clocksOf(this.blits[at]), 0);
     byId("blit-count").textContent = items.length ? `${countOf(items.length, "blit")}, busy for ${counted(busy)} of ${counted(clocks)} clocks` : "";
+    byId("blit-strip").replaceChildren(...this.list.items.map((at) => this.barOf(this.blits[at])));
     if (!items.includes(this.blits.indexOf(this.chosen))) this.choose(-1);
+  }
+
+  /** The bar of a blit over the time of the frame. */
+  barOf(blit) {
+    const [from, end] = this.range(blit), bar = element("i");
+    bar.style.left = (100 * from) / this.clocks + "%";
+    bar.style.width = `max(2px, ${(100 * (end - from)) / this.clocks}%)`;
+    return bar;
   }
 
   /** The first clock of a blit in the frame that is shown, and the one behind its last. */
@@ -43,10 +58,7 @@ class BlitPanel {
 
   drawRow(row, at) {
     const blit = this.blits[at], bar = element("span", "bar-of"), [from, end] = this.range(blit);
-    const part = element("i");
-    part.style.left = (100 * from) / this.clocks + "%";
-    part.style.width = `max(2px, ${(100 * (end - from)) / this.clocks}%)`;
-    bar.append(part);
+    bar.append(this.barOf(blit));
     row.classList.toggle("chosen", blit === this.chosen);
     const place = blit.start[0] === this.frame ? `${blit.start[1]}, ${blit.start[2]}` : `frame ${blit.start[0]}`;
     const texts = [place, blit.number ? blit.channels || "none" : "?", this.sizeOf(blit), counted(end - from)];
@@ -71,16 +83,28 @@ class BlitPanel {
       const [from, end] = this.range(this.blits[item]);
       return from <= index && index < end;
     });
-    if (at < 0) return;
-    this.choose(this.list.items[at]);
-    this.list.reveal(at);
+    if (at >= 0) this.goTo(at);
+  }
+
+  /** Chooses the blit that runs at a clock of the field, or the one that begins next to it. */
+  chooseNear(index) {
+    const far = this.list.items.map((item) => {
+      const [from, end] = this.range(this.blits[item]);
+      return Math.max(from - index, index - end + 1, 0);
+    });
+    if (far.length) this.goTo(far.indexOf(Math.min(...far)));
+  }
+
+  /** Chooses the blit at a position of the list. */
+  goTo(position) {
+    this.choose(this.list.items[position]);
+    this.list.reveal(position);
   }
 
   /** Chooses the blit so many rows further. */
   move(step) {
-    const items = this.list.items, position = this.list.positionBelow(items.indexOf(this.blits.indexOf(this.chosen)), step);
-    this.choose(items[position]);
-    this.list.reveal(position);
+    const position = this.list.items.indexOf(this.blits.indexOf(this.chosen));
+    this.goTo(this.list.positionBelow(position, step));
   }
 
   detail(blit) {
@@ -98,7 +122,16 @@ class BlitPanel {
     for (const [name, registers] of BLIT_REGISTERS) {
       table.append(this.fact(name, registers.map((one) => hex(blit.words[one] ?? 0, 4)).join(" ")));
     }
-    return [head, element("p", "faint", slots), table];
+    return [head, this.startOf(blit), element("p", "faint", slots), table];
+  }
+
+  /** Who started a blit and when, with a way to that write. */
+  startOf(blit) {
+    const line = element("p", "faint"), at = this.trace.number.indexOf(blit.number), [frame, row, clock] = blit.start;
+    const where = `${frame === this.frame ? "" : `frame ${frame}, `}line ${row}, clock ${clock}`;
+    if (at < 0) line.append(`Started at ${where}.`);
+    else line.append(`Started by the ${SOURCE_NAMES[this.trace.source[at]]} at `, linkTo(where, () => this.whenWritten(at)), ".");
+    return line;
   }
 
   headline(blit) {

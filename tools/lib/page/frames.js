@@ -122,6 +122,14 @@ function element(tag, className, text) {
   return made;
 }
 
+/** A text that does something when it is clicked. */
+function linkTo(text, act) {
+  const made = element("button", "link", text);
+  made.type = "button";
+  made.addEventListener("click", act);
+  return made;
+}
+
 /** A function that has `draw` called before the page is next drawn, once however often it is called until then. */
 function onceBeforeDrawing(draw) {
   let asked = 0;

@@ -110,10 +110,8 @@ class Reading {
   }
 
   link(text, at) {
-    const made = element("button", "link", text);
-    made.type = "button";
+    const made = linkTo(text, () => this.whenChosen(at));
     made.title = "Shows this write";
-    made.addEventListener("click", () => this.whenChosen(at));
     return made;
   }
 

@@ -48,7 +48,7 @@ class SlotView {
     this.field = this.slots.field;
     this.map = new SlotMap(look.system, this.field);
     this.why = new Why(byId("why"), look.trace, (at) => this.goToWrite(at), (cause) => this.goToSlot(cause));
-    this.blits = new BlitPanel(data.blits, this.field, look.trace, (blit) => this.markBlit(blit));
+    this.blits = new BlitPanel(data.blits, this.field, look.trace, (blit) => this.markBlit(blit), (at) => this.goToWrite(at));
     this.copper = new CopperPanel(look.trace, (beam) => this.goToSlot({ frame: look.frame, ...beam }));
     this.showWhy = onceBeforeDrawing(() => this.drawWhy());
     this.buildOwners();

@@ -103,15 +103,8 @@ class Why {
   writer(cause) {
     const frame = cause.frame === this.frame ? "" : `frame ${cause.frame}, `;
     const where = `${frame}line ${cause.line}, clock ${cause.clock}`;
-    if (cause.at < 0) return ["a fetch at ", this.link(where, () => this.whenPlaced(cause))];
-    return [`the ${SOURCE_NAMES[this.trace.source[cause.at]]} at `, this.link(where, () => this.whenChosen(cause.at))];
-  }
-
-  link(text, act) {
-    const made = element("button", "link", text);
-    made.type = "button";
-    made.addEventListener("click", act);
-    return made;
+    if (cause.at < 0) return ["a fetch at ", linkTo(where, () => this.whenPlaced(cause))];
+    return [`the ${SOURCE_NAMES[this.trace.source[cause.at]]} at `, linkTo(where, () => this.whenChosen(cause.at))];
   }
 
   // planes
@@ -143,7 +136,7 @@ class Why {
   when(cause) {
     if (!cause) return "never";
     const text = (cause.frame === this.frame ? "" : `${cause.frame}: `) + `${cause.line}, ${cause.clock}`;
-    return this.link(text, () => (cause.at < 0 ? this.whenPlaced(cause) : this.whenChosen(cause.at)));
+    return linkTo(text, () => (cause.at < 0 ? this.whenPlaced(cause) : this.whenChosen(cause.at)));
   }
 
   valueLine({ bits, field, planes }) {
