@@ -44,8 +44,8 @@ impl<S: Side> Fore<S> {
         }
     }
 
-    /// The same of a clock that is made alone, as at the start of a line, where whoever has the slot asks for this;
-    /// and the word of a register that answers it. Out of line, since it comes seldom.
+    /// The same of a clock that is made alone, as at the start of a line, where whoever has the slot asks for
+    /// this; and the word of a register that answers it. Out of line, since it comes seldom.
     #[inline(never)]
     pub(crate) fn access_with_word<Q: Raster<S>>(
         &mut self,

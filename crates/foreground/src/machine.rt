@@ -163,7 +163,8 @@ impl<S: Side> Machine<S> {
         self.chips.ask(&self.beam, wish)
     }
 
-    /// The word of a register that will answer the ask, where it reads one: between `ask_in_time` and `answer`.
+    /// The word of a register that will answer the ask, where it reads one: to be called behind
+    /// `ask_in_time` and before `answer`.
     pub fn register_word(&self, ask: &Ask, clx: u16) -> Option<u16>
         ensures { (s : State) → HasAskedOf (machine_over S.seen self.now) s → ask.now ≡ ask_of s
             → (is_clx_ask ask.now ≡ true → s.clx ≡ clx)

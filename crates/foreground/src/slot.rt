@@ -3,8 +3,8 @@
 use serial_model::Ask;
 
 /// What the owner of a clock's slot asked for, and the word with which a read of a custom register was
-/// answered, where it asked for one. Words that are read from chip memory are not in it: they are those of the
-/// memory before the clock.
+/// answered, where it asked for one. Words that are read from chip memory are not in it: they are those of
+/// the memory before the clock.
 #[derive(Clone, Copy, Debug)]
 pub struct Slot {
     pub ask: Ask,

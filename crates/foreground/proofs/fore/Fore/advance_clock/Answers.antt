@@ -23,7 +23,8 @@ access_with_word-requires-clause-can g c =
 
 pub returns-in_err-read-clause-part : goal.returns-in_err-read-clause-part
 returns-in_err-read-clause-part g c =
-    let reaches = reaches_ask _ _ _ _ _ _ _ c.in_ok-run_to_timers.ensures.events c.ask_alone-ask.ensures.asks (ap (over g.S.Side.seen) c.ask_alone-ask.ensures.same) in
+    let reaches = reaches_ask _ _ _ _ _ _ _ c.in_ok-run_to_timers.ensures.events c.ask_alone-ask.ensures.asks
+    (ap (over g.S.Side.seen) c.ask_alone-ask.ensures.same) in
     on_err c.from_residual-in_err-read.result
     (part_accessing _ _ _ _ _ _ _ _ _ _ _ c.in_ok-clx.ensures.begins reaches.reaches
     (part_from_ask _ _ _ _ _ _ _ _ _ reaches c.in_err-read.ensures.access.part))
@@ -37,7 +38,8 @@ returns-in_err-read-clause-few g c =
 
 pub returns-in_err-end_clock-clause-part : goal.returns-in_err-end_clock-clause-part
 returns-in_err-end_clock-clause-part g c =
-    let reaches = reaches_ask _ _ _ _ _ _ _ c.in_ok-run_to_timers.ensures.events c.ask_alone-ask.ensures.asks (ap (over g.S.Side.seen) c.ask_alone-ask.ensures.same) in
+    let reaches = reaches_ask _ _ _ _ _ _ _ c.in_ok-run_to_timers.ensures.events c.ask_alone-ask.ensures.asks
+    (ap (over g.S.Side.seen) c.ask_alone-ask.ensures.same) in
     on_err c.from_residual-in_err-end_clock.result
     (part_ending _ _ _ _ _ _ _ _ _ _ _ _ _ c.in_ok-clx.ensures.begins
     reaches.reaches (makes_from_ask _ _ _ _ _ _ _ _ _ _ reaches c.in_ok-read.ensures.access.makes)
@@ -53,7 +55,8 @@ returns-in_err-end_clock-clause-few g c =
 
 pub returns-clause-clock : goal.returns-clause-clock
 returns-clause-clock g c =
-    let reaches = reaches_ask _ _ _ _ _ _ _ c.in_ok-run_to_timers.ensures.events c.ask_alone-ask.ensures.asks (ap (over g.S.Side.seen) c.ask_alone-ask.ensures.same) in
+    let reaches = reaches_ask _ _ _ _ _ _ _ c.in_ok-run_to_timers.ensures.events c.ask_alone-ask.ensures.asks
+    (ap (over g.S.Side.seen) c.ask_alone-ask.ensures.same) in
     let place = c.in_ok-end_clock.ensures.place in
     advances _ _ _ _ _ _ place.0 _ _ _ _ _ _ _ _ c.requires.running c.in_ok-clx.ensures.begins
     reaches.reaches (makes_from_ask _ _ _ _ _ _ _ _ _ _ reaches c.in_ok-read.ensures.access.makes)
