@@ -74,7 +74,7 @@ class UnprovedTest(Tools):
 
     def test_what_stops_it(self) -> None:
         for words, said in (
-            ([], "usage: bench/unproved OUT\n"),
+            ([], "usage: bench/unproved OUT [CRATE]\n"),
             (["out"], "unproved: rt: the Rattle kit's command is not found: it compiles the program\n"),
         ):
             with self.subTest(words=words):
