@@ -45,8 +45,9 @@ impl<S: Side> Fore<S> {
     }
 
     /// The same of a clock that is made alone, as at the start of a line, where whoever has the slot asks for
-    /// this; and the word of a register that answers it. Out of line, since it comes seldom.
-    #[inline(never)]
+    /// this; and the word of a register that answers it. In line, so that no word is worked out where nobody
+    /// takes it.
+    #[inline(always)]
     pub(crate) fn access_with_word<Q: Raster<S>>(
         &mut self,
         ask: &Ask,
