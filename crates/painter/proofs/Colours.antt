@@ -1,9 +1,11 @@
 -- Inks against the colours of the playfields.
 use Rattle.std.proofs.Common.{◌≡◌, ℕ, zero, ◌+◌, ◌-◌, ◌/◌, ◌%◌, ◌^◌, ◌≤◌, ◌<◌, ◌==◌, Bool, true, false, not, ◌&&◌}
-use Rattle.std.proofs.Common.{nat_le, nat_lt, min, List, [], ◌∷◌, slice_index, replicate, refl, sym, ◌∙◌, ap, arith}
+use Rattle.std.proofs.Common.{nat_le, nat_lt, nat_eq, min, List, [], ◌∷◌, length, slice_index, slice_index_or, slice_set, replicate}
+use Rattle.std.proofs.Common.{refl, sym, ◌∙◌, ap, arith}
 use Rattle.std.specs.Bool.{if◌then◌else◌}
 use Rattle.std.proofs.Math.Pow.{pow_mono}
-use Rattle.std.proofs.lemmas.List.{get_or-replicate}
+use Rattle.std.proofs.Math.ListN.{length-set}
+use Rattle.std.proofs.lemmas.List.{get_or-replicate, get_or-set_same, get_or-set_other}
 use Rattle.std.proofs.lemmas.Bool.Decides.{nat_tests}
 use Rattle.serial_model.specs.Picture.{colour_bytes}
 use Rattle.priority_ham.specs.PlaneCount.{planes_of, is_hires, is_hold_and_modify, is_dual_playfield}
@@ -65,6 +67,63 @@ ink_half palette n h false is =
     ap (λ (b : Bool). if b then slice_index palette n else halved (slice_index palette (n - 32))) is
     ∙ ap (λ (m : ℕ). halved (slice_index palette m)) (sym same)
     ∙ ap (λ (b : Bool). if b then halved (slice_index palette (n % 32)) else slice_index palette (n % 32)) (sym set)
+
+-- a colour and what it is halved, put into the table of inks
+abbrev two_put : List (List ℕ) → ℕ → List ℕ → List ℕ → List (List ℕ)
+two_put rgb n one two = slice_set (slice_set rgb n one) (n + 32) two
+
+low_put : (palette : List ℕ) (n colour k : ℕ) (low : Bool) → length palette ≡ 32 → n < 32 → k ≡ n → nat_lt k 32 ≡ low →
+    colour_bytes colour
+    ≡ colour_bytes (if low then slice_index (slice_set palette n colour) k else halved (slice_index (slice_set palette n colour) (k - 32)))
+low_put palette n colour k true long few here is =
+    sym (ap colour_bytes (ap (λ (m : ℕ). slice_index (slice_set palette n colour) m) here ∙ get_or-set_same palette n colour 0 (omega (arith, long, few))))
+low_put palette n colour k false long few here is = grind (arith, nat_tests)
+
+high_put : (palette : List ℕ) (n colour k : ℕ) (low : Bool) → length palette ≡ 32 → n < 32 → k ≡ n + 32 → nat_lt k 32 ≡ low →
+    colour_bytes (halved colour)
+    ≡ colour_bytes (if low then slice_index (slice_set palette n colour) k else halved (slice_index (slice_set palette n colour) (k - 32)))
+high_put palette n colour k true long few here is = grind (arith, nat_tests)
+high_put palette n colour k false long few here is =
+    let back : k - 32 ≡ n = omega (arith, here) in
+    sym (ap (λ (c : ℕ). colour_bytes (halved c))
+    (ap (λ (m : ℕ). slice_index (slice_set palette n colour) m) back ∙ get_or-set_same palette n colour 0 (omega (arith, long, few))))
+
+other_put : (palette : List ℕ) (n colour k : ℕ) (low : Bool) → (k ≡ n → ⊥) → (k ≡ n + 32 → ⊥) → nat_lt k 32 ≡ low →
+    (if low then slice_index palette k else halved (slice_index palette (k - 32)))
+    ≡ (if low then slice_index (slice_set palette n colour) k else halved (slice_index (slice_set palette n colour) (k - 32)))
+other_put palette n colour k true one two is = sym (get_or-set_other palette n k colour 0 one)
+other_put palette n colour k false one two is =
+    let high : 32 ≤ k = grind (arith, nat_tests) in
+    sym (ap halved (get_or-set_other palette n (k - 32) colour 0 (λ same. two (omega (arith, high, same)))))
+
+put_by : (palette : List ℕ) (rgb : List (List ℕ)) (n colour k : ℕ) (one two : List ℕ) (a b : Bool) → length palette ≡ 32 → length rgb ≡ 64 →
+    n < 32 → k < 64 → slice_index_or rgb k [] ≡ colour_bytes (ink palette k) → one ≡ colour_bytes colour → two ≡ colour_bytes (halved colour) →
+    nat_eq k n ≡ a → nat_eq k (n + 32) ≡ b →
+    slice_index_or (two_put rgb n one two) k [] ≡ colour_bytes (ink (slice_set palette n colour) k)
+put_by palette rgb n colour k one two a true long size few room old first second other same =
+    let here : k ≡ n + 32 = grind (arith, nat_tests) in
+    ap (λ (m : ℕ). slice_index_or (two_put rgb n one two) m []) here
+    ∙ get_or-set_same (slice_set rgb n one) (n + 32) two [] (omega (arith, length-set rgb n one, size, few))
+    ∙ second ∙ high_put palette n colour k (nat_lt k 32) long few here refl
+put_by palette rgb n colour k one two true false long size few room old first second same other =
+    let here : k ≡ n = grind (arith, nat_tests) in
+    let differ : k ≡ n + 32 → ⊥ = λ e. omega (arith, e, here) in
+    get_or-set_other (slice_set rgb n one) (n + 32) k two [] differ
+    ∙ ap (λ (m : ℕ). slice_index_or (slice_set rgb n one) m []) here
+    ∙ get_or-set_same rgb n one [] (omega (arith, size, few))
+    ∙ first ∙ low_put palette n colour k (nat_lt k 32) long few here refl
+put_by palette rgb n colour k one two false false long size few room old first second not_one not_two =
+    let one_differs : k ≡ n → ⊥ = λ e. grind (arith, nat_tests) in
+    let two_differs : k ≡ n + 32 → ⊥ = λ e. grind (arith, nat_tests) in
+    get_or-set_other (slice_set rgb n one) (n + 32) k two [] two_differs
+    ∙ get_or-set_other rgb n k one [] one_differs
+    ∙ old ∙ ap colour_bytes (other_put palette n colour k (nat_lt k 32) one_differs two_differs refl)
+
+pub colour_put : (palette : List ℕ) (rgb : List (List ℕ)) (n colour k : ℕ) (one two : List ℕ) → length palette ≡ 32 → length rgb ≡ 64 →
+    n < 32 → k < 64 → slice_index_or rgb k [] ≡ colour_bytes (ink palette k) → one ≡ colour_bytes colour → two ≡ colour_bytes (halved colour) →
+    slice_index_or (two_put rgb n one two) k [] ≡ colour_bytes (ink (slice_set palette n colour) k)
+colour_put palette rgb n colour k one two long size few room old first second =
+    put_by palette rgb n colour k one two (nat_eq k n) (nat_eq k (n + 32)) long size few room old first second refl refl
 
 -- two playfields have the first sixteen colours
 dual_by : (one two : ℕ) (chosen none : Bool) → one < 8 → two < 8 → (if chosen then (if none then 0 else 8 + two) else one) < 32

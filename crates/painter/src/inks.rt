@@ -74,7 +74,7 @@ impl Inks {
         self.put_colour(number, word % 0x1000);
     }
 
-    /// One of COLOR00 to COLOR31 becomes a colour.
+    /// One of COLOR00 to COLOR31 becomes a colour. The backdrop is that of COLOR00 alone.
     fn put_colour(&mut self, number: usize, colour: u16)
         requires { number < 32 }
         ensures { self.new ≡ record self.old {
@@ -84,6 +84,9 @@ impl Inks {
         self.palette[number] = colour;
         self.rgb[number] = bytes_of(colour);
         self.rgb[number + 32] = bytes_of(half_of(colour));
+        if number > 0 {
+            return;
+        }
         self.backdrop = [self.rgb[0]; 4];
     }
 

@@ -25,13 +25,16 @@ pub fn fill(room: &mut [u8], at: usize, count: u16, pixels: &[[u8; 3]; 4])
     fill_each(room, at + 48 * blocks as usize, count % 4, pixels);
 }
 
-/// The same four times for each of so many blocks.
+/// The same four times for each of so many blocks. Where there is none, nothing is made ready.
 fn fill_blocks(room: &mut [u8], at: usize, blocks: u16, pixels: &[[u8; 3]; 4])
     requires { at + 48 * blocks ≤ length room.old }
     ensures bytes { take (at + 48 * blocks) room.new
         ≡ take at room.old ++ bytes_of_clocks (λ _. pixels.now) (4 * blocks) }
     ensures size { length room.new ≡ length room.old }
 {
+    if blocks == 0 {
+        return;
+    }
     let four = [*pixels; 4];
     for block in 0..blocks {
         put_four(room, at + 48 * block as usize, &four);

@@ -1,8 +1,14 @@
-use Rattle.std.proofs.Common.{◌≡◌, ◌∙◌, ◌+◌, ◌*◌, ◌++◌, ℕ, take, subst, refl, arith}
+use Rattle.std.proofs.Common.{◌≡◌, ◌∙◌, ◌+◌, ◌*◌, ◌++◌, ℕ, take, subst, refl, sym, arith}
 use Rattle.painter.specs.SpanCode.{bytes_of_clocks}
 use Rattle.painter.proofs.Clocks.{none_put}
 use Rattle.painter.proofs.Fills.{four_put}
 use Rattle.painter.proofs.span.fill_blocks.Goals as goal
+
+pub returns-then-blocks-eq0-clause-bytes : goal.returns-then-blocks-eq0-clause-bytes
+returns-then-blocks-eq0-clause-bytes c =
+    subst (λ (n : ℕ). take (c.args.at + 48 * n) c.args.room.now
+    ≡ take c.args.at c.args.room.now ++ bytes_of_clocks (λ (k : ℕ). c.args.pixels.now) (4 * n))
+    (sym c.if-blocks-eq0.true) (none_put c.args.at (λ (k : ℕ). c.args.pixels.now) c.args.room.now)
 
 pub loop-block-init : goal.loop-block-init
 loop-block-init c = record {
