@@ -8,6 +8,7 @@ use crate::twice::{bits_twice, upper_bits};
 
 /// What 32 positions from their start on show of the words of three planes of one parity: the
 /// words' bits are bits 0, 2 and 4 of a byte.
+#[inline(always)]
 pub fn spread(hires: bool, a: u16, b: u16, c: u16) -> [[u8; 8]; 4]
     ensures { flat_map (λ eight. eight) result ≡ spread_bits hires a b c }
 {
