@@ -4,27 +4,26 @@ from __future__ import annotations
 import re
 from array import array
 from dataclasses import dataclass, field
-from typing import Iterator
+from typing import Iterator, NamedTuple
 
 from faults import BadFile, plural, quoted
 from frames import NTSC, PAL, System
 
-HEADING = re.compile(rb"ocs-slots 1 (pal|ntsc) (0|[1-9]\d{0,3}) ([1-9]\d{0,3}) (524288|1048576)\n")
+HEADING = re.compile(rb"ocs-slots 2 (pal|ntsc) (0|[1-9]\d{0,3}) ([1-9]\d{0,3}) (524288|1048576)\n")
 LONGEST_HEADING = 48
 SYSTEMS = {b"pal": PAL, b"ntsc": NTSC}
-# what stands before a line of the log: that of a new frame, and that of one whose entries are those of the line before
-FRAME_MARK, REPEATED = 1, 0
+# what stands before the first line of a frame
+FRAME_MARK = 255
 FAR = 128
 STREAMS, DISTANCES = 32, 1 << 24
+# where heads and words are known by which the next ones are guessed
+PLACES, APART, STEP = 1 << 15, 1021, 8
+MOST_CLOCKS = 228
 
 FREE, REFRESH, REST, COPPER, BLIT_READ, BLIT_WRITE = range(6)
 READ, WRITE, WRITE_HIGH, WRITE_LOW, READ_REGISTER, WRITE_REGISTER, DISK_WRITE = range(6, 13)
 AUDIO, PLANE = 16, 32
 CONTROL, CONTROL_SECOND, IMAGE, IMAGE_SECOND = 40, 48, 56, 64
-
-# clocks one behind the other of which the log has the code alone
-IDLE = re.compile(rb"[\x00-\x02]+")
-NOWHERE = [-1] * 228
 
 OWNERS = ("free", "refresh", "disk", "audio", "bitplanes", "sprites", "Copper", "blitter", "processor")
 
@@ -49,6 +48,18 @@ def all_codes() -> dict[int, Code]:
     return codes
 
 
+class Head(NamedTuple):
+    """Who has a slot and what for, and how far the access is from where it is expected; its number, by which others are guessed, and
+    its bytes.
+    """
+
+    code: int
+    distance: int
+    number: int
+    entry: bytes
+
+
+FREE_HEAD = Head(FREE, 0, 0, bytes([FREE]))
 CODES = all_codes()
 OWNER_OF = bytes(CODES[code].owner if code in CODES else 0 for code in range(256))
 
@@ -64,7 +75,7 @@ class SlotLine:
     codes: bytearray = field(default_factory=bytearray)
     addresses: list[int] = field(default_factory=list)
     words: list[int] = field(default_factory=list)
-    # the entries as the log has them, and the words that it leaves to the memory
+    # each clock's head and words as bytes, and the words that the log leaves to the memory
     entries: bytes = b""
     read: array = field(default_factory=lambda: array("H"))
 
@@ -89,16 +100,18 @@ class SlotsFile:
             raise BadFile(path, f"is cut short: {there:,} of the {plural(self.size, 'byte')} of memory")
         self.memory = bytearray(self.data[match.end() : self.at])
         self.expected = [0] * STREAMS
-        self.entries = b""
+        self.known_heads, self.trail = [FREE_HEAD] * PLACES, 0
+        self.numbers_before = [0] * MOST_CLOCKS
+        self.known_words, self.last = [(0, 0)] * PLACES, 0
 
     def fault_of_heading(self) -> str:
         """What is wrong with a file that has no heading."""
         start = self.data[:LONGEST_HEADING]
         if not start:
             return "is empty"
-        if b"\n" not in start and len(self.data) < LONGEST_HEADING and (b"ocs-slots 1 ".startswith(start) or start.startswith(b"ocs-slots 1 ")):
+        if b"\n" not in start and len(self.data) < LONGEST_HEADING and (b"ocs-slots 2 ".startswith(start) or start.startswith(b"ocs-slots 2 ")):
             return f"is cut short: {plural(len(start), 'byte')}, no more than a part of a heading"
-        return f"is not a log of slots: it begins with {quoted(start[:20])}, a log with 'ocs-slots 1 '"
+        return f"is not a log of slots: it begins with {quoted(start[:20])}, a log with 'ocs-slots 2 '"
 
     def clocks_of(self, line: int) -> int:
         """How many clocks a line has."""
@@ -126,64 +139,102 @@ class SlotsFile:
         """The next line, which is this one."""
         made = SlotLine(frame, line)
         try:
-            count = self.data[self.at]
-            repeated = count == REPEATED and self.entries
-            data, at = (self.entries, 0) if repeated else (self.data, self.at + 1)
-            if not repeated and count != self.clocks_of(line):
-                raise BadFile(self.path, f"is not a log of slots: line {line} of frame {frame} has {plural(count, 'clock')}")
-            end = self.take(made, data, at)
+            heads = self.take_heads(made)
+            words = self.take_words(made, heads)
         except IndexError:
             raise BadFile(self.path, f"is cut short in line {line} of frame {frame}") from None
-        made.entries = self.entries = data[at:end]
-        self.at = self.at + 1 if repeated else end
+        self.take_accesses(made, heads, words)
         return made
 
-    def take(self, made: SlotLine, data: bytes, at: int) -> int:
-        """Takes the entries of a line's clocks from `at` on; gives where they end."""
-        count = self.clocks_of(made.line)
-        while len(made.codes) < count:
-            idle = IDLE.match(data, at, at + count - len(made.codes))
-            if idle:
-                made.codes += idle[0]
-                made.addresses += NOWHERE[: len(idle[0])]
-                made.words += NOWHERE[: len(idle[0])]
-                at = idle.end()
+    def next_byte(self) -> int:
+        self.at += 1
+        return self.data[self.at - 1]
+
+    def next_word(self) -> int:
+        return self.next_byte() << 8 | self.next_byte()
+
+    def take_heads(self, made: SlotLine) -> list[Head]:
+        """Takes the heads of a line: those that are not as guessed, and how many are before each and behind the last."""
+        heads, known, trail = [], self.known_heads, self.trail
+        guessed = self.next_byte()
+        for above in self.numbers_before[: self.clocks_of(made.line)]:
+            place = (trail + APART * above) % PLACES
+            if guessed:
+                guessed -= 1
             else:
-                at = self.take_access(made, data, at)
-        return at
+                known[place] = self.next_head(made, len(heads))
+                guessed = self.next_byte()
+            head = known[place]
+            heads.append(head)
+            trail = (STEP * trail + head.number) % PLACES
+        if guessed:
+            raise BadFile(self.path, f"is not a log of slots: line {made.line} of frame {made.frame} has {guessed} more than {plural(len(heads), 'clock')}")
+        self.trail = trail
+        numbers = [head.number for head in heads]
+        self.numbers_before = numbers + [0] * (MOST_CLOCKS - len(numbers))
+        return heads
 
-    def take_access(self, made: SlotLine, data: bytes, at: int) -> int:
-        """Takes an entry of memory or of a register."""
-        head, code = data[at], data[at] % FAR
-        what = CODES.get(code)
-        if what is None or code <= REST or (head >= FAR and what.stream < 0):
-            raise self.foreign(made, f"the code {head}")
-        made.codes.append(code)
-        at += 1
-        if what.stream < 0:
-            made.addresses.append(data[at] << 8 | data[at + 1])
-            made.words.append(data[at + 2] << 8 | data[at + 3])
-            return at + 4
-        address = self.expected[what.stream]
-        if head >= FAR:
-            address = (address + (data[at] << 16 | data[at + 1] << 8 | data[at + 2])) % DISTANCES
-            at += 3
+    def next_head(self, made: SlotLine, clock: int) -> Head:
+        """Takes a head that is not as guessed."""
+        start, first = self.at, self.next_byte()
+        code = first % FAR
+        if code not in CODES or (first >= FAR and CODES[code].stream < 0):
+            raise self.foreign(made, clock, f"the code {first}")
+        distance = self.next_byte() << 16 | self.next_word() if first >= FAR else 0
+        return Head(code, distance, code + distance, self.data[start : self.at])
+
+    def take_words(self, made: SlotLine, heads: list[Head]) -> list[tuple[int, int]]:
+        """Takes the words of a line's clocks that have some, an offset and a word each, as its heads."""
+        taken = []
+        guessed = self.next_byte()
+        for head in heads:
+            count = CODES[head.code].words
+            if not count:
+                continue
+            place = (self.last + APART * head.code) % PLACES
+            if guessed:
+                guessed -= 1
+            else:
+                self.known_words[place] = (self.next_word() if count == 2 else 0, self.next_word())
+                guessed = self.next_byte()
+            taken.append(self.known_words[place])
+            self.last = sum(taken[-1])
+        if guessed:
+            raise BadFile(self.path, f"is not a log of slots: line {made.line} of frame {made.frame} has {guessed} more than {plural(len(taken), 'write')}")
+        return taken
+
+    def take_accesses(self, made: SlotLine, heads: list[Head], words: list[tuple[int, int]]) -> None:
+        """Makes the accesses of a line in order, so that each word that is read is known."""
+        made.codes = bytearray(head.code for head in heads)
+        made.addresses, made.words = [-1] * len(heads), [-1] * len(heads)
+        entries, following = [], iter(words)
+        for clock, head in enumerate(heads):
+            entries.append(head.entry)
+            what = CODES[head.code]
+            if what.words:
+                offset, word = next(following)
+                made.addresses[clock], made.words[clock] = offset, word
+                entries.append((offset.to_bytes(2, "big") if what.words == 2 else b"") + word.to_bytes(2, "big"))
+            if what.stream >= 0:
+                self.access(made, clock, what, head)
+        made.entries = b"".join(entries)
+
+    def access(self, made: SlotLine, clock: int, what: Code, head: Head) -> None:
+        """Makes the access of a clock to memory."""
+        address = (self.expected[what.stream] + head.distance) % DISTANCES
         if address % 2 or address >= self.size:
-            raise self.foreign(made, f"the address {address:x}")
+            raise self.foreign(made, clock, f"the address {address:x}")
         self.expected[what.stream] = address + 2
-        made.addresses.append(address)
+        made.addresses[clock] = address
         if what.words:
-            self.store(code, address, data[at], data[at + 1])
-            made.words.append(data[at] << 8 | data[at + 1])
-            return at + 2
-        made.words.append(self.memory[address] << 8 | self.memory[address + 1])
-        made.read.append(made.words[-1])
-        return at
+            self.store(head.code, address, *divmod(made.words[clock], 256))
+            return
+        made.words[clock] = self.memory[address] << 8 | self.memory[address + 1]
+        made.read.append(made.words[clock])
 
-    def foreign(self, made: SlotLine, what: str) -> BadFile:
-        """The fault of a file that has what no log has, at the next clock of a line."""
-        place = f"clock {len(made.addresses)} of line {made.line} of frame {made.frame}"
-        return BadFile(self.path, f"is not a log of slots: {what} at {place} is none")
+    def foreign(self, made: SlotLine, clock: int, what: str) -> BadFile:
+        """The fault of a file that has what no log has, at a clock of a line."""
+        return BadFile(self.path, f"is not a log of slots: {what} at clock {clock} of line {made.line} of frame {made.frame} is none")
 
     def store(self, code: int, address: int, high: int, low: int) -> None:
         """Writes a word into memory; of a byte the low one is what is written."""

@@ -19,6 +19,8 @@ use Rattle.serial_model.specs.MemoryText.{word_bytes}
 use Rattle.serial_model.specs.Owner.{is_refresh}
 use Rattle.slot_log.specs.declared.entry.Access.{Access}
 use Rattle.slot_log.specs.declared.entry.Entry.{Entry}
+use Rattle.slot_log.specs.declared.entry_bytes.Head.{Head}
+use Rattle.slot_log.specs.declared.entry_bytes.EntryWords.{EntryWords}
 
 -- a clock: the place of the beam, what the owner of its slot asks for, and the word of a register that answers it, where the
 -- processor reads one
@@ -103,22 +105,30 @@ abbrev pub expected_after : List ℕ → Option Access → List ℕ
 expected_after expected None = expected
 expected_after expected (Some access) = slice_set expected access.stream (access.at.value + 2)
 
--- how far an access is from there, modulo 2 ^ 24: three bytes, the highest first
+-- how far an address is from another, modulo 2 ^ 24
 abbrev pub distance : ℕ → ℕ → ℕ
 distance expected at = (2 ^ 32 + at - expected) % 2 ^ 24
 
+-- how far an access is from where it is expected; 0 where there is none
+abbrev pub distance_of : List ℕ → Option Access → ℕ
+distance_of expected None = 0
+distance_of expected (Some access) = distance (slice_index expected access.stream) access.at.value
+
+-- The head of an entry: who has the slot and what for, and how far the access is from where it is expected.
+abbrev pub head_with : List ℕ → Entry → Head
+head_with expected entry = record { code = entry.code; distance = distance_of expected entry.access }
+
+-- as bytes it is the code; where the access is not where it is expected 128 is added, and the distance follows, the highest byte first
 abbrev pub distance_bytes : ℕ → List ℕ
 distance_bytes n = n / 65536 ∷ n / 256 % 256 ∷ n % 256 ∷ []
 
--- the code; where its access is not where it is expected 128 is added, and the distance follows
-abbrev pub head_bytes : List ℕ → ℕ → Option Access → List ℕ
-head_bytes expected code None = code ∷ []
-head_bytes expected code (Some access) =
-    if access.at.value == slice_index expected access.stream then code ∷ []
-    else (128 + code) ∷ distance_bytes (distance (slice_index expected access.stream) access.at.value)
+abbrev pub head_bytes : Head → List ℕ
+head_bytes head = if head.distance == 0 then head.code ∷ [] else (128 + head.code) ∷ distance_bytes head.distance
 
--- and then the offset, and the word, each with its high byte first
-unfoldable pub entry_bytes : List ℕ → Entry → List ℕ
-entry_bytes expected entry =
-    head_bytes expected entry.code entry.access ++ flat_map word_bytes (option_to_list entry.offset)
-    ++ flat_map word_bytes (option_to_list entry.word)
+-- The words of an entry, which memory does not tell: an offset and a word, 0 where there is none.
+abbrev pub words_with : Entry → EntryWords
+words_with entry = record { offset = unwrap_or entry.offset 0; word = unwrap_or entry.word 0 }
+
+-- as bytes they are those that there are, each with its high byte first
+abbrev pub words_bytes : Entry → List ℕ
+words_bytes entry = flat_map word_bytes (option_to_list entry.offset) ++ flat_map word_bytes (option_to_list entry.word)

@@ -10,4 +10,4 @@ system_name Ntsc = codes "ntsc"
 -- a line of text that says the system, the frames and the number of bytes of chip memory
 abbrev pub heading : System → ℕ → ℕ → ℕ → List ℕ
 heading system from to bytes =
-    codes "ocs-slots 1 " ++ system_name system ++ codes " " ++ decimal from ++ codes " " ++ decimal to ++ codes " " ++ decimal bytes ++ codes "\n"
+    codes "ocs-slots 2 " ++ system_name system ++ codes " " ++ decimal from ++ codes " " ++ decimal to ++ codes " " ++ decimal bytes ++ codes "\n"

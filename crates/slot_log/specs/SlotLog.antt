@@ -1,58 +1,73 @@
--- The log of the slots of a run: of each line the entries of its clocks, or that they are those of the line before.
-use Rattle.std.specs.Prelude.{ℕ, ◌+◌, ◌%◌, ◌==◌, if◌then◌else◌, List, [], ◌∷◌, ◌++◌, bytes_eq, replicate}
+-- The log of the slots of a run: of each line the heads and the words that are not as guessed, and how many are between them.
+use Rattle.std.specs.Prelude.{ℕ, ◌+◌, ◌%◌, ◌==◌, Bool, if◌then◌else◌, List, [], ◌∷◌, ◌++◌}
 use Rattle.ocs_base.specs.declared.beam.Beam.{Beam}
 use Rattle.ocs_base.specs.declared.system.System.{System}
 use Rattle.serial_model.specs.Beam.{is_line_start, is_line_end}
 use Rattle.serial_model.specs.MemoryText.{memory_text}
-use Rattle.slot_log.specs.Entry.{SlotClock, entry_of, expected_after, entry_bytes}
+use Rattle.slot_log.specs.Entry.{SlotClock, entry_of, head_bytes, words_bytes}
+use Rattle.slot_log.specs.Guess.{head_of, has_words, is_guessed_head, is_guessed_words, expected_addresses}
+use Rattle.slot_log.specs.Guess.{HeadGuessValue, head_guess_of, WordGuessValue, word_guess_of}
 use Rattle.slot_log.specs.Heading.{heading}
 
--- The clocks of a log are a list, the latest first.
+-- Of some things one behind the other: those that are not as guessed, each behind a byte that says how many before it are, since the
+-- last that is not; and how many have come since then. (Both numbers by the remainder of 256, which no line of a beam on the screen
+-- reaches.)
+pub record MarksValue : Type 0 where
+  pub bytes : List ℕ
+  pub count : ℕ
 
--- where the streams are expected to go on behind these clocks; at first at address 0
-abbrev pub expected_addresses : List SlotClock → List ℕ
-expected_addresses [] = replicate 32 0
-expected_addresses (clock ∷ past) = expected_after (expected_addresses past) (entry_of clock).access
+abbrev pub no_marks : MarksValue
+no_marks = record { bytes = []; count = 0 }
 
--- the entries of the line of the latest clock, as far as it has come
-abbrev pub line_of : List SlotClock → List ℕ
-line_of [] = []
-line_of (clock ∷ past) =
-    (if is_line_start clock.beam then [] else line_of past) ++ entry_bytes (expected_addresses past) (entry_of clock)
+-- one more, with its bytes
+abbrev pub marks_after : MarksValue → Bool → List ℕ → MarksValue
+marks_after marks guessed bytes =
+    if guessed then record { bytes = marks.bytes; count = (marks.count + 1) % 256 }
+    else record { bytes = marks.bytes ++ marks.count ∷ bytes; count = 0 }
 
--- the clocks before that line
-abbrev pub before_line : List SlotClock → List SlotClock
-before_line [] = []
-before_line (clock ∷ past) = if is_line_start clock.beam then past else before_line past
+-- with the number of those behind the last
+abbrev pub marks_text : MarksValue → List ℕ
+marks_text marks = marks.bytes ++ marks.count ∷ []
 
--- a line in the log: 0 where its entries are the bytes of those of the line before, else how many clocks it has (by the remainder of
--- 256, which no line of a beam on the screen reaches), and the entries
-abbrev pub line_text : ℕ → List ℕ → List ℕ → List ℕ
-line_text clocks line before = if bytes_eq line before then 0 ∷ [] else clocks % 256 ∷ line
+-- the heads of the line of the latest clock, as far as it has come
+abbrev pub head_marks : List SlotClock → MarksValue
+head_marks [] = no_marks
+head_marks (clock ∷ past) =
+    marks_after (if is_line_start clock.beam then no_marks else head_marks past) (is_guessed_head clock past) (head_bytes (head_of clock past))
 
--- 1 stands before the first line of a frame
+-- and its words, of the clocks that have some
+abbrev pub words_after : MarksValue → SlotClock → List SlotClock → MarksValue
+words_after marks clock past =
+    if has_words (entry_of clock) then marks_after marks (is_guessed_words clock past) (words_bytes (entry_of clock)) else marks
+
+abbrev pub word_marks : List SlotClock → MarksValue
+word_marks [] = no_marks
+word_marks (clock ∷ past) = words_after (if is_line_start clock.beam then no_marks else word_marks past) clock past
+
+-- 255 stands before the first line of a frame
 abbrev pub frame_mark : Beam → List ℕ
-frame_mark b = if b.v == 0 then 1 ∷ [] else []
+frame_mark b = if b.v == 0 then 255 ∷ [] else []
 
--- a line is there once its last clock has come
-abbrev pub ended_line : System → Beam → List ℕ → List ℕ → List ℕ
-ended_line system b line before =
-    if is_line_end system b then frame_mark b ++ line_text (b.h + 1) line before else []
+-- a line is there once its last clock has come: its heads, and then its words
+abbrev pub ended_line : System → Beam → MarksValue → MarksValue → List ℕ
+ended_line system b heads words = if is_line_end system b then frame_mark b ++ marks_text heads ++ marks_text words else []
 
 abbrev pub log_text : System → List SlotClock → List ℕ
 log_text system [] = []
 log_text system (clock ∷ past) =
-    log_text system past
-    ++ ended_line system clock.beam (line_of (clock ∷ past)) (line_of (before_line (clock ∷ past)))
+    log_text system past ++ ended_line system clock.beam (head_marks (clock ∷ past)) (word_marks (clock ∷ past))
 
 -- the log of a run under way: what is there of its clocks
 pub record SlotLogValue : Type 0 where
   pub system : System
   -- where each stream is expected to go on
   pub expected : List ℕ
-  -- the entries of the line of the latest clock, and of the line before it
-  pub line : List ℕ
-  pub before : List ℕ
+  -- what is guessed
+  pub heads : HeadGuessValue
+  pub words : WordGuessValue
+  -- what the line of the latest clock has
+  pub head_marks : MarksValue
+  pub word_marks : MarksValue
   -- the lines that have ended
   pub text : List ℕ
 
@@ -60,8 +75,10 @@ abbrev pub log_of : System → List SlotClock → SlotLogValue
 log_of system clocks = record {
   system = system;
   expected = expected_addresses clocks;
-  line = line_of clocks;
-  before = line_of (before_line clocks);
+  heads = head_guess_of clocks;
+  words = word_guess_of clocks;
+  head_marks = head_marks clocks;
+  word_marks = word_marks clocks;
   text = log_text system clocks;
 }
 

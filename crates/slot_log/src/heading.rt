@@ -17,7 +17,7 @@ pub fn put_heading(
 ) -> Result<(), OutOfMemory>
     ensures { OnOk result (into.new.items ≡ into.old.items ++ heading system from to bytes) }
 {
-    into.extend_from_slice(b"ocs-slots 1 ")?;
+    into.extend_from_slice(b"ocs-slots 2 ")?;
     put_name(system, into)?;
     put_number(from, into)?;
     put_number(to, into)?;

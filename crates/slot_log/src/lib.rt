@@ -3,8 +3,9 @@
 
 mod entry;
 mod entry_bytes;
+mod guess;
 pub mod heading;
-mod line_text;
+mod marks;
 pub mod slot_log;
 
 pub use heading::put_heading;

@@ -81,7 +81,7 @@ fn calls_that_fail(rt: HostRuntime) -> Result<(), Fail> {
     assert_eq!(rt; status(alloc, order, &mut shelf)?, 6);
     assert_eq!(rt; shelf.said(), refused.as_bytes());
     let out = shelf.file("out").ok_or("it was created")?;
-    assert!(rt; out.len() > 262_144 && out.starts_with(b"ocs-slots 1 pal 0 1 524288\n"));
+    assert!(rt; out.len() > 262_144 && out.starts_with(b"ocs-slots 2 pal 0 1 524288\n"));
     Ok(())
 }
 

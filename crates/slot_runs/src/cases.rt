@@ -37,14 +37,17 @@ pub fn status(alloc: Global, text: &str, shelf: &mut Shelf) -> Result<u8, CaseFa
     Ok(slots_main(alloc, &words, shelf))
 }
 
-/// The bytes of a text: each of two hexadecimal digits, and `13*00` for one that stands so often.
+/// The bytes of a text: each of two hexadecimal digits, or two of four; and `98*e300` for what stands so often.
 pub fn bytes(alloc: Global, text: &str) -> Result<Vec<u8>, CaseFault> {
     let mut bytes = Vec::new(alloc);
     for item in text.split_whitespace() {
         let (count, digits) = item.split_once('*').unwrap_or(("1", item));
-        let byte = hex(digits.as_bytes()).ok_or("a byte is told")?;
+        let value = hex(digits.as_bytes()).ok_or("a byte is told")?;
         for _ in 0..dec(count.as_bytes()).ok_or("a count is told")? {
-            bytes.push((byte % 256) as u8)?;
+            if digits.len() == 4 {
+                bytes.push((value / 256 % 256) as u8)?;
+            }
+            bytes.push((value % 256) as u8)?;
         }
     }
     Ok(bytes)

@@ -6,28 +6,63 @@ use serial_model::{Ask, Half, PlaneAsk, ProcessorAsk, SideAsk, SpriteAsk};
 use slot_log::{SlotLog, put_heading};
 use std::alloc::Global;
 
-/// The first line of a frame with all kinds of entries: the mark of the frame, the number of clocks, and the
-/// entries of clocks 0 to 22. Those of clocks 23 to 226 are free slots, but for refresh at clock 225.
-const FIRST: [u8; 76] = [
-    1, 227, // the mark, the clocks
-    0, 1, // free, refresh
-    131, 0, 0x10, 0, // the Copper at 1000, where 0 was expected
-    1, 3, 1, // refresh, the Copper goes on, refresh
-    161, 2, 0, 0, // plane 1 at 20000
-    140, 0, 0x30, 0, 0x44, 0x89, // the disk
-    33, // plane 1 goes on
-    146, 4, 1, 0, // channel 2
-    168, 0, 0x50, 0, 48, // the control words of sprite 0
-    191, 0, 0x60, 0, 71, // two words of the image of sprite 7
-    132, 0, 0x70, 0, // a blit reads
-    133, 0, 0x78, 0, 0x12, 0x34, // and writes
-    2, // and rests
-    134, 0, 4, 0, // the processor reads 400
-    135, 0, 5, 0, 0xab, 0xcd, // and writes 500
-    8, 0, 0x5a, // and the high byte of 502
-    137, 0xff, 0xff, 0xfe, 0, 0xa5, // and its low byte, where 504 was expected
-    10, 0, 0x1e, 0, 0x60, // and reads INTREQR
-    11, 1, 0x80, 0xf, 0xff, // and writes COLOR00
+/// The first line of a frame with all kinds of entries, of a log that knows nothing yet. Each place of a head
+/// has a free slot at first, so that a free slot is guessed and nothing else. Refresh at clock 1 has place 0,
+/// that of a clock behind five free ones and below one, and the Copper at clock 2 has place 1. So at
+/// clock 28, behind the free ones from 23 on, and at 226, behind refresh at 225, no free slot is guessed.
+const FIRST: [u8; 111] = [
+    255, // the mark
+    1, 1, // one free, refresh
+    0, 131, 0, 0x10, 0, // the Copper at 1000, where 0 was expected
+    0, 1, 0, 3, 0, 1, // refresh, the Copper goes on, refresh
+    0, 161, 2, 0, 0, // plane 1 at 20000
+    0, 140, 0, 0x30, 0, // the disk
+    0, 33, // plane 1 goes on
+    0, 146, 4, 1, 0, // channel 2
+    0, 168, 0, 0x50, 0, 0, 48, // the control words of sprite 0
+    0, 191, 0, 0x60, 0, 0, 71, // two words of the image of sprite 7
+    0, 132, 0, 0x70, 0, // a blit reads
+    0, 133, 0, 0x78, 0, // and writes
+    0, 2, // and rests
+    0, 134, 0, 4, 0, // the processor reads 400
+    0, 135, 0, 5, 0, // and writes 500
+    0, 8, // and the high byte of 502
+    0, 137, 0xff, 0xff, 0xfe, // and its low byte, where 504 was expected
+    0, 10, // and reads INTREQR
+    0, 11, // and writes COLOR00
+    5, 0, 196, 1, 0, 0, 0, // clock 28, refresh at 225, clock 226, and none behind
+    0, 0x44, 0x89, // the words: what the disk writes
+    0, 0x12, 0x34, // and the blit
+    0, 0xab, 0xcd, 0, 0, 0x5a, 0, 0, 0xa5, // and the processor
+    0, 0, 0x1e, 0, 0x60, 0, 1, 0x80, 0xf, 0xff, // and of the registers
+    0, // and none behind
+];
+
+/// The line behind it, of free slots: refresh in it is not guessed, nor the free slot at clock 23, the first
+/// that has place 0 again, where refresh of clock 225 is known. Then twice a line that is all guessed.
+const FREE_LINES: [u8; 16] = [
+    1, 1, 1, 1, 1, 1, 17, 0, 201, 1, 1, 0, // no words
+    227, 0, 227, 0,
+];
+
+/// The first line once more, behind those: each stream is expected behind its last access. All but the
+/// clocks 0 and 1 is below other heads than before, up to clock 22. Of its words the first follows others.
+const AGAIN: [u8; 81] = [
+    255, // the mark
+    2, 131, 0xff, 0xff, 0xfc, // two guessed, the Copper at 1000, where 1004 was expected
+    0, 1, 0, 3, 0, 1, // refresh, the Copper goes on, refresh
+    0, 161, 0xff, 0xff, 0xfc, // plane 1
+    0, 140, 0xff, 0xff, 0xfe, // the disk
+    0, 33, // plane 1 goes on
+    0, 146, 0xff, 0xff, 0xfe, // channel 2
+    0, 168, 0xff, 0xff, 0xfc, 0, 48, // sprite 0
+    0, 191, 0xff, 0xff, 0xfc, 0, 71, // sprite 7
+    0, 132, 0xff, 0xff, 0xfe, // the blit
+    0, 133, 0xff, 0xff, 0xfe, 0, 2, //
+    0, 134, 0xff, 0xff, 0xfe, // the processor
+    0, 135, 0xff, 0xff, 0xfc, 0, 8, 0, 137, 0xff, 0xff, 0xfe, 0, 10, 0, 11, //
+    204, // the free slots behind, and refresh
+    0, 0x44, 0x89, 6, // the word of the disk, and six items that are guessed
 ];
 
 /// What the chips ask for at clocks 2 to 13 of that line.
@@ -162,29 +197,18 @@ fn text_of(alloc: Global, lines: &[u16]) -> Result<Vec<u8>, OutOfMemory> {
     Ok(Vec::from_slice(alloc, log.text())?)
 }
 
-/// These bytes and then the entries of free slots from clock `from` on, but for refresh at 225.
-fn with_rest(text: &mut Vec<u8>, first: &[u8], from: u16) -> Result<(), OutOfMemory> {
-    text.extend_from_slice(first)?;
-    for _ in from..225 {
-        text.push(0)?;
-    }
-    text.extend_from_slice(&[1, 0])?;
-    Ok(())
-}
-
-/// The text of the first line of a frame, of a line of free slots, and of one more, which is the same.
-fn three_lines(alloc: Global) -> Result<Vec<u8>, OutOfMemory> {
-    let mut text = Vec::new(alloc);
-    with_rest(&mut text, &FIRST, 23)?;
-    with_rest(&mut text, &[227, 0, 1, 0, 1, 0, 1], 6)?;
-    text.push(0)?;
+/// The text of the first line of a frame, of free lines, and of the first line of another.
+fn five_lines(alloc: Global) -> Result<Vec<u8>, OutOfMemory> {
+    let mut text = Vec::from_slice(alloc, &FIRST)?;
+    text.extend_from_slice(&FREE_LINES)?;
+    text.extend_from_slice(&AGAIN)?;
     Ok(text)
 }
 
 #[test]
-fn each_kind_of_entry_and_a_line_again(rt: HostRuntime) -> Result<(), OutOfMemory> {
-    let text = text_of(rt.alloc(), &[0, 1, 2])?;
-    let expected = three_lines(rt.alloc())?;
+fn each_kind_of_entry_and_lines_that_are_guessed(rt: HostRuntime) -> Result<(), OutOfMemory> {
+    let text = text_of(rt.alloc(), &[0, 1, 2, 3, 0])?;
+    let expected = five_lines(rt.alloc())?;
     assert_eq!(rt; text.as_slice(), expected.as_slice());
     Ok(())
 }
@@ -200,7 +224,7 @@ fn headings(alloc: Global) -> Result<Vec<u8>, OutOfMemory> {
 #[test]
 fn both_headings(rt: HostRuntime) -> Result<(), OutOfMemory> {
     let text = headings(rt.alloc())?;
-    let expected = b"ocs-slots 1 pal 3 10 524288\nocs-slots 1 ntsc 0 1 1048576\n";
+    let expected = b"ocs-slots 2 pal 3 10 524288\nocs-slots 2 ntsc 0 1 1048576\n";
     assert_eq!(rt; text.as_slice(), expected.as_slice());
     Ok(())
 }

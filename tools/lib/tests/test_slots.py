@@ -11,7 +11,7 @@ from blits import Blits
 from faults import BadFile
 from frames import NTSC
 from runs import TRACE, Tools, frame
-from slot_bytes import CHIP, FRAME, SAME, far, field, heading, line, memory, near
+from slot_bytes import CHIP, FRAME, entries_of, far, field, heading, line, memory, near
 from slots import CODES, OWNER_OF, OWNERS, SlotLine, SlotsFile
 from symbols import Profile, Symbols
 from trace import parse_line
@@ -52,11 +52,22 @@ class SlotsTest(Tools):
         self.assertEqual((second.addresses[8], second.words[8]), (0x102, 0xBEEF))
         self.assertEqual((second.addresses[9], second.words[9], second.addresses[30]), (0x106, 0x00BB, 0x104))
 
-    def test_lines_that_repeat(self) -> None:
-        """The same entries again are at the addresses behind."""
-        made = self.lines(FRAME, line({7: far(33, 0x200)}), line({7: near(33)}), SAME, SAME, *[line({})] + [SAME] * 308)
-        self.assertEqual([one.addresses[7] for one in made[:5]], [0x200, 0x202, 0x204, 0x206, -1])
+    def test_lines_that_are_guessed(self) -> None:
+        """The same heads again are at the addresses behind."""
+        first = bytes.fromhex("01 01 01 01 01 01 01 a1 00 02 00 05 00 d3 01 01 00")
+        second = bytes.fromhex("00 00 00 01 01 01 01 01 01 21 05 00 d3 01 01 00")
+        made = self.lines(FRAME, first, second, bytes.fromhex("07 21 db 00") + bytes.fromhex("e3 00") * 310)
+        self.assertEqual([one.addresses[7] for one in made[:5]], [0x200, 0x202, 0x204, 0x206, 0x208])
+        self.assertEqual([bytes(one.codes) for one in made[1:]], [bytes(made[0].codes)] * 312)
         self.assertEqual([(one.frame, one.line) for one in made][::312], [(0, 0), (0, 312)])
+
+    def test_words_that_are_guessed(self) -> None:
+        """Words are guessed by those before them and the code: the first 1 follows 0, the second 1, the third 1 as the second did."""
+        writes = {10: far(7, 0x300, 1), 12: near(7, 1), 14: near(7, 1), 16: near(7, 2)}
+        heads, words = line(writes)[:-13], bytes.fromhex("00 0001 00 0001 01 0002 00")
+        (made,) = self.lines(FRAME, heads, words, line({}) * 312)[:1]
+        self.assertEqual([made.words[clock] for clock in writes], [1, 1, 1, 2])
+        self.assertEqual(made.entries, b"".join(entries_of(writes)))
 
     def test_frames(self) -> None:
         """Fields are counted from the first frame on; an NTSC line that is odd has a clock more."""
@@ -74,13 +85,12 @@ class SlotsTest(Tools):
 
     def test_example_of_the_documents(self) -> None:
         """The bytes that docs/formats.md tells of."""
-        start = bytes.fromhex("01e300018300100001 0301".replace(" ", ""))
-        rest = bytes(219) + b"\x01\x00"
-        second = b"\xe3" + bytes([1 if clock in (1, 3, 5, 225) else 0 for clock in range(227)])
-        log = self.log(heading(), memory({0x1000: 0xFFFF, 0x1002: 0xFFFE}), start, rest, second, bytes(311))
+        first = bytes.fromhex("ff 01 01 00 83 00 10 00 00 01 00 03 00 01 05 00 d5 01 00 00 00 00")
+        second = bytes.fromhex("01 01 01 01 01 01 05 00 d5 01 01 00")
+        log = self.log(heading(), memory({0x1000: 0xFFFF, 0x1002: 0xFFFE}), first, second, bytes.fromhex("e3 00") * 311)
         lines = list(log.lines())
         self.assertEqual([(one.addresses[2], one.words[4]) for one in lines[:2]], [(0x1000, 0xFFFE), (-1, -1)])
-        self.assertEqual(len(lines), 313)
+        self.assertEqual([bytes(one.codes) for one in lines[1:]], [b"".join(entries_of({}))] * 312)
 
     def test_owners(self) -> None:
         counts = {name: sum(OWNERS[code.owner] == name for code in CODES.values()) for name in OWNERS}
@@ -92,10 +102,10 @@ class SlotsTest(Tools):
         head, held, whole = heading(), memory({}), field([])
         cases = {
             b"": "is empty",
-            b"ocs-slots 1 pal 0": "is cut short: 17 bytes, no more than a part of a heading",
+            b"ocs-slots 2 pal 0": "is cut short: 17 bytes, no more than a part of a heading",
             b"P6\n720 286\n255\n" + bytes(99): "is not a log of slots: it begins with 'P6\\n720 286\\n255",
             heading(3, 3) + held: "its frames 3 to 3 are none",
-            heading(chip=4096) + held: "is not a log of slots: it begins with 'ocs-slots 1 pal 0 1 '",
+            heading(chip=4096) + held: "is not a log of slots: it begins with 'ocs-slots 2 pal 0 1 '",
             head + held[:1000]: "is cut short: 1,000 of the 524,288 bytes of memory",
             head + held + whole[:100]: "is cut short in line 0 of frame 0",
             head + held + FRAME: "is cut short in line 0 of frame 0",
@@ -103,8 +113,9 @@ class SlotsTest(Tools):
             head + held + field([], 314): "what comes after line 312 of frame 0 is no line of it",
             head + held + whole + whole: "what comes after line -1 of frame 1 is no line of it",
             head + held + whole[1:]: "is no line of it",
-            head + held + FRAME + line({}, 228): "line 0 of frame 0 has 228 clocks",
-            head + held + FRAME + SAME: "line 0 of frame 0 has 0 clocks",
+            b"ocs-slots 1 pal 0 1 524288\n" + held: "is not a log of slots: it begins with 'ocs-slots 1 pal 0 1 '",
+            head + held + FRAME + b"\xe4\0": "line 0 of frame 0 has 1 more than 227 clocks",
+            head + held + FRAME + b"\xe3\2": "line 0 of frame 0 has 2 more than 0 writes",
             head + held + FRAME + line({9: b"\x0d"}): "the code 13 at clock 9 of line 0 of frame 0 is none",
             head + held + FRAME + line({9: b"\x81"}): "the code 129 at clock 9 of line 0 of frame 0 is none",
             head + held + FRAME + line({9: far(3, 0x101)}): "the address 101 at clock 9 of line 0 of frame 0 is none",
@@ -203,8 +214,8 @@ class SlotsPageTest(Tools):
         first, second = slots["frames"]["0"], slots["frames"]["1"]
         self.assertEqual(first["shares"], [71051 - 20 - 4 * 313, 4 * 313, 1, 1, 2, 4, 2, 4, 6])
         self.assertEqual(sum(second["shares"]), 71051)
-        entries = self.unpacked(first["entries"])
-        self.assertEqual(entries[: len(line(ENTRIES)) - 1], line(ENTRIES)[1:])
+        entries = b"".join(entries_of(ENTRIES))
+        self.assertEqual(self.unpacked(first["entries"])[: len(entries)], entries)
         self.assertEqual(struct.unpack("<11H", self.unpacked(first["read"])), (0x180, 0xF00, 0x8001, 0x4002, 0xA0A, 0xAA00, 0x5050, 1, 2, 3, 4))
         self.assertEqual((second["expected"][17], struct.unpack("<1H", self.unpacked(second["read"]))), (0x204, (0,)))
         self.assertEqual(second["state"]["words"]["110"], [0x4002, 0, 0, 9, 0x202])
@@ -239,13 +250,13 @@ class SlotsPageTest(Tools):
         self.write_log(3, 5)
         self.write_log(0, 1, "whole")
         whole = self.bytes_of("whole")
-        self.write("cut", whole[:-30])
+        self.write("cut", whole[: -30 * len(line({}))])
         self.write("ntsc", heading(system="ntsc") + memory({}))
         run = ("look", "run/frames", "run/trace", "--slots")
         cases = {
             "slots": "slots: has frames 3 to 4, and the page frames 0 to 0",
             "cut": "cut: is cut short after line 282 of frame 0",
-            "run/trace": "run/trace: is not a log of slots: it begins with '0 0 0 W 180 0f00 S\\n0', a log with 'ocs-slots 1 '",
+            "run/trace": "run/trace: is not a log of slots: it begins with '0 0 0 W 180 0f00 S\\n0', a log with 'ocs-slots 2 '",
             "ntsc": "ntsc: is of another machine than the frames: NTSC, and they of PAL",
             "none": "none: no such file or directory",
         }
