@@ -118,6 +118,18 @@ impl Fetcher {
         }
     }
 
+    /// For how many clocks of this line, from this one on and at most so many, no unit begins or runs, while
+    /// the registers stay. There may be more such clocks behind them.
+    pub fn rest(&self, beam: &Beam, regs: &Regs, most: u16) -> u16
+        ensures most { result ≤ most }
+        ensures begun { IsLastUnit self.now }
+        ensures none { (k : ℕ) → k < result
+            → begins_unit (later_beam k beam.now) regs.now self.now ≡ false }
+        ensures rest { (k : ℕ) → k < result → is_running (beam.now.h + k) self.now ≡ false }
+    {
+        before_unit(self.last, beam, regs, most)
+    }
+
     /// Where a unit runs at this clock, how many clocks there are, from this one on and at most so many, up
     /// to the end of the line's last unit by DDFSTOP; else none. Nothing hangs on it but how fast a run is.
     pub fn before_last_fetch(&self, beam: &Beam, regs: &Regs, most: u16) -> u16

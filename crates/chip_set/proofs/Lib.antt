@@ -10,3 +10,4 @@ mod WriteLaws
 mod LateLaws
 mod StartLaws
 pub mod FetchLaws
+pub mod BusLaws

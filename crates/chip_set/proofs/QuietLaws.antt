@@ -54,7 +54,7 @@ sprites_of b now c is reads =
     subst (λ (r : Registers). ReadsNothing b r c.kinds) (sym is.registers)
     (subst (λ (kinds : List SpriteKind). ReadsNothing b now.registers kinds) (sym is.kinds) reads)
 
-same_busy : (kept : Option Blit) (run : Option BlitUnderWay) → IsBlitOf kept run → is_some kept ≡ is_some run
+pub same_busy : (kept : Option Blit) (run : Option BlitUnderWay) → IsBlitOf kept run → is_some kept ≡ is_some run
 same_busy None None is = refl
 same_busy None (Some run) is = absurd is
 same_busy (Some blit) None is = absurd is
@@ -66,7 +66,7 @@ same_none None (Some run) is none = absurd is
 same_none (Some blit) None is none = refl
 same_none (Some blit) (Some run) is none = grind arith
 
-abbrev StillWith : Beam → Registers → Bool → CopperState → Type 0
+abbrev pub StillWith : Beam → Registers → Bool → CopperState → Type 0
 StillWith b registers busy copper =
     (((b.h % 2 == 0) && copper_dma registers) ≡ false)
     ⊎ ((is_stopped copper ≡ true) ⊎ ((copper.phase ≡ Waiting) × (comparison_holds b busy copper.first copper.second ≡ false)))
@@ -75,7 +75,7 @@ off_runs : (even dma : Bool) → dma ≡ false → (even && dma) ≡ false
 off_runs true dma off = off
 off_runs false dma off = refl
 
-still_with : (b : Beam) (registers : Registers) (busy : Bool) (copper : CopperState)
+pub still_with : (b : Beam) (registers : Registers) (busy : Bool) (copper : CopperState)
     → (copper_dma registers ≡ false) ⊎ DoesNothing b busy copper → StillWith b registers busy copper
 still_with b registers busy copper (inl off) = inl (off_runs (b.h % 2 == 0) (copper_dma registers) off)
 still_with b registers busy copper (inr (inl odd)) = inl (ap (λ even. even && copper_dma registers) odd)

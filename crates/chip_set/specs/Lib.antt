@@ -1,3 +1,4 @@
 pub mod AskLaws
 pub mod Chips
 pub mod Quiet
+pub mod BusCode

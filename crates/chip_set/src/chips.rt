@@ -1,7 +1,7 @@
 //! The chips between two colour clocks: the custom registers, the fetches of bitplanes and sprites,
 //! the Copper, the blitter, the interrupt words, the processor, the CIAs and the joysticks.
 
-ghost use Rattle.std.specs.Prelude.{◌≡◌, Some, is_some};
+ghost use Rattle.std.specs.Prelude.{◌≡◌, Some, None, is_some};
 ghost use Rattle.serial_model.specs.State.{Chips as ChipsOf};
 ghost use Rattle.serial_model.specs.Registers.{is_interlaced as interlaced, is_danger as danger, blitter_first, blitter_dma, copper_dma, dmacon_of, effect_of, word_at};
 ghost use Rattle.serial_model.specs.Bus.{copper_runs as runs, copper_wish as wish_of, copper_word as word_to_copper};
@@ -540,7 +540,7 @@ impl Chips {
 
     /// The processor asked and another has the slot, once more in a row; or it has the slot, or did not ask.
     #[inline(always)]
-    fn count_missed(&mut self, ask: &Ask)
+    pub(crate) fn count_missed(&mut self, ask: &Ask)
         ensures { self.new ≡ record self.old {
           missed = missed_after (wish_shown self.old.processor) ask.now self.old.missed;
         } }
@@ -583,9 +583,11 @@ impl Chips {
     /// The blit under way, or the processor, has the answer of this clock's access, where it is its own.
     #[inline(always)]
     #[tactic(auto, using(crate::proofs::BlitLaws::going_by))]
-    fn answer_owner(&mut self, ask: &Ask, word: u16)
+    pub(crate) fn answer_owner(&mut self, ask: &Ask, word: u16)
         requires { IsBlitAsk ask.now (kept_wish self.old) }
-        ensures { AnswersOwner ask.now word self.old self.new }
+        ensures owner { AnswersOwner ask.now word self.old self.new }
+        ensures kept { is_some self.new.blit ≡ is_some self.old.blit → self.new
+            ≡ record self.old { blit = self.new.blit; processor = self.new.processor } }
     {
         match ask {
             Ask::Blit { .. } => self.give_blit(word),
@@ -596,7 +598,8 @@ impl Chips {
 
     /// The processor has the answer of its slot.
     fn give_processor(&mut self, word: u16)
-        ensures { GivesProcessor word self.old self.new }
+        ensures gives { GivesProcessor word self.old self.new }
+        ensures kept { self.new ≡ record self.old { processor = self.new.processor } }
     {
         self.processor.give(word);
     }
@@ -621,7 +624,9 @@ impl Chips {
     /// The blit under way has the answer of its slot.
     fn give_blit(&mut self, word: u16)
         requires { IsGoing self.old.blit }
-        ensures { GivesBlit word self.old self.new }
+        ensures gives { GivesBlit word self.old self.new }
+        ensures kept { is_some self.new.blit ≡ is_some self.old.blit
+            → self.new ≡ record self.old { blit = self.new.blit } }
     {
         if let Some(blit) = self.blit.as_mut() {
             blit.give(word);
@@ -635,7 +640,9 @@ impl Chips {
     /// stands apart, so that a slot within a blit makes no room for it.
     #[inline(never)]
     fn end_blit(&mut self)
-        ensures { (c : ChipsOf) → IsChipsOf self.old c → IsChipsOf self.new (end_if_blit c.blit c) }
+        ensures ends { (c : ChipsOf) → IsChipsOf self.old c
+            → IsChipsOf self.new (end_if_blit c.blit c) }
+        ensures none { self.new.blit ≡ None }
     {
         if let Some(blit) = &self.blit {
             keep_blit(&mut self.registers, &blit.regs());
@@ -700,7 +707,7 @@ impl Chips {
 
 /// The word that answers an ask of the blitter: that which a read names, else 0.
 #[inline(always)]
-fn read_for_blit(ask: &SlotAsk, chip: &mut Chip) -> u16
+pub(crate) fn read_for_blit(ask: &SlotAsk, chip: &mut Chip) -> u16
     ensures word { result ≡ answer_blit ask.now chip.old.words }
     ensures reads { chip.new ≡ read_by (reads_of_blit ask.now) chip.old }
 {

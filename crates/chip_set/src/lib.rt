@@ -3,6 +3,7 @@
 
 mod asks;
 mod blit_registers;
+mod bus;
 mod chips;
 mod late;
 pub mod laws;

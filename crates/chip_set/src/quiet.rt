@@ -176,7 +176,7 @@ impl Chips {
     }
 
     /// For how many clocks of this line, from this one on and at most so many, the Copper has nothing to do.
-    fn copper_rest(&self, beam: &Beam, most: u16) -> u16
+    pub(crate) fn copper_rest(&self, beam: &Beam, most: u16) -> u16
         requires room { beam.now.h + most ≤ 226 }
         ensures most { result ≤ most }
         ensures idle { (k : ℕ) → k < result → IsCopperIdle (later_beam k beam.now) self.now }

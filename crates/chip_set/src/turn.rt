@@ -30,7 +30,13 @@ impl Chips {
     #[inline(always)]
     #[tactic(auto, unfolding(serial_model::specs::Cias::time_chips))]
     pub fn count_timers(&mut self, t: u64, bits: u16)
-        ensures { (c : ChipsOf) → IsChipsOf self.old c → IsChipsOf self.new (time_chips bits t c) }
+        ensures chips { (c : ChipsOf) → IsChipsOf self.old c
+            → IsChipsOf self.new (time_chips bits t c) }
+        ensures kept { self.new ≡ record self.old {
+          irq = self.new.irq;
+          cia_a = self.new.cia_a;
+          cia_b = self.new.cia_b;
+        } }
     {
         self.tick_timers(t);
         if bits != 0 || self.has_line() {
@@ -42,7 +48,9 @@ impl Chips {
     /// The timers tick at each fifth clock.
     #[inline(always)]
     fn tick_timers(&mut self, t: u64)
-        ensures { (c : ChipsOf) → IsChipsOf self.old c → IsChipsOf self.new (ticked t c) }
+        ensures chips { (c : ChipsOf) → IsChipsOf self.old c → IsChipsOf self.new (ticked t c) }
+        ensures kept { self.new
+            ≡ record self.old { cia_a = self.new.cia_a; cia_b = self.new.cia_b } }
     {
         if t % 5 == 0 {
             self.cia_a.tick();
@@ -71,6 +79,11 @@ impl Chips {
     pub fn process(&mut self) -> Option<u8>
         ensures chips { (c : ChipsOf) → IsChipsOf self.old c → IsChipsOf self.new (run_chips c) }
         ensures interrupt { (c : ChipsOf) → IsChipsOf self.old c → result ≡ interrupt_of c }
+        ensures kept { self.new ≡ record self.old {
+          processor = self.new.processor;
+          cia_a = self.new.cia_a;
+          cia_b = self.new.cia_b;
+        } }
     {
         match self.processor.turn() {
             Turn::Rests => None,
@@ -94,6 +107,7 @@ impl Chips {
             → IsChipsOf self.new (go_on_with word c) }
         ensures interrupt { (c : ChipsOf) → IsChipsOf self.old c → turn_of c.processor ≡ Goes word
             → result ≡ begins_with word c }
+        ensures kept { self.new ≡ record self.old { processor = self.new.processor } }
     {
         if self.processor.quiet(&self.irq) == 0 {
             return self.go_on(word);
@@ -107,6 +121,7 @@ impl Chips {
         ensures chips { (c : ChipsOf) → IsChipsOf self.old c
             → IsChipsOf self.new (go_on_with word c) }
         ensures interrupt { (c : ChipsOf) → IsChipsOf self.old c → result ≡ begins_with word c }
+        ensures kept { self.new ≡ record self.old { processor = self.new.processor } }
     {
         let level = self.irq.level();
         self.processor.go_on(word, level)
@@ -119,6 +134,8 @@ impl Chips {
             → IsChipsOf self.new (access_of_cia cia reg byte c) }
         ensures word { (c : ChipsOf) → IsChipsOf self.old c
             → result ≡ answer_of_cia cia reg byte c }
+        ensures kept { self.new
+            ≡ record self.old { cia_a = self.new.cia_a; cia_b = self.new.cia_b } }
     {
         match byte {
             Some(byte) => {
@@ -131,8 +148,10 @@ impl Chips {
 
     /// The processor writes a byte to a register of a CIA.
     fn write_cia(&mut self, cia: CiaName, reg: CiaRegister, byte: u8)
-        ensures { (c : ChipsOf) → IsChipsOf self.old c
+        ensures chips { (c : ChipsOf) → IsChipsOf self.old c
             → IsChipsOf self.new (access_of_cia cia reg (Some byte) c) }
+        ensures kept { self.new
+            ≡ record self.old { cia_a = self.new.cia_a; cia_b = self.new.cia_b } }
     {
         match cia {
             CiaName::A => self.cia_a.poke(reg.number, byte),
@@ -147,6 +166,8 @@ impl Chips {
             → IsChipsOf self.new (access_of_cia cia reg None c) }
         ensures word { (c : ChipsOf) → IsChipsOf self.old c
             → result ≡ answer_of_cia cia reg None c }
+        ensures kept { self.new
+            ≡ record self.old { cia_a = self.new.cia_a; cia_b = self.new.cia_b } }
     {
         let pins = pins(cia, reg, &self.inputs);
         match cia {

@@ -74,7 +74,7 @@ Answers ask clx made old chips =
     (side : SideAsk) (c : Chips) → IsInTime old.beam side → HasAsked old.beam c old.chips → ask ≡ ask_at side old.beam c →
     HasAccessed side old.beam clx c old.chip.words made chips
 
-accessed : (ask : Ask) (clx : ℕ) (made : Made) (old : MachineValue) (chips : WorkingChips) → Answers ask clx made old chips → (s : State)
+pub accessed : (ask : Ask) (clx : ℕ) (made : Made) (old : MachineValue) (chips : WorkingChips) → Answers ask clx made old chips → (s : State)
     → ask ≡ ask_of s → (is_clx_ask ask ≡ true → s.clx ≡ clx) → HasAskedOf old s
     → HasAccessed (side_wish s) s.beam s.clx s.chips s.memory made chips
 accessed ask clx made old chips answers s is read asked =

@@ -33,3 +33,4 @@ pub mod AskedLaws
 pub mod FetchLaws
 pub mod LineLaws
 pub mod SlotLaws
+pub mod BusLaws

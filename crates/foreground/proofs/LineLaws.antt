@@ -1,5 +1,5 @@
 -- Clocks of a line that are made one behind the other.
-use Rattle.std.proofs.Common.{◌≡◌, ◌≤◌, ◌<◌, ℕ, zero, suc, ◌+◌, ◌-◌, ◌==◌, Bool, false, if◌then◌else◌}
+use Rattle.std.proofs.Common.{◌≡◌, ◌≤◌, ◌<◌, ℕ, zero, suc, ◌+◌, ◌-◌, max, ◌==◌, Bool, false, if◌then◌else◌}
 use Rattle.std.proofs.Common.{List, [], drop, length, arith, refl, ap, subst, ◌∙◌, sym}
 use Rattle.std.proofs.lemmas.Bool.Decides.{nat_tests}
 use Rattle.ocs_base.specs.declared.beam.Beam.{Beam}
@@ -201,6 +201,24 @@ pub few_twice : (f0 f1 f2 : ForeValue) (limit : ℕ) → f1.run ≡ f0.run → f
     → RisesInSome limit f1.run f1.machine.t f1.machine.chip.reads f2.machine.chip.reads
     → RisesInSome limit f0.run f0.machine.t f0.machine.chip.reads f2.machine.chip.reads
 few_twice f0 f1 f2 limit run on low one some =
+    let m = f1.machine.t - f0.machine.t in
+    let n = some.clocks in
+    let back : f1.machine.t ≡ f0.machine.t + m = omega (arith, on) in
+    let there : Rises 0 (reads_from f0.run (f0.machine.t + m) n + looked_from f0.run (f0.machine.t + m) n) f1.machine.chip.reads f2.machine.chip.reads =
+    subst (λ c. Rises 0 (reads_from f0.run c n + looked_from f0.run c n) f1.machine.chip.reads f2.machine.chip.reads) back
+    (subst (λ (r : RunValue). Rises 0 (reads_from r f1.machine.t n + looked_from r f1.machine.t n) f1.machine.chip.reads f2.machine.chip.reads) run some.few) in
+    record {
+      clocks = m + n;
+      most = omega (arith, on, low, some.most);
+      few = few_then f0.run f0.machine.t m n f0.machine.chip.reads f1.machine.chip.reads f2.machine.chip.reads one there;
+    }
+
+-- what two calls make one behind the other, each up to the limit
+pub few_in_two : (f0 f1 f2 : ForeValue) (limit : ℕ) → f1.run ≡ f0.run → f0.machine.t ≤ f1.machine.t → f1.machine.t ≤ max f0.machine.t limit
+    → RisesIn f0.run f0.machine.t (f1.machine.t - f0.machine.t) f0.machine.chip.reads f1.machine.chip.reads
+    → RisesInSome limit f1.run f1.machine.t f1.machine.chip.reads f2.machine.chip.reads
+    → RisesInSome limit f0.run f0.machine.t f0.machine.chip.reads f2.machine.chip.reads
+few_in_two f0 f1 f2 limit run on low one some =
     let m = f1.machine.t - f0.machine.t in
     let n = some.clocks in
     let back : f1.machine.t ≡ f0.machine.t + m = omega (arith, on) in

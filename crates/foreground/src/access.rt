@@ -168,7 +168,7 @@ impl<S: Side> Fore<S> {
     /// The access of an owner that asks for this, whoever it is: out of line, for those that
     /// seldom come. The owners of most clocks stand apart: what follows is then that of the one owner.
     #[inline(never)]
-    fn access_by<Q: Raster<S>>(
+    pub(crate) fn access_by<Q: Raster<S>>(
         &mut self,
         ask: &Ask,
         raster: &mut Q,

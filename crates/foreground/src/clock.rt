@@ -5,6 +5,7 @@ ghost use Rattle.serial_model.specs.Beam.{IsOnScreen, next_place};
 ghost use Rattle.serial_model.specs.Events.{due_events, touches_of};
 ghost use Rattle.serial_bands.specs.Bands.{has_clx_read};
 ghost use Rattle.serial_bands.specs.BusReads.{bus_reads};
+ghost use Rattle.chip_set.specs.BusCode.{KeepsBus};
 ghost use Rattle.chip_set.specs.Chips.{CanAsk, IsBlitAsk, kept_wish, ask_or_late};
 ghost use Rattle.foreground.specs.Out.{GivesLines};
 ghost use Rattle.foreground.specs.Machine.{KeepsPlace};
@@ -187,6 +188,7 @@ impl<S: Side> Fore<S> {
             self.old.machine.beam)) }
         ensures run { (over S.seen self.new).run ≡ (over S.seen self.old).run }
         ensures chip { self.new.machine.chip ≡ self.old.machine.chip }
+        ensures bus { KeepsBus self.old.machine.chips self.new.machine.chips }
         ensures refused { OnErr result (out.new ≡ out.old) }
     {
         self.machine.process(out)?;

@@ -7,6 +7,7 @@ mod access;
 mod advance;
 mod band;
 mod begin;
+mod bus;
 mod checkpoint;
 mod clock;
 mod cuts;

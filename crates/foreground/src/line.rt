@@ -21,8 +21,37 @@ impl<S: Side> Fore<S> {
     /// The clocks of this line that come before the clock `limit`, before the next event of the script, and
     /// before quiet clocks are looked for again, as far as the open band goes on. All of it is what as many
     /// calls of `advance` give, a refusal too.
-    #[inline(never)]
+    #[inline(always)]
     pub(crate) fn run_in_line<Q: Raster<S>>(
+        &mut self,
+        limit: u64,
+        raster: &mut Q,
+        out: &mut OutFiles,
+    ) -> Result<(), OutOfMemory>
+        requires fits { CanGo (over S.seen self.old) (Q.seen raster.old) }
+        requires fresh { self.old.spent ≡ false }
+        ensures clocks { OnOk result (RunsOn (over S.seen self.old) (over S.seen self.new)
+            (Q.seen raster.old) (Q.seen raster.new) out.old out.new) }
+        ensures on { OnOk result (self.old.machine.t ≤ self.new.machine.t) }
+        ensures most { OnOk result (self.new.machine.t ≤ max self.old.machine.t limit) }
+        ensures run { (over S.seen self.new).run ≡ (over S.seen self.old).run }
+        ensures fresh { OnOk result (self.new.spent ≡ false) }
+        ensures reads { OnOk result (RisesIn (over S.seen self.old).run self.old.machine.t
+            (self.new.machine.t - self.old.machine.t)
+            self.old.machine.chip.reads self.new.machine.chip.reads) }
+        ensures spent { OnErr result (self.new.spent ≡ true) }
+        ensures part { OnErr result (GivesPart (over S.seen self.old)
+            (Q.seen raster.old) (Q.seen raster.new) out.old out.new) }
+        ensures few { OnErr result (RisesInSome limit (over S.seen self.old).run self.old.machine.t
+            self.old.machine.chip.reads self.new.machine.chip.reads) }
+    {
+        self.run_on_bus(limit, raster, out)?;
+        self.run_one_by_one(limit, raster, out)
+    }
+
+    /// The same, each with all that a clock may have.
+    #[inline(never)]
+    fn run_one_by_one<Q: Raster<S>>(
         &mut self,
         limit: u64,
         raster: &mut Q,
@@ -58,7 +87,7 @@ impl<S: Side> Fore<S> {
 
     /// How many they are, if the open band goes on with each; nothing hangs on it but how fast a run is.
     #[inline(always)]
-    fn clocks_in_line(&self, limit: u64) -> u16
+    pub(crate) fn clocks_in_line(&self, limit: u64) -> u16
         requires { (first : ℕ) × (seen : RasterValue) × IsUnderway
             (over S.seen self.now) first seen }
         ensures { 0 < result → AreInLine limit result (over S.seen self.now) }

@@ -13,6 +13,7 @@ ghost use Rattle.serial_model.specs.Bus.{answer_processor};
 ghost use Rattle.serial_model.specs.Tick.{ask_of, answer_of, run_processor, advance_beam};
 ghost use Rattle.chip_set.specs.AskLaws.{is_clx_ask, reads_clx};
 ghost use Rattle.chip_set.specs.Chips.{CanAsk, CanDo, IsBlitAsk, kept_wish, ask_or_late};
+ghost use Rattle.chip_set.specs.BusCode.{KeepsBus};
 ghost use Rattle.foreground.specs.Machine.{machine_over, IsMachineOf, IsReset, Makes, MakesQuietly, MakesEvent, MakesAccess};
 ghost use Rattle.foreground.specs.Machine.{HasAskedOf, StoresMade, StaysInPlace, KeepsPlace, reads_after};
 ghost use Rattle.foreground.specs.Slot.{register_word, word_of_processor};
@@ -225,7 +226,7 @@ impl<S: Side> Machine<S> {
     /// A side that asked for the slot has its word: a disk the one that it stores, and audio the
     /// one that it reads.
     #[inline(always)]
-    fn give_side(&mut self, ask: &Ask)
+    pub(crate) fn give_side(&mut self, ask: &Ask)
         ensures gives { GivesSide ask.now (machine_over S.seen self.old)
             (machine_over S.seen self.new) }
         ensures same { self.new ≡ record self.old {
@@ -249,7 +250,12 @@ impl<S: Side> Machine<S> {
 
     /// What an access makes is done, but for the picture's part of it.
     #[inline(always)]
-    fn carry_out(&mut self, made: &Made, clx: u16, out: &mut OutFiles) -> Result<(), OutOfMemory>
+    pub(crate) fn carry_out(
+        &mut self,
+        made: &Made,
+        clx: u16,
+        out: &mut OutFiles,
+    ) -> Result<(), OutOfMemory>
         requires { is_clx_read made.now ≡ false → self.old.chip.newest ≤ self.old.t }
         ensures does { OnOk result (Does made.now clx (machine_over S.seen self.old) out.old
             (machine_over S.seen self.new) out.new) }
@@ -371,6 +377,7 @@ impl<S: Side> Machine<S> {
         ensures step { OnOk result (Makes run_processor (machine_over S.seen self.old) out.old
             (machine_over S.seen self.new) out.new) }
         ensures same { self.new ≡ record self.old { chips = self.new.chips } }
+        ensures bus { KeepsBus self.old.chips self.new.chips }
         ensures refused { OnErr result (out.new ≡ out.old) }
     {
         if let Some(level) = self.chips.process() {
@@ -394,6 +401,7 @@ impl<S: Side> Machine<S> {
             ≡ next_place system (is_interlaced self.old.chips.registers) self.old.beam }
         ensures count { self.new.t ≡ self.old.t + 1 }
         ensures chip { self.new.chip ≡ self.old.chip }
+        ensures chips { self.new.chips ≡ self.old.chips }
     {
         beam::advance_in(&mut self.beam, self.chips.is_interlaced(), system);
         self.t += 1;

@@ -3,8 +3,8 @@ use Rattle.chip_set.specs.Chips.{WorkingChips, IsChipsOf}
 use Rattle.chip_set.proofs.BlitLaws.{blit_ends}
 use Rattle.chip_set.proofs.chips.Chips.end_blit.Goals as goal
 
-pub returns-in-Some : goal.returns-in-Some
-returns-in-Some c chips is =
+pub returns-in-Some-clause-ends : goal.returns-in-Some-clause-ends
+returns-in-Some-clause-ends c chips is =
     let old : WorkingChips = record {
       registers = c.self.inside.registers;
       last = c.self.inside.fetcher;

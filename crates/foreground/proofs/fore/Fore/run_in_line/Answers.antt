@@ -1,70 +1,40 @@
-use Rattle.std.proofs.Common.{◌<◌, arith, refl, ◌∙◌, ap, subst, sym}
+-- Those on the bus come first.
+use Rattle.std.proofs.Common.{◌≤◌, max, arith, ◌∙◌}
+use Rattle.std.proofs.lemmas.Result.{on_err_weaker, on_ok_weaker}
 use Rattle.foreground.specs.Fore.{over}
-use Rattle.foreground.specs.LineCode.{AreInLine}
-use Rattle.foreground.specs.RunTo.{RisesInSome}
-use Rattle.foreground.proofs.RunToLaws.{runs_none, runs_then, part_behind, can_go_on, no_reads, reads_then, few_behind}
-use Rattle.foreground.proofs.LineLaws.{in_line_next, first_due, open_view}
+use Rattle.foreground.proofs.RunToLaws.{part_behind}
+use Rattle.foreground.proofs.LineLaws.{can_go_then, reads_twice, few_in_two}
+use Rattle.foreground.proofs.MadeLaws.{on_ok_two}
+use Rattle.foreground.proofs.QuietRuns.{runs_more}
 use Rattle.foreground.proofs.fore.Fore.run_in_line.Goals as goal
 
-pub loop-left-init : goal.loop-left-init
-loop-left-init g c = record {
-  able = c.requires.fits;
-  runs = runs_none _ _ _;
-  run = refl;
-  on = omega arith;
-  most = omega arith;
-  reads = no_reads _ _ _;
-  fresh = c.requires.fresh;
-  line = c.clocks_in_line-left.ensures;
-}
-
-pub clock_in_line-requires : goal.clock_in_line-requires
-clock_in_line-requires g c =
-    let f = over g.S.Side.seen c.loop-left.self in
-    let some : 0 < c.loop-left.left = c.loop-left-test.true in
-    let are : AreInLine c.args.limit c.loop-left.left f = c.loop-left.invariant.line some in
-    record {
-      underway = c.loop-left.invariant.able c.loop-left.invariant.fresh;
-      running = are.running;
-      inner = are.inner;
-      last = omega (arith, are.line, some);
-      due = first_due c.args.limit c.loop-left.left f some are;
-      before = open_view _ c.loop-left.self c.self-in-loop-left.view_is c.if-self.true;
-    }
-
-pub loop-left-preserved : goal.loop-left-preserved
-loop-left-preserved g c =
+pub run_one_by_one-requires-clause-fits : goal.run_one_by_one-requires-clause-fits
+run_one_by_one-requires-clause-fits g c =
     let of = over g.S.Side.seen in
-    let f0 = of c.args.self.now in
-    let f = of c.loop-left.self in
-    let next = of c.clock_in_line.new.self in
-    let some : 0 < c.loop-left.left = c.loop-left-test.true in
-    let are : AreInLine c.args.limit c.loop-left.left f = c.loop-left.invariant.line some in
-    let one = c.in_default.ensures in
-    record {
-      able = can_go_on f next _ _ _ _ one.clock c.loop-left.invariant.fresh c.loop-left.invariant.able;
-      runs = runs_then f0 f next _ _ _ _ _ _ c.loop-left.invariant.runs one.clock c.loop-left.invariant.run one.count;
-      run = c.clock_in_line.ensures.run ∙ c.loop-left.invariant.run;
-      on = omega (arith, c.loop-left.invariant.on, one.count);
-      most = omega (arith, are.before, one.count, some);
-      reads = reads_then f0 f next _ c.loop-left.invariant.run c.loop-left.invariant.on c.loop-left.invariant.fresh c.loop-left.invariant.able
-          c.loop-left.invariant.reads one.reads one.count;
-      fresh = one.spent ∙ c.loop-left.invariant.fresh;
-      line = λ more. in_line_next c.args.limit c.loop-left.left f next some are c.clock_in_line.ensures.run one.count one.place;
-    }
+    can_go_then (of c.args.self.now) (of c.run_on_bus.new.self) _ _ _ _ c.in_ok-run_on_bus.ensures.clocks c.requires.fresh c.requires.fits
 
-pub returns-in-Err-clause-part : goal.returns-in-Err-clause-part
-returns-in-Err-clause-part g c =
+pub returns-clause-clocks : goal.returns-clause-clocks
+returns-clause-clocks g c =
     let of = over g.S.Side.seen in
-    part_behind (of c.args.self.now) (of c.loop-left.self) _ _ _ _ _ _ c.loop-left.invariant.runs c.in-Err.ensures.part c.loop-left.invariant.run
+    on_ok_weaker c.run_one_by_one.result (λ more. runs_more (of c.args.self.now) (of c.run_on_bus.new.self) (of c.run_one_by_one.new.self) _ _ _ _ _ _
+    c.in_ok-run_on_bus.ensures.clocks more c.run_on_bus.ensures.run) c.run_one_by_one.ensures.clocks
 
-pub returns-in-Err-clause-few : goal.returns-in-Err-clause-few
-returns-in-Err-clause-few g c =
+pub returns-clause-reads : goal.returns-clause-reads
+returns-clause-reads g c =
     let of = over g.S.Side.seen in
-    let some : 0 < c.loop-left.left = c.loop-left-test.true in
-    let are : AreInLine c.args.limit c.loop-left.left (of c.loop-left.self) = c.loop-left.invariant.line some in
-    let same = ap (λ f. f.machine.chip.reads) c.self-in-loop-left-2.view_is in
-    subst (λ reads. RisesInSome c.args.limit (of c.args.self.now).run c.args.self.now.machine.t c.args.self.now.machine.chip.reads reads) (sym same)
-    (few_behind (of c.args.self.now) (of c.loop-left.self) (of c.clock_in_line.new.self) _ c.args.limit c.loop-left.invariant.run
-    c.loop-left.invariant.on (omega (arith, are.before, some)) c.loop-left.invariant.fresh c.loop-left.invariant.able c.loop-left.invariant.reads
-    c.in-Err.ensures.few)
+    on_ok_two c.run_one_by_one.result (λ on more. reads_twice (of c.args.self.now) (of c.run_on_bus.new.self) (of c.run_one_by_one.new.self)
+    c.run_on_bus.ensures.run c.in_ok-run_on_bus.ensures.on on c.in_ok-run_on_bus.ensures.reads more)
+    c.run_one_by_one.ensures.on c.run_one_by_one.ensures.reads
+
+pub returns-clause-part : goal.returns-clause-part
+returns-clause-part g c =
+    let of = over g.S.Side.seen in
+    on_err_weaker c.run_one_by_one.result (λ part. part_behind (of c.args.self.now) (of c.run_on_bus.new.self) _ _ _ _ _ _
+    c.in_ok-run_on_bus.ensures.clocks part c.run_on_bus.ensures.run) c.run_one_by_one.ensures.part
+
+pub returns-clause-few : goal.returns-clause-few
+returns-clause-few g c =
+    let of = over g.S.Side.seen in
+    on_err_weaker c.run_one_by_one.result (λ few. few_in_two (of c.args.self.now) (of c.run_on_bus.new.self) (of c.run_one_by_one.new.self) c.args.limit
+    c.run_on_bus.ensures.run c.in_ok-run_on_bus.ensures.on c.in_ok-run_on_bus.ensures.most c.in_ok-run_on_bus.ensures.reads few)
+    c.run_one_by_one.ensures.few

@@ -2,7 +2,7 @@ use Rattle.std.proofs.Common.{◌≡◌, ◌≤◌, ◌<◌, ◌-◌, max, false
 use Rattle.foreground.specs.Fore.{over, CanGo}
 use Rattle.foreground.specs.LineCode.{AreInLine}
 use Rattle.foreground.specs.RunTo.{RunsOn, RisesIn}
-use Rattle.foreground.proofs.fore.Fore.run_in_line.Given as goal
+use Rattle.foreground.proofs.fore.Fore.run_one_by_one.Given as goal
 
 abbrev pub invariant-loop-left : goal.invariant-loop-left
 invariant-loop-left g l =

@@ -1,0 +1,62 @@
+-- Clocks that refresh, planes, sprites and the Copper leave to the blitter and the processor.
+use Rattle.std.specs.Prelude.{◌≡◌, ◌<◌, ℕ, Bool, true, false, is_some}
+use Rattle.ocs_base.specs.declared.beam.Beam.{Beam}
+use Rattle.quiet_clocks.specs.QuietClocks.{later_beam}
+use Rattle.serial_model.specs.Owner.{is_refresh}
+use Rattle.serial_model.specs.PlaneFetch.{begins_unit, is_running, IsLastUnit}
+use Rattle.serial_model.specs.declared.bus.Ask.{Ask}
+use Rattle.serial_model.specs.declared.bus.Ask.TheVariants as A
+use Rattle.serial_model.specs.declared.bus.Made.{Made}
+use Rattle.serial_model.specs.declared.bus.Made.TheVariants as M
+use Rattle.serial_model.specs.declared.bus.ProcessorAsk.{ProcessorAsk}
+use Rattle.serial_model.specs.declared.bus.ProcessorAsk.TheVariants as P
+use Rattle.sprite_dma.specs.Quiet.{ReadsNothing}
+use Rattle.chip_set.specs.Chips.{WorkingChips}
+use Rattle.chip_set.specs.Quiet.{IsCopperIdle}
+
+-- what the working chips tell of a clock, with the beam there, by which none of those needs its slot
+pub record LeavesBus (b : Beam) (now : WorkingChips) : Type 0 where
+  pub inner : 0 < b.h
+  pub refresh : is_refresh b.h ≡ false
+  pub unit : IsLastUnit now.last
+  pub begins : begins_unit b now.registers now.last ≡ false
+  pub runs : is_running b.h now.last ≡ false
+  pub sprites : ReadsNothing b now.registers now.kinds
+  pub copper : IsCopperIdle b now
+
+-- and of n clocks from there on
+abbrev pub LeaveBus : Beam → ℕ → WorkingChips → Type 0
+LeaveBus b n now = (k : ℕ) → k < n → LeavesBus (later_beam k b) now
+
+-- all that tells so stays
+pub record KeepsBus (old new : WorkingChips) : Type 0 where
+  pub registers : new.registers ≡ old.registers
+  pub last : new.last ≡ old.last
+  pub kinds : new.kinds ≡ old.kinds
+  pub copper : new.copper ≡ old.copper
+  pub busy : is_some new.blit ≡ is_some old.blit
+
+-- the blitter asks, or the processor for memory, or nobody
+abbrev pub reaches_memory : ProcessorAsk → Bool
+reaches_memory (P.Read at) = true
+reaches_memory (P.Write at half word) = true
+reaches_memory (P.ReadRegister reg) = false
+reaches_memory (P.WriteRegister reg word) = false
+
+abbrev pub is_bus_ask : Ask → Bool
+is_bus_ask A.Free = true
+is_bus_ask (A.Side ask) = false
+is_bus_ask (A.Plane ask) = false
+is_bus_ask (A.Sprite ask) = false
+is_bus_ask (A.Copper at) = false
+is_bus_ask (A.Blit ask) = true
+is_bus_ask (A.Processor ask) = reaches_memory ask
+
+-- which makes no more than that a word is stored
+abbrev pub is_bus_made : Made → Bool
+is_bus_made M.Nothing = true
+is_bus_made (M.Wrote reg word by) = false
+is_bus_made (M.Read reg by) = false
+is_bus_made (M.Stored at half word) = true
+is_bus_made (M.Plane plane at) = false
+is_bus_made (M.Sprite sprite second at) = false

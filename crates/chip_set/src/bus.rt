@@ -1,0 +1,111 @@
+//! Clocks that refresh, planes, sprites and the Copper leave to the blitter and the processor.
+
+ghost use Rattle.std.specs.Prelude.{◌≡◌, ◌≤◌, ◌<◌, ◌+◌, ◌&&◌, ℕ, true, false, is_some};
+ghost use Rattle.ocs_base.specs.declared.beam.Beam.{Beam as BeamOf};
+ghost use Rattle.serial_model.specs.Bus.{blit_owner_ask, processor_ask as processor_ask_of};
+ghost use Rattle.quiet_clocks.specs.PlainClock.{comes_first};
+ghost use Rattle.serial_model.specs.Side.{IsInTime};
+ghost use Rattle.serial_model.specs.State.{Chips as ChipsOf};
+ghost use Rattle.serial_model.specs.Bus.{ask_at};
+ghost use Rattle.serial_model.specs.declared.bus.SideAsk.{SideAsk};
+ghost use Rattle.cpu_bus.specs.Bus.{wish_shown};
+ghost use Rattle.chip_set.specs.Chips.{HasAsked, HasAccessed, CanDo, WorkingChips, plain_chips, IsAnswer, IsBlitAsk, kept_wish, late_ask as asked_late};
+ghost use Rattle.chip_set.specs.Chips.{reads_by_chips, read_by};
+ghost use Rattle.chip_set.specs.BusCode.{LeavesBus, LeaveBus, KeepsBus, is_bus_ask, is_bus_made};
+
+use crate::asks::made_by;
+use crate::chips::{Chips, read_for_blit};
+use mem_versions::Chip;
+use ocs_base::Beam;
+use serial_model::{Ask, CopperAct, Made, ProcessorAsk};
+
+impl Chips {
+    /// For how many clocks of this line, from this one on and at most so many, neither refresh nor planes,
+    /// sprites and the Copper need the slot, while registers and Copper stay and no blit begins or ends.
+    /// Nothing hangs on the answer but how fast a run is.
+    pub fn bus_clocks(&self, beam: &Beam, most: u16) -> u16
+        requires inner { 0 < beam.now.h }
+        requires room { beam.now.h + most ≤ 226 }
+        ensures most { result ≤ most }
+        ensures leave { 0 < result → LeaveBus beam.now result self.now }
+    {
+        if beam.h < 6 || 225 <= beam.h {
+            return 0;
+        }
+        let copper = self.copper_rest(beam, most.min(225 - beam.h));
+        if copper == 0 {
+            return 0;
+        }
+        let planes = self.fetcher.rest(beam, &self.registers, copper);
+        if planes == 0 {
+            return 0;
+        }
+        self.sprites.quiet(beam, &self.registers, planes)
+    }
+
+    /// Whether a blit is under way.
+    #[inline(always)]
+    pub fn is_blitting(&self) -> bool
+        ensures { result ≡ is_some self.now.blit }
+    {
+        self.blit.is_some()
+    }
+
+    /// Whether the blitter has the slot of such a clock; else the processor has it if it asks.
+    #[inline(always)]
+    pub fn has_blitter_turn(&self) -> bool
+        ensures blitter { result ≡ true → (b : BeamOf) → LeavesBus b self.now
+            → asked_late b self.now ≡ blit_owner_ask (kept_wish self.now) }
+        ensures processor { result ≡ false → (b : BeamOf) → LeavesBus b self.now
+            → asked_late b self.now ≡ processor_ask_of (wish_shown self.now.processor) }
+    {
+        self.has_blitter_wish() && !self.is_processor_first()
+    }
+
+    /// Whether the processor comes before the blitter.
+    #[inline(always)]
+    fn is_processor_first(&self) -> bool
+        ensures { result ≡ (comes_first (plain_chips self.now)
+            && is_some (wish_shown self.now.processor)) }
+    {
+        !self.is_nasty() && self.missed >= 3 && self.processor.wish().is_some()
+    }
+
+    /// As `answer`, at such a clock, where the owner of the slot is the blitter, the processor with an
+    /// access to memory, or nobody: the Copper has no step.
+    #[inline(always)]
+    pub fn answer_on_bus(&mut self, ask: &Ask, beam: &Beam, chip: &mut Chip) -> Made
+        requires leaves { LeavesBus beam.now self.old }
+        requires bus { is_bus_ask ask.now ≡ true }
+        requires wish { IsBlitAsk ask.now (kept_wish self.old) }
+        ensures access { (clx : ℕ) (side : SideAsk) (c : ChipsOf) → IsInTime beam.now side
+            → HasAsked beam.now c self.old → ask.now ≡ ask_at side beam.now c
+            → HasAccessed side beam.now clx c chip.old.words result self.new }
+        ensures able { CanDo result }
+        ensures made { is_bus_made result ≡ true }
+        ensures reads { chip.new ≡ read_by (reads_by_chips ask.now) chip.old }
+        ensures kept { is_some self.new.blit ≡ is_some self.old.blit → KeepsBus self.old self.new }
+    {
+        let word = read_on_bus(ask, chip);
+        self.count_missed(ask);
+        self.answer_owner(ask, word);
+        made_by(ask, word, &CopperAct::None)
+    }
+}
+
+/// The word that answers the ask of such an owner.
+#[inline(always)]
+fn read_on_bus(ask: &Ask, chip: &mut Chip) -> u16
+    requires { is_bus_ask ask.now ≡ true }
+    ensures word { (b : BeamOf) (clx : ℕ) (now : WorkingChips)
+        → IsAnswer ask.now b clx now chip.old.words result }
+    ensures reads { chip.new ≡ read_by (reads_by_chips ask.now) chip.old }
+{
+    match ask {
+        Ask::Blit { ask } => read_for_blit(ask, chip),
+        Ask::Processor {
+            ask: ProcessorAsk::Read { at },
+        } => chip.read(*at),
+        _ => 0,
+    }
+}

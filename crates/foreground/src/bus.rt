@@ -1,0 +1,311 @@
+//! Clocks of a line that refresh, planes, sprites and the Copper leave to the blitter and the processor, made
+//! one behind the other.
+
+ghost use Rattle.std.specs.Prelude.{◌≡◌, ◌≤◌, ◌<◌, ◌+◌, ◌-◌, ◌^◌, max, ℕ, true, false, [], is_some, IfOk, OnOk, OnErr};
+ghost use Rattle.serial_model.specs.Events.{due_events};
+ghost use Rattle.serial_model.specs.Side.{no_side};
+ghost use Rattle.serial_model.specs.State.{State};
+ghost use Rattle.serial_model.specs.Bus.{blit_owner_ask};
+ghost use Rattle.serial_model.specs.Tick.{ask_of};
+ghost use Rattle.serial_model.specs.declared.bus.Ask.TheVariants as A;
+ghost use Rattle.serial_bands.specs.BusReads.{bus_reads, reads_of_ask};
+ghost use Rattle.quiet_clocks.specs.QuietClocks.{later_beam};
+ghost use Rattle.band_log.specs.Raster.{RasterValue};
+ghost use Rattle.chip_set.specs.BusCode.{LeavesBus, LeaveBus, KeepsBus, is_bus_ask};
+ghost use Rattle.chip_set.specs.Chips.{CanAsk, CanDo, IsBlitAsk, kept_wish, late_ask};
+ghost use Rattle.foreground.specs.AccessCode.{CanAccess, MakesAccessWith};
+ghost use Rattle.foreground.specs.Clock.{Rises};
+ghost use Rattle.foreground.specs.Machine.{machine_over, IsSamePlace, MakesAccess, HasAskedOf, StoresMade, StaysInPlace, reads_after};
+ghost use Rattle.foreground.specs.MachineStepsCode.{AsksInTime};
+ghost use Rattle.foreground.specs.Fore.{over, CanGo, IsUnderway, Advances, GivesPart, is_done, looked_up};
+ghost use Rattle.foreground.specs.LineCode.{AreInLine};
+ghost use Rattle.foreground.specs.RunTo.{RunsOn, RisesIn, RisesInSome};
+ghost use Rattle.foreground.specs.Steps.{MakesAskedAccess, AccessesPart, KeepsClock, reads_more};
+
+use crate::fore::Fore;
+use crate::machine::Machine;
+use crate::touches::touch_of;
+use band_log::Raster;
+use ocs_base::OutOfMemory;
+use out_files::OutFiles;
+use serial_model::{Ask, Made, ProcessorAsk, Side};
+
+impl<S: Side> Machine<S> {
+    /// Third step of such a clock, without a side: the timers tick. `has_blitter_turn` then tells who has the
+    /// slot, and `answer_on_bus` is to be called next.
+    #[inline(always)]
+    pub fn ask_on_bus(&mut self)
+        requires side { S.seen self.old.side ≡ no_side }
+        requires leaves { LeavesBus self.old.beam self.old.chips }
+        ensures asks { AsksInTime (late_ask self.new.beam self.new.chips)
+            (machine_over S.seen self.old) (machine_over S.seen self.new) }
+        ensures able { CanAsk (late_ask self.new.beam self.new.chips) }
+        ensures wish { IsBlitAsk (late_ask self.new.beam self.new.chips)
+            (kept_wish self.new.chips) }
+        ensures kept { KeepsBus self.old.chips self.new.chips }
+        ensures same { self.new ≡ record self.old { chips = self.new.chips } }
+    {
+        self.chips.count_timers(self.t, 0);
+    }
+
+    /// As `answer`, at such a clock, where the owner of the slot is the blitter, the processor with an
+    /// access to memory, or nobody. The trace gets no line.
+    #[inline(always)]
+    pub fn answer_on_bus(&mut self, ask: &Ask, out: &mut OutFiles) -> Result<Made, OutOfMemory>
+        requires leaves { LeavesBus self.old.beam self.old.chips }
+        requires bus { is_bus_ask ask.now ≡ true }
+        requires wish { IsBlitAsk ask.now (kept_wish self.old.chips) }
+        requires time { self.old.chip.newest ≤ self.old.t }
+        requires asked { (s : State) × (ask.now ≡ ask_of s) × HasAskedOf
+            (machine_over S.seen self.old) s }
+        ensures access { IfOk result (λ made.
+            MakesAccess ask.now 0 made (machine_over S.seen self.old) out.old
+            (machine_over S.seen self.new) out.new) }
+        ensures able { IfOk result CanDo }
+        ensures memory { IfOk result (λ made.
+            StoresMade self.old.t ask.now made self.old.chip self.new.chip) }
+        ensures reads { self.new.chip.reads ≡ reads_after ask.now self.old.chip.reads }
+        ensures place { StaysInPlace (machine_over S.seen self.old) (machine_over S.seen self.new) }
+        ensures refused { OnErr result (out.new ≡ out.old) }
+        ensures bus { OnOk result (is_some self.new.chips.blit ≡ is_some self.old.chips.blit
+            → KeepsBus self.old.chips self.new.chips) }
+    {
+        self.give_side(ask);
+        let made = self.chips.answer_on_bus(ask, &self.beam, &mut self.chip);
+        self.carry_out(&made, 0, out)?;
+        Ok(made)
+    }
+}
+
+impl<S: Side> Fore<S> {
+    /// The clocks of this line that come before the clock `limit`, before the next event of the script and
+    /// before quiet clocks are looked for again, as far as nobody but the blitter and the processor is known
+    /// to need the bus in them, up to an access of the processor to a register and to the end of a blit. All
+    /// of it is what as many calls of `advance` give, a refusal too.
+    #[inline(never)]
+    pub(crate) fn run_on_bus<Q: Raster<S>>(
+        &mut self,
+        limit: u64,
+        raster: &mut Q,
+        out: &mut OutFiles,
+    ) -> Result<(), OutOfMemory>
+        requires fits { CanGo (over S.seen self.old) (Q.seen raster.old) }
+        requires fresh { self.old.spent ≡ false }
+        ensures clocks { OnOk result (RunsOn (over S.seen self.old) (over S.seen self.new)
+            (Q.seen raster.old) (Q.seen raster.new) out.old out.new) }
+        ensures on { OnOk result (self.old.machine.t ≤ self.new.machine.t) }
+        ensures most { OnOk result (self.new.machine.t ≤ max self.old.machine.t limit) }
+        ensures run { (over S.seen self.new).run ≡ (over S.seen self.old).run }
+        ensures fresh { OnOk result (self.new.spent ≡ false) }
+        ensures reads { OnOk result (RisesIn (over S.seen self.old).run self.old.machine.t
+            (self.new.machine.t - self.old.machine.t)
+            self.old.machine.chip.reads self.new.machine.chip.reads) }
+        ensures spent { OnErr result (self.new.spent ≡ true) }
+        ensures part { OnErr result (GivesPart (over S.seen self.old)
+            (Q.seen raster.old) (Q.seen raster.new) out.old out.new) }
+        ensures few { OnErr result (RisesInSome limit (over S.seen self.old).run self.old.machine.t
+            self.old.machine.chip.reads self.new.machine.chip.reads) }
+    {
+        let mut left = self.bus_clocks(limit);
+        while left > 0 && self.log.band.from < self.machine.t && self.machine.side.is_nothing() {
+            match self.clock_on_bus(raster, out) {
+                Ok(on) => left = if on { left - 1 } else { 0 },
+                Err(refused) => {
+                    self.spent = true;
+                    return Err(refused);
+                }
+            }
+        }
+        Ok(())
+    }
+
+    /// How many they are, as far as that is known at their begin; nothing hangs on it but how fast a run is.
+    #[inline(always)]
+    fn bus_clocks(&self, limit: u64) -> u16
+        requires { (first : ℕ) × (seen : RasterValue) × IsUnderway
+            (over S.seen self.now) first seen }
+        ensures line { 0 < result → AreInLine limit result (over S.seen self.now) }
+        ensures leave { 0 < result → LeaveBus self.now.machine.beam result self.now.machine.chips }
+    {
+        let most = self.clocks_in_line(limit);
+        if most < 2 {
+            return 0;
+        }
+        self.machine.chips.bus_clocks(&self.machine.beam, most)
+    }
+
+    /// One of them. The answer says whether the bus is known to be left in further clocks. That memory was
+    /// wanted is the caller's to note.
+    #[inline(always)]
+    fn clock_on_bus<Q: Raster<S>>(
+        &mut self,
+        raster: &mut Q,
+        out: &mut OutFiles,
+    ) -> Result<bool, OutOfMemory>
+        requires underway { (first : ℕ) × IsUnderway (over S.seen self.old) first
+            (Q.seen raster.old) }
+        requires running { is_done (over S.seen self.old) ≡ false }
+        requires inner { 0 < self.old.machine.beam.h }
+        requires last { self.old.machine.beam.h < 226 }
+        requires due { due_events self.old.machine.beam self.old.run.script.events ≡ [] }
+        requires before { self.old.log.band.from < self.old.machine.t }
+        requires side { S.seen self.old.machine.side ≡ no_side }
+        requires leaves { LeavesBus self.old.machine.beam self.old.machine.chips }
+        ensures clock { OnOk result (Advances (over S.seen self.old) (over S.seen self.new)
+            (Q.seen raster.old) (Q.seen raster.new) out.old out.new) }
+        ensures place { OnOk result (IsSamePlace (later_beam 1 self.old.machine.beam)
+            self.new.machine.beam) }
+        ensures part { OnErr result (GivesPart (over S.seen self.old)
+            (Q.seen raster.old) (Q.seen raster.new) out.old out.new) }
+        ensures count { OnOk result (self.new.machine.t ≡ self.old.machine.t + 1) }
+        ensures run { (over S.seen self.new).run ≡ (over S.seen self.old).run }
+        ensures spent { OnOk result (self.new.spent ≡ self.old.spent) }
+        ensures reads { OnOk result (Rises (bus_reads (over S.seen self.old).run self.old.machine.t)
+            (bus_reads (over S.seen self.old).run self.old.machine.t + looked_up
+            (over S.seen self.old))
+            self.old.machine.chip.reads self.new.machine.chip.reads) }
+        ensures few { OnErr result (Rises 0
+            (bus_reads (over S.seen self.old).run self.old.machine.t + looked_up
+            (over S.seen self.old))
+            self.old.machine.chip.reads self.new.machine.chip.reads) }
+        ensures bus { IfOk result (λ on. on ≡ true
+            → KeepsBus self.old.machine.chips self.new.machine.chips) }
+    {
+        self.go_on()?;
+        self.ask_on_bus();
+        let on = self.access_on_bus(raster, out)?;
+        self.end_clock(out)?;
+        Ok(on)
+    }
+
+    /// The third and the fourth step of it, and the ask of the slot's owner.
+    #[inline(always)]
+    fn ask_on_bus(&mut self)
+        requires side { S.seen self.old.machine.side ≡ no_side }
+        requires leaves { LeavesBus self.old.machine.beam self.old.machine.chips }
+        ensures asks { AsksInTime (late_ask self.new.machine.beam self.new.machine.chips)
+            (over S.seen self.old).machine (over S.seen self.new).machine }
+        ensures able { CanAsk (late_ask self.new.machine.beam self.new.machine.chips) }
+        ensures wish { IsBlitAsk (late_ask self.new.machine.beam self.new.machine.chips)
+            (kept_wish self.new.machine.chips) }
+        ensures bus { KeepsBus self.old.machine.chips self.new.machine.chips }
+        ensures beam { self.new.machine.beam ≡ self.old.machine.beam }
+        ensures same { self.new ≡ record self.old { machine = self.new.machine } }
+        ensures chip { self.new.machine.chip ≡ self.old.machine.chip }
+    {
+        self.machine.ask_on_bus();
+    }
+
+    /// The fifth. The answer says whether the bus is known to be left in further clocks.
+    #[inline(always)]
+    fn access_on_bus<Q: Raster<S>>(
+        &mut self,
+        raster: &mut Q,
+        out: &mut OutFiles,
+    ) -> Result<bool, OutOfMemory>
+        requires can { CanAccess (late_ask self.old.machine.beam self.old.machine.chips)
+            (over S.seen self.old) (Q.seen raster.old) }
+        requires room { self.old.machine.t + 1 < 2 ^ 64 }
+        requires leaves { LeavesBus self.old.machine.beam self.old.machine.chips }
+        ensures access { MakesAccessWith (late_ask self.old.machine.beam self.old.machine.chips)
+            (over S.seen self.old) (over S.seen self.new)
+            (Q.seen raster.old) (Q.seen raster.new) out.old out.new result }
+        ensures bus { IfOk result (λ on. on ≡ true
+            → KeepsBus self.old.machine.chips self.new.machine.chips) }
+    {
+        if self.machine.chips.has_blitter_turn() {
+            return self.blit_on_bus(raster, out);
+        }
+        match self.machine.chips.processor_wish() {
+            Some(ask) => self.process_on_bus(ask, raster, out),
+            None => self.serve_on_bus(&Ask::Free, out),
+        }
+    }
+
+    /// That of the blitter.
+    #[inline(always)]
+    fn blit_on_bus<Q: Raster<S>>(
+        &mut self,
+        raster: &mut Q,
+        out: &mut OutFiles,
+    ) -> Result<bool, OutOfMemory>
+        requires can { CanAccess (blit_owner_ask (kept_wish self.old.machine.chips))
+            (over S.seen self.old) (Q.seen raster.old) }
+        requires room { self.old.machine.t + 1 < 2 ^ 64 }
+        requires leaves { LeavesBus self.old.machine.beam self.old.machine.chips }
+        ensures access { MakesAccessWith (blit_owner_ask (kept_wish self.old.machine.chips))
+            (over S.seen self.old) (over S.seen self.new)
+            (Q.seen raster.old) (Q.seen raster.new) out.old out.new result }
+        ensures bus { IfOk result (λ on. on ≡ true
+            → KeepsBus self.old.machine.chips self.new.machine.chips) }
+    {
+        match self.machine.chips.blit_ask() {
+            Ask::Blit { ask } => self.serve_on_bus(&Ask::Blit { ask }, out),
+            other => {
+                self.access_by(&other, raster, out)?;
+                Ok(false)
+            }
+        }
+    }
+
+    /// That of the processor.
+    #[inline(always)]
+    fn process_on_bus<Q: Raster<S>>(
+        &mut self,
+        ask: ProcessorAsk,
+        raster: &mut Q,
+        out: &mut OutFiles,
+    ) -> Result<bool, OutOfMemory>
+        requires can { CanAccess (A.Processor ask) (over S.seen self.old) (Q.seen raster.old) }
+        requires room { self.old.machine.t + 1 < 2 ^ 64 }
+        requires leaves { LeavesBus self.old.machine.beam self.old.machine.chips }
+        ensures access { MakesAccessWith (A.Processor ask)
+            (over S.seen self.old) (over S.seen self.new)
+            (Q.seen raster.old) (Q.seen raster.new) out.old out.new result }
+        ensures bus { IfOk result (λ on. on ≡ true
+            → KeepsBus self.old.machine.chips self.new.machine.chips) }
+    {
+        match ask {
+            ProcessorAsk::Read { at } => self.serve_on_bus(
+                &Ask::Processor {
+                    ask: ProcessorAsk::Read { at },
+                },
+                out,
+            ),
+            ProcessorAsk::Write { at, half, word } => self.serve_on_bus(
+                &Ask::Processor {
+                    ask: ProcessorAsk::Write { at, half, word },
+                },
+                out,
+            ),
+            other => {
+                self.access_by(&Ask::Processor { ask: other }, raster, out)?;
+                Ok(false)
+            }
+        }
+    }
+
+    /// The access of the blitter, of the processor to memory, or of nobody.
+    #[inline(always)]
+    fn serve_on_bus(&mut self, ask: &Ask, out: &mut OutFiles) -> Result<bool, OutOfMemory>
+        requires can { (seen : RasterValue) × CanAccess ask.now (over S.seen self.old) seen }
+        requires bus { is_bus_ask ask.now ≡ true }
+        requires room { self.old.machine.t + 1 < 2 ^ 64 }
+        requires leaves { LeavesBus self.old.machine.beam self.old.machine.chips }
+        ensures makes { OnOk result ((seen : RasterValue) → MakesAskedAccess
+            (over S.seen self.old) (over S.seen self.new) seen seen out.old out.new) }
+        ensures part { OnErr result ((seen : RasterValue) → AccessesPart
+            (over S.seen self.old) seen seen out.old out.new) }
+        ensures kept { KeepsClock (over S.seen self.old) (over S.seen self.new) }
+        ensures reads { self.new.machine.chip.reads ≡ reads_more
+            (reads_of_ask ask.now) self.old.machine.chip.reads }
+        ensures bus { IfOk result (λ on. on ≡ true
+            → KeepsBus self.old.machine.chips self.new.machine.chips) }
+    {
+        let busy = self.machine.chips.is_blitting();
+        let made = self.machine.answer_on_bus(ask, out)?;
+        let t = self.machine.t;
+        self.log.note_access(t, &touch_of(&made))?;
+        Ok(self.machine.chips.is_blitting() == busy)
+    }
+}
