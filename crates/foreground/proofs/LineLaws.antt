@@ -231,6 +231,11 @@ few_in_two f0 f1 f2 limit run on low one some =
       few = few_then f0.run f0.machine.t m n f0.machine.chip.reads f1.machine.chip.reads f2.machine.chip.reads one there;
     }
 
+-- and where no clock was made
+pub nothing_made : {S : Type 0} (f0 f1 f2 : ForeOf S) → f0.machine.t ≤ f1.machine.t → f1.machine.t ≤ f2.machine.t
+    → (f1.machine.t ≡ f0.machine.t → f1 ≡ f0) → (f2.machine.t ≡ f1.machine.t → f2 ≡ f1) → f2.machine.t ≤ f0.machine.t → f2 ≡ f0
+nothing_made f0 f1 f2 on more first second none = second (omega (arith, on, more, none)) ∙ first (omega (arith, on, more, none))
+
 -- what the loop's test says
 pub open_view : {S : Type 0} (f g : ForeOf S) → f ≡ g → f.log.band.from < f.machine.t → g.log.band.from < g.machine.t
 open_view f g view before = subst (λ (x : ForeOf _). x.log.band.from < x.machine.t) view before

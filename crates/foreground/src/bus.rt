@@ -100,6 +100,8 @@ impl<S: Side> Fore<S> {
         ensures reads { OnOk result (RisesIn (over S.seen self.old).run self.old.machine.t
             (self.new.machine.t - self.old.machine.t)
             self.old.machine.chip.reads self.new.machine.chip.reads) }
+        ensures still { OnOk result (self.new.machine.t ≡ self.old.machine.t
+            → self.new ≡ self.old) }
         ensures spent { OnErr result (self.new.spent ≡ true) }
         ensures part { OnErr result (GivesPart (over S.seen self.old)
             (Q.seen raster.old) (Q.seen raster.new) out.old out.new) }

@@ -1,6 +1,6 @@
 //! Clocks of a line that need no look around, made one behind the other.
 
-ghost use Rattle.std.specs.Prelude.{◌≡◌, ◌≤◌, ◌<◌, ◌+◌, ◌-◌, max, ℕ, false, true, [], OnOk, OnErr};
+ghost use Rattle.std.specs.Prelude.{◌≡◌, ◌≤◌, ◌<◌, ◌+◌, ◌-◌, max, ℕ, false, true, [], IfOk, OnOk, OnErr};
 ghost use Rattle.serial_model.specs.Events.{due_events};
 ghost use Rattle.serial_bands.specs.BusReads.{bus_reads};
 ghost use Rattle.quiet_clocks.specs.QuietClocks.{later_beam};
@@ -20,14 +20,14 @@ use serial_model::Side;
 impl<S: Side> Fore<S> {
     /// The clocks of this line that come before the clock `limit`, before the next event of the script, and
     /// before quiet clocks are looked for again, as far as the open band goes on. All of it is what as many
-    /// calls of `advance` give, a refusal too.
+    /// calls of `advance` give, a refusal too. The answer says whether there were any.
     #[inline(always)]
     pub(crate) fn run_in_line<Q: Raster<S>>(
         &mut self,
         limit: u64,
         raster: &mut Q,
         out: &mut OutFiles,
-    ) -> Result<(), OutOfMemory>
+    ) -> Result<bool, OutOfMemory>
         requires fits { CanGo (over S.seen self.old) (Q.seen raster.old) }
         requires fresh { self.old.spent ≡ false }
         ensures clocks { OnOk result (RunsOn (over S.seen self.old) (over S.seen self.new)
@@ -39,14 +39,18 @@ impl<S: Side> Fore<S> {
         ensures reads { OnOk result (RisesIn (over S.seen self.old).run self.old.machine.t
             (self.new.machine.t - self.old.machine.t)
             self.old.machine.chip.reads self.new.machine.chip.reads) }
+        ensures some { IfOk result (λ some. some ≡ true → self.old.machine.t < self.new.machine.t) }
+        ensures none { IfOk result (λ some. some ≡ false → self.new ≡ self.old) }
         ensures spent { OnErr result (self.new.spent ≡ true) }
         ensures part { OnErr result (GivesPart (over S.seen self.old)
             (Q.seen raster.old) (Q.seen raster.new) out.old out.new) }
         ensures few { OnErr result (RisesInSome limit (over S.seen self.old).run self.old.machine.t
             self.old.machine.chip.reads self.new.machine.chip.reads) }
     {
+        let from = self.machine.t;
         self.run_on_bus(limit, raster, out)?;
-        self.run_one_by_one(limit, raster, out)
+        self.run_one_by_one(limit, raster, out)?;
+        Ok(from < self.machine.t)
     }
 
     /// The same, each with all that a clock may have.
@@ -68,6 +72,8 @@ impl<S: Side> Fore<S> {
         ensures reads { OnOk result (RisesIn (over S.seen self.old).run self.old.machine.t
             (self.new.machine.t - self.old.machine.t)
             self.old.machine.chip.reads self.new.machine.chip.reads) }
+        ensures still { OnOk result (self.new.machine.t ≡ self.old.machine.t
+            → self.new ≡ self.old) }
         ensures spent { OnErr result (self.new.spent ≡ true) }
         ensures part { OnErr result (GivesPart (over S.seen self.old)
             (Q.seen raster.old) (Q.seen raster.new) out.old out.new) }

@@ -45,8 +45,9 @@ impl<S: Side> Fore<S> {
         }
         while self.machine.t < limit && !self.done() {
             if !self.pass_quiet(limit)? {
-                self.advance(raster, out)?;
-                self.run_in_line(limit, raster, out)?;
+                if !self.run_in_line(limit, raster, out)? {
+                    self.advance(raster, out)?;
+                }
             }
         }
         Ok(())

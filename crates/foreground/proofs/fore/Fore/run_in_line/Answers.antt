@@ -1,10 +1,10 @@
 -- Those on the bus come first.
-use Rattle.std.proofs.Common.{◌≤◌, max, arith, ◌∙◌}
-use Rattle.std.proofs.lemmas.Result.{on_err_weaker, on_ok_weaker}
-use Rattle.foreground.specs.Fore.{over}
+use Rattle.std.proofs.Common.{◌≡◌, ◌≤◌, arith, ap}
+use Rattle.std.proofs.lemmas.Bool.Decides.{nat_tests}
+use Rattle.foreground.specs.Fore.{ForeOf, over}
+use Rattle.foreground.proofs.MadeLaws.{on_err}
 use Rattle.foreground.proofs.RunToLaws.{part_behind}
-use Rattle.foreground.proofs.LineLaws.{can_go_then, reads_twice, few_in_two}
-use Rattle.foreground.proofs.MadeLaws.{on_ok_two}
+use Rattle.foreground.proofs.LineLaws.{can_go_then, reads_twice, few_in_two, nothing_made}
 use Rattle.foreground.proofs.QuietRuns.{runs_more}
 use Rattle.foreground.proofs.fore.Fore.run_in_line.Goals as goal
 
@@ -13,28 +13,37 @@ run_one_by_one-requires-clause-fits g c =
     let of = over g.S.Side.seen in
     can_go_then (of c.args.self.now) (of c.run_on_bus.new.self) _ _ _ _ c.in_ok-run_on_bus.ensures.clocks c.requires.fresh c.requires.fits
 
+pub returns-in_err-run_one_by_one-clause-part : goal.returns-in_err-run_one_by_one-clause-part
+returns-in_err-run_one_by_one-clause-part g c =
+    let of = over g.S.Side.seen in
+    on_err c.from_residual-in_err-run_one_by_one.result (part_behind (of c.args.self.now) (of c.run_on_bus.new.self) _ _ _ _ _ _
+    c.in_ok-run_on_bus.ensures.clocks c.in_err-run_one_by_one.ensures.part c.run_on_bus.ensures.run)
+
+pub returns-in_err-run_one_by_one-clause-few : goal.returns-in_err-run_one_by_one-clause-few
+returns-in_err-run_one_by_one-clause-few g c =
+    let of = over g.S.Side.seen in
+    on_err c.from_residual-in_err-run_one_by_one.result
+    (few_in_two (of c.args.self.now) (of c.run_on_bus.new.self) (of c.run_one_by_one.new.self) c.args.limit
+    c.run_on_bus.ensures.run c.in_ok-run_on_bus.ensures.on c.in_ok-run_on_bus.ensures.most c.in_ok-run_on_bus.ensures.reads
+    c.in_err-run_one_by_one.ensures.few)
+
 pub returns-clause-clocks : goal.returns-clause-clocks
 returns-clause-clocks g c =
     let of = over g.S.Side.seen in
-    on_ok_weaker c.run_one_by_one.result (λ more. runs_more (of c.args.self.now) (of c.run_on_bus.new.self) (of c.run_one_by_one.new.self) _ _ _ _ _ _
-    c.in_ok-run_on_bus.ensures.clocks more c.run_on_bus.ensures.run) c.run_one_by_one.ensures.clocks
+    runs_more (of c.args.self.now) (of c.run_on_bus.new.self) (of c.run_one_by_one.new.self) _ _ _ _ _ _
+    c.in_ok-run_on_bus.ensures.clocks c.in_ok-run_one_by_one.ensures.clocks c.run_on_bus.ensures.run
 
 pub returns-clause-reads : goal.returns-clause-reads
 returns-clause-reads g c =
     let of = over g.S.Side.seen in
-    on_ok_two c.run_one_by_one.result (λ on more. reads_twice (of c.args.self.now) (of c.run_on_bus.new.self) (of c.run_one_by_one.new.self)
-    c.run_on_bus.ensures.run c.in_ok-run_on_bus.ensures.on on c.in_ok-run_on_bus.ensures.reads more)
-    c.run_one_by_one.ensures.on c.run_one_by_one.ensures.reads
+    reads_twice (of c.args.self.now) (of c.run_on_bus.new.self) (of c.run_one_by_one.new.self)
+    c.run_on_bus.ensures.run c.in_ok-run_on_bus.ensures.on c.in_ok-run_one_by_one.ensures.on c.in_ok-run_on_bus.ensures.reads
+    c.in_ok-run_one_by_one.ensures.reads
 
-pub returns-clause-part : goal.returns-clause-part
-returns-clause-part g c =
-    let of = over g.S.Side.seen in
-    on_err_weaker c.run_one_by_one.result (λ part. part_behind (of c.args.self.now) (of c.run_on_bus.new.self) _ _ _ _ _ _
-    c.in_ok-run_on_bus.ensures.clocks part c.run_on_bus.ensures.run) c.run_one_by_one.ensures.part
-
-pub returns-clause-few : goal.returns-clause-few
-returns-clause-few g c =
-    let of = over g.S.Side.seen in
-    on_err_weaker c.run_one_by_one.result (λ few. few_in_two (of c.args.self.now) (of c.run_on_bus.new.self) (of c.run_one_by_one.new.self) c.args.limit
-    c.run_on_bus.ensures.run c.in_ok-run_on_bus.ensures.on c.in_ok-run_on_bus.ensures.most c.in_ok-run_on_bus.ensures.reads few)
-    c.run_one_by_one.ensures.few
+pub returns-clause-none : goal.returns-clause-none
+returns-clause-none g c none =
+    let from : c.self.inside.machine.t ≡ c.args.self.now.machine.t = ap (λ (f : ForeOf _). f.machine.t) c.self.view_is in
+    let to : c.self-2.inside.machine.t ≡ c.run_one_by_one.new.self.machine.t = ap (λ (f : ForeOf _). f.machine.t) c.self-2.view_is in
+    let least : c.self-2.inside.machine.t ≤ c.self.inside.machine.t = grind (arith, nat_tests, none) in
+    nothing_made c.args.self.now c.run_on_bus.new.self c.run_one_by_one.new.self c.in_ok-run_on_bus.ensures.on c.in_ok-run_one_by_one.ensures.on
+    c.in_ok-run_on_bus.ensures.still c.in_ok-run_one_by_one.ensures.still (omega (arith, from, to, least))

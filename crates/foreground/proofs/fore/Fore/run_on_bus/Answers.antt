@@ -18,6 +18,7 @@ loop-left-init g c = record {
   most = omega arith;
   reads = no_reads _ _ _;
   fresh = c.requires.fresh;
+  still = λ same. refl;
   line = c.bus_clocks-left.ensures.line;
   leave = c.bus_clocks-left.ensures.leave;
 }
@@ -56,6 +57,7 @@ loop-left-preserved g c =
       reads = reads_then f0 f next _ c.loop-left.invariant.run c.loop-left.invariant.on c.loop-left.invariant.fresh c.loop-left.invariant.able
           c.loop-left.invariant.reads one.reads one.count;
       fresh = one.spent ∙ c.loop-left.invariant.fresh;
+      still = λ same. absurd (omega (arith, c.loop-left.invariant.on, one.count, same));
       line = λ more. elim c.if-on.branch [
         | then-on w ↦ subst (λ n. AreInLine c.args.limit n next) (sym w.left-is)
             (in_line_next c.args.limit c.loop-left.left f next some are c.clock_on_bus.ensures.run one.count one.place)

@@ -15,6 +15,7 @@ loop-left-init g c = record {
   most = omega arith;
   reads = no_reads _ _ _;
   fresh = c.requires.fresh;
+  still = λ same. refl;
   line = c.clocks_in_line-left.ensures;
 }
 
@@ -50,6 +51,7 @@ loop-left-preserved g c =
       reads = reads_then f0 f next _ c.loop-left.invariant.run c.loop-left.invariant.on c.loop-left.invariant.fresh c.loop-left.invariant.able
           c.loop-left.invariant.reads one.reads one.count;
       fresh = one.spent ∙ c.loop-left.invariant.fresh;
+      still = λ same. absurd (omega (arith, c.loop-left.invariant.on, one.count, same));
       line = λ more. in_line_next c.args.limit c.loop-left.left f next some are c.clock_in_line.ensures.run one.count one.place;
     }
 

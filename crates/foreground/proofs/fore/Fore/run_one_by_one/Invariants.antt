@@ -17,6 +17,7 @@ invariant-loop-left g l =
       reads : RisesIn (of l.initial.self).run l.initial.self.machine.t (l.self.machine.t - l.initial.self.machine.t)
           l.initial.self.machine.chip.reads l.self.machine.chip.reads;
       fresh : l.self.spent ≡ false;
+      still : l.self.machine.t ≡ l.initial.self.machine.t → l.self ≡ l.initial.self;
       line : 0 < l.left → AreInLine l.limit l.left (of l.self);
     }
 

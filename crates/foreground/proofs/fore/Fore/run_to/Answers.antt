@@ -36,26 +36,25 @@ loop-self-preserved g c =
       fresh = passed.spent ∙ c.loop-self.invariant.fresh;
     }
 
-pub advance-requires-clause-fits : goal.advance-requires-clause-fits
-advance-requires-clause-fits g c =
+pub run_in_line-requires-clause-fits : goal.run_in_line-requires-clause-fits
+run_in_line-requires-clause-fits g c =
     let of = over g.S.Side.seen in
     can_go_behind (of c.loop-self.self) (of c.pass_quiet.new.self) c.args.limit _ c.loop-self.out c.in_ok-pass_quiet.ensures.passed
     c.loop-self.invariant.fresh c.loop-self.invariant.able
 
-pub run_in_line-requires-clause-fits : goal.run_in_line-requires-clause-fits
-run_in_line-requires-clause-fits g c =
+pub advance-requires-clause-fits : goal.advance-requires-clause-fits
+advance-requires-clause-fits g c =
     let of = over g.S.Side.seen in
     let here = c.pass_quiet.new.self in
     let passed = c.in_ok-pass_quiet.ensures.passed in
-    can_go_on (of here) (of c.advance.new.self) _ _ _ _ c.in_ok-advance.ensures.clock (passed.spent ∙ c.loop-self.invariant.fresh)
+    can_go_then (of here) (of c.run_in_line.new.self) _ _ _ _ c.in_ok-run_in_line.ensures.clocks (passed.spent ∙ c.loop-self.invariant.fresh)
     (can_go_behind (of c.loop-self.self) (of here) c.args.limit _ c.loop-self.out passed c.loop-self.invariant.fresh c.loop-self.invariant.able)
 
-pub loop-self-preserved-in_ok-run_in_line : goal.loop-self-preserved-in_ok-run_in_line
-loop-self-preserved-in_ok-run_in_line g c =
+pub loop-self-preserved-else-not-branch-2 : goal.loop-self-preserved-else-not-branch-2
+loop-self-preserved-else-not-branch-2 g c =
     let of = over g.S.Side.seen in
     let f0 = of c.args.self.now in
     let here = c.pass_quiet.new.self in
-    let mid = of c.advance.new.self in
     let passed = c.in_ok-pass_quiet.ensures.passed in
     let before : here.machine.t < c.args.limit =
     below_view _ here c.args.limit (sym (c.in_ok-pass_quiet.ensures.none c.if-not-branch.true))
@@ -65,28 +64,61 @@ loop-self-preserved-in_ok-run_in_line g c =
     let fresh = passed.spent ∙ c.loop-self.invariant.fresh in
     let able =
     can_go_behind (of c.loop-self.self) (of here) c.args.limit _ c.loop-self.out passed c.loop-self.invariant.fresh c.loop-self.invariant.able in
-    let count : c.advance.new.self.machine.t ≡ here.machine.t + 1 = c.in_ok-advance.ensures.count in
-    let runs = runs_then f0 (of here) mid _ _ _ _ _ _
-    (runs_passed f0 (of c.loop-self.self) (of here) c.args.limit _ _ _ _ c.loop-self.invariant.runs passed c.loop-self.invariant.run)
-    c.in_ok-advance.ensures.clock run0 count in
-    let run = c.advance.ensures.run ∙ run0 in
-    let on : c.args.self.now.machine.t ≤ c.advance.new.self.machine.t = omega (arith, on0, count) in
-    let low : c.advance.new.self.machine.t ≤ c.args.limit = omega (arith, before, count) in
-    let reads = reads_then f0 (of here) mid _ run0 on0 fresh able
-    (reads_passed f0 (of c.loop-self.self) (of here) c.args.limit c.loop-self.invariant.run
-    c.loop-self.invariant.on passed c.pass_quiet.ensures.reads c.loop-self.invariant.reads)
-    c.in_ok-advance.ensures.reads count in
-    let last = of c.run_in_line.new.self in
+    let runs0 = runs_passed f0 (of c.loop-self.self) (of here) c.args.limit _ _ _ _ c.loop-self.invariant.runs passed c.loop-self.invariant.run in
+    let reads0 = reads_passed f0 (of c.loop-self.self) (of here) c.args.limit c.loop-self.invariant.run
+    c.loop-self.invariant.on passed c.pass_quiet.ensures.reads c.loop-self.invariant.reads in
+    let mid = c.run_in_line.new.self in
     let more = c.in_ok-run_in_line.ensures in
+    let runs1 = runs_more f0 (of here) (of mid) _ _ _ _ _ _ runs0 more.clocks run0 in
+    let run1 = c.run_in_line.ensures.run ∙ run0 in
+    let on1 : c.args.self.now.machine.t ≤ mid.machine.t = omega (arith, on0, more.on) in
+    let able1 = can_go_then (of here) (of mid) _ _ _ _ more.clocks fresh able in
+    let reads1 = reads_twice f0 (of here) (of mid) run0 on0 more.on reads0 more.reads in
     record {
-      able = can_go_then mid last _ _ _ _ more.clocks c.in_ok-advance.ensures.fresh
-          (can_go_on (of here) mid _ _ _ _ c.in_ok-advance.ensures.clock fresh able);
-      runs = runs_more f0 mid last _ _ _ _ _ _ runs more.clocks run;
-      run = c.run_in_line.ensures.run ∙ run;
-      on = omega (arith, on, more.on);
-      most = omega (arith, low, more.most);
-      reads = reads_twice f0 mid last run on more.on reads more.reads;
+      able = able1;
+      runs = runs1;
+      run = run1;
+      on = on1;
+      most = omega (arith, before, more.most);
+      reads = reads1;
       fresh = more.fresh;
+    }
+
+pub loop-self-preserved-in_ok-advance : goal.loop-self-preserved-in_ok-advance
+loop-self-preserved-in_ok-advance g c =
+    let of = over g.S.Side.seen in
+    let f0 = of c.args.self.now in
+    let here = c.pass_quiet.new.self in
+    let passed = c.in_ok-pass_quiet.ensures.passed in
+    let before : here.machine.t < c.args.limit =
+    below_view _ here c.args.limit (sym (c.in_ok-pass_quiet.ensures.none c.if-not-branch.true))
+    (below_view _ c.loop-self.self c.args.limit c.self-in-loop-self.view_is c.loop-self-test.true) in
+    let run0 = c.pass_quiet.ensures.run ∙ c.loop-self.invariant.run in
+    let on0 : c.args.self.now.machine.t ≤ here.machine.t = omega (arith, c.loop-self.invariant.on, passed.on) in
+    let fresh = passed.spent ∙ c.loop-self.invariant.fresh in
+    let able =
+    can_go_behind (of c.loop-self.self) (of here) c.args.limit _ c.loop-self.out passed c.loop-self.invariant.fresh c.loop-self.invariant.able in
+    let runs0 = runs_passed f0 (of c.loop-self.self) (of here) c.args.limit _ _ _ _ c.loop-self.invariant.runs passed c.loop-self.invariant.run in
+    let reads0 = reads_passed f0 (of c.loop-self.self) (of here) c.args.limit c.loop-self.invariant.run
+    c.loop-self.invariant.on passed c.pass_quiet.ensures.reads c.loop-self.invariant.reads in
+    let mid = c.run_in_line.new.self in
+    let more = c.in_ok-run_in_line.ensures in
+    let runs1 = runs_more f0 (of here) (of mid) _ _ _ _ _ _ runs0 more.clocks run0 in
+    let run1 = c.run_in_line.ensures.run ∙ run0 in
+    let on1 : c.args.self.now.machine.t ≤ mid.machine.t = omega (arith, on0, more.on) in
+    let able1 = can_go_then (of here) (of mid) _ _ _ _ more.clocks fresh able in
+    let reads1 = reads_twice f0 (of here) (of mid) run0 on0 more.on reads0 more.reads in
+    let before1 : mid.machine.t < c.args.limit = below_view here mid c.args.limit (sym (more.none c.if-not-branch-2.true)) before in
+    let last = c.advance.new.self in
+    let one = c.in_ok-advance.ensures in
+    record {
+      able = can_go_on (of mid) (of last) _ _ _ _ one.clock more.fresh able1;
+      runs = runs_then f0 (of mid) (of last) _ _ _ _ _ _ runs1 one.clock run1 one.count;
+      run = c.advance.ensures.run ∙ run1;
+      on = omega (arith, on1, one.count);
+      most = omega (arith, before1, one.count);
+      reads = reads_then f0 (of mid) (of last) _ run1 on1 more.fresh able1 reads1 one.reads one.count;
+      fresh = one.fresh;
     }
 
 pub returns-in_err-pass_quiet-clause-part : goal.returns-in_err-pass_quiet-clause-part
@@ -107,43 +139,11 @@ returns-in_err-pass_quiet-clause-few g c =
     (below_view _ c.loop-self.self c.args.limit c.self-in-loop-self.view_is c.loop-self-test.true)
     c.pass_quiet.ensures.reads c.loop-self.invariant.reads)
 
-pub returns-in_err-advance-clause-part : goal.returns-in_err-advance-clause-part
-returns-in_err-advance-clause-part g c =
-    let of = over g.S.Side.seen in
-    let seen = g.Q.Raster.seen in
-    let here = c.pass_quiet.new.self in
-    let passed = c.in_ok-pass_quiet.ensures.passed in
-    on_err c.from_residual-in_err-advance.result
-    (c.args.self.now.spent ≡ false → GivesPart (of c.args.self.now) (seen c.args.raster.now) (seen c.advance.new.raster) c.args.out.now c.advance.new.out)
-    (λ fresh. part_behind (of c.args.self.now) (of here) _ _ _ _ _ _
-    (runs_passed (of c.args.self.now) (of c.loop-self.self) (of here) c.args.limit _ _ _ _ c.loop-self.invariant.runs passed
-    c.loop-self.invariant.run)
-    (c.in_err-advance.ensures.part (passed.spent ∙ c.loop-self.invariant.fresh)) (c.pass_quiet.ensures.run ∙ c.loop-self.invariant.run))
-
-pub returns-in_err-advance-clause-few : goal.returns-in_err-advance-clause-few
-returns-in_err-advance-clause-few g c =
-    let of = over g.S.Side.seen in
-    let here = c.pass_quiet.new.self in
-    let passed = c.in_ok-pass_quiet.ensures.passed in
-    let before : here.machine.t < c.args.limit =
-    below_view _ here c.args.limit (sym (c.in_ok-pass_quiet.ensures.none c.if-not-branch.true))
-    (below_view _ c.loop-self.self c.args.limit c.self-in-loop-self.view_is c.loop-self-test.true) in
-    let able =
-    can_go_behind (of c.loop-self.self) (of here) c.args.limit _ c.loop-self.out passed c.loop-self.invariant.fresh c.loop-self.invariant.able in
-    on_err c.from_residual-in_err-advance.result
-    (RisesInSome c.args.limit (of c.args.self.now).run c.args.self.now.machine.t c.args.self.now.machine.chip.reads c.advance.new.self.machine.chip.reads)
-    (few_behind (of c.args.self.now) (of here) (of c.advance.new.self) _ c.args.limit (c.pass_quiet.ensures.run ∙ c.loop-self.invariant.run)
-    (omega (arith, c.loop-self.invariant.on, passed.on)) before
-    (passed.spent ∙ c.loop-self.invariant.fresh) able
-    (reads_passed (of c.args.self.now) (of c.loop-self.self) (of here) c.args.limit c.loop-self.invariant.run
-    c.loop-self.invariant.on passed c.pass_quiet.ensures.reads c.loop-self.invariant.reads) c.in_err-advance.ensures.few)
-
 pub returns-in_err-run_in_line-clause-part : goal.returns-in_err-run_in_line-clause-part
 returns-in_err-run_in_line-clause-part g c =
     let of = over g.S.Side.seen in
     let f0 = of c.args.self.now in
     let here = c.pass_quiet.new.self in
-    let mid = of c.advance.new.self in
     let passed = c.in_ok-pass_quiet.ensures.passed in
     let before : here.machine.t < c.args.limit =
     below_view _ here c.args.limit (sym (c.in_ok-pass_quiet.ensures.none c.if-not-branch.true))
@@ -153,28 +153,19 @@ returns-in_err-run_in_line-clause-part g c =
     let fresh = passed.spent ∙ c.loop-self.invariant.fresh in
     let able =
     can_go_behind (of c.loop-self.self) (of here) c.args.limit _ c.loop-self.out passed c.loop-self.invariant.fresh c.loop-self.invariant.able in
-    let count : c.advance.new.self.machine.t ≡ here.machine.t + 1 = c.in_ok-advance.ensures.count in
-    let runs = runs_then f0 (of here) mid _ _ _ _ _ _
-    (runs_passed f0 (of c.loop-self.self) (of here) c.args.limit _ _ _ _ c.loop-self.invariant.runs passed c.loop-self.invariant.run)
-    c.in_ok-advance.ensures.clock run0 count in
-    let run = c.advance.ensures.run ∙ run0 in
-    let on : c.args.self.now.machine.t ≤ c.advance.new.self.machine.t = omega (arith, on0, count) in
-    let low : c.advance.new.self.machine.t ≤ c.args.limit = omega (arith, before, count) in
-    let reads = reads_then f0 (of here) mid _ run0 on0 fresh able
-    (reads_passed f0 (of c.loop-self.self) (of here) c.args.limit c.loop-self.invariant.run
-    c.loop-self.invariant.on passed c.pass_quiet.ensures.reads c.loop-self.invariant.reads)
-    c.in_ok-advance.ensures.reads count in
+    let runs0 = runs_passed f0 (of c.loop-self.self) (of here) c.args.limit _ _ _ _ c.loop-self.invariant.runs passed c.loop-self.invariant.run in
+    let reads0 = reads_passed f0 (of c.loop-self.self) (of here) c.args.limit c.loop-self.invariant.run
+    c.loop-self.invariant.on passed c.pass_quiet.ensures.reads c.loop-self.invariant.reads in
     let seen = g.Q.Raster.seen in
     on_err c.from_residual-in_err-run_in_line.result
     (c.args.self.now.spent ≡ false → GivesPart f0 (seen c.args.raster.now) (seen c.run_in_line.new.raster) c.args.out.now c.run_in_line.new.out)
-    (λ fresh. part_behind f0 mid _ _ _ _ _ _ runs c.in_err-run_in_line.ensures.part run)
+    (λ new. part_behind f0 (of here) _ _ _ _ _ _ runs0 c.in_err-run_in_line.ensures.part run0)
 
 pub returns-in_err-run_in_line-clause-few : goal.returns-in_err-run_in_line-clause-few
 returns-in_err-run_in_line-clause-few g c =
     let of = over g.S.Side.seen in
     let f0 = of c.args.self.now in
     let here = c.pass_quiet.new.self in
-    let mid = of c.advance.new.self in
     let passed = c.in_ok-pass_quiet.ensures.passed in
     let before : here.machine.t < c.args.limit =
     below_view _ here c.args.limit (sym (c.in_ok-pass_quiet.ensures.none c.if-not-branch.true))
@@ -184,20 +175,70 @@ returns-in_err-run_in_line-clause-few g c =
     let fresh = passed.spent ∙ c.loop-self.invariant.fresh in
     let able =
     can_go_behind (of c.loop-self.self) (of here) c.args.limit _ c.loop-self.out passed c.loop-self.invariant.fresh c.loop-self.invariant.able in
-    let count : c.advance.new.self.machine.t ≡ here.machine.t + 1 = c.in_ok-advance.ensures.count in
-    let runs = runs_then f0 (of here) mid _ _ _ _ _ _
-    (runs_passed f0 (of c.loop-self.self) (of here) c.args.limit _ _ _ _ c.loop-self.invariant.runs passed c.loop-self.invariant.run)
-    c.in_ok-advance.ensures.clock run0 count in
-    let run = c.advance.ensures.run ∙ run0 in
-    let on : c.args.self.now.machine.t ≤ c.advance.new.self.machine.t = omega (arith, on0, count) in
-    let low : c.advance.new.self.machine.t ≤ c.args.limit = omega (arith, before, count) in
-    let reads = reads_then f0 (of here) mid _ run0 on0 fresh able
-    (reads_passed f0 (of c.loop-self.self) (of here) c.args.limit c.loop-self.invariant.run
-    c.loop-self.invariant.on passed c.pass_quiet.ensures.reads c.loop-self.invariant.reads)
-    c.in_ok-advance.ensures.reads count in
+    let runs0 = runs_passed f0 (of c.loop-self.self) (of here) c.args.limit _ _ _ _ c.loop-self.invariant.runs passed c.loop-self.invariant.run in
+    let reads0 = reads_passed f0 (of c.loop-self.self) (of here) c.args.limit c.loop-self.invariant.run
+    c.loop-self.invariant.on passed c.pass_quiet.ensures.reads c.loop-self.invariant.reads in
     on_err c.from_residual-in_err-run_in_line.result
     (RisesInSome c.args.limit f0.run c.args.self.now.machine.t c.args.self.now.machine.chip.reads c.run_in_line.new.self.machine.chip.reads)
-    (few_twice f0 mid (of c.run_in_line.new.self) c.args.limit run on low reads c.in_err-run_in_line.ensures.few)
+    (few_twice f0 (of here) (of c.run_in_line.new.self) c.args.limit run0 on0 (omega (arith, before)) reads0 c.in_err-run_in_line.ensures.few)
+
+pub returns-in_err-advance-clause-part : goal.returns-in_err-advance-clause-part
+returns-in_err-advance-clause-part g c =
+    let of = over g.S.Side.seen in
+    let f0 = of c.args.self.now in
+    let here = c.pass_quiet.new.self in
+    let passed = c.in_ok-pass_quiet.ensures.passed in
+    let before : here.machine.t < c.args.limit =
+    below_view _ here c.args.limit (sym (c.in_ok-pass_quiet.ensures.none c.if-not-branch.true))
+    (below_view _ c.loop-self.self c.args.limit c.self-in-loop-self.view_is c.loop-self-test.true) in
+    let run0 = c.pass_quiet.ensures.run ∙ c.loop-self.invariant.run in
+    let on0 : c.args.self.now.machine.t ≤ here.machine.t = omega (arith, c.loop-self.invariant.on, passed.on) in
+    let fresh = passed.spent ∙ c.loop-self.invariant.fresh in
+    let able =
+    can_go_behind (of c.loop-self.self) (of here) c.args.limit _ c.loop-self.out passed c.loop-self.invariant.fresh c.loop-self.invariant.able in
+    let runs0 = runs_passed f0 (of c.loop-self.self) (of here) c.args.limit _ _ _ _ c.loop-self.invariant.runs passed c.loop-self.invariant.run in
+    let reads0 = reads_passed f0 (of c.loop-self.self) (of here) c.args.limit c.loop-self.invariant.run
+    c.loop-self.invariant.on passed c.pass_quiet.ensures.reads c.loop-self.invariant.reads in
+    let mid = c.run_in_line.new.self in
+    let more = c.in_ok-run_in_line.ensures in
+    let runs1 = runs_more f0 (of here) (of mid) _ _ _ _ _ _ runs0 more.clocks run0 in
+    let run1 = c.run_in_line.ensures.run ∙ run0 in
+    let on1 : c.args.self.now.machine.t ≤ mid.machine.t = omega (arith, on0, more.on) in
+    let able1 = can_go_then (of here) (of mid) _ _ _ _ more.clocks fresh able in
+    let reads1 = reads_twice f0 (of here) (of mid) run0 on0 more.on reads0 more.reads in
+    let seen = g.Q.Raster.seen in
+    on_err c.from_residual-in_err-advance.result
+    (c.args.self.now.spent ≡ false → GivesPart f0 (seen c.args.raster.now) (seen c.advance.new.raster) c.args.out.now c.advance.new.out)
+    (λ new. part_behind f0 (of mid) _ _ _ _ _ _ runs1 (c.in_err-advance.ensures.part more.fresh) run1)
+
+pub returns-in_err-advance-clause-few : goal.returns-in_err-advance-clause-few
+returns-in_err-advance-clause-few g c =
+    let of = over g.S.Side.seen in
+    let f0 = of c.args.self.now in
+    let here = c.pass_quiet.new.self in
+    let passed = c.in_ok-pass_quiet.ensures.passed in
+    let before : here.machine.t < c.args.limit =
+    below_view _ here c.args.limit (sym (c.in_ok-pass_quiet.ensures.none c.if-not-branch.true))
+    (below_view _ c.loop-self.self c.args.limit c.self-in-loop-self.view_is c.loop-self-test.true) in
+    let run0 = c.pass_quiet.ensures.run ∙ c.loop-self.invariant.run in
+    let on0 : c.args.self.now.machine.t ≤ here.machine.t = omega (arith, c.loop-self.invariant.on, passed.on) in
+    let fresh = passed.spent ∙ c.loop-self.invariant.fresh in
+    let able =
+    can_go_behind (of c.loop-self.self) (of here) c.args.limit _ c.loop-self.out passed c.loop-self.invariant.fresh c.loop-self.invariant.able in
+    let runs0 = runs_passed f0 (of c.loop-self.self) (of here) c.args.limit _ _ _ _ c.loop-self.invariant.runs passed c.loop-self.invariant.run in
+    let reads0 = reads_passed f0 (of c.loop-self.self) (of here) c.args.limit c.loop-self.invariant.run
+    c.loop-self.invariant.on passed c.pass_quiet.ensures.reads c.loop-self.invariant.reads in
+    let mid = c.run_in_line.new.self in
+    let more = c.in_ok-run_in_line.ensures in
+    let runs1 = runs_more f0 (of here) (of mid) _ _ _ _ _ _ runs0 more.clocks run0 in
+    let run1 = c.run_in_line.ensures.run ∙ run0 in
+    let on1 : c.args.self.now.machine.t ≤ mid.machine.t = omega (arith, on0, more.on) in
+    let able1 = can_go_then (of here) (of mid) _ _ _ _ more.clocks fresh able in
+    let reads1 = reads_twice f0 (of here) (of mid) run0 on0 more.on reads0 more.reads in
+    let before1 : mid.machine.t < c.args.limit = below_view here mid c.args.limit (sym (more.none c.if-not-branch-2.true)) before in
+    on_err c.from_residual-in_err-advance.result
+    (RisesInSome c.args.limit f0.run c.args.self.now.machine.t c.args.self.now.machine.chip.reads c.advance.new.self.machine.chip.reads)
+    (few_behind f0 (of mid) (of c.advance.new.self) _ c.args.limit run1 on1 before1 more.fresh able1 reads1 c.in_err-advance.ensures.few)
 
 pub returns-else-not-done-clause-come : goal.returns-else-not-done-clause-come
 returns-else-not-done-clause-come g c = record {
