@@ -1,5 +1,5 @@
 -- Clocks that refresh, planes, sprites and the Copper leave to the blitter and the processor.
-use Rattle.std.proofs.Common.{◌≡◌, ◌≤◌, ◌<◌, ℕ, suc, ◌+◌, ◌-◌, Bool, true, false, is_some, arith, refl, ap, subst, ◌∙◌, sym}
+use Rattle.std.proofs.Common.{◌≡◌, ◌≤◌, ◌<◌, ℕ, suc, ◌+◌, ◌-◌, Bool, true, false, is_some, arith, refl, subst, ◌∙◌, sym}
 use mathlib.Core.Bool.{beq}
 use Rattle.std.proofs.lemmas.Bool.{false≢true, true≢false}
 use Rattle.mem_versions.specs.Chip.{ChipValue}

@@ -1,5 +1,5 @@
 -- Clock by clock, or many at once where they are quiet.
-use Rattle.std.proofs.Common.{◌≡◌, ◌≤◌, ◌<◌, ◌+◌, false, true≢false, arith, refl, ◌∙◌, sym}
+use Rattle.std.proofs.Common.{◌≡◌, ◌≤◌, ◌<◌, false, true≢false, arith, refl, ◌∙◌, sym}
 use Rattle.ocs_io.proofs.MapLaws.{on_err}
 use Rattle.foreground.specs.Fore.{over, GivesPart}
 use Rattle.foreground.specs.RunTo.{RisesInSome}
