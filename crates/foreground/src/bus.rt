@@ -121,7 +121,8 @@ impl<S: Side> Fore<S> {
         Ok(())
     }
 
-    /// How many they are, as far as that is known at their begin; nothing hangs on it but how fast a run is.
+    /// How many they are, as far as that is known at their begin; nothing hangs on it but how fast a run is. A
+    /// glance tells whether it pays to look.
     #[inline(always)]
     fn bus_clocks(&self, limit: u64) -> u16
         requires { (first : ℕ) × (seen : RasterValue) × IsUnderway
@@ -129,6 +130,9 @@ impl<S: Side> Fore<S> {
         ensures line { 0 < result → AreInLine limit result (over S.seen self.now) }
         ensures leave { 0 < result → LeaveBus self.now.machine.beam result self.now.machine.chips }
     {
+        if !self.machine.chips.is_busy() {
+            return 0;
+        }
         let most = self.clocks_in_line(limit);
         if most < 2 {
             return 0;
