@@ -121,8 +121,8 @@ impl<S: Side> Fore<S> {
         Ok(())
     }
 
-    /// How many they are, as far as that is known at their begin; nothing hangs on it but how fast a run is. A
-    /// glance tells whether it pays to look.
+    /// How many they are, as far as that is known at their begin; nothing hangs on it but how fast a run is.
+    /// A glance tells whether it pays to look.
     #[inline(always)]
     fn bus_clocks(&self, limit: u64) -> u16
         requires { (first : ℕ) × (seen : RasterValue) × IsUnderway

@@ -37,7 +37,8 @@ pub fn status(alloc: Global, text: &str, shelf: &mut Shelf) -> Result<u8, CaseFa
     Ok(slots_main(alloc, &words, shelf))
 }
 
-/// The bytes of a text: each of two hexadecimal digits, or two of four; and `98*e300` for what stands so often.
+/// The bytes of a text: each of two hexadecimal digits, or two of four; and `98*e300` for what stands so
+/// often.
 pub fn bytes(alloc: Global, text: &str) -> Result<Vec<u8>, CaseFault> {
     let mut bytes = Vec::new(alloc);
     for item in text.split_whitespace() {
