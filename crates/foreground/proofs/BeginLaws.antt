@@ -15,15 +15,15 @@ use Rattle.serial_bands.specs.Gathering.{IsGathered, IsGatheredIn}
 use Rattle.serial_model.specs.Events.{due_events}
 use Rattle.serial_bands.proofs.Gathering.{gathered_more, gathered_start, gathered_cleared}
 use Rattle.band_log.specs.Raster.{RasterValue}
-use Rattle.foreground.specs.Log.{IsLogOf, with_begin, with_waiting}
+use Rattle.picture_log.specs.Log.{IsLogOf, with_begin, with_waiting}
 use Rattle.foreground.specs.Gathered.{Fits}
 use Rattle.foreground.specs.Clock.{HasBegun, Rises}
 use Rattle.foreground.specs.CutsCode.{StandsBefore, HasEnded, EndsAtLine, EndsPart}
 use Rattle.foreground.specs.Fore.{ForeValue, IsUnderway, is_done, looked_up}
-use Rattle.foreground.specs.Machine.{MachineValue, IsMachineOf}
+use Rattle.machine.specs.Machine.{MachineValue, IsMachineOf}
 use Rattle.foreground.specs.Steps.{HasBegunClock, BeginsClock, BeginsPart, HasReadByScript, ReadsBits, ReadsPart, StandsBeforeRead}
-use Rattle.foreground.specs.declared.log.Log.{Log}
-use Rattle.foreground.proofs.Logging.{log_starts, log_begins}
+use Rattle.picture_log.specs.declared.log.Log.{Log}
+use Rattle.picture_log.proofs.Logging.{log_starts, log_begins}
 use Rattle.foreground.proofs.CutLaws.{gives_none, gives_no_part, rises_none}
 use Rattle.foreground.proofs.ReadingLaws.{fits_least, here_at}
 use Rattle.foreground.proofs.LeftLaws.{left_from, log_band}

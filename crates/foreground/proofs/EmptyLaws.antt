@@ -8,10 +8,10 @@ use Rattle.serial_model.specs.Beam.{IsOnScreen}
 use Rattle.serial_model.specs.Events.{due_events, do_events, touches_of}
 use Rattle.serial_bands.specs.Run.{RunValue}
 use Rattle.foreground.specs.Fore.{ForeValue, HasScript}
-use Rattle.foreground.specs.Log.{with_script_touches}
-use Rattle.foreground.specs.Machine.{MachineValue}
+use Rattle.picture_log.specs.Log.{with_script_touches}
+use Rattle.machine.specs.Machine.{MachineValue}
 use Rattle.foreground.specs.Script.{MakesEvents}
-use Rattle.foreground.specs.declared.log.Log.{Log}
+use Rattle.picture_log.specs.declared.log.Log.{Log}
 
 left_none : (events : List At) (next : ℕ) → next ≡ length events → drop next events ≡ []
 left_none events next is = drop_all next events (omega (arith, is))

@@ -44,17 +44,18 @@ use Rattle.quiet_clocks.proofs.QuietClocks.{clocks_of_run}
 use Rattle.foreground.specs.Clock.{IsAt}
 use Rattle.foreground.specs.FetchesCode.{with_fetch, with_fetches, clock_of_planes, clocks_of_planes}
 use Rattle.foreground.specs.Fore.{ForeValue, HasScript, IsUnderway, is_done}
-use Rattle.foreground.specs.Log.{IsLogOf, IsShown, with_waiting, with_script_touches, with_access_touch}
-use Rattle.foreground.specs.Machine.{MachineValue, IsMachineOf}
+use Rattle.picture_log.specs.Log.{IsLogOf, IsShown, with_waiting, with_script_touches, with_access_touch}
+use Rattle.machine.specs.Machine.{MachineValue, IsMachineOf}
 use Rattle.foreground.specs.QuietCode.{HasPassed}
 use Rattle.foreground.specs.RunTo.{RunsOn}
-use Rattle.foreground.specs.declared.log.Log.{Log}
-use Rattle.foreground.specs.declared.machine.Machine.{Machine}
+use Rattle.picture_log.specs.declared.log.Log.{Log}
+use Rattle.machine.specs.declared.machine.Machine.{Machine}
 use Rattle.foreground.proofs.AdvanceLaws.{going}
 use Rattle.foreground.proofs.CutLaws.{gives_none}
-use Rattle.foreground.proofs.Logging.{log_starts, log_shown, log_accessed}
-use Rattle.foreground.proofs.QuietLaws.{none_later, none_of, no_place, reads_no_bits, not_touched, not_both, IsKept, kept_next}
-use Rattle.foreground.proofs.QuietLaws.{waits_no_more, on_later, script_later, kept_of, unread_before, moved}
+use Rattle.picture_log.proofs.Logging.{log_starts, log_shown, log_accessed}
+use Rattle.machine.proofs.QuietLaws.{none_later, moved}
+use Rattle.foreground.proofs.QuietLaws.{none_of, no_place, reads_no_bits, not_touched, not_both, IsKept, kept_next}
+use Rattle.foreground.proofs.QuietLaws.{waits_no_more, on_later, script_later, kept_of, unread_before}
 use Rattle.foreground.proofs.ReadingLaws.{fits_least}
 
 -- ---- what a fetch makes

@@ -14,10 +14,11 @@ use Rattle.serial_bands.proofs.BandOrder.{one_band, bands_order, one_band_more}
 use Rattle.band_log.specs.declared.job.Drawn.{Drawn}
 use Rattle.band_log.specs.Right.{IsRightFor}
 use Rattle.band_log.specs.Raster.{RasterValue, Outstanding, Takes, IsRightForFirst, with_submitted, without_first}
-use Rattle.foreground.specs.Out.{Gives}
-use Rattle.foreground.specs.Gathered.{outstanding_from, Fits, KeepsMark, tinted_range, IsClosing, HasGathered, HasGatheredPart}
+use Rattle.machine.specs.Out.{Gives}
+use Rattle.foreground.specs.Gathered.{outstanding_from, Fits, KeepsMark, tinted_range, HasGathered, HasGatheredPart}
+use Rattle.picture_log.specs.Closing.{IsClosing}
 use Rattle.foreground.specs.Gathered.{HasGatheredOne, HasGatheredTo, GathersOne, GathersSome, GathersUpTo, GathersAll, GathersPart, Submits}
-use Rattle.foreground.proofs.OutLaws.{gives_nothing, gives_then}
+use Rattle.machine.proofs.OutLaws.{gives_nothing, gives_then}
 
 -- a range without clocks
 no_length : (first : ℕ) → first - first ≡ 0

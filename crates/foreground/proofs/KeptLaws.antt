@@ -5,7 +5,7 @@ use Rattle.serial_model.specs.declared.bus.Ask.{Ask}
 use Rattle.serial_model.specs.State.{State}
 use Rattle.serial_model.specs.Tick.{ask_of}
 use Rattle.band_log.specs.Raster.{RasterValue}
-use Rattle.foreground.specs.Machine.{MachineValue, IsMachineOf, HasAskedOf, IsSamePlace}
+use Rattle.machine.specs.Machine.{MachineValue, IsMachineOf, HasAskedOf, IsSamePlace}
 use Rattle.foreground.specs.Clock.{IsLogged}
 use Rattle.foreground.specs.Fore.{ForeValue}
 use Rattle.foreground.specs.Steps.{IsBefore, IsLoggedBefore, KeepsClock, HasAskedNow, AccessesPart}

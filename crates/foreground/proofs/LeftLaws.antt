@@ -6,11 +6,11 @@ use Rattle.serial_bands.specs.Bands.{begins, begun}
 use Rattle.serial_bands.specs.OpenBand.{clock_events}
 use Rattle.serial_bands.specs.Stores.{stores_at}
 use Rattle.band_log.specs.Raster.{RasterValue}
-use Rattle.foreground.specs.Log.{IsLogOf, IsStarted, IsShown, IsEnding, Grows}
+use Rattle.picture_log.specs.Log.{IsLogOf, IsStarted, IsShown, IsEnding, Grows}
 use Rattle.foreground.specs.Gathered.{Fits}
 use Rattle.foreground.specs.Clock.{AreLeftFrom}
-use Rattle.foreground.specs.declared.band.OpenBand.{OpenBand}
-use Rattle.foreground.specs.declared.log.Log.{Log}
+use Rattle.picture_log.specs.declared.band.OpenBand.{OpenBand}
+use Rattle.picture_log.specs.declared.log.Log.{Log}
 
 -- a band begins with a clock, and has this number
 abbrev pub IsBeginOf : RunValue → ℕ → ℕ → Type 0

@@ -22,8 +22,8 @@ use Rattle.chip_set.specs.Chips.{IsChipsOf}
 use Rattle.foreground.specs.Clock.{Rises}
 use Rattle.foreground.specs.Fore.{ForeOf, ForeValue, HasScript, IsUnderway, CanGo}
 use Rattle.foreground.specs.LineCode.{AreInLine}
-use Rattle.foreground.specs.Log.{with_script_touches}
-use Rattle.foreground.specs.Machine.{MachineValue, MakesQuietly, IsSamePlace}
+use Rattle.picture_log.specs.Log.{with_script_touches}
+use Rattle.machine.specs.Machine.{MachineValue, MakesQuietly, IsSamePlace}
 use Rattle.foreground.specs.RunTo.{HasRunOn, RunsOn, reads_from, looked_from, RisesIn, RisesInSome}
 use Rattle.foreground.specs.Script.{MakesEvents}
 use Rattle.foreground.specs.Steps.{HasScriptBehind, RunsEvents}

@@ -15,9 +15,9 @@ use Rattle.band_log.specs.Raster.{RasterValue, Takes}
 use Rattle.foreground.specs.Clock.{IsAt}
 use Rattle.foreground.specs.Fore.{HasScript, IsNew}
 use Rattle.foreground.specs.Gathered.{Fits}
-use Rattle.foreground.specs.Log.{IsLogOf}
-use Rattle.foreground.specs.Machine.{MachineValue, IsMachineOf, IsReset}
-use Rattle.foreground.specs.declared.log.Log.{Log}
+use Rattle.picture_log.specs.Log.{IsLogOf}
+use Rattle.machine.specs.Machine.{MachineValue, IsMachineOf, IsReset}
+use Rattle.picture_log.specs.declared.log.Log.{Log}
 use Rattle.foreground.proofs.GatherLaws.{fits_begin}
 use Rattle.foreground.proofs.SettleLaws.{number_here}
 

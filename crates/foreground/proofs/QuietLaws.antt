@@ -1,4 +1,4 @@
--- Clocks at which nobody asks for the bus and nothing is due: what they make of machine, log and foreground.
+-- Clocks at which nobody asks for the bus and nothing is due: what they make of log and foreground.
 use Rattle.std.proofs.Common.{◌≡◌, ◌≤◌, ◌<◌, ℕ, zero, suc, ◌+◌, ◌-◌, ◌==◌, Bool, true, false, ◌||◌, List, []}
 use Rattle.std.proofs.Common.{◌∷◌, ◌++◌, length, drop, arith, refl, ap, subst, ◌∙◌, sym, append-nil, add-one, true≢false}
 use Rattle.std.proofs.lemmas.Bool.{and_right}
@@ -23,8 +23,6 @@ use Rattle.serial_model.specs.Events.{due_events, do_events, touches_of, is_due}
 use Rattle.serial_model.specs.Made.{touch_of, is_clx_read}
 use Rattle.serial_model.specs.Picture.{clear_line}
 use Rattle.serial_model.specs.Processor.{Processor}
-use Rattle.serial_model.specs.Side.{SideValue, no_side, bits_of_side, ask_of_side}
-use Rattle.serial_model.specs.Registers.{dmacon_of}
 use Rattle.serial_model.specs.State.{Chips, State}
 use Rattle.serial_model.specs.Tick.{start_chips, count_timers, show_pixels, before_access, ask_of, side_bits}
 use Rattle.serial_model.proofs.EventLaws.{due_events-more, due_events-none, AreFrom-le, IsQueue-end, IsQueue-empty}
@@ -38,26 +36,25 @@ use Rattle.serial_bands.specs.Stores.{stores_of, stores_at}
 use Rattle.serial_bands.proofs.Gathering.{gathered_start, gathered_next}
 use Rattle.serial_bands.proofs.WholeRun.{frames_rise}
 use Rattle.band_log.specs.Raster.{RasterValue}
-use Rattle.chip_set.specs.Chips.{IsChipsOf, WorkingChips}
-use Rattle.chip_set.specs.Quiet.{PassesQuiet}
-use Rattle.quiet_clocks.specs.PlainClock.{AsksNothingNew, asked_by_side}
+use Rattle.quiet_clocks.specs.PlainClock.{asked_by_side}
 use Rattle.quiet_clocks.specs.QuietClock.{IsCalm}
-use Rattle.quiet_clocks.specs.QuietClocks.{later_beam, later_side, later_units, later_chips, later_state, IsQuietSpan, AreQuiet}
+use Rattle.quiet_clocks.specs.QuietClocks.{later_beam, later_side, later_units, later_chips, later_state, IsQuietSpan}
 use Rattle.quiet_clocks.proofs.PlainClock.{else_of}
 use Rattle.quiet_clocks.proofs.QuietClock.{nobody_asks}
-use Rattle.quiet_clocks.proofs.QuietClocks.{quiet_span, fewer_are_quiet, clocks_of_run, no_side_stays}
+use Rattle.quiet_clocks.proofs.QuietClocks.{quiet_span, fewer_are_quiet, clocks_of_run}
 use Rattle.foreground.specs.Clock.{IsAt}
 use Rattle.foreground.specs.Fore.{ForeValue, HasScript, IsUnderway, is_done}
 use Rattle.foreground.specs.Gathered.{Fits}
-use Rattle.foreground.specs.Log.{IsLogOf, IsShown, with_waiting, with_script_touches, with_access_touch}
-use Rattle.foreground.specs.Machine.{MachineValue, IsMachineOf}
-use Rattle.foreground.specs.QuietCode.{PassesClocks, PassesOver, HasPassed}
+use Rattle.picture_log.specs.Log.{IsLogOf, IsShown, with_waiting, with_script_touches, with_access_touch}
+use Rattle.machine.specs.Machine.{MachineValue, IsMachineOf}
+use Rattle.machine.specs.QuietCode.{PassesClocks, PassesOver}
+use Rattle.foreground.specs.QuietCode.{HasPassed}
 use Rattle.foreground.specs.RunTo.{RunsOn}
 use Rattle.foreground.specs.Script.{IsLeft}
-use Rattle.foreground.specs.declared.log.Log.{Log}
+use Rattle.picture_log.specs.declared.log.Log.{Log}
 use Rattle.foreground.proofs.AdvanceLaws.{going}
 use Rattle.foreground.proofs.CutLaws.{gives_none}
-use Rattle.foreground.proofs.Logging.{log_starts, log_shown, log_accessed}
+use Rattle.picture_log.proofs.Logging.{log_starts, log_shown, log_accessed}
 use Rattle.foreground.proofs.ReadingLaws.{fits_least}
 use Rattle.foreground.proofs.RunToLaws.{runs_none}
 
@@ -111,67 +108,6 @@ unfolding later_state later_side
 later_asks_none system events s n k processors span low =
     asks_for_none system events (later_state system events k processors s) (not_start k s.beam span.inner) (span.due k low) (span.side k low)
     (calm_later s.beam s.t k processors s.chips (span.calm k low))
-
--- ---- the machine
-
--- chips without a side that pass over clocks
-pub none_later : (k : ℕ) (b : Beam) (dmacon : ℕ) (side : SideValue) → side ≡ no_side → later_side k b dmacon side ≡ no_side
-none_later k b dmacon side none = ap (λ (x : SideValue). later_side k b dmacon x) none ∙ no_side_stays k b dmacon
-
-span_of_chips : (events : List At) (s : State) (n : ℕ) (processors : ℕ → Processor) → 0 < s.beam.h → s.beam.h + n ≤ 226 → s.side ≡ no_side
-    → ((k : ℕ) → k < n → due_events (later_beam k s.beam) events ≡ []) → AreQuiet s.beam s.t n processors s.chips
-    → IsQuietSpan events s n processors
-span_of_chips events s n processors inner last none due are =
-    let dmacon = dmacon_of s.chips.registers in
-    record {
-      inner = inner;
-      last = last;
-      begin = are.begin;
-      due = due;
-      lines = λ k low. subst (λ (x : SideValue). AsksNothingNew (bits_of_side (later_beam k s.beam) dmacon x) s.chips)
-          (sym (none_later k s.beam dmacon s.side none)) are.lines;
-      side = λ k low. ap (λ (x : SideValue). ask_of_side (later_beam k s.beam) dmacon x) (none_later (suc k) s.beam dmacon s.side none);
-      calm = are.calm;
-      turns = are.turns;
-      timers_a = are.timers_a;
-      timers_b = are.timers_b;
-    }
-
-abbrev pub moved : MachineValue → WorkingChips → ℕ → MachineValue
-moved m chips n = record m { t = m.t + n; beam = later_beam n m.beam; chips = chips }
-
-stands_later : (system : System) (events : List At) (m : MachineValue) (chips : WorkingChips) (n : ℕ) (s : State) (processors : ℕ → Processor)
-    → IsMachineOf m s → m.side ≡ no_side → IsChipsOf chips (later_chips s.beam s.t n processors s.chips)
-    → IsMachineOf (moved m chips n) (later_state system events n processors s)
-unfolding later_state
-stands_later system events m chips n s processors is none stands = record {
-  t = ap (λ k. k + n) is.t;
-  beam = ap (λ b. later_beam n b) is.beam;
-  memory = is.memory;
-  chips = stands;
-  side = none_later n s.beam (dmacon_of s.chips.registers) s.side (is.side ∙ none) ∙ sym none;
-}
-
-abbrev ChipsPass : MachineValue → WorkingChips → ℕ → Beam → ℕ → Type 0
-ChipsPass m chips n b t = (c : Chips) → IsChipsOf m.chips c → PassesQuiet b t n c chips
-
-pub machine_passes : (m : MachineValue) (chips : WorkingChips) (n : ℕ) → 0 < m.beam.h → m.beam.h + n ≤ 226 → m.side ≡ no_side
-    → ((c : Chips) → IsChipsOf m.chips c → PassesQuiet m.beam m.t n c chips) → PassesOver n m (moved m chips n)
-machine_passes m chips n inner last none passes events s is due =
-    let here : ChipsPass m chips n s.beam s.t =
-    subst (λ b. ChipsPass m chips n b s.t) (sym is.beam) (subst (λ t. ChipsPass m chips n m.beam t) (sym is.t) passes) in
-    let one : PassesQuiet s.beam s.t n s.chips chips = here s.chips is.chips in
-    let span : IsQuietSpan events s n one.processors =
-    span_of_chips events s n one.processors (subst (λ (b : Beam). 0 < b.h) (sym is.beam) inner)
-    (subst (λ (b : Beam). b.h + n ≤ 226) (sym is.beam) last) (is.side ∙ none)
-    (subst (λ (b : Beam). (k : ℕ) → k < n → due_events (later_beam k b) events ≡ []) (sym is.beam) due) one.quiet in
-    record {
-      processors = one.processors;
-      quiet = span;
-      stands = λ system.
-          subst (λ x. IsMachineOf (moved m chips n) x) (sym (quiet_span system events n s one.processors span))
-          (stands_later system events m chips n s one.processors is none one.stands);
-    }
 
 -- ---- the clocks of a run
 

@@ -14,17 +14,17 @@ use Rattle.serial_bands.specs.Run.{RunValue, state_of, beam_at}
 use Rattle.serial_bands.specs.Clock.{due_at, sets_at}
 use Rattle.serial_bands.specs.Bands.{has_clx_read}
 use Rattle.band_log.specs.Raster.{RasterValue}
-use Rattle.foreground.specs.Machine.{MachineValue, IsMachineOf, Start, Stands, MakesQuietly, KeepsPlace, IsSamePlace}
-use Rattle.foreground.specs.Log.{IsShown, with_script_touch, with_script_touches}
+use Rattle.machine.specs.Machine.{MachineValue, IsMachineOf, Start, Stands, MakesQuietly, KeepsPlace, IsSamePlace}
+use Rattle.picture_log.specs.Log.{IsShown, with_script_touch, with_script_touches}
 use Rattle.foreground.specs.Script.{MakesEvents, IsMachine}
 use Rattle.foreground.specs.Gathered.{Fits}
 use Rattle.foreground.specs.Clock.{HasBegun, IsBeforeAccess, Tells, access_state}
 use Rattle.foreground.specs.Fore.{ForeValue, HasScript}
 use Rattle.foreground.specs.Steps.{HasScriptBehind, ReachesAccess}
-use Rattle.foreground.specs.declared.log.Log.{Log}
-use Rattle.foreground.proofs.ToldLaws.{told_none}
-use Rattle.foreground.proofs.RunLaws.{stands_shown}
-use Rattle.foreground.proofs.Logging.{log_shown}
+use Rattle.picture_log.specs.declared.log.Log.{Log}
+use Rattle.machine.proofs.ToldLaws.{told_none}
+use Rattle.machine.proofs.RunLaws.{stands_shown}
+use Rattle.picture_log.proofs.Logging.{log_shown}
 
 -- from the state in which a clock begins to that in which its access is made
 pub stands_at_access : (run : RunValue) (c bits : ℕ) (m0 m1 m2 m3 : MachineValue) (out given : OutFilesValue) → IsMachineOf m0 (state_of run c)

@@ -21,13 +21,14 @@ use Rattle.serial_bands.proofs.BandOrder.{bands_order}
 use Rattle.serial_bands.proofs.Gathering.{gathered_at_access}
 use Rattle.serial_bands.proofs.WholeRun.{place_rises}
 use Rattle.band_log.specs.Raster.{RasterValue}
-use Rattle.foreground.specs.Log.{IsEnding}
+use Rattle.picture_log.specs.Log.{IsEnding}
 use Rattle.foreground.specs.Gathered.{Fits, HasGatheredTo, GathersAll, GathersPart}
 use Rattle.foreground.specs.Clock.{access_state}
-use Rattle.foreground.specs.CutsCode.{StandsAtEnd, HasEnded, EndsAtRead, EndsPartAtRead, IsClockBefore}
+use Rattle.foreground.specs.CutsCode.{StandsAtEnd, HasEnded, EndsAtRead, EndsPartAtRead}
+use Rattle.picture_log.specs.Closing.{IsClockBefore}
 use Rattle.foreground.specs.Fore.{ForeValue, IsUnderway}
 use Rattle.foreground.specs.Steps.{IsLoggedBefore, StandsBeforeRead, ReadsBits, ReadsPart, BeginsPart, AccessesPart}
-use Rattle.foreground.proofs.Logging.{log_read, read_begins, log_ends}
+use Rattle.picture_log.proofs.Logging.{log_read, read_begins, log_ends}
 use Rattle.foreground.proofs.CutLaws.{gives_gathered, gives_part}
 use Rattle.foreground.proofs.LeftLaws.{log_band}
 

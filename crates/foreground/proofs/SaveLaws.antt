@@ -22,13 +22,13 @@ use Rattle.foreground.specs.Clock.{AreLeftFrom}
 use Rattle.foreground.specs.CutsCode.{StandsAtEnd, HasEnded, EndsAtRead, EndsPartAtRead}
 use Rattle.foreground.specs.Fore.{ForeOf, ForeValue, IsUnderway, GivesPart, over}
 use Rattle.foreground.specs.Gathered.{Fits, HasGatheredTo, GathersAll, outstanding_from, tinted_range}
-use Rattle.foreground.specs.Log.{IsLogOf, waiting_list}
+use Rattle.picture_log.specs.Log.{IsLogOf, waiting_list}
 use Rattle.foreground.specs.Save.{HasSaved, Saves, IsSaved}
-use Rattle.foreground.specs.declared.log.Log.{Log}
+use Rattle.picture_log.specs.declared.log.Log.{Log}
 use Rattle.foreground.proofs.BeginLaws.{machine_kept}
 use Rattle.foreground.proofs.CutLaws.{with_parts, gives_gathered}
 use Rattle.foreground.proofs.LeftLaws.{left_from, log_band}
-use Rattle.foreground.proofs.Logging.{log_ends}
+use Rattle.picture_log.proofs.Logging.{log_ends}
 use Rattle.foreground.proofs.ReadingLaws.{here_at}
 
 -- ---- a band begins with a field

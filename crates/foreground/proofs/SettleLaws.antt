@@ -9,13 +9,13 @@ use Rattle.serial_bands.specs.Run.{RunValue, state_of, IsEndOf}
 use Rattle.serial_bands.specs.Bands.{begun}
 use Rattle.serial_bands.proofs.WholeRun.{end_begins}
 use Rattle.band_log.specs.Raster.{RasterValue}
-use Rattle.foreground.specs.Log.{IsLogOf}
+use Rattle.picture_log.specs.Log.{IsLogOf}
 use Rattle.foreground.specs.Gathered.{Fits, HasGatheredTo, GathersAll, GathersPart}
 use Rattle.foreground.specs.CutsCode.{StandsAtEnd, HasEndedAll, EndsAll, EndsPartAtRead}
 use Rattle.foreground.specs.Fore.{ForeValue, IsUnderway, is_done, HasSettled, Settles, GivesPart}
-use Rattle.foreground.specs.Machine.{IsMachineOf}
-use Rattle.foreground.specs.declared.log.Log.{Log}
-use Rattle.foreground.proofs.Logging.{log_ends}
+use Rattle.machine.specs.Machine.{IsMachineOf}
+use Rattle.picture_log.specs.declared.log.Log.{Log}
+use Rattle.picture_log.proofs.Logging.{log_ends}
 use Rattle.foreground.proofs.CutLaws.{gives_gathered, gives_part}
 use Rattle.foreground.proofs.ReadingLaws.{here_at}
 use Rattle.foreground.proofs.BeginLaws.{machine_kept}

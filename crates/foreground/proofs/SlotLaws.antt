@@ -1,30 +1,18 @@
 -- The slot of a clock.
-use Rattle.std.proofs.Common.{◌≡◌, ℕ, ◌==◌, true, Option, Some, sym, ap, subst, ◌∙◌}
-use Rattle.ocs_base.specs.declared.reg.Reg.{Reg}
+use Rattle.std.proofs.Common.{◌≡◌, ℕ, Option, ap, subst, ◌∙◌}
 use Rattle.out_files.specs.OutFiles.{OutFilesValue}
 use Rattle.serial_model.specs.declared.bus.Ask.{Ask}
 use Rattle.serial_model.specs.Bus.{answer_to}
-use Rattle.serial_model.specs.State.{Chips, State, read_word}
+use Rattle.serial_model.specs.State.{State}
 use Rattle.serial_model.specs.Tick.{ask_of, answer_of}
 use Rattle.band_log.specs.Raster.{RasterValue}
-use Rattle.chip_set.proofs.AskLaws.{read_once_asked}
-use Rattle.chip_set.specs.Chips.{IsChipsOf}
-use Rattle.foreground.specs.Machine.{MachineValue, HasAskedOf}
+use Rattle.machine.specs.Machine.{MachineValue}
 use Rattle.foreground.specs.Clock.{access_state}
 use Rattle.foreground.specs.Fore.{ForeValue, IsUnderway}
-use Rattle.foreground.specs.Slot.{register_word, IsSlotOf}
+use Rattle.machine.specs.RegisterWord.{register_word}
+use Rattle.foreground.specs.Slot.{IsSlotOf}
 use Rattle.foreground.specs.Steps.{BeginsClock, ReachesAsk}
 use Rattle.foreground.specs.declared.slot.Slot.{Slot}
-use Rattle.foreground.proofs.StepLaws.{read_alike}
-
--- what a read gives of chips that have asked is what it gives in the state
-pub word_read : (reg : Reg) (m : MachineValue) (clx word : ℕ) (s : State) → HasAskedOf m s → ((reg.offset == 0x0e) ≡ true → s.clx ≡ clx)
-    → ((c : Chips) → IsChipsOf m.chips c → word ≡ read_word reg.offset m.beam clx c) → Some word ≡ Some (read_word reg.offset s.beam s.clx s.chips)
-word_read reg m clx word s asked bits is =
-    ap (λ (w : ℕ). Some w)
-    (read_once_asked reg s.beam clx s.chips m.chips word asked.chips
-    (subst (λ b. (c : Chips) → IsChipsOf m.chips c → word ≡ read_word reg.offset b clx c) (sym asked.beam) is)
-    ∙ sym (read_alike reg.offset s.beam s.clx clx s.chips bits))
 
 -- the word of an ask is that of the state's own
 pub word_by_ask : (ask : Ask) (s : State) (word : Option ℕ) → ask ≡ ask_of s

@@ -8,7 +8,7 @@ use Rattle.serial_bands.specs.BusReads.{reads_of_ask}
 use Rattle.chip_set.specs.Chips.{CanAsk, IsBlitAsk, kept_wish}
 use Rattle.band_log.specs.Raster.{RasterValue}
 use Rattle.foreground.specs.Fore.{ForeValue}
-use Rattle.foreground.specs.Slot.{register_word}
+use Rattle.machine.specs.RegisterWord.{register_word}
 use Rattle.foreground.specs.Steps.{IsLoggedBefore, HasAskedNow, MakesAskedAccess, AccessesPart, KeepsClock, reads_more}
 
 -- the log stands before the access of the clock, and the chips have asked for the slot with this

@@ -9,7 +9,7 @@ use Rattle.serial_bands.specs.Run.{RunOf, RunValue, run_over}
 use Rattle.band_log.specs.Raster.{RasterValue, Takes}
 use Rattle.chip_set.specs.Chips.{WorkingChips}
 use Rattle.foreground.specs.Fore.{ForeOf, ForeValue, IsUnderway}
-use Rattle.foreground.specs.declared.log.Log.{Log}
+use Rattle.picture_log.specs.declared.log.Log.{Log}
 
 pub record CheckpointOf (S : Type 0) : Type 0 where
   pub run : RunOf S

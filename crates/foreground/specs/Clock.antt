@@ -11,11 +11,11 @@ use Rattle.serial_bands.specs.Clock.{made_at}
 use Rattle.serial_bands.specs.Bands.{begins, begun, has_read_before}
 use Rattle.serial_bands.specs.Gathering.{IsGathered, IsGatheredIn}
 use Rattle.band_log.specs.Raster.{RasterValue}
-use Rattle.foreground.specs.Out.{Gives}
-use Rattle.foreground.specs.Machine.{MachineValue, IsMachineOf}
-use Rattle.foreground.specs.Log.{IsLogOf, IsStarted, IsShown}
+use Rattle.machine.specs.Out.{Gives}
+use Rattle.machine.specs.Machine.{MachineValue, IsMachineOf}
+use Rattle.picture_log.specs.Log.{IsLogOf, IsStarted, IsShown}
 use Rattle.foreground.specs.Gathered.{Fits, KeepsMark, tinted_range}
-use Rattle.foreground.specs.declared.log.Log.{Log}
+use Rattle.picture_log.specs.declared.log.Log.{Log}
 
 -- At the start of clock c: machine and log stand there, outstanding are the bands from clock `first` up to the open one, and
 -- these are the collision bits of the bands that were gathered since CLXDAT was read.

@@ -1,12 +1,10 @@
 -- What ends a band, and what gathering for a read of CLXDAT gives.
-use Rattle.std.specs.Prelude.{◌≡◌, ◌≤◌, ◌-◌, Bool, false, ℕ, [], bit_or, Option, IsSome, Result, IfOk, OnErr}
+use Rattle.std.specs.Prelude.{◌≡◌, ◌≤◌, ◌-◌, Bool, ℕ, [], bit_or, Option, IsSome, Result, IfOk, OnErr}
 use Rattle.out_files.specs.OutFiles.{OutFilesValue}
 use Rattle.serial_model.specs.declared.picture.Denise.{Denise}
-use Rattle.serial_model.specs.Beam.{is_line_start}
-use Rattle.serial_bands.specs.Run.{RunValue, beam_at}
 use Rattle.serial_bands.specs.BandShown.{clx_from}
 use Rattle.band_log.specs.Raster.{RasterValue}
-use Rattle.foreground.specs.Log.{IsLogOf, IsEnding, IsCut}
+use Rattle.picture_log.specs.Log.{IsLogOf, IsEnding, IsCut}
 use Rattle.foreground.specs.Gathered.{Fits, HasGatheredTo}
 use Rattle.foreground.specs.Clock.{HasGiven, HasGivenPart}
 use Rattle.foreground.specs.Fore.{ForeValue}
@@ -65,11 +63,6 @@ EndsPart to old seen after out given =
 abbrev pub EndsPartAtRead : ℕ → ForeValue → RasterValue → RasterValue → OutFilesValue → OutFilesValue → Type 0
 EndsPartAtRead to old seen after out given =
     (first : ℕ) → StandsAtEnd to first old seen → HasGivenPart old.run first seen after out given
-
--- The clock of the line before clock `to` is h, where no line starts there. (Where one does, loads are forgotten, and of what a write makes nothing else
--- depends on its clock.)
-abbrev pub IsClockBefore : RunValue → ℕ → ℕ → Type 0
-IsClockBefore run to h = is_line_start (beam_at run to) ≡ false → h ≡ (beam_at run (to - 1)).h
 
 -- CLXDAT is read within a clock: the bits that the read sees, or, where memory was wanted, a part of the pixels of outstanding bands
 pub record ReadsClxdat {E : Type 0} (shown : Bool) (old new : ForeValue) (seen after : RasterValue) (out given : OutFilesValue)

@@ -6,9 +6,9 @@ use Rattle.serial_model.specs.declared.picture.Touch.TheVariants as T
 use Rattle.quiet_clocks.specs.FetchClocks.{Fetching, fetching_after, fetching_on, ask_of_fetching}
 use Rattle.quiet_clocks.specs.QuietClocks.{later_beam}
 use Rattle.chip_set.specs.Quiet.{fetching_in, with_fetching, HaveFetched}
-use Rattle.foreground.specs.Log.{with_access_touch}
-use Rattle.foreground.specs.declared.log.Log.{Log}
-use Rattle.foreground.specs.declared.machine.Machine.{Machine}
+use Rattle.picture_log.specs.Log.{with_access_touch}
+use Rattle.picture_log.specs.declared.log.Log.{Log}
+use Rattle.machine.specs.declared.machine.Machine.{Machine}
 
 -- the fetch of clock c, where there is one, is an event at once
 abbrev pub with_fetch : ℕ → Option PlaneAsk → Log → Log

@@ -11,10 +11,10 @@ use Rattle.serial_bands.specs.Bands.{begun, is_band_place}
 use Rattle.serial_bands.specs.BusReads.{latched_words}
 use Rattle.band_log.specs.Raster.{RasterValue, Takes}
 use Rattle.foreground.specs.Clock.{IsAt, HasGiven, HasGivenPart}
-use Rattle.foreground.specs.Machine.{MachineValue, machine_over, IsMachineOf}
+use Rattle.machine.specs.Machine.{MachineValue, machine_over, IsMachineOf}
 use Rattle.foreground.specs.Script.{IsLeft}
-use Rattle.foreground.specs.declared.log.Log.{Log}
-use Rattle.foreground.specs.declared.machine.Machine.{Machine}
+use Rattle.picture_log.specs.declared.log.Log.{Log}
+use Rattle.machine.specs.declared.machine.Machine.{Machine}
 
 -- the foreground as it is kept, of a run over a side of some type
 pub record ForeOf (S : Type 0) : Type 0 where

@@ -1,14 +1,13 @@
 -- What gathering bands from a raster gives.
-use Rattle.std.specs.Prelude.{◌≡◌, ◌≤◌, ◌<◌, ◌↔◌, ℕ, zero, suc, ◌+◌, ◌-◌, ◌*◌, List, [], ◌∷◌, ◌++◌, bit_or, Option, Some, None, IsSome, IsOk, Result}
+use Rattle.std.specs.Prelude.{◌≡◌, ◌≤◌, ◌<◌, ◌↔◌, ℕ, zero, suc, ◌+◌, ◌-◌, List, [], ◌∷◌, ◌++◌, bit_or, Option, Some, None, IsSome, IsOk, Result}
 use Rattle.out_files.specs.OutFiles.{OutFilesValue}
 use Rattle.serial_model.specs.declared.picture.Denise.{Denise}
-use Rattle.serial_bands.specs.Run.{RunValue, beam_at}
-use Rattle.serial_bands.specs.Clock.{closing_at}
+use Rattle.serial_bands.specs.Run.{RunValue}
 use Rattle.serial_bands.specs.Bands.{AreBands}
 use Rattle.serial_bands.specs.BandShown.{bytes_from, clx_from, tinted_bytes}
-use Rattle.serial_model.specs.StandsFor.{StandsFor}
 use Rattle.band_log.specs.Raster.{RasterValue, Outstanding, Takes}
-use Rattle.foreground.specs.Out.{Gives}
+use Rattle.machine.specs.Out.{Gives}
+use Rattle.picture_log.specs.Closing.{IsClosing}
 
 -- so many bands of a run, from number n on, as they are outstanding
 abbrev pub outstanding_from : RunValue → ℕ → ℕ → List Outstanding
@@ -60,10 +59,6 @@ pub record HasGatheredPart (run : RunValue) (number to first : ℕ) (seen after 
   pub rest : List ℕ
   pub split : part ++ rest ≡ tinted_range run seen.tint first then
   pub pixels : Gives old new part []
-
--- a picture state stands for the closing one of the band that ends at a clock
-abbrev pub IsClosing : RunValue → ℕ → Denise → Type 0
-IsClosing run to closing = StandsFor (4 * (beam_at run (to - 1)).h + 4) closing (closing_at run (to - 1))
 
 abbrev pub IsClosingIfAny : RunValue → ℕ → Option Denise → Type 0
 IsClosingIfAny run to None = Unit {0}

@@ -1,9 +1,3 @@
-pub mod Out
-pub mod Machine
-pub mod MachineStepsCode
-pub mod ShownCountCode
-pub mod Log
-pub mod LogLaws
 pub mod Script
 pub mod Gathered
 pub mod Clock

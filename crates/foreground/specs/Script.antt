@@ -10,9 +10,9 @@ use Rattle.serial_model.specs.State.{State}
 use Rattle.serial_model.proofs.EventLaws.{IsQueue}
 use Rattle.serial_model.specs.declared.picture.Touch.{Touch}
 use Rattle.serial_bands.specs.Bands.{has_clx_read}
-use Rattle.foreground.specs.Machine.{MachineValue, Start, Stands, IsMachineOf}
-use Rattle.foreground.specs.Log.{with_script_touch}
-use Rattle.foreground.specs.declared.log.Log.{Log}
+use Rattle.machine.specs.Machine.{MachineValue, Start, Stands, IsMachineOf}
+use Rattle.picture_log.specs.Log.{with_script_touch}
+use Rattle.picture_log.specs.declared.log.Log.{Log}
 
 -- events that are none of them before the place, in order and in the limits of some run
 pub record IsLeft (place : ℕ) (events : List At) : Type 0 where

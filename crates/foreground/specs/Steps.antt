@@ -13,8 +13,8 @@ use Rattle.serial_model.specs.Made.{is_clx_read}
 use Rattle.serial_bands.specs.Clock.{due_at, made_at}
 use Rattle.serial_bands.specs.Bands.{has_clx_read}
 use Rattle.band_log.specs.Raster.{RasterValue}
-use Rattle.foreground.specs.Machine.{MachineValue, IsMachineOf, IsSamePlace, HasAskedOf, MakesQuietly, KeepsPlace}
-use Rattle.foreground.specs.Log.{IsLogOf, with_script_touches}
+use Rattle.machine.specs.Machine.{MachineValue, IsMachineOf, IsSamePlace, HasAskedOf, MakesQuietly, KeepsPlace}
+use Rattle.picture_log.specs.Log.{IsLogOf, with_script_touches}
 use Rattle.foreground.specs.Gathered.{Fits}
 use Rattle.foreground.specs.Script.{IsLeft, HasLater, MakesEvents}
 use Rattle.foreground.specs.Clock.{IsAt, HasBegun, IsLogged, IsBeforeAccess, IsBehindAccess, Tells, HasGiven, HasGivenPart, access_state, accessed_state}

@@ -12,9 +12,9 @@ ghost use Rattle.foreground.specs.Fore.{over};
 ghost use Rattle.foreground.specs.Steps.{MakesAskedAccess, AccessesPart, KeepsClock, reads_more};
 
 use crate::fore::Fore;
-use crate::touches::touch_of;
 use band_log::Raster;
 use chip_set::{LateOwner, is_clx_ask};
+use machine::touch_of;
 use ocs_base::OutOfMemory;
 use out_files::OutFiles;
 use serial_model::{Ask, Side};

@@ -8,14 +8,14 @@ ghost use Rattle.serial_bands.specs.BusReads.{latched_words};
 ghost use Rattle.serial_bands.specs.Clock.{due_at};
 ghost use Rattle.foreground.specs.Clock.{Rises};
 ghost use Rattle.foreground.specs.Fore.{over, IsUnderway, is_done, looked_up};
-ghost use Rattle.foreground.specs.Log.{with_begin};
+ghost use Rattle.picture_log.specs.Log.{with_begin};
 ghost use Rattle.foreground.specs.Steps.{StandsBeforeRead, BeginsClock, BeginsPart, KeepsClock};
 
 use crate::fore::Fore;
-use crate::shown_count::shown_before;
 use band_log::Raster;
 use ocs_base::OutOfMemory;
 use out_files::OutFiles;
+use picture_log::shown_before;
 use serial_model::Side;
 
 impl<S: Side> Fore<S> {

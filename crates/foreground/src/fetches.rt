@@ -9,17 +9,16 @@ ghost use Rattle.quiet_clocks.specs.QuietClocks.{later_beam};
 ghost use Rattle.bitplane_dma.specs.RulesCode.{rules_of};
 ghost use Rattle.chip_set.specs.Quiet.{AreAtRest, fetching_in};
 ghost use Rattle.band_log.specs.Raster.{RasterValue};
-ghost use Rattle.foreground.specs.Log.{with_waiting};
+ghost use Rattle.picture_log.specs.Log.{with_waiting};
 ghost use Rattle.foreground.specs.Fore.{over, IsUnderway, is_done};
 ghost use Rattle.foreground.specs.QuietCode.{HasPassed};
-ghost use Rattle.foreground.specs.FetchesCode.{with_fetch, with_fetches};
-ghost use Rattle.foreground.specs.FetchesCode.{clock_of_planes, clocks_of_planes, HasFetched};
+ghost use Rattle.foreground.specs.FetchesCode.{with_fetch, with_fetches, clock_of_planes, clocks_of_planes, HasFetched};
 
 use crate::fore::Fore;
-use crate::log::Log;
-use crate::machine::Machine;
 use chip_set::FetchRules;
+use machine::Machine;
 use ocs_base::OutOfMemory;
+use picture_log::Log;
 use serial_model::{PlaneAsk, Side, Touch};
 
 impl<S: Side> Fore<S> {

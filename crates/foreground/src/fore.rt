@@ -6,11 +6,11 @@ ghost use Rattle.std.specs.Arc.{arc_value};
 ghost use Rattle.serial_bands.specs.Run.{run_over};
 ghost use Rattle.foreground.specs.Fore.{over, IsNew, is_done};
 
-use crate::log::Log;
 use crate::lookout::Lookout;
-use crate::machine::Machine;
 use band_log::{Cursor, Run};
+use machine::Machine;
 use ocs_base::{Beam, OutOfMemory, System};
+use picture_log::Log;
 use reg_file::Regs;
 use serial_model::{NoSide, Side};
 use std::alloc::Global;

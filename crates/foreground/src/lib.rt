@@ -5,7 +5,6 @@
 
 mod access;
 mod advance;
-mod band;
 mod begin;
 mod bus;
 mod checkpoint;
@@ -14,11 +13,8 @@ mod cuts;
 mod fetches;
 mod fore;
 mod gather;
-pub mod laws;
 mod line;
-mod log;
 mod lookout;
-mod machine;
 mod memory_bytes;
 mod memory_sum;
 mod quiet;
@@ -27,10 +23,7 @@ mod run_to;
 mod save;
 mod script;
 mod settle;
-mod shadow;
-mod shown_count;
 mod slot;
-mod touches;
 
 pub use checkpoint::Checkpoint;
 pub use fore::Fore;

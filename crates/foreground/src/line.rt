@@ -6,7 +6,7 @@ ghost use Rattle.serial_bands.specs.BusReads.{bus_reads};
 ghost use Rattle.quiet_clocks.specs.QuietClocks.{later_beam};
 ghost use Rattle.band_log.specs.Raster.{RasterValue};
 ghost use Rattle.foreground.specs.Clock.{Rises};
-ghost use Rattle.foreground.specs.Machine.{IsSamePlace};
+ghost use Rattle.machine.specs.Machine.{IsSamePlace};
 ghost use Rattle.foreground.specs.Fore.{over, CanGo, IsUnderway, Advances, GivesPart, is_done, looked_up};
 ghost use Rattle.foreground.specs.RunTo.{RunsOn, RisesIn, RisesInSome};
 ghost use Rattle.foreground.specs.LineCode.{AreInLine};

@@ -7,10 +7,10 @@ ghost use Rattle.foreground.specs.Steps.{StandsBeforeRead, ReadsBits, ReadsPart}
 
 use crate::fore::Fore;
 use crate::gather::gather_all;
-use crate::shown_count::{shown_before, shown_behind};
 use band_log::Raster;
 use ocs_base::{Beam, OutOfMemory};
 use out_files::OutFiles;
+use picture_log::{shown_before, shown_behind};
 use serial_model::Side;
 
 impl<S: Side> Fore<S> {

@@ -6,12 +6,12 @@ ghost use Rattle.foreground.specs.Steps.{KeepsClock};
 
 use crate::fore::Fore;
 use crate::gather::gather_all;
-use crate::machine::Machine;
-use crate::shown_count::shown_before;
 use band_log::Raster;
+use machine::Machine;
 use mem_versions::Chip;
 use ocs_base::OutOfMemory;
 use out_files::OutFiles;
+use picture_log::shown_before;
 use serial_model::Side;
 
 impl<S: Side> Fore<S> {

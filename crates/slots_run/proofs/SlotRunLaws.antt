@@ -12,8 +12,8 @@ use Rattle.serial_model.specs.Serial.{state_over}
 use Rattle.serial_model.specs.State.{reset}
 use Rattle.serial_model.specs.declared.side.NoSide.{NoSide}
 use Rattle.serial_bands.specs.Run.{RunValue, beam_at}
-use Rattle.foreground.specs.declared.log.Log.{Log}
-use Rattle.foreground.specs.Log.{IsBandOf}
+use Rattle.picture_log.specs.declared.log.Log.{Log}
+use Rattle.picture_log.specs.Log.{IsBandOf}
 use Rattle.foreground.specs.Fore.{ForeOf, ForeValue, IsNew, IsUnderway, is_done}
 use Rattle.foreground.specs.RunTo.{HasRunOn, RunsOn, HasCome}
 use Rattle.ocs_base.specs.declared.system.System.{System}

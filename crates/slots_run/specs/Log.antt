@@ -6,7 +6,7 @@ use Rattle.serial_model.specs.Side.{no_side}
 use Rattle.serial_model.specs.Tick.{ask_of, answer_of}
 use Rattle.serial_bands.specs.Run.{RunValue, beam_at, run_memory}
 use Rattle.foreground.specs.Clock.{access_state}
-use Rattle.foreground.specs.Slot.{register_word}
+use Rattle.machine.specs.RegisterWord.{register_word}
 use Rattle.slot_log.specs.Entry.{SlotClock}
 use Rattle.slot_log.specs.SlotLog.{slots_file}
 

@@ -2,8 +2,8 @@
 use Rattle.std.proofs.Common.{subst, List, [], ℕ, refl}
 use Rattle.ocs_io.proofs.MapLaws.{on_err}
 use Rattle.foreground.specs.Gathered.{GathersPart}
-use Rattle.foreground.specs.Out.{Gives}
-use Rattle.foreground.proofs.OutLaws.{gives_pixels}
+use Rattle.machine.specs.Out.{Gives}
+use Rattle.machine.proofs.OutLaws.{gives_pixels}
 use Rattle.foreground.proofs.GatherLaws.{gathers_one, gathers_no_pixels}
 use Rattle.foreground.proofs.gather.gather_one.Goals as goal
 

@@ -1,6 +1,6 @@
 use Rattle.std.proofs.Common.{sym, subst, ap, ◌∙◌}
 use Rattle.std.proofs.lemmas.Bool.{false≢true}
-use Rattle.foreground.specs.Machine.{HasAskedOf}
+use Rattle.machine.specs.Machine.{HasAskedOf}
 use Rattle.foreground.specs.Clock.{access_state}
 use Rattle.foreground.specs.Fore.{ForeValue, over}
 use Rattle.foreground.proofs.fore.Fore.access_with_word.Goals as goal

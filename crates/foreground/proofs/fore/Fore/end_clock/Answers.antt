@@ -1,4 +1,4 @@
-use Rattle.foreground.specs.Machine.{machine_over}
+use Rattle.machine.specs.Machine.{machine_over}
 use Rattle.foreground.specs.Fore.{ForeValue, over}
 use Rattle.std.proofs.Common.{ap, ◌∙◌}
 use Rattle.foreground.proofs.AdvanceLaws.{ends_clock}

@@ -1,6 +1,6 @@
 use Rattle.std.proofs.Common.{ap, arith, subst, sym}
 use Rattle.foreground.specs.Fore.{over}
-use Rattle.foreground.specs.Machine.{machine_over}
+use Rattle.machine.specs.Machine.{machine_over}
 use Rattle.foreground.specs.QuietCode.{HasPassed}
 use Rattle.foreground.proofs.FetchLaws.{fetches_now}
 use Rattle.foreground.proofs.QuietLaws.{passes_none}

@@ -1,6 +1,6 @@
 use Rattle.std.proofs.Common.{ap, arith}
 use Rattle.foreground.specs.Fore.{over}
-use Rattle.foreground.specs.Machine.{machine_over}
+use Rattle.machine.specs.Machine.{machine_over}
 use Rattle.foreground.proofs.QuietLaws.{passes_now}
 use Rattle.foreground.proofs.fore.Fore.pass_in_line.Goals as goal
 

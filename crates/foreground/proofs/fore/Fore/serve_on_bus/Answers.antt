@@ -1,6 +1,7 @@
 use Rattle.std.proofs.Common.{ap}
 use Rattle.foreground.specs.Fore.{over}
-use Rattle.foreground.proofs.BusLaws.{no_clx, blits_on, kept_view}
+use Rattle.machine.proofs.BusLaws.{no_clx}
+use Rattle.foreground.proofs.BusLaws.{blits_on, kept_view}
 use Rattle.foreground.proofs.ScriptLaws.{lines_same}
 use Rattle.foreground.proofs.MadeLaws.{some_state_asked, lines_of_access, makes_quietly_of, quiet_part, on_err}
 use Rattle.foreground.proofs.fore.Fore.serve_on_bus.Goals as goal

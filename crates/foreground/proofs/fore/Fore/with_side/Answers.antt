@@ -5,7 +5,7 @@ use Rattle.ocs_base.specs.Script.{ScriptValue}
 use Rattle.ocs_base.specs.declared.chip_size.ChipSize.{ChipSize}
 use Rattle.serial_model.specs.Side.{SideValue}
 use Rattle.serial_bands.specs.Run.{RunOf, RunValue, run_over, IsGoodRun}
-use Rattle.foreground.specs.Machine.{IsReset, machine_over}
+use Rattle.machine.specs.Machine.{IsReset, machine_over}
 use Rattle.foreground.proofs.NewLaws.{new_fore, good_over}
 use Rattle.foreground.proofs.fore.Fore.with_side.Goals as goal
 

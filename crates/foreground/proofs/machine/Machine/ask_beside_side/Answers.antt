@@ -1,9 +1,0 @@
-use Rattle.std.proofs.Common.{refl, ap}
-use Rattle.foreground.specs.Machine.{machine_over}
-use Rattle.foreground.proofs.AskedLaws.{asks_in_two}
-use Rattle.foreground.proofs.machine.Machine.ask_beside_side.Goals as goal
-
-pub returns-clause-asks : goal.returns-clause-asks
-returns-clause-asks g c =
-    asks_in_two _ _ _ _ _ refl c.count_timers.ensures.step (ap (machine_over g.S.Side.seen) c.count_timers.ensures.same) c.ask.ensures.ask c.ask.ensures.chips
-    (ap (machine_over g.S.Side.seen) c.ask.ensures.same)

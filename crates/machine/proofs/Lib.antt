@@ -1,0 +1,12 @@
+pub mod OutLaws
+pub mod ToldLaws
+pub mod WriteLaws
+pub mod StepLaws
+pub mod AccessLaws
+pub mod PlaceLaws
+pub mod RunLaws
+pub mod Sizes
+pub mod QuietLaws
+pub mod AskedLaws
+pub mod BusLaws
+pub mod WordLaws

@@ -1,0 +1,5 @@
+pub mod Out
+pub mod Machine
+pub mod MachineStepsCode
+pub mod QuietCode
+pub mod RegisterWord

@@ -1,0 +1,11 @@
+//! The machine without its picture: the count of clocks, the beam, the memory, the chips and a side, with
+//! what each step of a colour clock but the picture's does to them.
+#![tactic(auto)]
+
+mod bus;
+mod machine;
+mod quiet;
+mod touches;
+
+pub use machine::Machine;
+pub use touches::touch_of;

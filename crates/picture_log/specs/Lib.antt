@@ -1,0 +1,4 @@
+pub mod ShownCountCode
+pub mod Log
+pub mod LogLaws
+pub mod Closing
