@@ -19,11 +19,13 @@ use ocs_base::{Beam, Clock};
 use serial_model::{Denise, Side};
 
 /// Draws the band of a job that is right for its own run and number. It takes no memory: the pixels
-/// go into the room of the job, which is handed back with all else as it was.
+/// go into the room of the job, whose picture state becomes that at the band's end, and which is
+/// handed back with all else as it was.
 pub fn draw<S: Side>(job: Job<S>) -> Drawn<S>
     requires { IsRightJob S.seen (run_over S.seen (arc_value job.run)) job.number job }
     ensures right { IsRightDrawn S.seen (run_over S.seen (arc_value job.run)) job.number result }
-    ensures job { result.job ≡ record job { room = result.job.room } }
+    ensures job { result.job
+        ≡ record job { picture = result.job.picture; room = result.job.room } }
 {
     let Job {
         run,
@@ -31,23 +33,23 @@ pub fn draw<S: Side>(job: Job<S>) -> Drawn<S>
         from,
         to,
         beam,
-        opening,
+        mut picture,
         events,
         view,
         mut room,
     } = job;
-    let start = begin(&run, from, to, beam, &opening);
+    let start = begin(&run, from, to, beam, picture.state());
     let end = draw_into(start, &run, events.list(), &view, &mut room);
+    picture.set(end.closing);
     Drawn {
         clx: end.clx,
-        closing: end.closing,
         job: Job {
             run,
             number,
             from,
             to,
             beam,
-            opening,
+            picture,
             events,
             view,
             room,

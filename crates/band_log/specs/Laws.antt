@@ -19,7 +19,7 @@ use Rattle.band_log.specs.Raster.{RasterValue, with_submitted, without_first}
 -- next band begins at its end, and its view is cut there from a memory that was cut at its begin.
 abbrev pub EndedBandIsRight : {S : Type 0} → (S → SideValue) → Type 0
 EndedBandIsRight {S} seen = (job : Job S) (chip : ChipValue) →
-    IsOpen (run_over seen (arc_value job.run)) job.number job.from.0 job.to.0 job.beam job.opening job.events (length job.room) chip →
+    IsOpen (run_over seen (arc_value job.run)) job.number job.from.0 job.to.0 job.beam job.picture job.events (length job.room) chip →
     begins (run_over seen (arc_value job.run)) job.to.0 ≡ true →
     chip.last ≡ job.from.0 →
     IsViewOf chip job.to.0 job.view →

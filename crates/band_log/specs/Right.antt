@@ -18,15 +18,15 @@ pub record IsRightJob {S : Type 0} (seen : S → SideValue) (run : RunValue) (n 
   pub owner : run_over seen (arc_value job.run) ≡ run
   pub numbered : job.number ≡ n
   pub covered : (c : ℕ) → job.from.0 ≤ c → c ≤ job.to.0 → Covers job.view c
-  pub parts : AreRightParts run n job.from.0 job.to.0 job.beam job.opening job.events (word_then job.view) (length job.room)
+  pub parts : AreRightParts run n job.from.0 job.to.0 job.beam job.picture job.events (word_then job.view) (length job.room)
 
 -- A drawn band is right for a run and a number under a tint, which is a byte: its job has that run,
 -- that number and the range of that band, in its room are the pixel bytes that the band shows, each
--- under the tint, its collision bits are the band's, and its closing stands for the band's.
+-- under the tint, its collision bits are the band's, and its picture state stands for the band's closing.
 pub record IsRightFor {S : Type 0} (seen : S → SideValue) (tint : ℕ) (run : RunValue) (n : ℕ) (drawn : Drawn S) : Type 0 where
   pub owner : run_over seen (arc_value drawn.job.run) ≡ run
   pub numbered : drawn.job.number ≡ n
-  pub shown : IsRightUnder tint run n drawn.job.from.0 drawn.job.to.0 drawn.job.room drawn.clx drawn.closing
+  pub shown : IsRightUnder tint run n drawn.job.from.0 drawn.job.to.0 drawn.job.room drawn.clx drawn.job.picture
 
 -- under the tint 0 it is right
 abbrev pub IsRightDrawn : {S : Type 0} → (S → SideValue) → RunValue → ℕ → Drawn S → Type 0

@@ -131,7 +131,7 @@ marks_stay seen after taken = record {
 pub gathers_one : (seen after : RasterValue) (old new : OutFilesValue) (clx gathered : ℕ) {S : Type 0} (side_of : S → SideValue) (drawn : Drawn S) → 0 < length
     seen.outstanding →
     after ≡ without_first seen → IsRightForFirst side_of seen.tint seen.outstanding drawn → Gives old new drawn.job.room [] → gathered ≡ bit_or clx drawn.clx →
-    GathersOne seen after old new clx gathered drawn.closing
+    GathersOne seen after old new clx gathered drawn.job.picture
 gathers_one seen after old new clx gathered side_of drawn some taken right gives ored run number to first fits =
     let one : HasFirst run number to first seen = first_of_fits run number to first seen some fits in
     let for : IsRightFor side_of seen.tint run one.least drawn =
@@ -155,7 +155,7 @@ gathers_one seen after old new clx gathered side_of drawn some taken right gives
             ored
             ∙ ap (λ k. bit_or clx k) (for.shown.bits ∙ bits_moved run drawn.job.from.0 drawn.job.to.0 first one.then place.0 place.1);
       };
-      closes = subst (λ k. IsClosing run k drawn.closing) place.1 for.shown.stands;
+      closes = subst (λ k. IsClosing run k drawn.job.picture) place.1 for.shown.stands;
     }
 
 -- the first band was collected, and its pixels were refused

@@ -13,10 +13,10 @@ ghost use Rattle.foreground.specs.Steps.{KeepsClock};
 
 use crate::fore::Fore;
 use crate::gather::{gather_all, submit};
-use band_log::Raster;
+use band_log::{Picture, Raster};
 use ocs_base::OutOfMemory;
 use out_files::OutFiles;
-use serial_model::{Denise, Side};
+use serial_model::Side;
 
 impl<S: Side> Fore<S> {
     /// A band begins with the line at the present clock: the one before it ends there, and is
@@ -69,7 +69,7 @@ impl<S: Side> Fore<S> {
         shown: u64,
         raster: &mut Q,
         out: &mut OutFiles,
-    ) -> Result<Option<Denise>, OutOfMemory>
+    ) -> Result<Option<Picture>, OutOfMemory>
         requires stands { (first : ℕ)
             × StandsAtEnd to first (over S.seen self.old) (Q.seen raster.old) }
         requires count { shown ≡ length (state_of (over S.seen self.old).run to).shown }

@@ -79,11 +79,12 @@ impl<S: Side> Fore<S> {
             run.script().cpu(),
             side,
         )?;
+        let log = Log::new(alloc)?;
         Ok(Fore {
             alloc,
             run,
             machine,
-            log: Log::new(alloc),
+            log,
             cursor: Cursor { next: 0 },
             clx: 0,
             spent: false,

@@ -7,7 +7,7 @@ ghost use Rattle.band_log.specs.Raster.{with_submitted, without_first};
 ghost use Rattle.band_log.specs.Right.{IsRightJob};
 ghost use Rattle.foreground.specs.Gathered.{Fits, GathersOne, GathersSome, GathersAll, GathersPart, GathersNone, Submits};
 
-use band_log::{Denise, Drawn, Job, Raster};
+use band_log::{Drawn, Job, Picture, Raster};
 use ocs_base::OutOfMemory;
 use out_files::OutFiles;
 use serial_model::Side;
@@ -21,7 +21,7 @@ pub fn gather_one<S: Side, Q: Raster<S>>(
     raster: &mut Q,
     out: &mut OutFiles,
     clx: &mut u16,
-) -> Result<Denise, OutOfMemory>
+) -> Result<Picture, OutOfMemory>
     requires { 0 < length (Q.seen raster.old).outstanding }
     ensures taken { Q.seen raster.new ≡ without_first (Q.seen raster.old) }
     ensures gathered { IfOk result (λ closing. GathersOne (Q.seen raster.old) (Q.seen raster.new)
@@ -29,14 +29,10 @@ pub fn gather_one<S: Side, Q: Raster<S>>(
     ensures part { OnErr result (GathersPart (Q.seen raster.old) (Q.seen raster.new)
         out.old out.new) }
 {
-    let Drawn {
-        job,
-        closing,
-        clx: bits,
-    } = raster.collect();
+    let Drawn { job, clx: bits } = raster.collect();
     out.pixels(job.room.pixels())?;
     *clx |= bits;
-    Ok(closing)
+    Ok(job.picture)
 }
 
 /// Gathers all outstanding bands. The answer is the closing picture state of the last, if there was
@@ -45,7 +41,7 @@ pub fn gather_all<S: Side, Q: Raster<S>>(
     raster: &mut Q,
     out: &mut OutFiles,
     clx: &mut u16,
-) -> Result<Option<Denise>, OutOfMemory>
+) -> Result<Option<Picture>, OutOfMemory>
     ensures gathered { IfOk result (λ closing. GathersAll (Q.seen raster.old) (Q.seen raster.new)
         out.old out.new clx.old clx.new closing) }
     ensures none { OnOk result ((Q.seen raster.new).outstanding ≡ []) }

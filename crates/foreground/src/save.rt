@@ -14,7 +14,7 @@ use crate::fore::Fore;
 use crate::gather::gather_all;
 use crate::lookout::Lookout;
 use crate::reading::clock_before;
-use band_log::{Cursor, Events, Raster, Run};
+use band_log::{Cursor, Events, Picture, Raster, Run};
 use machine::Machine;
 use mem_versions::Chip;
 use ocs_base::OutOfMemory;
@@ -125,7 +125,7 @@ impl<S: Side + Copy> Fore<S> {
             chips: self.machine.chips.copied(),
             side: self.machine.side,
             number: self.log.band.number,
-            opening: self.log.band.opening.copied(),
+            opening: self.log.band.opening.state().copied(),
             shadow: self.log.shadow,
             next: self.cursor.next,
             clx: self.clx,
@@ -154,7 +154,7 @@ impl<S: Side + Copy> Fore<S> {
             number: from.number,
             from: from.t,
             beam: from.beam,
-            opening: from.opening.copied(),
+            opening: Picture::new(alloc, from.opening.copied())?,
             events: Events::new(alloc),
         };
         Ok(Fore {

@@ -97,15 +97,15 @@ starts_first run chip opening shadow events memory picture still none =
 pub ended_job : (run : RunValue) (to : ℕ) (log : Log) (chip : ChipValue) {S : Type 0} (side_of : S → SideValue) (job : Job S) (band : OpenBand) → IsEnding run
     to log chip
     → band ≡ log.band → run_over side_of (arc_value job.run) ≡ run → job.number ≡ band.number → job.from.0 ≡ band.from → job.to.0 ≡ to
-    → job.beam ≡ band.beam → job.opening ≡ band.opening → job.events ≡ band.events → IsViewOf chip to job.view
+    → job.beam ≡ band.beam → job.picture ≡ band.opening → job.events ≡ band.events → IsViewOf chip to job.view
     → length job.room ≡ size_to run log.band.from to → IsJobOf side_of run log.band to job
 ended_job run to log chip side_of job band is same owner number from end beam opening events view room =
     let n : ℕ = log.band.number in
     let start : job.from.0 ≡ log.band.from = from ∙ ap (λ (b : OpenBand). b.from) same in
-    let kept : IsOpen run n job.from.0 job.to.0 job.beam job.opening job.events (length job.room) chip =
-    subst (λ f. IsOpen run n f job.to.0 job.beam job.opening job.events (length job.room) chip) (sym start)
-    (subst (λ t. IsOpen run n log.band.from t job.beam job.opening job.events (length job.room) chip) (sym end)
-    (subst (λ b. IsOpen run n log.band.from to b job.opening job.events (length job.room) chip)
+    let kept : IsOpen run n job.from.0 job.to.0 job.beam job.picture job.events (length job.room) chip =
+    subst (λ f. IsOpen run n f job.to.0 job.beam job.picture job.events (length job.room) chip) (sym start)
+    (subst (λ t. IsOpen run n log.band.from t job.beam job.picture job.events (length job.room) chip) (sym end)
+    (subst (λ b. IsOpen run n log.band.from to b job.picture job.events (length job.room) chip)
     (sym (beam ∙ ap (λ (b : OpenBand). b.beam) same))
     (subst (λ p. IsOpen run n log.band.from to log.band.beam p job.events (length job.room) chip)
     (sym (opening ∙ ap (λ (b : OpenBand). b.opening) same))
@@ -117,7 +117,7 @@ ended_job run to log chip side_of job band is same owner number from end beam op
         owner = owner;
         numbered = number ∙ ap (λ (b : OpenBand). b.number) same;
         covered = λ k least most. (omega (arith, view.from, is.last, start), omega (arith, view.to, end));
-        parts = band_closes run n job.from.0 job.to.0 job.beam job.opening job.events (length job.room) chip job.view kept
+        parts = band_closes run n job.from.0 job.to.0 job.beam job.picture job.events (length job.room) chip job.view kept
             (subst (λ t. begins run t ≡ true) (sym end) is.begin) (subst (λ t. IsViewOf chip t job.view) (sym end) view);
       };
       from = start;

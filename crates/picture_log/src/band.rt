@@ -1,8 +1,7 @@
 //! The band that is open.
 
-use band_log::Events;
+use band_log::{Events, Picture};
 use ocs_base::Beam;
-use serial_model::Denise;
 
 /// What is kept of a band while its clocks go by.
 #[derive(Drop)]
@@ -14,7 +13,7 @@ pub struct OpenBand {
     /// The place of the beam at that clock.
     pub beam: Beam,
     /// A picture state that stands for that after the first step of that clock.
-    pub opening: Denise,
+    pub opening: Picture,
     /// What touched the picture state so far, in the order of happening.
     pub events: Events,
 }

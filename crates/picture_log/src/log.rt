@@ -19,7 +19,7 @@ ghost use Rattle.picture_log.specs.Log.{with_script_touch, with_access_touch, wi
 use crate::band::OpenBand;
 use crate::shadow;
 use crate::shown_count::shown_before;
-use band_log::{Event, Events, Job, Room, Run};
+use band_log::{Event, Events, Job, Picture, Room, Run};
 use mem_versions::Chip;
 use ocs_base::{Beam, Clock, OutOfMemory};
 use serial_bands::Shadow;
@@ -38,20 +38,20 @@ pub struct Log {
 }
 
 impl Log {
-    /// The log at reset: band 0 begins with clock 0.
-    pub fn new(alloc: Global) -> Log
-        ensures { (run : RunValue) (chip : ChipValue) → chip ≡ memory_from run.script.chip run.image
-            → IsLogOf run 0 result chip }
+    /// The log at reset: band 0 begins with clock 0. It is refused for want of memory alone.
+    pub fn new(alloc: Global) -> Result<Log, OutOfMemory>
+        ensures { IfOk result (λ log. (run : RunValue) (chip : ChipValue)
+            → chip ≡ memory_from run.script.chip run.image → IsLogOf run 0 log chip) }
     {
-        let opening = Denise::reset();
-        let shadow = shadow::shadow_of(&opening);
+        let opening = Picture::new(alloc, Denise::reset())?;
+        let shadow = shadow::shadow_of(opening.state());
         let beam = Beam {
             frame: 0,
             v: 0,
             h: 0,
             lof: true,
         };
-        Log {
+        Ok(Log {
             band: OpenBand {
                 number: 0,
                 from: 0,
@@ -61,7 +61,7 @@ impl Log {
             },
             waiting: None,
             shadow,
-        }
+        })
     }
 
     /// The write that waited belongs to the band: no other begins.
@@ -151,12 +151,13 @@ impl Log {
         let run = Arc::try_clone(run)?;
         let bytes = shown - shown_before(system, &self.band.beam);
         let room = Room::new(alloc, bytes as usize)?;
+        let blank = Picture::new(alloc, Denise::reset())?;
         let view = chip.cut(Clock(to))?;
         let next = OpenBand {
             number: self.band.number + 1,
             from: to,
             beam: self.band.beam,
-            opening: Denise::reset(),
+            opening: blank,
             events: Events::new(alloc),
         };
         let band = mem::replace(&mut self.band, next);
@@ -166,7 +167,7 @@ impl Log {
             from: Clock(band.from),
             to: Clock(to),
             beam: band.beam,
-            opening: band.opening,
+            picture: band.opening,
             events: band.events,
             view,
             room,
@@ -204,14 +205,14 @@ impl Log {
     {
         let job = self.close(alloc, run, chip, to, shown)?;
         shadow::find_words(&mut self.shadow, &job.view, chip);
-        self.band.opening = shadow::opening(&self.shadow);
+        self.band.opening.set(shadow::opening(&self.shadow));
         self.waiting = None;
         Ok(job)
     }
 
     /// A band that begins at clock `to` where CLXDAT was read opens with what was drawn of the band
     /// before it, once the write that waits is made at clock `h` of the line, where that band ended.
-    pub fn open_with(&mut self, closing: Denise, h: u16)
+    pub fn open_with(&mut self, closing: Picture, h: u16)
         ensures log { (run : RunValue) (to : ℕ) (chip : ChipValue) → IsCut run to self.old chip
             → IsClosing run to closing → IsClockBefore run to h
             → IsLogOf run to self.new chip }
@@ -221,17 +222,17 @@ impl Log {
         let mut opening = closing;
         make_write(&mut opening, h, &self.waiting);
         self.waiting = None;
-        self.shadow = shadow::shadow_of(&opening);
+        self.shadow = shadow::shadow_of(opening.state());
         self.band.opening = opening;
     }
 }
 
 /// Makes the write that waited, at clock `h` of the line.
-fn make_write(d: &mut Denise, h: u16, waiting: &Option<Event>)
-    ensures { Keeps (4 * h) (with_write_at h waiting.now) d.old d.new }
+fn make_write(picture: &mut Picture, h: u16, waiting: &Option<Event>)
+    ensures { Keeps (4 * h) (with_write_at h waiting.now) picture.old picture.new }
 {
     if let Some(Event::Set { reg, word, .. }) = waiting {
-        d.set(h, reg.offset, *word);
+        picture.write(h, reg.offset, *word);
     }
 }
 

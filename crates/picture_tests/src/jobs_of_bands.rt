@@ -2,7 +2,7 @@
 
 ghost use Rattle.std.specs.Prelude.{◌≡◌, length};
 
-use band_log::{Denise, Drawn, Event, Events, Job, Room, Run};
+use band_log::{Denise, Drawn, Event, Events, Job, Picture, Room, Run};
 use mem_versions::{Chip, MemView};
 use ocs_base::{Addr, Beam, Clock, OutOfMemory, Script};
 use planes::plane_bits;
@@ -96,7 +96,6 @@ fn the_picture_state_at_reset(rt: HostRuntime) {
 fn a_job_and_what_is_drawn_of_it(rt: HostRuntime) -> Result<(), OutOfMemory> {
     let drawn = Drawn {
         job: small_job(rt.alloc())?,
-        closing: Denise::reset(),
         clx: 1,
     };
     is_shared(&drawn.job);
@@ -123,7 +122,7 @@ fn small_job(alloc: Global) -> Result<Job<NoSide>, OutOfMemory> {
             h: 0,
             lof: true,
         },
-        opening: Denise::reset(),
+        picture: Picture::new(alloc, Denise::reset())?,
         events,
         view: small_view(alloc)?,
         room: Room::new(alloc, 12)?,

@@ -3,10 +3,10 @@ use Rattle.foreground.specs.Gathered.{GathersUpTo}
 use Rattle.foreground.proofs.gather.gather_all.Given as goal
 
 -- so many bands of those at the start were gathered
-abbrev pub invariant-loop-last : goal.invariant-loop-last
-invariant-loop-last g l =
+abbrev pub invariant-loop-raster : goal.invariant-loop-raster
+invariant-loop-raster g l =
     let seen = g.Q.Raster.seen in
     GathersUpTo (seen l.fn.raster) (seen l.raster) l.fn.out l.out l.fn.clx l.clx l.last
 
-abbrev pub decreases-loop-last : goal.decreases-loop-last
-decreases-loop-last g l = length (g.Q.Raster.seen l.raster).outstanding
+abbrev pub decreases-loop-raster : goal.decreases-loop-raster
+decreases-loop-raster g l = length (g.Q.Raster.seen l.raster).outstanding

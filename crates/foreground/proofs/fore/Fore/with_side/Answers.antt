@@ -24,4 +24,4 @@ returns g c =
     (subst (λ (bytes : List ℕ). IsReset (g.S.Side.seen c.args.side) bytes run.script.chip run.script.cpu machine) image
     (subst (λ (s : ChipSize). IsReset (g.S.Side.seen c.args.side) c.image.result.now s run.script.cpu machine) size
     (subst (λ (b : Bool). IsReset (g.S.Side.seen c.args.side) c.image.result.now c.chip_size.result b machine) cpu c.in_ok-machine.ensures))) in
-    new_fore run machine c.new-2.result (good_over g.S.Side.seen kept (subst IsGoodRun c.deref.ensures c.image.ensures.good)) reset c.new-2.ensures
+    new_fore run machine c.in_ok-log.log (good_over g.S.Side.seen kept (subst IsGoodRun c.deref.ensures c.image.ensures.good)) reset c.in_ok-log.ensures

@@ -10,8 +10,8 @@ use Rattle.picture_log.specs.Log.{IsLogOf}
 use Rattle.picture_log.proofs.Beginning.{all_found, line_begins, with_opening}
 use Rattle.picture_log.proofs.log.Log.cut_line.Goals as goal
 
-pub opening-self-requires : goal.opening-self-requires
-opening-self-requires g c =
+pub opening-requires : goal.opening-requires
+opening-requires g c =
     let log = c.args.self.now in
     let found = word_then c.in_ok-job.job.view in
     ap fetches_in c.find_words.ensures.words
@@ -26,9 +26,9 @@ returns-clause-log g c =
     let view = c.in_ok-job.job.view in
     let same : c.find_words.new.shadow ≡ found_shadow (word_then view) log.shadow =
     c.find_words.ensures.words ∙ ap (λ (l : Log). found_shadow (word_then view) l.shadow) c.in_ok-job.ensures.log in
-    subst (λ chip. IsLogOf run c.args.to (with_opening c.opening-self.result c.find_words.new.shadow cut) chip)
+    subst (λ chip. IsLogOf run c.args.to (with_opening c.set.new.self c.find_words.new.shadow cut) chip)
     (sym c.find_words.ensures.reads)
-    (subst (λ s. IsLogOf run c.args.to (with_opening c.opening-self.result s cut) (after_reads c.close.new.chip (fetches_in cut.shadow))) (sym same)
-    (line_begins run c.args.to log cut c.args.chip.now c.close.new.chip (fetches_in cut.shadow) view c.opening-self.result
+    (subst (λ s. IsLogOf run c.args.to (with_opening c.set.new.self s cut) (after_reads c.close.new.chip (fetches_in cut.shadow))) (sym same)
+    (line_begins run c.args.to log cut c.args.chip.now c.close.new.chip (fetches_in cut.shadow) view c.set.new.self
     c.requires.log c.requires.before c.requires.line c.in_ok-job.ensures.cut c.in_ok-job.ensures.view
-    (c.opening-self.ensures run ∙ ap (line_opening run) same)))
+    (c.set.ensures ∙ c.opening.ensures run ∙ ap (line_opening run) same)))

@@ -8,8 +8,8 @@ use Rattle.picture_log.proofs.log.Log.open_with.Goals as goal
 pub returns-clause-log : goal.returns-clause-log
 returns-clause-log c = λ run to chip has stands place.
     let log = c.args.self.now in
-    let opening = c.make_write.new.d in
-    let shadow : c.shadow_of-self.result ≡ shadow_of opening = c.shadow_of-self.ensures.shadow in
+    let opening = c.make_write.new.picture in
+    let shadow : c.shadow_of-self.result ≡ shadow_of opening = c.shadow_of-self.ensures.shadow ∙ ap shadow_of c.state.ensures in
     subst (λ s. IsLogOf run to (with_opening opening s log) chip) (sym shadow)
     (log_opens run to c.args.h log chip c.args.closing opening has stands place c.make_write.ensures
     (sym (ap (λ (s : Shadow). length s.latches) shadow) ∙ c.shadow_of-self.ensures.planes)
