@@ -1,9 +1,10 @@
 //! A run on real files, whose frames are read back.
 
+use case_texts::bars::bars_told;
+use case_texts::inputs::{image, script};
+use case_texts::outputs::{frames, memory, trace};
 use ocs_io::{Folder, Place};
 use ocs_run::{NoGate, ocs_main};
-use run_cases::bars::bars_told;
-use run_cases::case::{frames, image, memory, script, trace};
 use std::test::Fail;
 use std::{fs, process};
 

@@ -1,8 +1,8 @@
 //! Programs of the processor that go on for long: one that waits for interrupts, and one that reads CLXDAT
 //! again and again.
 
+use case_texts::inputs::{image, script};
 use ocs_io::Shelf;
-use run_cases::case::{image, script};
 use run_cases::place::{holds, run_words, shelf, status};
 use std::alloc::Global;
 use std::process::Abort;

@@ -1,9 +1,10 @@
 //! Calls of the place that fail, each in turn, up to the first run in which none does.
 
+use case_texts::inputs::{image, script};
+use case_texts::outputs::{frames, memory, trace};
+use case_texts::told::number;
 use ocs_io::Shelf;
-use run_cases::case::{frames, image, memory, script, trace};
 use run_cases::place::{run_words, shelf, status};
-use run_cases::told::number;
 use std::alloc::Global;
 use std::process::Abort;
 use std::sync::Wait;

@@ -1,5 +1,6 @@
 //! Why a run is not as it is told.
 
+use case_texts::TextFault;
 use ocs_base::OutOfMemory;
 use std::alloc::{AllocError, AllocFailed};
 use thiserror::Error;
@@ -31,6 +32,15 @@ impl<T: Drop> From<AllocFailed<T>> for CaseFault {
 impl From<OutOfMemory> for CaseFault {
     fn from(_refused: OutOfMemory) -> CaseFault {
         CaseFault::OutOfMemory
+    }
+}
+
+impl From<TextFault> for CaseFault {
+    fn from(fault: TextFault) -> CaseFault {
+        match fault {
+            TextFault::OutOfMemory => CaseFault::OutOfMemory,
+            TextFault::Untold(missing) => CaseFault::Untold(missing),
+        }
     }
 }
 

@@ -2,10 +2,8 @@
 //! of a run is not as it is told. Nothing of it is part of the program.
 #![tactic(auto)]
 
-pub mod bars;
 pub mod case;
 pub mod fault;
 pub mod place;
-pub mod told;
 
 pub use fault::CaseFault;

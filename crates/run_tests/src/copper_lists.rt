@@ -1,6 +1,6 @@
 //! Copper lists at address 8.
 
-use run_cases::bars::bars_told;
+use case_texts::bars::bars_told;
 use run_cases::case::check;
 use std::test::Fail;
 

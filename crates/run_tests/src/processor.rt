@@ -1,8 +1,8 @@
 //! Programs of the processor, with exceptions, a CIA and inputs.
 
+use case_texts::inputs::bytes;
 use run_cases::case::check;
 use run_cases::place::{run_words, shelf, status};
-use run_cases::told::bytes;
 use std::test::Fail;
 
 fn programs_told() -> [&'static str; 8] {

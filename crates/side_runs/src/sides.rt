@@ -1,11 +1,12 @@
 //! Runs with a sixth file that are told as texts, as other runs are. Further lines tell the words of the
 //! `track` that is read, and the words with which the `audio` begins.
 
+use case_texts::inputs::{bytes, image, script};
+use case_texts::outputs::{memory, trace};
+use case_texts::told::first;
 use ocs_io::Shelf;
 use run_cases::CaseFault;
-use run_cases::case::{image, memory, script, trace};
 use run_cases::place::{holds, shelf, status};
-use run_cases::told::{bytes, first};
 use std::alloc::Global;
 use std::sync::Wait;
 use std::thread::Threads;

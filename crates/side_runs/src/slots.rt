@@ -4,8 +4,8 @@
 //! waits for its end and then writes COLOR00, four clocks after the clock at which it sees the end.
 
 use crate::sides::{is_as_told, run_told};
+use case_texts::outputs::frames;
 use run_cases::CaseFault;
-use run_cases::case::frames;
 use run_cases::place::holds;
 use std::alloc::Global;
 use std::sync::Wait;

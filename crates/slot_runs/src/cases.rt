@@ -1,8 +1,8 @@
 //! A run that is told as a text, and the bytes of its log.
 
+use case_texts::inputs::{image, script};
 use ocs_io::{Shelf, dec, hex};
 use run_cases::CaseFault;
-use run_cases::case::{image, script};
 use run_cases::place::shelf;
 use slots_run::slots_main;
 use std::alloc::Global;

@@ -1,9 +1,9 @@
 //! The logs of frames.
 
 use crate::cases::{bytes, inputs, run_told, status};
+use case_texts::outputs::memory;
 use ocs_io::Shelf;
 use run_cases::CaseFault;
-use run_cases::case::memory;
 use std::alloc::Global;
 use std::test::Fail;
 

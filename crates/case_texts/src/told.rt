@@ -18,9 +18,8 @@
 //!   last column, and the colour of what lies there. `pixels`: so many pixels of one colour, in place of
 //!   ground and parts.
 
-use crate::fault::CaseFault;
+use crate::fault::TextFault;
 use ocs_io::{dec, hex};
-use std::alloc::Global;
 
 /// What the line tells, where it begins with this word.
 pub fn told<'a>(line: &'a str, word: &str) -> Option<&'a str> {
@@ -41,17 +40,17 @@ pub fn first<'a>(run: &'a str, word: &str, or: &'a str) -> &'a str {
 }
 
 /// A decimal number.
-pub fn number(text: &str) -> Result<u64, CaseFault> {
+pub fn number(text: &str) -> Result<u64, TextFault> {
     Ok(dec(text.as_bytes()).ok_or("a number is told")?)
 }
 
 /// A hexadecimal number.
-pub fn word(text: &str) -> Result<u16, CaseFault> {
+pub fn word(text: &str) -> Result<u16, TextFault> {
     Ok(hex(text.as_bytes()).ok_or("a word is told")?)
 }
 
 /// An address, of at most eight hexadecimal digits.
-pub fn address(text: &str) -> Result<usize, CaseFault> {
+pub fn address(text: &str) -> Result<usize, TextFault> {
     let split = text.len().saturating_sub(4);
     let low = word(text.get(split..).unwrap_or(""))?;
     if split == 0 {
@@ -61,24 +60,16 @@ pub fn address(text: &str) -> Result<usize, CaseFault> {
     Ok(high as usize * 0x1_0000 + low as usize)
 }
 
-/// The bytes of words.
-pub fn bytes(alloc: Global, text: &str) -> Result<Vec<u8>, CaseFault> {
-    let mut bytes = Vec::new(alloc);
-    for item in text.split_whitespace() {
-        let (count, digits) = match item.split_once('*') {
-            Some((count, digits)) => (number(count)?, digits),
-            None => (1, item),
-        };
-        let word = word(digits)?;
-        for _ in 0..count {
-            bytes.extend_from_slice(&word.to_be_bytes())?;
-        }
+/// A word, and how often it stands there.
+pub fn words(item: &str) -> Result<(u64, u16), TextFault> {
+    match item.split_once('*') {
+        Some((count, digits)) => Ok((number(count)?, word(digits)?)),
+        None => Ok((1, word(item)?)),
     }
-    Ok(bytes)
 }
 
 /// A colour, of three bytes in hexadecimal.
-pub fn colour(text: &str) -> Result<[u8; 3], CaseFault> {
+pub fn colour(text: &str) -> Result<[u8; 3], TextFault> {
     let red = word(text.get(0..2).unwrap_or(""))?;
     let rest = word(text.get(2..6).unwrap_or(""))?;
     let [green, blue] = rest.to_be_bytes();
