@@ -1,6 +1,6 @@
 //! The events of a band.
 
-ghost use Rattle.std.specs.Prelude.{◌≡◌, ◌++◌, ◌∷◌, [], OnOk, OnErr};
+ghost use Rattle.std.specs.Prelude.{◌≡◌, ◌++◌, ◌∷◌, [], IfOk, OnOk, OnErr};
 
 use ocs_base::OutOfMemory;
 use serial_bands::Event;
@@ -30,6 +30,15 @@ impl Events {
         Events {
             list: Vec::new(alloc),
         }
+    }
+
+    /// No events, with room for so many. It is refused for want of memory alone.
+    pub fn with_room(alloc: Global, count: usize) -> Result<Events, OutOfMemory>
+        ensures { IfOk result (λ events. events ≡ []) }
+    {
+        Ok(Events {
+            list: Vec::with_capacity(alloc, count)?,
+        })
     }
 
     /// Appends an event. After a refusal, for want of memory, all is as before.

@@ -152,13 +152,14 @@ impl Log {
         let bytes = shown - shown_before(system, &self.band.beam);
         let room = Room::new(alloc, bytes as usize)?;
         let blank = Picture::new(alloc, Denise::reset())?;
+        let events = Events::with_room(alloc, self.band.events.list().len())?;
         let view = chip.cut(Clock(to))?;
         let next = OpenBand {
             number: self.band.number + 1,
             from: to,
             beam: self.band.beam,
             opening: blank,
-            events: Events::new(alloc),
+            events,
         };
         let band = mem::replace(&mut self.band, next);
         Ok(Job {
