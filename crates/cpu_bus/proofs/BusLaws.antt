@@ -11,13 +11,14 @@ use Rattle.m68k_exec.specs.declared.state.Cpu.{Cpu}
 use Rattle.m68k_exec.specs.Stands.{Stands, Reaches, wanted, word_read}
 use Rattle.ocs_base.proofs.Registers.{same_register}
 use Rattle.ocs_base.specs.declared.chip_size.ChipSize.{ChipSize}
+use Rattle.ocs_base.specs.declared.chip_size.ChipSize.TheVariants.{Kib512, Mib1}
 use Rattle.ocs_base.specs.AddressOf.{addr_at}
 use Rattle.ocs_base.specs.Register.{register_of}
 use Rattle.ocs_base.specs.Sizes.{bytes_of}
 use Rattle.serial_model.specs.declared.bus.ProcessorAsk.TheVariants as P
 use Rattle.serial_model.specs.declared.processor.Target.TheVariants as G
 use Rattle.serial_model.specs.declared.processor.Wait.TheVariants as W
-use Rattle.serial_model.specs.Processor.{Processor, slot_wish, processor_wish, wait_of, target_of, target_at, read_wait}
+use Rattle.serial_model.specs.Processor.{Processor, slot_wish, processor_wish, wait_of, target_of, target_at, read_wait, write_wait, half_of}
 use Rattle.cpu_bus.specs.declared.BusCpu.{BusCpu}
 use Rattle.cpu_bus.specs.Bus.{IsProcessorOf, wait_by, wish_shown}
 
@@ -40,13 +41,26 @@ asks_word A.Halted at is = cc
 target_below : (chip : ChipSize) (a : ℕ) (b : Bool) → a < bytes_of chip → target_at chip a b ≡ G.Memory (addr_at chip a)
 target_below chip a b below = let so : nat_lt a (bytes_of chip) ≡ true = grind (arith, nat_tests) in rw so refl
 
--- a word of chip memory waits for its slot
-pub word_waits : (chip : ChipSize) (n : Next) (at a : ℕ) → Some at ≡ word_read (wanted n) → a ≡ at % 16777216 → a < bytes_of chip
+-- the first 512 KiB are in chip memory of each size
+in_each_size : (chip : ChipSize) (a : ℕ) → a < 524288 → a < bytes_of chip
+in_each_size Kib512 a below = below
+in_each_size Mib1 a below = omega (arith, below)
+
+-- a word of the first 512 KiB of chip memory waits for its slot, to be read
+pub word_waits : (chip : ChipSize) (n : Next) (at a : ℕ) → Some at ≡ word_read (wanted n) → a ≡ at % 16777216 → a < 524288
     → wait_of chip n ≡ W.Slot (P.Read (addr_at chip a))
 unfolding wait_by target_of
 word_waits chip n at a is low below =
     wait_is chip n ∙ ap (wait_by chip) (asks_word (wanted n) at is)
-    ∙ ap (λ x. read_wait (target_at chip x false)) (sym low) ∙ ap read_wait (target_below chip a false below)
+    ∙ ap (λ x. read_wait (target_at chip x false)) (sym low) ∙ ap read_wait (target_below chip a false (in_each_size chip a below))
+
+-- and to be written
+pub write_waits : (chip : ChipSize) (n : Next) (at a word : ℕ) (byte : Bool) → A.Write at byte word ≡ wanted n → a ≡ at % 16777216
+    → a < 524288 → wait_of chip n ≡ W.Slot (P.Write (addr_at chip a) (half_of at byte) word)
+unfolding wait_by target_of
+write_waits chip n at a word byte is low below =
+    wait_is chip n ∙ ap (wait_by chip) (sym is) ∙ ap (λ x. write_wait at byte word (target_at chip x byte)) (sym low)
+    ∙ ap (write_wait at byte word) (target_below chip a byte (in_each_size chip a below))
 
 -- a halted processor asks for nothing, and nothing else asks so
 abbrev IsHalted : Access → Type 0

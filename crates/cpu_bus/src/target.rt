@@ -15,8 +15,11 @@ use m68k_exec::{Ask as Access, Cpu};
 use ocs_base::{Addr, ChipSize, Reg};
 use serial_model::{CiaName, CiaRegister, Half, ProcessorAsk, Target, Wait};
 
-/// Puts down what the processor waits for next, with a chip memory of this size. The read of a word of chip
-/// memory, which is most of what it does, is looked for first.
+/// The bytes of chip memory that every size of it has.
+const SMALL_CHIP_BYTES: u32 = 0x8_0000;
+
+/// Puts down what the processor waits for next, with a chip memory of this size. The read of a word in the
+/// first 512 KiB of chip memory, which is most of what it does, is looked for first.
 #[inline(always)]
 pub fn look_ahead(wait: &mut Wait, chip: ChipSize, cpu: &Cpu)
     ensures { (r : CpuRegs) (u : Under) (ws : List ℕ) → Stands cpu.now r u ws
@@ -24,7 +27,7 @@ pub fn look_ahead(wait: &mut Wait, chip: ChipSize, cpu: &Cpu)
 {
     if let Some(at) = cpu.word_read() {
         let low = bus_address(at);
-        if low < chip.bytes() {
+        if low < SMALL_CHIP_BYTES {
             *wait = Wait::Slot {
                 ask: ProcessorAsk::Read {
                     at: Addr::sized(chip, low),
@@ -33,11 +36,42 @@ pub fn look_ahead(wait: &mut Wait, chip: ChipSize, cpu: &Cpu)
             return;
         }
     }
+    look_further(wait, chip, cpu);
+}
+
+/// The same in all cases; a write to the first 512 KiB of chip memory is looked for first.
+#[inline(never)]
+fn look_further(wait: &mut Wait, chip: ChipSize, cpu: &Cpu)
+    ensures { (r : CpuRegs) (u : Under) (ws : List ℕ) → Stands cpu.now r u ws
+        → wait.new ≡ wait_of chip (next r u ws) }
+{
+    if let Access::Write { at, byte, word } = cpu.ask() {
+        let low = bus_address(at);
+        if low < SMALL_CHIP_BYTES {
+            *wait = Wait::Slot {
+                ask: ProcessorAsk::Write {
+                    at: Addr::sized(chip, low),
+                    half: half(at, byte),
+                    word,
+                },
+            };
+            return;
+        }
+    }
+    look_for_other(wait, chip, cpu);
+}
+
+/// The same in all cases, by what the processor asks for.
+#[inline(never)]
+fn look_for_other(wait: &mut Wait, chip: ChipSize, cpu: &Cpu)
+    ensures { (r : CpuRegs) (u : Under) (ws : List ℕ) → Stands cpu.now r u ws
+        → wait.new ≡ wait_of chip (next r u ws) }
+{
     *wait = wait_for(chip, cpu.ask());
 }
 
 /// What the processor waits for, by what it asks for, with a chip memory of this size.
-#[inline(never)]
+#[inline(always)]
 #[tactic(auto, unfolding(crate::specs::Bus::wait_by))]
 fn wait_for(chip: ChipSize, access: Access) -> Wait
     ensures { result ≡ wait_by chip access }

@@ -84,7 +84,7 @@ fetched (W.Low role first high) i pc w s =
 -- what follows a value that was read
 abbrev pub valued : Use → Instr → Run → ℕ → Prog
 valued V.Source i s v = dest i v s
-valued (V.Old value place) i s v = compute i value place v s
+valued (V.Old value at) i s v = compute i value (P.Memory at) v s
 valued V.Return i s v = returned v s
 valued V.Status i s v = resuming i v s
 valued (V.Resume status) i s v = resumed i status v s

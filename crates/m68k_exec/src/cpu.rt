@@ -7,6 +7,7 @@ ghost use Rattle.m68k_decode.specs.declared.under.Under.TheVariants as U;
 ghost use Rattle.m68k_decode.specs.Access.{after, next_of, idle_clocks};
 ghost use Rattle.m68k_decode.specs.Walk.{next, program, advance, begin, begin_again, settled, boundary, is_traced, taking_of, regs_at_reset};
 ghost use Rattle.m68k_exec.specs.declared.ask.Ask.TheVariants as A;
+ghost use Rattle.m68k_exec.specs.declared.state.Step.TheVariants as T;
 ghost use Rattle.m68k_exec.specs.Meaning.{meaning};
 ghost use Rattle.m68k_exec.specs.Stands.{Stands, Reaches, wanted, word_read, is_halted};
 
@@ -188,14 +189,15 @@ impl Cpu {
             → Stands self.old r u ws
             → Reaches self.new result (advance r u ws word level) }
     {
-        if let Step::Ended { under, .. } = self.machine.step {
-            return self.pass_boundary(under, level);
+        if let Step::Ended { .. } = self.machine.step {
+            return self.pass_boundary(level);
         }
         self.complete_access(word);
         self.settle_access(level)
     }
 
     /// Goes on with the word of an access.
+    #[inline(never)]
     fn complete_access(&mut self, word: u16)
         ensures { (r : CpuRegs) (u : Under) (ws : List ℕ)
             → Stands self.old r u ws
@@ -206,15 +208,16 @@ impl Cpu {
     }
 
     /// Starts what follows an access, where something ended or was broken off with it.
+    #[inline(always)]
     fn settle_access(&mut self, level: u8) -> Option<u8>
         ensures { (r : CpuRegs) (u : Under) (ws : List ℕ)
             → Stands self.old r u ws
             → Reaches self.new result (settled (after (program r u) ws) r u ws level) }
     {
         match self.machine.step {
-            Step::Ended { clocks, under } => {
+            Step::Ended { clocks, .. } => {
                 if idle_clocks(clocks, self.done) == 0 {
-                    return self.pass_boundary(under, level);
+                    return self.pass_boundary(level);
                 }
                 None
             }
@@ -227,14 +230,13 @@ impl Cpu {
     }
 
     /// Starts the next instruction, where nothing comes between: as `start_or_replace` does, in fewer steps.
-    #[tactic(auto, unfolding(m68k_decode::specs::Walk::begin, m68k_decode::specs::Walk::program, m68k_decode::specs::Walk::instruction, m68k_decode::specs::Walk::is_traced, m68k_decode::specs::Run::fetch, m68k_decode::specs::Run::read_word))]
+    #[tactic(auto, unfolding(m68k_decode::specs::Walk::begin, m68k_decode::specs::Walk::program, m68k_decode::specs::Walk::instruction, m68k_decode::specs::Walk::is_traced, m68k_decode::specs::Walk::opcode_read, m68k_decode::specs::Run::fetch, m68k_decode::specs::Run::read_word))]
+    #[inline(always)]
     fn start_next_instruction(&mut self)
         requires { self.old.machine.regs.pc % 2 ≡ 0 }
         ensures { Reaches self.new None (begin self.old.machine.regs (U.Instruction false)) }
     {
         self.context.start = self.machine.regs;
-        self.context.fetched = Fetched::none();
-        self.context.taking = false;
         self.context.instruction = true;
         self.machine.step = Step::Fetch { part: Part::Opcode };
         self.traced = has_trace(self.machine.regs.sr);
@@ -244,17 +246,36 @@ impl Cpu {
     /// Starts what follows an end: a trace, an interrupt, or what is under way next.
     #[tactic(auto, unfolding(m68k_decode::specs::Walk::boundary))]
     #[inline(always)]
-    fn pass_boundary(&mut self, under: Under, level: u8) -> Option<u8>
-        ensures { Reaches self.new result
+    fn pass_boundary(&mut self, level: u8) -> Option<u8>
+        ensures { (clocks : ℕ) (under : Under) → self.old.machine.step ≡ T.Ended clocks under
+            → Reaches self.new result
             (boundary self.old.traced self.old.machine.regs under level) }
     {
-        if let Under::Instruction { taking: false } = under {
+        if let Step::Ended {
+            under: Under::Instruction { taking: false },
+            ..
+        } = self.machine.step
+        {
             let regs = &self.machine.regs;
             if !self.traced && level <= interrupt_mask(regs.sr) && regs.pc & 1 == 0 {
                 self.start_next_instruction();
                 return None;
             }
         }
+        self.pass_rare_boundary(level)
+    }
+
+    /// Starts what follows an end, in any case.
+    #[tactic(auto, unfolding(m68k_decode::specs::Walk::boundary))]
+    #[inline(never)]
+    fn pass_rare_boundary(&mut self, level: u8) -> Option<u8>
+        ensures { (clocks : ℕ) (under : Under) → self.old.machine.step ≡ T.Ended clocks under
+            → Reaches self.new result
+            (boundary self.old.traced self.old.machine.regs under level) }
+    {
+        let Step::Ended { under, .. } = self.machine.step else {
+            return None;
+        };
         let taking = is_taking(&under);
         if self.traced {
             self.start_or_replace(Under::Entry {

@@ -4,6 +4,8 @@ ghost use Rattle.std.specs.Prelude.{◌≡◌, ◌≤◌, ◌<◌, ◌+◌, ◌*
 ghost use Rattle.m68k_decode.specs.Access.{Prog};
 ghost use Rattle.m68k_decode.specs.Run.{at_place, moved, half_at};
 ghost use Rattle.m68k_decode.specs.Walk.{refused, permitted, execute, opcode_read};
+ghost use Rattle.m68k_exec.specs.declared.state.Part.TheVariants as W;
+ghost use Rattle.m68k_exec.specs.declared.state.Role.TheVariants as R;
 ghost use Rattle.m68k_exec.specs.Meaning.{meaning, run_of, rest, fetched, valued, written, placed, role_mode, role_size, follow};
 
 use crate::access::{end_instruction, fetch_word, finish_row, read_low_word, write_word};
@@ -14,7 +16,7 @@ use crate::flow::{
     start_return, start_system_control, start_unlink, take_control_place, take_own_word,
 };
 use crate::general::{
-    compute_result, start_general_row, take_dest_place, take_source_place, take_source_value,
+    compute_in_memory, start_general_row, take_dest_place, take_source_place, take_source_value,
 };
 use crate::lists::{
     gather_bytes, list_mode, list_size, scatter_bytes, store_next_register, take_list_place,
@@ -27,6 +29,7 @@ use m68k_decode::{Instr, Mode, Place68, Size, Trap};
 use m68k_ea::{long_of, resolve};
 
 /// An exception in place of the instruction.
+#[inline(never)]
 #[tactic(auto, unfolding(m68k_decode::specs::Walk::refused))]
 fn refuse_instruction(context: &Context, machine: &mut Machine, kind: Trap)
     ensures { meaning context.now machine.new ≡ refused kind (run_of context.now machine.old) }
@@ -42,6 +45,35 @@ fn dispatch_instruction(context: &Context, machine: &mut Machine)
         ≡ permitted context.now.fetched.instr (run_of context.now machine.old) }
 {
     match context.fetched.instr {
+        Instr::Dbcc { .. } => fetch_own_word(context, machine),
+        Instr::Branch { which, c, d8 } => start_branch(context, machine, which, c, d8),
+        Instr::Movep { .. }
+        | Instr::MovemToMemory { .. }
+        | Instr::MovemToRegisters { .. }
+        | Instr::Pea { .. }
+        | Instr::JsrJmp { .. }
+        | Instr::Lea { .. }
+        | Instr::LinkUnlk { .. }
+        | Instr::ResetNopStopRte { .. }
+        | Instr::RtsTrapvRtr { .. }
+        | Instr::MoveUsp { .. }
+        | Instr::Exg { .. }
+        | Instr::Trap { .. }
+        | Instr::Illegal
+        | Instr::LineA
+        | Instr::LineF => dispatch_rare(context, machine),
+        _ => start_general_row(context, machine),
+    }
+}
+
+/// A rare instruction, after its opcode.
+#[inline(never)]
+#[tactic(auto, unfolding(m68k_decode::specs::Walk::permitted))]
+fn dispatch_rare(context: &Context, machine: &mut Machine)
+    ensures { meaning context.now machine.new
+        ≡ permitted context.now.fetched.instr (run_of context.now machine.old) }
+{
+    match context.fetched.instr {
         Instr::Movep { .. }
         | Instr::MovemToMemory { .. }
         | Instr::MovemToRegisters { .. }
@@ -50,10 +82,10 @@ fn dispatch_instruction(context: &Context, machine: &mut Machine)
         Instr::Pea { .. } | Instr::JsrJmp { .. } | Instr::Lea { .. } => start_control(
             context, machine,
         ),
+        Instr::Branch { which, c, d8 } => start_branch(context, machine, which, c, d8),
         Instr::LinkUnlk { r, .. } => start_unlink(context, machine, r),
         Instr::ResetNopStopRte { which } => start_system_control(context, machine, which),
         Instr::RtsTrapvRtr { which } => start_return(context, machine, which),
-        Instr::Branch { which, c, d8 } => start_branch(context, machine, which, c, d8),
         Instr::MoveUsp { d, r } => {
             move_usp(&mut machine.regs, d, r);
             finish_row(context, machine, 0);
@@ -71,6 +103,7 @@ fn dispatch_instruction(context: &Context, machine: &mut Machine)
 }
 
 /// An instruction, if it is not the supervisor's alone.
+#[inline(always)]
 #[tactic(auto, unfolding(m68k_decode::specs::Walk::execute))]
 fn execute_instruction(context: &Context, machine: &mut Machine)
     ensures { meaning context.now machine.new
@@ -84,6 +117,7 @@ fn execute_instruction(context: &Context, machine: &mut Machine)
 }
 
 /// The opcode is read: the context takes it.
+#[inline(always)]
 #[tactic(auto, unfolding(m68k_decode::specs::Walk::opcode_read))]
 fn take_opcode(context: &mut Context, machine: &mut Machine, opcode: u16)
     ensures start { context.new.start ≡ context.old.start }
@@ -124,6 +158,7 @@ fn take_place(context: &Context, machine: &mut Machine, role: Role, place: Place
 }
 
 /// The extension words of an operand are known.
+#[inline(always)]
 #[tactic(auto, unfolding(m68k_decode::specs::Run::at_place))]
 fn resolve_place(context: &Context, machine: &mut Machine, role: Role, pc: u32, high: u16, low: u16)
     ensures { meaning context.now machine.new
@@ -171,6 +206,52 @@ fn take_next_word(context: &mut Context, machine: &mut Machine, part: Part, word
     take_word(context, machine, part, pc, word);
 }
 
+/// The extension word of the source is read: the PC goes beyond it.
+#[inline(never)]
+fn take_source_extension(context: &Context, machine: &mut Machine, word: u16)
+    ensures { meaning context.now machine.new
+        ≡ fetched (W.One R.Source) context.now.fetched.instr machine.old.regs.pc word
+        (moved (run_of context.now machine.old)) }
+{
+    let pc = machine.regs.pc;
+    machine.regs.pc = pc.wrapping_add(2);
+    resolve_place(context, machine, Role::Source, pc, word, 0);
+}
+
+/// The extension word of the destination is read: the PC goes beyond it. The source is `value`.
+#[inline(never)]
+fn take_dest_extension(context: &Context, machine: &mut Machine, value: u32, word: u16)
+    ensures { meaning context.now machine.new
+        ≡ fetched (W.One (R.Dest value)) context.now.fetched.instr machine.old.regs.pc word
+        (moved (run_of context.now machine.old)) }
+{
+    let pc = machine.regs.pc;
+    machine.regs.pc = pc.wrapping_add(2);
+    resolve_place(context, machine, Role::Dest { value }, pc, word, 0);
+}
+
+/// The second word of a row is read: the PC goes beyond it.
+#[inline(never)]
+fn take_next_own_word(context: &Context, machine: &mut Machine, word: u16)
+    ensures { meaning context.now machine.new
+        ≡ fetched W.Own context.now.fetched.instr machine.old.regs.pc word
+        (moved (run_of context.now machine.old)) }
+{
+    machine.regs.pc = machine.regs.pc.wrapping_add(2);
+    take_own_word(context, machine, word);
+}
+
+/// The opcode is read: the PC goes beyond it.
+#[inline(always)]
+fn take_next_opcode(context: &mut Context, machine: &mut Machine, word: u16)
+    ensures start { context.new.start ≡ context.old.start }
+    ensures walk { meaning context.new machine.new
+        ≡ opcode_read word (moved (run_of context.old machine.old)) }
+{
+    machine.regs.pc = machine.regs.pc.wrapping_add(2);
+    take_opcode(context, machine, word);
+}
+
 /// The byte of a word that is at an address: the low one where the address is odd.
 fn byte_at(at: u32, word: u16) -> u32
     ensures { result ≡ half_at at word }
@@ -186,10 +267,7 @@ fn take_value(context: &Context, machine: &mut Machine, into: Use, value: u32)
 {
     match into {
         Use::Source => take_source_value(context, machine, value),
-        Use::Old {
-            value: source,
-            place,
-        } => compute_result(context, machine, source, place, value),
+        Use::Old { value: source, at } => compute_in_memory(context, machine, source, at, value),
         Use::Return => return_to(context, machine, value),
         Use::Status => read_resume_pc(context, machine, value),
         Use::Resume { status } => resume_at(context, machine, status, value),
@@ -226,6 +304,64 @@ fn continue_after_write(context: &Context, machine: &mut Machine, then: Then)
 
 /// Goes on with the word of an access.
 pub fn continue_with_word(context: &mut Context, machine: &mut Machine, word: u16)
+    ensures start { context.new.start ≡ context.old.start }
+    ensures walk { meaning context.new machine.new ≡ follow (meaning context.old machine.old) word }
+{
+    match machine.step {
+        Step::Fetch { part: Part::Opcode } => take_next_opcode(context, machine, word),
+        Step::Fetch {
+            part: Part::One { role: Role::Source },
+        } => take_source_extension(context, machine, word),
+        Step::Fetch {
+            part: Part::One {
+                role: Role::Dest { value },
+            },
+        } => take_dest_extension(context, machine, value, word),
+        Step::Fetch { part: Part::Own } => take_next_own_word(context, machine, word),
+        Step::ReadWord {
+            into: Use::Source,
+            ..
+        } => take_source_value(context, machine, u32::from(word)),
+        Step::ReadWord {
+            into: Use::Old { value, at },
+            ..
+        } => compute_in_memory(context, machine, value, at, u32::from(word)),
+        Step::ReadLow {
+            high,
+            into: Use::Source,
+            ..
+        } => take_source_value(context, machine, long_of(high, word)),
+        Step::ReadLow {
+            high,
+            into: Use::Old { value, at },
+            ..
+        } => compute_in_memory(context, machine, value, at, long_of(high, word)),
+        Step::ReadHigh { at, program, into } => read_low_word(
+            context,
+            machine,
+            program,
+            at.wrapping_add(2),
+            word,
+            into,
+        ),
+        Step::WriteWord {
+            then: Then::End { clocks },
+            ..
+        } => end_instruction(machine, clocks),
+        Step::WriteHigh { at, low, then, .. } => write_word(
+            context,
+            machine,
+            at.wrapping_add(2),
+            low,
+            then,
+        ),
+        _ => continue_otherwise(context, machine, word),
+    }
+}
+
+/// Goes on with the word of an access, whatever it was for.
+#[inline(never)]
+fn continue_otherwise(context: &mut Context, machine: &mut Machine, word: u16)
     ensures start { context.new.start ≡ context.old.start }
     ensures walk { meaning context.new machine.new ≡ follow (meaning context.old machine.old) word }
 {

@@ -3,8 +3,10 @@
 ghost use Rattle.std.specs.Prelude.{◌≡◌, ◌≤◌, ◌<◌};
 ghost use Rattle.m68k_opcodes.specs.Table.{decode_of, clocks_at};
 ghost use Rattle.m68k_opcodes.specs.Clocks.{number};
+ghost use Rattle.m68k_decode.specs.RowResults.{count_by};
 ghost use Rattle.m68k_decode.specs.Rows.{general_row};
 
+use crate::row_data::clock_count;
 use m68k_decode::{
     Count, Dest, GeneralRow, Instr, Mode, Op, Size, Source, Traps, clocks, decode, general_row,
 };
@@ -77,6 +79,28 @@ impl Fetched {
         }
         clocks(&self.instr, extra)
     }
+
+    /// The clocks of the row, by what it counts in its source and the status register.
+    #[inline(always)]
+    #[tactic(auto, unfolding(m68k_decode::specs::RowResults::count_by))]
+    pub fn counted_clocks(&self, value: u32, sr: u16) -> u32
+        ensures { result
+            ≡ number (clocks_at self.now.opcode) (count_by self.now.row.count value sr) }
+    {
+        match self.row.count {
+            Count::Nothing => self.first,
+            count => self.row_clocks(clock_count(count, value, sr)),
+        }
+    }
+}
+
+/// Puts the row of another opcode at a place.
+#[cold]
+#[inline(never)]
+fn renew(place: &mut Fetched, opcode: u16)
+    ensures { place.new.opcode ≡ opcode }
+{
+    *place = Fetched::new(opcode);
 }
 
 /// The opcodes that were last met, each at a place of its own among 1024. Each is decoded as it is,
@@ -100,7 +124,7 @@ impl Rows {
     {
         let place = usize::from((opcode ^ (opcode >> 6)) & 0x3ff);
         if self.places[place].opcode != opcode {
-            self.places[place] = Fetched::new(opcode);
+            renew(&mut self.places[place], opcode);
         }
         self.places[place]
     }

@@ -4,13 +4,14 @@ ghost use Rattle.std.specs.Prelude.{◌≡◌, ◌≤◌, false};
 ghost use Rattle.m68k_decode.specs.Run.{load, place, store};
 ghost use Rattle.m68k_decode.specs.RowData.{dest_size, source_size, source_mode};
 ghost use Rattle.m68k_decode.specs.General.{completed, compute, with_dest, dest, with_source, general};
+ghost use Rattle.m68k_decode.specs.declared.place.Place68.TheVariants as P;
 ghost use Rattle.m68k_exec.specs.Meaning.{meaning, run_of};
 
 use crate::access::{end_instruction, fetch_extension, held_value, read_value, store_result};
 use crate::operation::{operand_trap, operation, status_after, trap_ea};
-use crate::row_data::{clock_count, is_program, source_mode};
+use crate::row_data::{is_program, source_mode};
 use crate::state::{Context, Machine, Role, Step, Use};
-use m68k_decode::{Dest, Place68, Source, Trap, Under};
+use m68k_decode::{Dest, Mode, Place68, Source, Trap, Under};
 use m68k_ea::{extension_words, resolve};
 
 /// The result is known: it is stored, or an exception begins.
@@ -60,8 +61,7 @@ pub fn compute_result(
     let row = &context.fetched.row;
     let sr = machine.regs.sr;
     let outcome = operation(row, value, old, sr);
-    let count = clock_count(row.count, value, sr);
-    let clocks = context.fetched.row_clocks(count);
+    let clocks = context.fetched.counted_clocks(value, sr);
     machine.regs.sr = status_after(row.op, value, outcome.flags, sr);
     finish_operation(
         context,
@@ -71,6 +71,16 @@ pub fn compute_result(
         outcome.value,
         clocks,
     );
+}
+
+/// Source and old value are known, and the destination is in memory.
+#[inline(never)]
+pub fn compute_in_memory(context: &Context, machine: &mut Machine, value: u32, at: u32, old: u32)
+    ensures { meaning context.now machine.new
+        ≡ compute context.now.fetched.instr value (P.Memory at) old
+        (run_of context.now machine.old) }
+{
+    compute_result(context, machine, value, Place68::Memory { at }, old);
 }
 
 /// Takes the old value of the destination.
@@ -89,7 +99,7 @@ fn load_old_value(context: &Context, machine: &mut Machine, value: u32, place: P
             size,
             false,
             at,
-            Use::Old { value, place },
+            Use::Old { value, at },
         ),
         _ => {
             let old = held_value(&machine.regs, size, place);
@@ -99,6 +109,7 @@ fn load_old_value(context: &Context, machine: &mut Machine, value: u32, place: P
 }
 
 /// The place of the destination is known.
+#[inline(always)]
 #[tactic(auto, unfolding(m68k_decode::specs::General::with_dest))]
 pub fn take_dest_place(context: &Context, machine: &mut Machine, value: u32, place: Place68)
     ensures { meaning context.now machine.new
@@ -111,8 +122,17 @@ pub fn take_dest_place(context: &Context, machine: &mut Machine, value: u32, pla
     }
 }
 
+/// The destination is a data register.
+#[inline(never)]
+fn take_register_dest(context: &Context, machine: &mut Machine, value: u32, reg: u8)
+    ensures { meaning context.now machine.new
+        ≡ with_dest context.now.fetched.instr value (P.Data reg) (run_of context.now machine.old) }
+{
+    take_dest_place(context, machine, value, Place68::Data { reg });
+}
+
 /// The source is known.
-#[tactic(auto, unfolding(m68k_decode::specs::General::dest, m68k_decode::specs::Run::place, m68k_decode::specs::Run::at_place))]
+#[tactic(auto, using(crate::proofs::RegisterPlaces::dest_in_register), unfolding(m68k_decode::specs::General::dest, m68k_decode::specs::Run::place, m68k_decode::specs::Run::at_place))]
 pub fn take_source_value(context: &Context, machine: &mut Machine, value: u32)
     ensures { meaning context.now machine.new
         ≡ dest context.now.fetched.instr value (run_of context.now machine.old) }
@@ -121,6 +141,10 @@ pub fn take_source_value(context: &Context, machine: &mut Machine, value: u32)
         compute_result(context, machine, value, Place68::Value { value: 0 }, 0);
         return;
     };
+    if let Mode::Dn { reg } = mode {
+        take_register_dest(context, machine, value, reg);
+        return;
+    }
     let size = context.fetched.row.size;
     match extension_words(&mode, size) {
         0 => {
@@ -133,6 +157,7 @@ pub fn take_source_value(context: &Context, machine: &mut Machine, value: u32)
 }
 
 /// The place of the source is known.
+#[inline(always)]
 #[tactic(auto, unfolding(m68k_decode::specs::General::with_source, m68k_decode::specs::Run::load))]
 pub fn take_source_place(context: &Context, machine: &mut Machine, place: Place68)
     ensures { meaning context.now machine.new
@@ -152,7 +177,7 @@ pub fn take_source_place(context: &Context, machine: &mut Machine, place: Place6
 }
 
 /// A row with a source, a destination and a result, after its opcode.
-#[tactic(auto, unfolding(m68k_decode::specs::General::general, m68k_decode::specs::Run::place, m68k_decode::specs::Run::at_place))]
+#[tactic(auto, using(crate::proofs::RegisterPlaces::source_in_register), unfolding(m68k_decode::specs::General::general, m68k_decode::specs::Run::place, m68k_decode::specs::Run::at_place))]
 pub fn start_general_row(context: &Context, machine: &mut Machine)
     ensures { meaning context.now machine.new
         ≡ general context.now.fetched.instr (run_of context.now machine.old) }
@@ -165,6 +190,10 @@ pub fn start_general_row(context: &Context, machine: &mut Machine)
         }
     };
     let size = context.fetched.row.source_size;
+    if let Mode::Dn { reg } = mode {
+        take_source_place(context, machine, Place68::Data { reg });
+        return;
+    }
     match extension_words(&mode, size) {
         0 => {
             let pc = machine.regs.pc;

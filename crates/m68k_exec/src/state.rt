@@ -3,7 +3,7 @@
 ghost use Rattle.std.specs.Prelude.{◌≡◌};
 
 use crate::fetched::{Fetched, Rows};
-use m68k_decode::{CpuRegs, Place68, Trap, Under};
+use m68k_decode::{CpuRegs, Trap, Under};
 
 /// Whose place extension words name.
 #[derive(Clone, Copy)]
@@ -48,7 +48,7 @@ pub enum Use {
     /// The source.
     Source,
     /// What stands at the destination.
-    Old { value: u32, place: Place68 },
+    Old { value: u32, at: u32 },
     /// The PC of RTS.
     Return,
     /// The status word of RTE, the flags of RTR.
@@ -88,10 +88,6 @@ pub enum Step {
     Fetch {
         part: Part,
     },
-    ReadByte {
-        at: u32,
-        into: Use,
-    },
     ReadWord {
         at: u32,
         into: Use,
@@ -104,6 +100,10 @@ pub enum Step {
     ReadLow {
         at: u32,
         high: u16,
+        into: Use,
+    },
+    ReadByte {
+        at: u32,
         into: Use,
     },
     WriteByte {

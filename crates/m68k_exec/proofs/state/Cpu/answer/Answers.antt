@@ -8,7 +8,7 @@ pub returns-in-Ended : goal.returns-in-Ended
 returns-in-Ended c = λ r u ws s.
     let over : after (program r u) ws ≡ End c.in-Ended.clocks c.args.self.now.machine.regs c.in-Ended.under =
     rw (← s.same) (rw c.in-Ended.is refl) in
-    rw (advance_end r u ws c.args.word c.args.level _ _ _ over, ← s.traced) c.pass_boundary.ensures
+    rw (advance_end r u ws c.args.word c.args.level _ _ _ over, ← s.traced) (c.pass_boundary.ensures _ _ c.in-Ended.is)
 
 pub returns : goal.returns
 returns c = λ r u ws s.

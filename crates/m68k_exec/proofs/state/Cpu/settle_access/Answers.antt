@@ -10,7 +10,7 @@ returns-then-idle_clocks-eq0 c = λ r u ws s.
     rw (← s.same) (rw c.in-Ended.is refl) in
     let none : idle_clocks c.in-Ended.clocks (length ws) ≡ 0 =
     sym (c.idle_clocks.ensures (length ws) s.done) ∙ c.if-idle_clocks-eq0.true in
-    rw (settled_end _ r u ws c.args.level _ _ _ over none, ← s.traced) c.pass_boundary.ensures
+    rw (settled_end _ r u ws c.args.level _ _ _ over none, ← s.traced) (c.pass_boundary.ensures _ _ c.in-Ended.is)
 
 pub returns-else-idle_clocks-eq0 : goal.returns-else-idle_clocks-eq0
 returns-else-idle_clocks-eq0 c = λ r u ws s.
