@@ -25,7 +25,7 @@ use crate::lists::{
 use crate::row_data::{dest_mode, source_mode};
 use crate::state::{Context, Machine, Part, Role, Step, Then, Use};
 use crate::status::needs_supervisor;
-use m68k_decode::{Instr, Mode, Place68, Size, Trap};
+use m68k_decode::{Instr, Mode, Op, Place68, Size, Trap};
 use m68k_ea::{long_of, resolve};
 
 /// An exception in place of the instruction.
@@ -102,10 +102,25 @@ fn dispatch_rare(context: &Context, machine: &mut Machine)
     }
 }
 
-/// An instruction, if it is not the supervisor's alone.
+/// An instruction. Most are rows with a source, a destination and a result, and no change of the status register
+/// that is the supervisor's alone.
 #[inline(always)]
-#[tactic(auto, unfolding(m68k_decode::specs::Walk::execute))]
 fn execute_instruction(context: &Context, machine: &mut Machine)
+    ensures { meaning context.now machine.new
+        ≡ execute context.now.fetched.instr (run_of context.now machine.old) }
+{
+    match context.fetched.row.op {
+        Op::Other | Op::ImmediateToStatus { .. } | Op::MoveToStatus { .. } => execute_other(
+            context, machine,
+        ),
+        _ => start_general_row(context, machine),
+    }
+}
+
+/// Any instruction, if it is not the supervisor's alone.
+#[inline(never)]
+#[tactic(auto, unfolding(m68k_decode::specs::Walk::execute))]
+fn execute_other(context: &Context, machine: &mut Machine)
     ensures { meaning context.now machine.new
         ≡ execute context.now.fetched.instr (run_of context.now machine.old) }
 {
@@ -145,6 +160,7 @@ fn operand_of(context: &Context, role: Role) -> (Mode, Size)
 }
 
 /// The place of an operand is known.
+#[inline(always)]
 fn take_place(context: &Context, machine: &mut Machine, role: Role, place: Place68)
     ensures { meaning context.now machine.new
         ≡ placed role context.now.fetched.instr place (run_of context.now machine.old) }
@@ -242,7 +258,7 @@ fn take_next_own_word(context: &Context, machine: &mut Machine, word: u16)
 }
 
 /// The opcode is read: the PC goes beyond it.
-#[inline(always)]
+#[inline(never)]
 fn take_next_opcode(context: &mut Context, machine: &mut Machine, word: u16)
     ensures start { context.new.start ≡ context.old.start }
     ensures walk { meaning context.new machine.new
