@@ -62,6 +62,11 @@ write_waits chip n at a word byte is low below =
     wait_is chip n ∙ ap (wait_by chip) (sym is) ∙ ap (λ x. write_wait at byte word (target_at chip x byte)) (sym low)
     ∙ ap (write_wait at byte word) (target_below chip a byte (in_each_size chip a below))
 
+-- idle clocks are waited for
+pub idle_waits : (chip : ChipSize) (n : Next) (clocks : ℕ) → A.Idle clocks ≡ wanted n → wait_of chip n ≡ W.Idle clocks
+unfolding wait_by
+idle_waits chip n clocks is = wait_is chip n ∙ ap (wait_by chip) (sym is)
+
 -- a halted processor asks for nothing, and nothing else asks so
 abbrev IsHalted : Access → Type 0
 IsHalted (A.Read at byte) = ⊥

@@ -39,24 +39,31 @@ pub fn look_ahead(wait: &mut Wait, chip: ChipSize, cpu: &Cpu)
     look_further(wait, chip, cpu);
 }
 
-/// The same in all cases; a write to the first 512 KiB of chip memory is looked for first.
+/// The same in all cases; a write to the first 512 KiB of chip memory, and idle clocks, are looked for first.
 #[inline(never)]
 fn look_further(wait: &mut Wait, chip: ChipSize, cpu: &Cpu)
     ensures { (r : CpuRegs) (u : Under) (ws : List ℕ) → Stands cpu.now r u ws
         → wait.new ≡ wait_of chip (next r u ws) }
 {
-    if let Access::Write { at, byte, word } = cpu.ask() {
-        let low = bus_address(at);
-        if low < SMALL_CHIP_BYTES {
-            *wait = Wait::Slot {
-                ask: ProcessorAsk::Write {
-                    at: Addr::sized(chip, low),
-                    half: half(at, byte),
-                    word,
-                },
-            };
+    match cpu.ask() {
+        Access::Write { at, byte, word } => {
+            let low = bus_address(at);
+            if low < SMALL_CHIP_BYTES {
+                *wait = Wait::Slot {
+                    ask: ProcessorAsk::Write {
+                        at: Addr::sized(chip, low),
+                        half: half(at, byte),
+                        word,
+                    },
+                };
+                return;
+            }
+        }
+        Access::Idle { clocks } => {
+            *wait = Wait::Idle { clocks };
             return;
         }
+        Access::Read { .. } | Access::Halted => {}
     }
     look_for_other(wait, chip, cpu);
 }

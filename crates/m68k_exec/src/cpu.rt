@@ -1,6 +1,6 @@
 //! The processor.
 
-ghost use Rattle.std.specs.Prelude.{◌≡◌, ◌≤◌, ◌<◌, ℕ, true, false, List, [], ◌∷◌, ◌++◌, length, min, None, ◌%◌};
+ghost use Rattle.std.specs.Prelude.{◌≡◌, ◌≢◌, ◌≤◌, ◌<◌, ℕ, true, false, List, [], ◌∷◌, ◌++◌, length, min, None, ◌%◌};
 ghost use Rattle.m68k_decode.specs.declared.regs.CpuRegs.{CpuRegs};
 ghost use Rattle.m68k_decode.specs.declared.under.Under.{Under};
 ghost use Rattle.m68k_decode.specs.declared.under.Under.TheVariants as U;
@@ -177,6 +177,15 @@ fn idle_clocks(clocks: u32, done: u32) -> u32
     clocks.saturating_sub(done.saturating_mul(4)) / 2
 }
 
+/// Whether a number of clocks leaves no idle clocks after so many accesses.
+#[inline(always)]
+fn is_over(clocks: u32, done: u32) -> bool
+    ensures over { (n : ℕ) → done ≡ min n 4294967295 → result ≡ true → idle_clocks clocks n ≡ 0 }
+    ensures waits { (n : ℕ) → done ≡ min n 4294967295 → result ≡ false → idle_clocks clocks n ≢ 0 }
+{
+    u64::from(clocks) < 4 * u64::from(done) + 2
+}
+
 impl Cpu {
     /// Goes on with the word of the access that `ask` told; for idle clocks it completes all of
     /// them, and the word says nothing. `level` is the interrupt level of the clock of that access,
@@ -216,7 +225,7 @@ impl Cpu {
     {
         match self.machine.step {
             Step::Ended { clocks, .. } => {
-                if idle_clocks(clocks, self.done) == 0 {
+                if is_over(clocks, self.done) {
                     return self.pass_boundary(level);
                 }
                 None

@@ -222,28 +222,58 @@ fn take_next_word(context: &mut Context, machine: &mut Machine, part: Part, word
     take_word(context, machine, part, pc, word);
 }
 
-/// The extension word of the source is read: the PC goes beyond it.
+/// The extension words of the source are read: the PC goes beyond the last. The first is at `pc`.
 #[inline(never)]
-fn take_source_extension(context: &Context, machine: &mut Machine, word: u16)
+fn take_source_words(context: &Context, machine: &mut Machine, pc: u32, high: u16, low: u16)
     ensures { meaning context.now machine.new
-        ≡ fetched (W.One R.Source) context.now.fetched.instr machine.old.regs.pc word
-        (moved (run_of context.now machine.old)) }
+        ≡ at_place (moved (run_of context.now machine.old))
+        (role_mode R.Source context.now.fetched.instr)
+        (role_size R.Source context.now.fetched.instr) pc high low
+        (placed R.Source context.now.fetched.instr) }
 {
-    let pc = machine.regs.pc;
-    machine.regs.pc = pc.wrapping_add(2);
-    resolve_place(context, machine, Role::Source, pc, word, 0);
+    machine.regs.pc = machine.regs.pc.wrapping_add(2);
+    resolve_place(context, machine, Role::Source, pc, high, low);
 }
 
-/// The extension word of the destination is read: the PC goes beyond it. The source is `value`.
+/// The extension words of the destination are read: the PC goes beyond the last. The first is at `pc`, and
+/// the source is `value`.
 #[inline(never)]
-fn take_dest_extension(context: &Context, machine: &mut Machine, value: u32, word: u16)
+fn take_dest_words(
+    context: &Context,
+    machine: &mut Machine,
+    value: u32,
+    pc: u32,
+    high: u16,
+    low: u16,
+)
     ensures { meaning context.now machine.new
-        ≡ fetched (W.One (R.Dest value)) context.now.fetched.instr machine.old.regs.pc word
+        ≡ at_place (moved (run_of context.now machine.old))
+        (role_mode (R.Dest value) context.now.fetched.instr)
+        (role_size (R.Dest value) context.now.fetched.instr) pc high low
+        (placed (R.Dest value) context.now.fetched.instr) }
+{
+    machine.regs.pc = machine.regs.pc.wrapping_add(2);
+    resolve_place(context, machine, Role::Dest { value }, pc, high, low);
+}
+
+/// The first extension word of two is read: the PC goes beyond it.
+#[inline(always)]
+fn take_high_word(context: &Context, machine: &mut Machine, role: Role, word: u16)
+    ensures { meaning context.now machine.new
+        ≡ fetched (W.High role) context.now.fetched.instr machine.old.regs.pc word
         (moved (run_of context.now machine.old)) }
 {
     let pc = machine.regs.pc;
     machine.regs.pc = pc.wrapping_add(2);
-    resolve_place(context, machine, Role::Dest { value }, pc, word, 0);
+    fetch_word(
+        context,
+        machine,
+        Part::Low {
+            role,
+            pc,
+            high: word,
+        },
+    );
 }
 
 /// The second word of a row is read: the PC goes beyond it.
@@ -327,13 +357,47 @@ pub fn continue_with_word(context: &mut Context, machine: &mut Machine, word: u1
         Step::Fetch { part: Part::Opcode } => take_next_opcode(context, machine, word),
         Step::Fetch {
             part: Part::One { role: Role::Source },
-        } => take_source_extension(context, machine, word),
+        } => {
+            let pc = machine.regs.pc;
+            take_source_words(context, machine, pc, word, 0);
+        }
         Step::Fetch {
             part: Part::One {
                 role: Role::Dest { value },
             },
-        } => take_dest_extension(context, machine, value, word),
+        } => {
+            let pc = machine.regs.pc;
+            take_dest_words(context, machine, value, pc, word, 0);
+        }
+        Step::Fetch {
+            part: Part::High { role },
+        } => take_high_word(context, machine, role, word),
+        Step::Fetch {
+            part: Part::Low {
+                role: Role::Source,
+                pc,
+                high,
+            },
+        } => take_source_words(context, machine, pc, high, word),
+        Step::Fetch {
+            part: Part::Low {
+                role: Role::Dest { value },
+                pc,
+                high,
+            },
+        } => take_dest_words(context, machine, value, pc, high, word),
         Step::Fetch { part: Part::Own } => take_next_own_word(context, machine, word),
+        _ => continue_after_transfer(context, machine, word),
+    }
+}
+
+/// Goes on with the word of an access, of which a read or a write of a value is looked for first.
+#[inline(always)]
+fn continue_after_transfer(context: &mut Context, machine: &mut Machine, word: u16)
+    ensures start { context.new.start ≡ context.old.start }
+    ensures walk { meaning context.new machine.new ≡ follow (meaning context.old machine.old) word }
+{
+    match machine.step {
         Step::ReadWord {
             into: Use::Source,
             ..

@@ -84,6 +84,7 @@ pub fn compute_in_memory(context: &Context, machine: &mut Machine, value: u32, a
 }
 
 /// Takes the old value of the destination.
+#[inline(always)]
 #[tactic(auto, unfolding(m68k_decode::specs::Run::load))]
 fn load_old_value(context: &Context, machine: &mut Machine, value: u32, place: Place68)
     ensures { meaning context.now machine.new

@@ -3,7 +3,7 @@ use Rattle.m68k_decode.specs.Walk.{next}
 use Rattle.ocs_base.specs.AddressOf.{addr_at}
 use Rattle.serial_model.specs.declared.bus.ProcessorAsk.TheVariants as P
 use Rattle.serial_model.specs.declared.processor.Wait.TheVariants as W
-use Rattle.cpu_bus.proofs.BusLaws.{write_waits}
+use Rattle.cpu_bus.proofs.BusLaws.{write_waits, idle_waits}
 use Rattle.cpu_bus.proofs.target.look_further.Goals as goal
 
 pub returns-then-low-lt-SMALL_CHIP_BYTES : goal.returns-then-low-lt-SMALL_CHIP_BYTES
@@ -13,3 +13,6 @@ returns-then-low-lt-SMALL_CHIP_BYTES c r u ws s =
     ∙ ap (λ half. W.Slot (P.Write (addr_at c.args.chip low) half c.in-Write.word)) c.half.ensures
     ∙ sym (write_waits c.args.chip (next r u ws) c.in-Write.at low c.in-Write.word c.in-Write.byte (c.in-Write.ensures.next r u ws s)
     c.bus_address-low.ensures c.if-low-lt-SMALL_CHIP_BYTES.true)
+
+pub returns-in-Idle : goal.returns-in-Idle
+returns-in-Idle c r u ws s = sym (idle_waits c.args.chip (next r u ws) c.in-Idle.clocks (c.in-Idle.ensures.next r u ws s))

@@ -1,23 +1,23 @@
-use Rattle.std.proofs.Common.{◌≡◌, ◌≢◌, length, refl, sym, ◌∙◌}
+use Rattle.std.proofs.Common.{◌≡◌, ◌≢◌, length, refl}
 use Rattle.m68k_decode.specs.Access.{End, Enter, after, idle_clocks}
 use Rattle.m68k_decode.specs.Walk.{stage, program, settled}
 use Rattle.m68k_exec.proofs.Following.{settled_end, settled_idle, settled_enter, settled_rests}
 use Rattle.m68k_exec.proofs.state.Cpu.settle_access.Goals as goal
 
-pub returns-then-idle_clocks-eq0 : goal.returns-then-idle_clocks-eq0
-returns-then-idle_clocks-eq0 c = λ r u ws s.
+pub returns-then-is_over : goal.returns-then-is_over
+returns-then-is_over c = λ r u ws s.
     let over : after (program r u) ws ≡ End c.in-Ended.clocks c.args.self.now.machine.regs c.in-Ended.under =
     rw (← s.same) (rw c.in-Ended.is refl) in
     let none : idle_clocks c.in-Ended.clocks (length ws) ≡ 0 =
-    sym (c.idle_clocks.ensures (length ws) s.done) ∙ c.if-idle_clocks-eq0.true in
+    c.is_over.ensures.over (length ws) s.done c.if-is_over.true in
     rw (settled_end _ r u ws c.args.level _ _ _ over none, ← s.traced) (c.pass_boundary.ensures _ _ c.in-Ended.is)
 
-pub returns-else-idle_clocks-eq0 : goal.returns-else-idle_clocks-eq0
-returns-else-idle_clocks-eq0 c = λ r u ws s.
+pub returns-else-is_over : goal.returns-else-is_over
+returns-else-is_over c = λ r u ws s.
     let over : after (program r u) ws ≡ End c.in-Ended.clocks c.args.self.now.machine.regs c.in-Ended.under =
     rw (← s.same) (rw c.in-Ended.is refl) in
     let some : idle_clocks c.in-Ended.clocks (length ws) ≢ 0 =
-    λ e. c.if-idle_clocks-eq0.false (c.idle_clocks.ensures (length ws) s.done ∙ e) in
+    c.is_over.ensures.waits (length ws) s.done c.if-is_over.false in
     rw (settled_idle _ r u ws c.args.level _ _ _ over some) (record { stands = s; level = refl })
 
 pub returns-in-Broken : goal.returns-in-Broken
