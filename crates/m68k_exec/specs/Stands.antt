@@ -26,6 +26,10 @@ pub record Reaches (c : Cpu) (begins : Option ℕ) (stage : Stage) : Type 0 wher
   pub stands : StandsFor c stage
   pub level : begins ≡ stage.begins
 
+-- the level of the interrupt that begins, if one does
+abbrev pub interrupt_if : Bool → ℕ → Option ℕ
+interrupt_if begins level = if begins then Some level else None
+
 -- what the processor asks for, by what is next
 abbrev pub wanted : Next → Ask
 wanted (Asks (Read at byte)) = A.Read at byte

@@ -9,7 +9,7 @@ ghost use Rattle.m68k_decode.specs.Walk.{next, program, advance, begin, begin_ag
 ghost use Rattle.m68k_exec.specs.declared.ask.Ask.TheVariants as A;
 ghost use Rattle.m68k_exec.specs.declared.state.Step.TheVariants as T;
 ghost use Rattle.m68k_exec.specs.Meaning.{meaning};
-ghost use Rattle.m68k_exec.specs.Stands.{Stands, Reaches, wanted, word_read, is_halted};
+ghost use Rattle.m68k_exec.specs.Stands.{Stands, Reaches, interrupt_if, wanted, word_read, is_halted};
 
 use crate::access::fetch_word;
 use crate::ask::Ask;
@@ -198,6 +198,21 @@ impl Cpu {
             → Stands self.old r u ws
             → Reaches self.new result (advance r u ws word level) }
     {
+        if self.advance_step(word, level) {
+            Some(level)
+        } else {
+            None
+        }
+    }
+
+    /// The same; the answer is whether an interrupt begins, as it is of the functions that this calls.
+    #[inline(always)]
+    fn advance_step(&mut self, word: u16, level: u8) -> bool
+        requires { is_halted self.old ≡ false }
+        ensures { (r : CpuRegs) (u : Under) (ws : List ℕ)
+            → Stands self.old r u ws
+            → Reaches self.new (interrupt_if result level) (advance r u ws word level) }
+    {
         if let Step::Ended { .. } = self.machine.step {
             return self.pass_boundary(level);
         }
@@ -218,23 +233,23 @@ impl Cpu {
 
     /// Starts what follows an access, where something ended or was broken off with it.
     #[inline(always)]
-    fn settle_access(&mut self, level: u8) -> Option<u8>
+    fn settle_access(&mut self, level: u8) -> bool
         ensures { (r : CpuRegs) (u : Under) (ws : List ℕ)
             → Stands self.old r u ws
-            → Reaches self.new result (settled (after (program r u) ws) r u ws level) }
+            → Reaches self.new (interrupt_if result level) (settled (after (program r u) ws) r u ws level) }
     {
         match self.machine.step {
             Step::Ended { clocks, .. } => {
                 if is_over(clocks, self.done) {
                     return self.pass_boundary(level);
                 }
-                None
+                false
             }
             Step::Broken { under } => {
                 self.start_or_replace(under);
-                None
+                false
             }
-            _ => None,
+            _ => false,
         }
     }
 
@@ -255,9 +270,9 @@ impl Cpu {
     /// Starts what follows an end: a trace, an interrupt, or what is under way next.
     #[tactic(auto, unfolding(m68k_decode::specs::Walk::boundary))]
     #[inline(always)]
-    fn pass_boundary(&mut self, level: u8) -> Option<u8>
+    fn pass_boundary(&mut self, level: u8) -> bool
         ensures { (clocks : ℕ) (under : Under) → self.old.machine.step ≡ T.Ended clocks under
-            → Reaches self.new result
+            → Reaches self.new (interrupt_if result level)
             (boundary self.old.traced self.old.machine.regs under level) }
     {
         if let Step::Ended {
@@ -268,7 +283,7 @@ impl Cpu {
             let regs = &self.machine.regs;
             if !self.traced && level <= interrupt_mask(regs.sr) && regs.pc & 1 == 0 {
                 self.start_next_instruction();
-                return None;
+                return false;
             }
         }
         self.pass_rare_boundary(level)
@@ -277,13 +292,13 @@ impl Cpu {
     /// Starts what follows an end, in any case.
     #[tactic(auto, unfolding(m68k_decode::specs::Walk::boundary))]
     #[inline(never)]
-    fn pass_rare_boundary(&mut self, level: u8) -> Option<u8>
+    fn pass_rare_boundary(&mut self, level: u8) -> bool
         ensures { (clocks : ℕ) (under : Under) → self.old.machine.step ≡ T.Ended clocks under
-            → Reaches self.new result
+            → Reaches self.new (interrupt_if result level)
             (boundary self.old.traced self.old.machine.regs under level) }
     {
         let Step::Ended { under, .. } = self.machine.step else {
-            return None;
+            return false;
         };
         let taking = is_taking(&under);
         if self.traced {
@@ -292,7 +307,7 @@ impl Cpu {
                 ea: 0,
                 taking,
             });
-            return None;
+            return false;
         }
         if level > interrupt_mask(self.machine.regs.sr) {
             self.start_or_replace(Under::Entry {
@@ -300,10 +315,10 @@ impl Cpu {
                 ea: 0,
                 taking,
             });
-            return Some(level);
+            return true;
         }
         self.start_or_replace(under);
-        None
+        false
     }
 
     /// Starts with the registers as they are, or what takes its place where the first access is to an odd

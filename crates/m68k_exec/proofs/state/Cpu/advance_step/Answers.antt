@@ -2,7 +2,7 @@ use Rattle.std.proofs.Common.{◌≡◌, ℕ, List, [], ◌∷◌, ◌++◌, ref
 use Rattle.m68k_decode.specs.Access.{End, after}
 use Rattle.m68k_decode.specs.Walk.{program}
 use Rattle.m68k_exec.proofs.Following.{advance_on, advance_end}
-use Rattle.m68k_exec.proofs.state.Cpu.answer.Goals as goal
+use Rattle.m68k_exec.proofs.state.Cpu.advance_step.Goals as goal
 
 pub returns-in-Ended : goal.returns-in-Ended
 returns-in-Ended c = λ r u ws s.
@@ -13,5 +13,5 @@ returns-in-Ended c = λ r u ws s.
 pub returns : goal.returns
 returns c = λ r u ws s.
     let later : List ℕ = ws ++ c.args.word ∷ [] in
-    rw (advance_on _ _ _ r u ws c.args.word c.args.level s.same c.in_default.not-Ended c.requires.asks)
+    rw (advance_on _ _ _ r u ws c.args.word c.args.level s.same c.in_default.not-Ended c.requires)
     (c.settle_access.ensures r u later (c.complete_access.ensures r u ws s))
