@@ -9,7 +9,7 @@ mod quiet;
 mod target;
 
 pub use crate::quiet::waits_of_none;
-use crate::target::look_ahead;
+use crate::target::{look_ahead, look_further};
 use m68k_exec::{Ask as Access, Cpu};
 use ocs_base::ChipSize;
 use serial_model::{ProcessorAsk, Turn, Wait};
@@ -148,8 +148,12 @@ impl BusCpu {
         let begins = advance(&mut self.cpu, word, level);
         self.spent = 0;
         self.given = None;
+        if let Some(level) = begins {
+            look_further(&mut self.wait, self.chip, &self.cpu);
+            return Some(level);
+        }
         look_ahead(&mut self.wait, self.chip, &self.cpu);
-        begins
+        None
     }
 }
 
