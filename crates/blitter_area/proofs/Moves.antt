@@ -1,7 +1,8 @@
 -- A channel that moves after each word and each row stands where its address is by one expression.
-use Rattle.std.proofs.Common.{arith, ◌≡◌, ℕ, ◌+◌, ◌*◌, ◌%◌, ◌<◌, Bool, true, false, if◌then◌else◌, ℤ, pos, ◌+ℤ◌, ◌*ℤ◌, unsigned_abs, sym, ap, ◌∙◌, refl}
+use Rattle.std.proofs.Common.{arith, ◌≡◌, ℕ, ◌+◌, ◌*◌, ◌%◌, ◌<◌, bit_and, Bool, true, false, if◌then◌else◌, ℤ, pos, ◌+ℤ◌, ◌*ℤ◌, unsigned_abs, sym, ap, ◌∙◌, refl}
 use Rattle.std.specs.Int.{int_rem_euclid}
 use Rattle.std.proofs.lemmas.Int.{ints}
+use Rattle.std.proofs.lemmas.Nat.{and_mask}
 use Rattle.std.proofs.Math.IntN.{suc_ℤ, suc_ℤ-*ℤ}
 use Rattle.ocs_base.specs.Sizes.{bytes_of}
 use Rattle.ocs_base.specs.Span.{span_of}
@@ -15,7 +16,8 @@ use Rattle.blit_words.specs.AreaBlit.{is_used, is_descending, modulo_of, pointer
 use Rattle.ocs_base.proofs.Addresses.{same_addr}
 use Rattle.blit_words.proofs.Addresses.{address_is}
 use Rattle.blitter_area.specs.declared.channel.Channel.{Channel}
-use Rattle.blitter_area.specs.Pointing.{IsAt, IsMade, address_number}
+use Rattle.blitter_area.specs.Pointing.{IsAt, IsMade, HasMoved, address_number, way_if}
+use Rattle.blitter_area.specs.Spans.{within_span}
 use Rattle.blitter_area.proofs.Remainders.{rem_add_any}
 
 opposite_next : (d : Bool) (n : ℕ) (z : ℤ) → opposite_if d (pos (2 * (n + 1)) +ℤ z) ≡ opposite_if d (pos (2 * n) +ℤ z) +ℤ opposite_if d (pos 2)
@@ -57,9 +59,20 @@ span_of_sum : (size : ChipSize) (z y : ℤ) → modulo_span size (modulo_span si
 span_of_sum Kib512 z y = rem_add_any 524287 z y
 span_of_sum Mib1 z y = rem_add_any 1048575 z y
 
-within_span : (size : ChipSize) (n : ℕ) → n < bytes_of size → modulo_span size (pos n) ≡ pos n
-within_span Kib512 n low = let whole : n % 524288 ≡ n = omega arith in ap pos whole
-within_span Mib1 n low = let whole : n % 1048576 ≡ n = omega arith in ap pos whole
+within_span_is : (size : ChipSize) (n : ℕ) → n < bytes_of size → modulo_span size (pos n) ≡ pos n
+within_span_is Kib512 n low = let whole : n % 524288 ≡ n = omega arith in ap pos whole
+within_span_is Mib1 n low = let whole : n % 1048576 ≡ n = omega arith in ap pos whole
+
+sum_of_span : (size : ChipSize) (z y : ℤ) → modulo_span size (z +ℤ modulo_span size y) ≡ modulo_span size (z +ℤ y)
+sum_of_span size z y =
+    let turned : z +ℤ modulo_span size y ≡ modulo_span size y +ℤ z = omega (arith, ints) in
+    let back : y +ℤ z ≡ z +ℤ y = omega (arith, ints) in
+    ap (modulo_span size) turned ∙ span_of_sum size y z ∙ ap (modulo_span size) back
+
+-- a number of bytes modulo a span is that of it as a whole number
+natural : (size : ChipSize) (n : ℕ) → pos (n % bytes_of size) ≡ modulo_span size (pos n)
+natural Kib512 n = refl
+natural Mib1 n = refl
 
 moves : (size : ChipSize) (base at to : ℕ) (way way' step : ℤ)
     → pos at ≡ modulo_span size (pos base +ℤ way)
@@ -74,76 +87,58 @@ moves size base at to way way' step at_is to_is way_is =
     ∙ ap (modulo_span size) sum
     ∙ ap (λ (z : ℤ). modulo_span size (pos base +ℤ z)) (sym way_is)
 
-used_number : (s : BlitRegs) (x : WordAsk) (r c : ℕ) → is_used s x ≡ true
-    → address_number s x r c ≡ modulo_span (pointer_of s x).size (pos (pointer_of s x).value +ℤ way_to s x r c)
+-- a number that moved by a step of its channel, and then stands where the way is so much longer
+stepped : (s : BlitRegs) (k : WordAsk) (r c r' c' at to bytes : ℕ) (step : ℤ)
+    → way_to s k r' c' ≡ way_to s k r c +ℤ step
+    → pos at ≡ address_number s k r c
+    → pos to ≡ modulo_span (pointer_of s k).size (pos at +ℤ pos bytes)
+    → pos bytes ≡ modulo_span (pointer_of s k).size (if is_used s k then step else pos 0)
+    → pos to ≡ address_number s k r' c'
 unfolding address_number
-used_number s x r c used =
-    ap (λ (b : Bool). if b then modulo_span (pointer_of s x).size (pos (pointer_of s x).value +ℤ way_to s x r c) else pos (pointer_of s x).value) used
-
-unused_number : (s : BlitRegs) (x : WordAsk) (r c : ℕ) → is_used s x ≡ false → address_number s x r c ≡ pos (pointer_of s x).value
-unfolding address_number
-unused_number s x r c unused =
-    ap (λ (b : Bool). if b then modulo_span (pointer_of s x).size (pos (pointer_of s x).value +ℤ way_to s x r c) else pos (pointer_of s x).value) unused
-
--- a channel of which the address alone is new
-pub record HasMoved (x x' : Channel) (step : ℤ) : Type 0 where
-  pub used : x'.used ≡ x.used
-  pub forward : x'.forward ≡ x.forward
-  pub over : x'.over ≡ x.over
-  pub address : pos x'.at.value ≡ int_rem_euclid (pos x.at.value +ℤ step) (pos (span_of x.at))
-  pub size : x'.at.size ≡ x.at.size
+stepped s k r c r' c' at to bytes step way_is at_is to_is bytes_is =
+    let base : ℕ = (pointer_of s k).value in
+    let size : ChipSize = (pointer_of s k).size in
+    let stays : pos base +ℤ pos 0 ≡ pos base = omega (arith, ints) in
+    elim (is_used s k) as (λ (u : Bool). pos at ≡ (if u then modulo_span size (pos base +ℤ way_to s k r c) else pos base)
+    → pos bytes ≡ modulo_span size (if u then step else pos 0)
+    → pos to ≡ (if u then modulo_span size (pos base +ℤ way_to s k r' c') else pos base)) [
+      | true ↦ (λ a b.
+          moves size base at to _ _ step a
+          (to_is ∙ ap (λ (z : ℤ). modulo_span size (pos at +ℤ z)) b ∙ sum_of_span size (pos at) step) way_is)
+      | false ↦ (λ a b.
+          to_is
+          ∙ ap (λ (z : ℤ). modulo_span size (z +ℤ pos bytes)) a
+          ∙ ap (λ (z : ℤ). modulo_span size (pos base +ℤ z)) b
+          ∙ sum_of_span size (pos base) (pos 0)
+          ∙ ap (modulo_span size) stays
+          ∙ within_span_is size base (pointer_of s k).below)
+    ] at_is bytes_is
 
 -- where the channel stands in the span of a pointer, it moved modulo that span
-in_span : (x x' : Channel) (step : ℤ) (size : ChipSize) → HasMoved x x' step → x.at.size ≡ size
-    → pos x'.at.value ≡ modulo_span size (pos x.at.value +ℤ step)
-in_span x x' step size moved is = moved.address ∙ ap (λ (k : ChipSize). modulo_span k (pos x.at.value +ℤ step)) is
+in_span : (x x' : Channel) (bytes : ℕ) (size : ChipSize) → HasMoved x x' bytes → x.at.size ≡ size
+    → pos x'.at.value ≡ modulo_span size (pos x.at.value +ℤ pos bytes)
+in_span x x' bytes size moved is =
+    ap pos (moved.value ∙ ap (λ (k : ChipSize). (x.at.value + bytes) % bytes_of k) is) ∙ natural size (x.at.value + bytes)
 
-pub moved_word : (s : BlitRegs) (k : WordAsk) (r c : ℕ) (x x' : Channel) → IsAt x s k r c → x.used ≡ true
-    → HasMoved x x' x.forward
-    → IsAt x' s k r (c + 1)
-moved_word s k r c x x' is used moved =
-    let k_used : is_used s k ≡ true = sym is.is_used ∙ used in
-    let at_is = is.address ∙ used_number s k r c k_used in
+pub moved_word : (s : BlitRegs) (k : WordAsk) (r c : ℕ) (x x' : Channel) → IsAt x s k r c → HasMoved x x' x.forward → IsAt x' s k r (c + 1)
+moved_word s k r c x x' is moved =
     let to_is = in_span x x' x.forward (pointer_of s k).size moved is.size in
-    let way_is = way_next s k r c ∙ ap (λ (z : ℤ). way_to s k r c +ℤ z) (sym is.forward) in
     record {
-      is_used = moved.used ∙ is.is_used;
-      address =
-          moves (pointer_of s k).size (pointer_of s k).value x.at.value x'.at.value _ _ x.forward at_is to_is way_is
-          ∙ sym (used_number s k r (c + 1) k_used);
+      address = stepped s k r c r (c + 1) x.at.value x'.at.value x.forward _ (way_next s k r c) is.address to_is is.forward;
       size = moved.size ∙ is.size;
-      forward = moved.forward ∙ is.forward;
-      over = moved.over ∙ is.over;
+      forward = ap pos moved.forward ∙ is.forward;
+      over = ap pos moved.over ∙ is.over;
     }
 
-pub moved_row : (s : BlitRegs) (k : WordAsk) (r c : ℕ) (x x' : Channel) → c ≡ width_of s → IsAt x s k r c → x.used ≡ true
-    → HasMoved x x' x.over
+pub moved_row : (s : BlitRegs) (k : WordAsk) (r c : ℕ) (x x' : Channel) → c ≡ width_of s → IsAt x s k r c → HasMoved x x' x.over
     → IsAt x' s k (r + 1) 0
-moved_row s k r c x x' whole is used moved =
-    let k_used : is_used s k ≡ true = sym is.is_used ∙ used in
-    let at_is = is.address ∙ used_number s k r c k_used in
+moved_row s k r c x x' whole is moved =
     let to_is = in_span x x' x.over (pointer_of s k).size moved is.size in
-    let way_is = way_over s k r c whole ∙ ap (λ (z : ℤ). way_to s k r c +ℤ z) (sym is.over) in
     record {
-      is_used = moved.used ∙ is.is_used;
-      address =
-          moves (pointer_of s k).size (pointer_of s k).value x.at.value x'.at.value _ _ x.over at_is to_is way_is
-          ∙ sym (used_number s k (r + 1) 0 k_used);
+      address = stepped s k r c (r + 1) 0 x.at.value x'.at.value x.over _ (way_over s k r c whole) is.address to_is is.over;
       size = moved.size ∙ is.size;
-      forward = moved.forward ∙ is.forward;
-      over = moved.over ∙ is.over;
-    }
-
--- an unused channel stands everywhere
-pub still : (s : BlitRegs) (k : WordAsk) (r c r' c' : ℕ) (x : Channel) → IsAt x s k r c → x.used ≡ false → IsAt x s k r' c'
-still s k r c r' c' x is unused =
-    let k_unused : is_used s k ≡ false = sym is.is_used ∙ unused in
-    record {
-      is_used = is.is_used;
-      address = is.address ∙ unused_number s k r c k_unused ∙ sym (unused_number s k r' c' k_unused);
-      size = is.size;
-      forward = is.forward;
-      over = is.over;
+      forward = ap pos moved.forward ∙ is.forward;
+      over = ap pos moved.over ∙ is.over;
     }
 
 opposite_zero : (d : Bool) → opposite_if d (pos 0) ≡ pos 0
@@ -168,7 +163,7 @@ first_number s k =
     let at : modulo_span size (pos base +ℤ way_to s k 0 0) ≡ pos base =
     ap (λ (z : ℤ). modulo_span size (pos base +ℤ z)) (first_way s k)
     ∙ ap (modulo_span size) sum
-    ∙ within_span size base (pointer_of s k).below in
+    ∙ within_span_is size base (pointer_of s k).below in
     elim (is_used s k) as (λ (b : Bool). (if b then modulo_span size (pos base +ℤ way_to s k 0 0) else pos base) ≡ pos base) [
       | true ↦ at
       | false ↦ refl
@@ -182,14 +177,17 @@ pub at_first : (s : BlitRegs) (k : WordAsk) (x : Channel) (used descending : Boo
     → descending ≡ is_descending s
     → IsAt x s k 0 0
 at_first s k x used descending modulo is used_is modulo_is descending_is = record {
-  is_used = is.is_used ∙ used_is;
   address = ap (λ (a : Addr). pos a.value) is.pointer ∙ sym (first_number s k);
   size = ap (λ (a : Addr). a.size) is.pointer;
-  forward = is.forward ∙ ap (λ (d : Bool). opposite_if d (pos 2)) descending_is;
+  forward =
+      is.forward
+      ∙ ap (λ (u : Bool). within_span (pointer_of s k) (way_if u descending (pos 2))) used_is
+      ∙ ap (λ (d : Bool). within_span (pointer_of s k) (way_if (is_used s k) d (pos 2))) descending_is;
   over =
       is.over
-      ∙ ap (λ (d : Bool). opposite_if d (even_part modulo)) descending_is
-      ∙ ap (λ (z : ℤ). opposite_if (is_descending s) (even_part z)) modulo_is;
+      ∙ ap (λ (u : Bool). within_span (pointer_of s k) (way_if u descending (even_part modulo))) used_is
+      ∙ ap (λ (d : Bool). within_span (pointer_of s k) (way_if (is_used s k) d (even_part modulo))) descending_is
+      ∙ ap (λ (z : ℤ). within_span (pointer_of s k) (way_if (is_used s k) (is_descending s) (even_part z))) modulo_is;
 }
 
 -- the address itself
@@ -202,3 +200,20 @@ address_at s k r c x is =
       | true ↦ (λ h. address_is base x.at (way_to s k r c) h is.size)
       | false ↦ (λ h. same_addr x.at base (ap unsigned_abs h) is.size)
     ] is.address
+
+-- ---- what the code of a step owes
+
+pub masked : (at : Addr) (mask bytes : ℕ) → mask + 1 ≡ span_of at → bit_and (at.value + bytes) mask ≡ (at.value + bytes) % span_of at
+masked at mask bytes is =
+    elim at.size as (λ (k : ChipSize). mask + 1 ≡ bytes_of k → bit_and (at.value + bytes) mask ≡ (at.value + bytes) % bytes_of k) [
+      | Kib512 ↦ (λ e. let m : mask ≡ 524287 = omega (arith, e) in ap (bit_and (at.value + bytes)) m ∙ and_mask (at.value + bytes) 19)
+      | Mib1 ↦ (λ e. let m : mask ≡ 1048575 = omega (arith, e) in ap (bit_and (at.value + bytes)) m ∙ and_mask (at.value + bytes) 20)
+    ] is
+
+pub even_rest : (size : ChipSize) (n : ℕ) → n % 2 ≡ 0 → n % bytes_of size % 2 ≡ 0
+even_rest Kib512 n even = omega (arith, even)
+even_rest Mib1 n even = omega (arith, even)
+
+pub below_span : (size : ChipSize) (n : ℕ) → n % bytes_of size < bytes_of size
+below_span Kib512 n = omega arith
+below_span Mib1 n = omega arith

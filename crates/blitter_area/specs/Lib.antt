@@ -1,5 +1,6 @@
 pub mod Rows
 pub mod RowCode
+pub mod Spans
 pub mod Pointing
 pub mod Data
 pub mod PathCode

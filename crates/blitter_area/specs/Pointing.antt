@@ -1,5 +1,5 @@
 -- A moving pointer and the address that it stands for.
-use Rattle.std.specs.Prelude.{◌≡◌, ℕ, ◌+◌, Bool, if◌then◌else◌, ℤ, pos, ◌+ℤ◌}
+use Rattle.std.specs.Prelude.{◌≡◌, ℕ, ◌+◌, ◌%◌, Bool, if◌then◌else◌, ℤ, pos, ◌+ℤ◌}
 use Rattle.std.specs.Int.{int_rem_euclid}
 use Rattle.ocs_base.specs.Span.{span_of}
 use Rattle.ocs_base.specs.declared.addr.Addr.{Addr}
@@ -8,15 +8,31 @@ use Rattle.blit_words.specs.declared.blit.WordAsk.{WordAsk}
 use Rattle.blit_words.specs.declared.blit.WordAsk.TheVariants.{A, B, C, D}
 use Rattle.blit_words.specs.Blit.{even_part, width_of}
 use Rattle.blit_words.specs.AreaBlit.{is_used, is_descending, modulo_of, pointer_of, opposite_if, way_to}
+use Rattle.blitter_area.specs.Spans.{within_span}
 use Rattle.blitter_area.specs.declared.channel.Channel.{Channel}
 use Rattle.blitter_area.specs.declared.channel.Pointers.{Pointers}
 
--- a new channel
-pub record IsMade (x : Channel) (at : Addr) (used : Bool) (modulo : ℤ) (descending : Bool) : Type 0 where
+-- a channel at an address that moves by these ways, modulo the span
+pub record MovesBy (x : Channel) (at : Addr) (way row_way : ℤ) : Type 0 where
   pub pointer : x.at ≡ at
-  pub is_used : x.used ≡ used
-  pub forward : x.forward ≡ opposite_if descending (pos 2)
-  pub over : x.over ≡ opposite_if descending (even_part modulo)
+  pub forward : pos x.forward ≡ within_span at way
+  pub over : pos x.over ≡ within_span at row_way
+
+-- the way of a channel by a step; an unused channel stays
+abbrev pub way_if : Bool → Bool → ℤ → ℤ
+way_if used descending way = if used then opposite_if descending way else pos 0
+
+-- a new channel
+abbrev pub IsMade : Channel → Addr → Bool → ℤ → Bool → Type 0
+IsMade x at used modulo descending =
+    MovesBy x at (way_if used descending (pos 2)) (way_if used descending (even_part modulo))
+
+-- a channel of which the address alone is new: it moved by so many bytes, modulo its span
+pub record HasMoved (x x' : Channel) (bytes : ℕ) : Type 0 where
+  pub forward : x'.forward ≡ x.forward
+  pub over : x'.over ≡ x.over
+  pub value : x'.at.value ≡ (x.at.value + bytes) % span_of x.at
+  pub size : x'.at.size ≡ x.at.size
 
 -- the number of the address of a channel at word c of row r, modulo the span of its pointer
 unfoldable pub address_number : BlitRegs → WordAsk → ℕ → ℕ → ℤ
@@ -27,11 +43,10 @@ address_number s k r c =
 
 -- a channel that stands at word c of row r, in the span of its pointer
 pub record IsAt (x : Channel) (s : BlitRegs) (k : WordAsk) (r c : ℕ) : Type 0 where
-  pub is_used : x.used ≡ is_used s k
   pub address : pos x.at.value ≡ address_number s k r c
   pub size : x.at.size ≡ (pointer_of s k).size
-  pub forward : x.forward ≡ opposite_if (is_descending s) (pos 2)
-  pub over : x.over ≡ opposite_if (is_descending s) (even_part (modulo_of s k))
+  pub forward : pos x.forward ≡ within_span (pointer_of s k) (way_if (is_used s k) (is_descending s) (pos 2))
+  pub over : pos x.over ≡ within_span (pointer_of s k) (way_if (is_used s k) (is_descending s) (even_part (modulo_of s k)))
 
 pub record AreAt (x : Pointers) (s : BlitRegs) (r c : ℕ) : Type 0 where
   pub of_a : IsAt x.a s A r c

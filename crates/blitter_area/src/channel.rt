@@ -1,48 +1,58 @@
 //! The pointers of the four channels.
 
-ghost use Rattle.std.specs.Prelude.{◌≡◌, ℕ, ◌+◌};
+ghost use Rattle.std.specs.Prelude.{◌≡◌, ℕ, ◌+◌, pos};
+ghost use Rattle.std.specs.Int.{int_rem_euclid};
 ghost use Rattle.ocs_base.specs.Addr.{IsEven};
+ghost use Rattle.ocs_base.specs.Span.{span_of};
 ghost use Rattle.blit_words.specs.declared.blit.BlitRegs.{BlitRegs};
 ghost use Rattle.blit_words.specs.declared.blit.WordAsk.{WordAsk};
 ghost use Rattle.blit_words.specs.Blit.{width_of};
+ghost use Rattle.blitter_area.specs.Spans.{IsInside};
 
 use blit_words::{BlitRegs, even_part, is_set};
 use ocs_base::Addr;
 
-/// The address of a channel, in the span of its pointer, and how far it moves after each word and after each
-/// row. An unused channel stays.
+/// The address of a channel, and how far it moves after each word and after each row, modulo the span of its
+/// pointer; an unused channel stays. The mask is that of an address in the span.
 #[derive(Clone, Copy)]
 pub(crate) struct Channel {
     pub(crate) at: Addr,
-    pub(crate) used: bool,
-    pub(crate) forward: i32,
-    pub(crate) over: i32,
-    ghost forward_is_even: { IsEven forward },
-    ghost over_is_even: { IsEven over },
+    pub(crate) forward: u32,
+    pub(crate) over: u32,
+    pub(crate) mask: u32,
+    ghost mask_is: { mask + 1 ≡ span_of at },
+    ghost forward_inside: { IsInside at.size forward },
+    ghost over_inside: { IsInside at.size over },
 }
 
 impl Channel {
-    ghost use Rattle.blitter_area.specs.Pointing.{IsMade, StepsWord, StepsRow};
+    ghost use Rattle.blitter_area.specs.Pointing.{MovesBy, IsMade, HasMoved, StepsWord, StepsRow};
 
     /// A channel at its pointer.
     fn new(at: Addr, used: bool, modulo: i16, descending: bool) -> Channel
         ensures { IsMade result at used modulo descending }
     {
         let over = even_part(modulo);
-        if descending {
-            Channel {
-                at,
-                used,
-                forward: -2,
-                over: -over,
-            }
+        if !used {
+            Channel::moving(at, 0, 0)
+        } else if descending {
+            Channel::moving(at, -2, -over)
         } else {
-            Channel {
-                at,
-                used,
-                forward: 2,
-                over,
-            }
+            Channel::moving(at, 2, over)
+        }
+    }
+
+    /// A channel that moves by these ways.
+    fn moving(at: Addr, forward: i32, over: i32) -> Channel
+        requires forward { IsEven forward }
+        requires over { IsEven over }
+        ensures { MovesBy result at forward over }
+    {
+        Channel {
+            at,
+            forward: within(at, forward),
+            over: within(at, over),
+            mask: at.span() - 1,
         }
     }
 
@@ -50,19 +60,33 @@ impl Channel {
     fn step_word(&mut self)
         ensures { StepsWord self.old self.new }
     {
-        if self.used {
-            self.at = self.at.step(self.forward);
-        }
+        self.step(self.forward);
     }
 
     /// Moves on to the next row, from behind the last word of one.
     fn step_row(&mut self)
         ensures { StepsRow self.old self.new }
     {
-        if self.used {
-            self.at = self.at.step(self.over);
-        }
+        self.step(self.over);
     }
+
+    /// Moves on by so many bytes.
+    #[inline(always)]
+    fn step(&mut self, bytes: u32)
+        requires { IsInside self.old.at.size bytes }
+        ensures { HasMoved self.old self.new bytes }
+    {
+        self.at.value = (self.at.value + bytes) & self.mask;
+    }
+}
+
+/// A way modulo the span of an address.
+fn within(at: Addr, way: i32) -> u32
+    requires { IsEven way }
+    ensures value { pos result ≡ int_rem_euclid way (pos (span_of at)) }
+    ensures inside { IsInside at.size result }
+{
+    Addr::sized(at.size, 0).step(way).raw()
 }
 
 /// All four channels. They move at the end of a word, not each after its access: the addresses are the same.
