@@ -1,5 +1,5 @@
 -- The rows of asks, read off the table: where a channel has its ask, and that D has the last.
-use Rattle.std.proofs.Common.{arith, ◌≡◌, ◌≢◌, inl, inr, ℕ, zero, suc, ◌+◌, ◌-◌, ◌<◌, ◌≤◌, Bool, true, false, not, ◌&&◌, ◌||◌, nat_eq}
+use Rattle.std.proofs.Common.{arith, ◌≡◌, ◌≢◌, inl, inr, ℕ, zero, suc, ◌+◌, ◌-◌, ◌<◌, ◌≤◌, Bool, true, false, not, ◌&&◌, ◌||◌, nat_eq, ◌==◌, ◌/◌, ◌%◌, if◌then◌else◌}
 use Rattle.std.proofs.Common.{nat_lt, List, [], ◌∷◌, ◌++◌, length, replicate, get_or, Option, Some, None, sym, ap, ◌∙◌, refl}
 use Rattle.std.proofs.lemmas.Bool.{ltb-true, cases_lt}
 use Rattle.std.proofs.lemmas.List.{length-append, length-replicate, get_or_default, get_or_past}
@@ -7,7 +7,7 @@ use Rattle.std.specs.List.{position}
 use Rattle.blit_words.specs.declared.blit.BlitRegs.{BlitRegs}
 use Rattle.blit_words.specs.declared.blit.WordAsk.{WordAsk}
 use Rattle.blit_words.specs.declared.blit.WordAsk.TheVariants.{A, B, C, D, Rest}
-use Rattle.blit_words.specs.AreaBlit.{asks_in, code_of, asks_per_word, word_ask, place_of, is_same}
+use Rattle.blit_words.specs.AreaBlit.{asks_in, code_of, asks_per_word, word_ask, place_of, is_same, is_used}
 use Rattle.blitter_area.specs.RowCode.{IsRowOf}
 use Rattle.blitter_area.specs.declared.asks.AskRow.{AskRow}
 
@@ -71,6 +71,10 @@ ends_at_write code p = not (is_same D (get_or (asks_in code) p Rest)) || nat_eq 
 abbrev end_test : ℕ → Bool
 end_test code = all_below (length (asks_in code)) (ends_at_write code)
 
+-- the last ask is D where its bit of the code is set, and only there
+abbrev last_test : ℕ → Bool
+last_test code = are_equal (is_same D (get_or (asks_in code) (length (asks_in code) - 1) Rest)) (code % 2 == 1)
+
 abbrev first_test : ℕ → Bool
 first_test code = not (is_same D (get_or (asks_in code) 0 Rest))
 
@@ -84,6 +88,10 @@ rows_pass B = refl
 rows_pass C = refl
 rows_pass D = refl
 rows_pass Rest = refl
+
+last_pass : all_below 16 last_test ≡ true
+unfolding asks_in
+last_pass = refl
 
 sizes_pass : all_below 16 size_test ≡ true
 unfolding asks_in
@@ -160,6 +168,65 @@ write_ends s p low writes =
     let here = from_all (length (asks_in (code_of s))) (ends_at_write (code_of s)) test p low in
     let same = or_true _ _ (ap (is_same D) writes) here in
     grind arith
+
+same_write : (k : WordAsk) → is_same D k ≡ true → k ≡ D
+same_write A h = cc
+same_write B h = cc
+same_write C h = cc
+same_write D h = refl
+same_write Rest h = cc
+
+used_in : (s : BlitRegs) → is_used s D ≡ (code_of s % 2 == 1)
+used_in s =
+    let e : s.con0 / 256 % 2 ≡ code_of s % 2 = omega arith in
+    ap (λ (n : ℕ). n == 1) e
+
+last_asks : (s : BlitRegs) (p : ℕ) → p + 1 ≡ asks_per_word s → is_same D (word_ask s p) ≡ is_used s D
+unfolding asks_per_word word_ask
+last_asks s p last =
+    let l : List WordAsk = asks_in (code_of s) in
+    let e : p ≡ length l - 1 = omega (arith, last) in
+    ap (λ (n : ℕ). is_same D (get_or l n Rest)) e
+    ∙ from_equal _ _ (from_all 16 last_test last_pass (code_of s) (code_below s))
+    ∙ sym (used_in s)
+
+-- the last ask is the write where D is used
+pub used_writes : (s : BlitRegs) (p : ℕ) → is_used s D ≡ true → p + 1 ≡ asks_per_word s → word_ask s p ≡ D
+used_writes s p used last = same_write (word_ask s p) (last_asks s p last ∙ used)
+
+-- and only there does a word write
+pub writes_used : (s : BlitRegs) (p : ℕ) → p < asks_per_word s → word_ask s p ≡ D → is_used s D ≡ true
+writes_used s p low writes = sym (last_asks s p (write_ends s p low writes)) ∙ ap (is_same D) writes
+
+-- the last input is the last ask or comes before it
+pub inputs_first : (s : BlitRegs) (r : AskRow) → IsRowOf r s → r.last_input ≤ r.last
+inputs_first s r is = elim (is_used s D) as (λ (u : Bool). (if u then r.last_input + 1 else r.last_input) ≡ r.last → r.last_input ≤ r.last) [
+  | true ↦ (λ e. omega (arith, e))
+  | false ↦ (λ e. omega (arith, e))
+] is.last_input
+
+-- behind the last input there is the write, if another ask at all
+pub input_then : (s : BlitRegs) (r : AskRow) (p : ℕ) → IsRowOf r s → r.last_input ≤ p → p < r.last → word_ask s (p + 1) ≡ D
+input_then s r p is behind before =
+    let last = is.last in
+    let goal : Type 0 = word_ask s (p + 1) ≡ D in
+    elim (is_used s D) as (λ (u : Bool). is_used s D ≡ u → (if u then r.last_input + 1 else r.last_input) ≡ r.last → goal) [
+      | true ↦ (λ used e. let end : p + 1 + 1 ≡ asks_per_word s = omega (arith, e, last, behind, before) in used_writes s (p + 1) used end)
+      | false ↦ (λ used e. absurd (omega (arith, e, behind, before)))
+    ] refl is.last_input
+
+-- up to the last input no ask is the write
+pub input_reads : (s : BlitRegs) (r : AskRow) (p : ℕ) → IsRowOf r s → p ≤ r.last_input → word_ask s p ≢ D
+input_reads s r p is within writes =
+    let last = is.last in
+    let low : p < asks_per_word s = elim (is_used s D) as (λ (u : Bool). (if u then r.last_input + 1 else r.last_input) ≡ r.last → p < asks_per_word s) [
+      | true ↦ (λ e. omega (arith, e, last, within))
+      | false ↦ (λ e. omega (arith, e, last, within))
+    ] is.last_input in
+    let used = writes_used s p low writes in
+    let end = write_ends s p low writes in
+    let e : r.last_input + 1 ≡ r.last = ap (λ (u : Bool). if u then r.last_input + 1 else r.last_input) (sym used) ∙ is.last_input in
+    omega (arith, e, last, within, end)
 
 not_true : (b : Bool) → b ≡ true → not b ≡ true → ⊥
 not_true true is h = cc

@@ -70,6 +70,10 @@ IsDoneAfterAll ask s ws = (ask ≡ S.Done) ↔ (height_of s * width_of s * asks_
 abbrev pub ForWhatItStands : AreaBlit → (BlitRegs → List ℕ → Type 0) → Type 0
 ForWhatItStands b P = (s : BlitRegs) (ws : List ℕ) → Stands b s ws → P s ws
 
+-- what it makes of a blit that all inputs of its word have answers: it stands at the write, or at the next word
+abbrev pub EndsInputs : AreaBlit → AreaBlit → Type 0
+EndsInputs old new = (s : BlitRegs) (ws : List ℕ) → Walks old s ws (old.place + 1) → old.place < asks_per_word s → Stands new s ws
+
 -- what the end of a word makes of a blit: with all answers of its word it stands at the next
 abbrev pub EndsWord : AreaBlit → AreaBlit → Type 0
 EndsWord old new = (s : BlitRegs) (ws : List ℕ) → Walks old s ws (asks_per_word s) → Stands new s ws

@@ -1,6 +1,6 @@
 //! An area blit from ask to ask.
 
-ghost use Rattle.std.specs.Prelude.{◌≡◌, ◌≢◌, ◌<◌, ℕ, List, [], ◌∷◌, ◌++◌, false};
+ghost use Rattle.std.specs.Prelude.{◌≡◌, ◌≢◌, ◌<◌, ◌≤◌, ℕ, List, [], ◌∷◌, ◌++◌, false};
 ghost use Rattle.blit_words.specs.declared.blit.BlitRegs.{BlitRegs};
 ghost use Rattle.blit_words.specs.declared.blit.WordAsk.{WordAsk};
 ghost use Rattle.blit_words.specs.declared.blit.WordAsk.TheVariants.{D};
@@ -47,7 +47,7 @@ pub struct AreaBlit {
 }
 
 impl AreaBlit {
-    ghost use Rattle.blitter_area.specs.Walk.{Stands, ForWhatItStands, EndsWord, IsDoneAfterAll, shown, shown_ask, outcome_now, aptl_now};
+    ghost use Rattle.blitter_area.specs.Walk.{Stands, ForWhatItStands, EndsInputs, EndsWord, IsDoneAfterAll, shown, shown_ask, outcome_now, aptl_now};
 
     /// A blit that has had no answer yet, of registers with LINE, bit 0 of BLTCON1, clear.
     pub fn start(r: &BlitRegs) -> AreaBlit
@@ -134,6 +134,7 @@ impl AreaBlit {
 
     /// Carries out the ask that `next` tells, which is not Done: the slot was got. The word counts
     /// only for a read.
+    #[inline(always)]
     pub fn give(&mut self, word: u16)
         requires { shown self.old ≢ SlotAsk.Done }
         ensures { ForWhatItStands self.old (λ s ws. Stands self.new s (ws ++ word ∷ [])) }
@@ -144,21 +145,38 @@ impl AreaBlit {
         }
     }
 
-    /// Takes the word that answers the present ask, which is not the write.
+    /// Takes the word that answers the present ask, which is not the write. With the last of these the outcome
+    /// of the word is made ready.
+    #[inline(never)]
     fn take(&mut self, word: u16)
         requires row { self.old.row < height_of self.old.start }
         requires reads { self.old.ask ≢ D }
         ensures { ForWhatItStands self.old (λ s ws. Stands self.new s (ws ++ word ∷ [])) }
     {
         self.words.take(self.ask, word);
-        if self.place < self.asks.last {
-            let next = self.asks.at(self.place + 1);
-            self.path.prepare(next, &self.words, &self.past, self.column, &mut self.ready);
-            self.ask = next;
+        if self.place < self.asks.last_input {
+            self.ask = self.asks.at(self.place + 1);
             self.place += 1;
         } else {
             self.path
                 .mix_into(&self.words, &self.past, self.column, &mut self.ready);
+            self.end_inputs();
+        }
+    }
+
+    /// All inputs of the present word have answers, and its outcome is ready: its write comes next, or the next
+    /// word where D is unused.
+    #[inline(always)]
+    fn end_inputs(&mut self)
+        requires row { self.old.row < height_of self.old.start }
+        requires inputs { self.old.asks.last_input ≤ self.old.place }
+        requires outcome { self.old.ready ≡ outcome_now self.old }
+        ensures { EndsInputs self.old self.new }
+    {
+        if self.place < self.asks.last {
+            self.ask = WordAsk::D;
+            self.place += 1;
+        } else {
             self.end_word();
         }
     }
@@ -201,6 +219,7 @@ impl AreaBlit {
 
     /// All asks of the present word have answers, and its outcome is ready: its result counts, and the next
     /// word begins. A row begins with the carry FCI.
+    #[inline(always)]
     fn end_word(&mut self)
         requires row { self.old.row < height_of self.old.start }
         requires outcome { self.old.ready ≡ outcome_now self.old }

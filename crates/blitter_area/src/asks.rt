@@ -4,13 +4,15 @@ ghost use Rattle.std.specs.Prelude.{◌≡◌, ◌/◌, ◌%◌, ◌<◌, ◌≤
 ghost use Rattle.blit_words.specs.AreaBlit.{asks_in, asks_per_word};
 ghost use Rattle.blitter_area.specs.Rows.{pad_row};
 
-use blit_words::{BlitRegs, WordAsk};
+use blit_words::{BlitRegs, WordAsk, is_set};
 
-/// The asks of a word, with rests behind the last, and the place of the last.
+/// The asks of a word, with rests behind the last, the place of the last, and that of the last which is not
+/// the write: with its answer all inputs of the word are there.
 #[derive(Clone, Copy)]
 pub(crate) struct AskRow {
     asks: [WordAsk; 4],
     pub(crate) last: u16,
+    pub(crate) last_input: u16,
 }
 
 impl AskRow {
@@ -20,9 +22,15 @@ impl AskRow {
     pub(crate) fn of(start: &BlitRegs) -> AskRow
         ensures { IsRowOf result start.now }
     {
+        let last = asks(start) - 1;
         AskRow {
             asks: ask_row(code(start)),
-            last: asks(start) - 1,
+            last,
+            last_input: if is_set(start.con0, 8) {
+                last - 1
+            } else {
+                last
+            },
         }
     }
 

@@ -1,7 +1,6 @@
 //! The way of a word from the inputs to the result.
 
 ghost use Rattle.std.specs.Prelude.{◌≡◌, ◌≤◌, ◌<◌, ◌+◌, ℕ, true};
-ghost use Rattle.blit_words.specs.declared.blit.WordAsk.TheVariants.{D};
 ghost use Rattle.blit_words.specs.Blit.{width_of};
 ghost use Rattle.blit_words.specs.BlitWords.{masked_word};
 ghost use Rattle.blit_words.specs.AreaBlit.{is_filling as fills_of};
@@ -86,58 +85,25 @@ impl DataPath {
         }
     }
 
-    /// Makes ready what an ask wants: of the write the outcome of the word in a column of its row.
+    /// Puts down the outcome of a word in a column of its row: the result, and what the word leaves for the next.
     #[inline(always)]
-    pub(crate) fn prepare(
-        &self,
-        ask: WordAsk,
-        words: &Words,
-        past: &Past,
-        column: u16,
-        outcome: &mut Outcome,
-    )
-        ensures { ask ≡ D → outcome.new ≡ outcome_with self.now past.now column words.now }
-    {
-        match ask {
-            WordAsk::D => self.mix_into(words, past, column, outcome),
-            WordAsk::A | WordAsk::B | WordAsk::C | WordAsk::Rest => {}
-        }
-    }
-
-    /// Puts down the outcome of a word in a column of its row.
-    #[inline(never)]
     pub(crate) fn mix_into(&self, words: &Words, past: &Past, column: u16, outcome: &mut Outcome)
         ensures { outcome.new ≡ outcome_with self.now past.now column words.now }
-    {
-        *outcome = self.mix(words, past, column);
-    }
-
-    /// The result of a word in a column of its row, and what the word leaves for the next.
-    fn mix(&self, words: &Words, past: &Past, column: u16) -> Outcome
-        ensures { result ≡ outcome_with self.now past.now column words.now }
     {
         let mut masked = *words;
         masked.a = self.mask(column, words.a);
         let joined = self.join(&masked, past);
         if self.fills {
             let (word, carry) = fill_word(self.exclusive, past.carry, joined);
-            Outcome {
-                word,
-                past: Past {
-                    a: masked.a,
-                    b: masked.b,
-                    carry,
-                },
-            }
+            outcome.word = word;
+            outcome.past.a = masked.a;
+            outcome.past.b = masked.b;
+            outcome.past.carry = carry;
         } else {
-            Outcome {
-                word: joined,
-                past: Past {
-                    a: masked.a,
-                    b: masked.b,
-                    carry: past.carry,
-                },
-            }
+            outcome.word = joined;
+            outcome.past.a = masked.a;
+            outcome.past.b = masked.b;
+            outcome.past.carry = past.carry;
         }
     }
 
