@@ -44,22 +44,14 @@ impl Blit {
         }
     }
 
-    /// Whether the blit has ended: no ask is left.
-    pub fn is_done(&self) -> bool
-        ensures shown { result ≡ done_of (slot_shown self.now) }
-        ensures ask { ForWhatItStands self.now (λ s ws. result ≡ done_of (blit_ask s ws)) }
-    {
-        match self {
-            Blit::Area(blit) => blit.is_done(),
-            Blit::Line(blit) => blit.is_done(),
-        }
-    }
-
     /// Carries out the ask that `next` tells, which is not Done: the slot was got. The word counts
-    /// only for a read.
-    pub fn give(&mut self, word: u16)
+    /// only for a read. The answer says whether the blit has ended with it.
+    #[inline(always)]
+    pub fn give(&mut self, word: u16) -> bool
         requires { slot_shown self.old ≢ SlotAsk.Done }
-        ensures { ForWhatItStands self.old (λ s ws. StandsFor self.new s (ws ++ word ∷ [])) }
+        ensures gives { ForWhatItStands self.old (λ s ws. StandsFor self.new s (ws ++ word ∷ [])) }
+        ensures done { result ≡ done_of (slot_shown self.new) }
+        ensures ask { ForWhatItStands self.new (λ s ws. result ≡ done_of (blit_ask s ws)) }
     {
         match self {
             Blit::Area(blit) => blit.give(word),

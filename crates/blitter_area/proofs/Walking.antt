@@ -486,6 +486,10 @@ asks_on b s C = refl
 asks_on b s D = refl
 asks_on b s Rest = refl
 
+-- above its last row's end it goes on
+pub goes_on : (b : AreaBlit) → b.row < height_of b.start → false ≡ is_done (shown b)
+goes_on b below = sym (asks_on b b.start (word_ask b.start b.place)) ∙ ap is_done (shown_going b below)
+
 -- it has ended exactly where the row is at the height
 pub done_is : (b : AreaBlit) (h : ℕ) → h ≡ height_of b.start → nat_le h b.row ≡ is_done (shown b)
 done_is b h height = elim (cases_lt b.row h) [

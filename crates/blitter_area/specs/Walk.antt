@@ -5,6 +5,7 @@ use Rattle.blit_words.specs.declared.blit.SlotAsk.{SlotAsk}
 use Rattle.blit_words.specs.declared.blit.SlotAsk.TheVariants as S
 use Rattle.blit_words.specs.declared.blit.WordAsk.{WordAsk}
 use Rattle.blit_words.specs.declared.blit.WordAsk.TheVariants.{A, B, C, D, Rest}
+use Rattle.blit_words.specs.BlitWords.{is_set}
 use Rattle.blit_words.specs.Blit.{is_line, height_of, width_of}
 use Rattle.blit_words.specs.AreaBlit.{asks_per_word, word_ask, is_used, is_filling, previous_a, previous_b, ones_in_row, are_zero, held_word}
 use Rattle.blit_words.specs.Parity.{is_carry}
@@ -12,7 +13,7 @@ use Rattle.blitter_area.specs.declared.area.AreaBlit.{AreaBlit}
 use Rattle.blitter_area.specs.declared.data_path.Words.{Words}
 use Rattle.blitter_area.specs.declared.data_path.Past.{Past}
 use Rattle.blitter_area.specs.declared.data_path.Outcome.{Outcome}
-use Rattle.blitter_area.specs.Pointing.{AreAt}
+use Rattle.blitter_area.specs.Pointing.{AreAt, AllStepRow}
 use Rattle.blitter_area.specs.Data.{outcome_of}
 
 -- the data registers when so many asks of word j have answers
@@ -73,6 +74,17 @@ ForWhatItStands b P = (s : BlitRegs) (ws : List ℕ) → Stands b s ws → P s w
 -- what it makes of a blit that all inputs of its word have answers: it stands at the write, or at the next word
 abbrev pub EndsInputs : AreaBlit → AreaBlit → Type 0
 EndsInputs old new = (s : BlitRegs) (ws : List ℕ) → Walks old s ws (old.place + 1) → old.place < asks_per_word s → Stands new s ws
+
+-- the next row begins behind the last word of one
+pub record BeginsRow (old new : AreaBlit) : Type 0 where
+  pub start : new.start ≡ old.start
+  pub words : new.words ≡ old.words
+  pub place : new.place ≡ old.place
+  pub zero : new.zero ≡ old.zero
+  pub past : new.past ≡ record old.past { carry = is_set old.start.con1 2 }
+  pub row : new.row ≡ old.row + 1
+  pub column : new.column ≡ 0
+  pub pointers : AllStepRow old.pointers new.pointers
 
 -- what the end of a word makes of a blit: with all answers of its word it stands at the next
 abbrev pub EndsWord : AreaBlit → AreaBlit → Type 0

@@ -47,7 +47,7 @@ pub struct AreaBlit {
 }
 
 impl AreaBlit {
-    ghost use Rattle.blitter_area.specs.Walk.{Stands, ForWhatItStands, EndsInputs, EndsWord, IsDoneAfterAll, shown, shown_ask, outcome_now, aptl_now};
+    ghost use Rattle.blitter_area.specs.Walk.{Stands, ForWhatItStands, EndsInputs, EndsWord, BeginsRow, IsDoneAfterAll, shown, shown_ask, outcome_now, aptl_now};
 
     /// A blit that has had no answer yet, of registers with LINE, bit 0 of BLTCON1, clear.
     pub fn start(r: &BlitRegs) -> AreaBlit
@@ -133,11 +133,13 @@ impl AreaBlit {
     }
 
     /// Carries out the ask that `next` tells, which is not Done: the slot was got. The word counts
-    /// only for a read.
+    /// only for a read. The answer says whether the blit has ended with it.
     #[inline(always)]
-    pub fn give(&mut self, word: u16)
+    pub fn give(&mut self, word: u16) -> bool
         requires { shown self.old ≢ SlotAsk.Done }
-        ensures { ForWhatItStands self.old (λ s ws. Stands self.new s (ws ++ word ∷ [])) }
+        ensures gives { ForWhatItStands self.old (λ s ws. Stands self.new s (ws ++ word ∷ [])) }
+        ensures done { result ≡ done_of (shown self.new) }
+        ensures ask { ForWhatItStands self.new (λ s ws. result ≡ done_of (blit_ask s ws)) }
     {
         match self.ask {
             WordAsk::D => self.end_word(),
@@ -146,38 +148,42 @@ impl AreaBlit {
     }
 
     /// Takes the word that answers the present ask, which is not the write. With the last of these the outcome
-    /// of the word is made ready.
+    /// of the word is made ready. The answer says whether the blit has ended.
     #[inline(never)]
-    fn take(&mut self, word: u16)
+    fn take(&mut self, word: u16) -> bool
         requires row { self.old.row < height_of self.old.start }
         requires reads { self.old.ask ≢ D }
-        ensures { ForWhatItStands self.old (λ s ws. Stands self.new s (ws ++ word ∷ [])) }
+        ensures gives { ForWhatItStands self.old (λ s ws. Stands self.new s (ws ++ word ∷ [])) }
+        ensures done { result ≡ done_of (shown self.new) }
     {
         self.words.take(self.ask, word);
         if self.place < self.asks.last_input {
             self.ask = self.asks.at(self.place + 1);
             self.place += 1;
+            false
         } else {
             self.path
                 .mix_into(&self.words, &self.past, self.column, &mut self.ready);
-            self.end_inputs();
+            self.end_inputs()
         }
     }
 
     /// All inputs of the present word have answers, and its outcome is ready: its write comes next, or the next
-    /// word where D is unused.
+    /// word where D is unused. The answer says whether the blit has ended.
     #[inline(always)]
-    fn end_inputs(&mut self)
+    fn end_inputs(&mut self) -> bool
         requires row { self.old.row < height_of self.old.start }
         requires inputs { self.old.asks.last_input ≤ self.old.place }
         requires outcome { self.old.ready ≡ outcome_now self.old }
-        ensures { EndsInputs self.old self.new }
+        ensures ends { EndsInputs self.old self.new }
+        ensures done { result ≡ done_of (shown self.new) }
     {
         if self.place < self.asks.last {
             self.ask = WordAsk::D;
             self.place += 1;
+            false
         } else {
-            self.end_word();
+            self.end_word()
         }
     }
 
@@ -218,12 +224,13 @@ impl AreaBlit {
     }
 
     /// All asks of the present word have answers, and its outcome is ready: its result counts, and the next
-    /// word begins. A row begins with the carry FCI.
+    /// word begins. The answer says whether the blit has ended.
     #[inline(always)]
-    fn end_word(&mut self)
+    fn end_word(&mut self) -> bool
         requires row { self.old.row < height_of self.old.start }
         requires outcome { self.old.ready ≡ outcome_now self.old }
-        ensures { EndsWord self.old self.new }
+        ensures ends { EndsWord self.old self.new }
+        ensures done { result ≡ done_of (shown self.new) }
     {
         self.zero &= self.ready.word == 0;
         self.past = self.ready.past;
@@ -232,12 +239,27 @@ impl AreaBlit {
         self.pointers.step_word();
         if self.column < self.path.last_column {
             self.column += 1;
+            false
         } else {
-            self.column = 0;
-            self.row += 1;
-            let fci = is_set(self.start.con1, 2);
-            self.past.carry = fci;
-            self.pointers.step_row();
+            self.begin_row()
         }
+    }
+
+    /// The last word of a row has ended: the next row begins, with the carry FCI. It stands apart, so that a
+    /// word within a row makes no room for it. The answer says whether the blit has ended.
+    #[cold]
+    #[inline(never)]
+    fn begin_row(&mut self) -> bool
+        requires row { self.old.row < height_of self.old.start }
+        requires reads { self.old.ask ≢ D }
+        ensures begins { BeginsRow self.old self.new }
+        ensures done { result ≡ done_of (shown self.new) }
+    {
+        self.column = 0;
+        self.row += 1;
+        let fci = is_set(self.start.con1, 2);
+        self.past.carry = fci;
+        self.pointers.step_row();
+        self.is_done()
     }
 }

@@ -298,6 +298,10 @@ asks_on b s = elim (reads_source s b.place) as (λ (t : Bool).
           ])
     ]
 
+-- before its last point's end it goes on
+pub goes_on : (b : LineBlit) → b.count < height_of b.start → false ≡ is_done (shown b)
+goes_on b below = sym (asks_on b b.start) ∙ ap is_done (shown_going b below)
+
 -- it has ended exactly where the count is at the height
 pub done_is : (b : LineBlit) (h : ℕ) → h ≡ height_of b.start → nat_le h b.count ≡ is_done (shown b)
 done_is b h height = elim (cases_lt b.count h) [

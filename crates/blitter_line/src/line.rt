@@ -92,17 +92,21 @@ impl LineBlit {
     }
 
     /// Carries out the ask that `next` tells, which is not Done: the slot was got. The word counts
-    /// only for a read.
+    /// only for a read. The answer says whether the blit has ended with it.
     #[inline(never)]
-    pub fn give(&mut self, word: u16)
+    pub fn give(&mut self, word: u16) -> bool
         requires { shown self.old ≢ SlotAsk.Done }
-        ensures { ForWhatItStands self.old (λ s ws. Stands self.new s (ws ++ word ∷ [])) }
+        ensures gives { ForWhatItStands self.old (λ s ws. Stands self.new s (ws ++ word ∷ [])) }
+        ensures done { result ≡ done_of (shown self.new) }
+        ensures ask { ForWhatItStands self.new (λ s ws. result ≡ done_of (blit_ask s ws)) }
     {
         self.source = self.source_after(word);
         if self.place < 3 {
             self.place += 1;
+            false
         } else {
             self.end_point();
+            self.is_done()
         }
     }
 

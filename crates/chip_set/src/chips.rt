@@ -629,8 +629,7 @@ impl Chips {
             → self.new ≡ record self.old { blit = self.new.blit } }
     {
         if let Some(blit) = self.blit.as_mut() {
-            blit.give(word);
-            if blit.is_done() {
+            if blit.give(word) {
                 self.end_blit();
             }
         }

@@ -4,7 +4,7 @@ use Rattle.blit_words.specs.AreaBlit.{asks_per_word}
 use Rattle.blitter_area.specs.Data.{words_with}
 use Rattle.blitter_area.proofs.Results.{ready_outcome}
 use Rattle.blitter_area.proofs.Rows.{input_reads, inputs_first}
-use Rattle.blitter_area.proofs.Walking.{answered}
+use Rattle.blitter_area.proofs.Walking.{answered, goes_on}
 use Rattle.blitter_area.proofs.area.AreaBlit.take.Goals as goal
 
 pub invariant_of-self-clause-ask_is : goal.invariant_of-self-clause-ask_is
@@ -22,8 +22,11 @@ end_inputs-requires-clause-outcome c =
     let b = c.args.self.now in
     c.mix_into.ensures ∙ ready_outcome b.path b.start b.past b.column _ b.path_is
 
-pub returns-then-self : goal.returns-then-self
-returns-then-self c = λ s ws h.
+pub returns-then-self-clause-done : goal.returns-then-self-clause-done
+returns-then-self-clause-done c = goes_on _ c.requires.row
+
+pub returns-then-self-clause-gives : goal.returns-then-self-clause-gives
+returns-then-self-clause-gives c = λ s ws h.
     let b = c.args.self.now in
     let asks = ap asks_per_word h.walks.start in
     let last = b.asks_are.last in
@@ -42,10 +45,10 @@ returns-then-self c = λ s ws h.
       place = omega (arith, asks, last, first, more);
     }
 
-pub returns-else-self : goal.returns-else-self
-returns-else-self c = λ s ws h.
+pub returns-else-self-clause-gives : goal.returns-else-self-clause-gives
+returns-else-self-clause-gives c = λ s ws h.
     let b = c.args.self.now in
-    c.end_inputs.ensures s _ (answered b _ s ws c.args.word h (record {
+    c.end_inputs.ensures.ends s _ (answered b _ s ws c.args.word h (record {
       start = refl;
       row = refl;
       column = refl;
