@@ -13,7 +13,7 @@ use Rattle.sprites.specs.SpriteValue.{sprite_value, kept_start}
 use Rattle.serial_model.specs.Picture.{all_sprites, sprite_values}
 use Rattle.painter.specs.SpriteState.{SpriteRegisters, IsQuiet, begins_at, run_or, run_in, runs_in, first_runs}
 use Rattle.painter.specs.StartsCode.{IsIdle}
-use Rattle.painter.specs.SpriteState.{quiet_or, first_quiet, first_begun, words_begun, has_start, is_known_idle}
+use Rattle.painter.specs.SpriteState.{quiet_or, first_quiet, first_begun, words_begun, has_start, has_start_at, is_known_idle}
 
 pub not_true : (b : Bool) → not b ≡ true → b ≡ false
 not_true true is = cc
@@ -230,6 +230,19 @@ none_there h s none n lt is =
     let false_there : nat_eq (slice_index s.pos n % 256) h ≡ false =
     ap test (sym (sprite_at n lt)) ∙ none_of test all_sprites n none (omega (arith, lt)) in
     grind (arith, nat_tests)
+
+-- where none has it at a position
+and_false : (a b : Bool) → b ≡ false → (a && b) ≡ false
+and_false true b is = is
+and_false false b is = refl
+
+pub none_there_at : (x : ℕ) (s : SpriteRegisters) → has_start_at x s ≡ false → NoneBegins x s
+unfolding NoneBegins
+none_there_at x s none n lt =
+    let test : ℕ → Bool = λ (sprite : ℕ). nat_eq (2 * (slice_index s.pos sprite % 256) + slice_index s.ctl sprite % 2) x in
+    let false_there : nat_eq (2 * (slice_index s.pos n % 256) + slice_index s.ctl n % 2) x ≡ false =
+    ap test (sym (sprite_at n lt)) ∙ none_of test all_sprites n none (omega (arith, lt)) in
+    and_false (s.armed / 2 ^ n % 2 == 1) _ false_there
 
 -- what is known of an idle clock
 pub known_by : (h : ℕ) (s : SpriteRegisters) (quiet unarmed start : Bool) → nat_le s.quiet_from (2 * h) ≡ quiet → nat_eq s.armed 0 ≡ unarmed →

@@ -1,5 +1,5 @@
 -- Sprites over the pixels of clocks inside the display window.
-use Rattle.std.proofs.Common.{◌≡◌, ℕ, ◌+◌, ◌*◌, true, List, Option, length, bit_or, bit_and, refl, sym, ◌∙◌, ap, subst}
+use Rattle.std.proofs.Common.{◌≡◌, ℕ, ◌+◌, ◌*◌, true, List, Option, length, bit_or, bit_and, refl, sym, ◌∙◌, ap, subst, arith}
 use Rattle.sprites.specs.declared.runs.Start.{Start}
 use Rattle.collisions.specs.Collision.{collision_bits}
 use Rattle.serial_model.specs.declared.picture.Denise.{Denise}
@@ -8,10 +8,16 @@ use Rattle.serial_model.specs.Window.{is_inside}
 use Rattle.painter.specs.declared.painter.Painter.{Painter}
 use Rattle.painter.specs.Overlay.{with_runs, shown_bits, covered_column, covered_collisions, clock_over}
 use Rattle.painter.specs.Painter.{IsPainterOf}
-use Rattle.painter.specs.StartsCode.{IsSteady}
+use Rattle.painter.specs.StartsCode.{IsSteady, IsAlone}
 use Rattle.painter.proofs.Overlays.{after_first, after_second, same_runs_stand, runs_same, runs_of, inside_same}
 use Rattle.painter.proofs.Overlays.{clock_changed, clock_gathered, column_inside, bits_inside}
 use Rattle.painter.proofs.Ors.{or_reached, or_both}
+use Rattle.painter.proofs.Pairs.{later_pairs}
+use Rattle.sprite_rows.specs.LineValues.{pair_byte}
+use Rattle.painter.specs.Line.{ArePaired}
+use Rattle.painter.specs.SpriteState.{attached_in}
+use Rattle.painter.specs.SteadyCode.{IsSteadyFrom}
+use Rattle.painter.specs.declared.show_covered.Steady.{Steady}
 
 -- what collides at the two pixels of a column
 pub column_collides : (column first second : ℕ) (now : Painter) (p : Denise) → IsPainterOf now p → first ≡ shown_bits (2 * column) p →
@@ -62,6 +68,22 @@ steady_bits v h old between new now p stands first second one two =
     clock_gathered v h p old between new
     (one ∙ ap (bit_or old) (bits_inside v (2 * h) (after_first h p) (inside_same v (2 * h) now p stands ∙ first)))
     (two ∙ ap (bit_or between) (bits_inside v (2 * h + 1) (after_second h p) (inside_same v (2 * h + 1) now p stands ∙ second)))
+
+-- what holds of the clocks from one on holds of those from a later one on, and stays where sprites and planes do
+pub steady_further : (h k : ℕ) (steady : Steady) (old new : Painter) → new.sprites ≡ old.sprites → new.line ≡ old.line → IsSteadyFrom h steady old
+    → IsSteadyFrom (h + k) steady new
+steady_further h k steady old new sprites line holds = record {
+  attached = holds.attached ∙ ap (λ s. attached_in s) (sym sprites);
+  reach = λ x con bits le few.
+      ap (λ s. bit_or steady.reach (collision_bits con bits (sprite_values x s.runs))) sprites ∙ holds.reach x con bits (omega (arith, le)) few;
+  alone = λ one.
+      let before : IsAlone (2 * h) steady.lone old.sprites.runs = holds.alone one in
+      record { none = λ q x few other le room. ap (λ s. pair_byte x s.runs q) sprites ∙ before.none q x few other (omega (arith, le)) room };
+  pairs = λ paired.
+      let place : 4 * h + 4 * k ≡ 4 * (h + k) = omega arith in
+      subst (λ (x : ℕ). ArePaired new.line x) place
+      (subst (λ l. ArePaired l (4 * h + 4 * k)) (sym line) (later_pairs old.line (4 * h) k (holds.pairs paired)));
+}
 
 -- it leaves the words that run as they are
 pub steady_same : (h : ℕ) (old new : Painter) → new.sprites ≡ old.sprites → IsSteady h old.sprites → IsSteady h new.sprites

@@ -98,6 +98,12 @@ second_pair line x pairs =
     let next : x + 2 * 1 + 1 ≡ x + 2 + 1 = omega arith in
     sym (ap (λ (n : ℕ). row_bits line n) here) ∙ pairs 1 ∙ ap (λ (n : ℕ). row_bits line n) next
 
+pub column_pair : (line : Line) (h column : ℕ) → ArePaired line (4 * h) → 2 * h ≤ column → row_bits line (2 * column) ≡ row_bits line (2 * column + 1)
+column_pair line h column pairs le =
+    let here : 4 * h + 2 * (column - 2 * h) ≡ 2 * column = omega (arith, le) in
+    let next : 4 * h + 2 * (column - 2 * h) + 1 ≡ 2 * column + 1 = omega (arith, le) in
+    sym (ap (λ (n : ℕ). row_bits line n) here) ∙ pairs (column - 2 * h) ∙ ap (λ (n : ℕ). row_bits line n) next
+
 pub later_pairs : (line : Line) (x clock : ℕ) → ArePaired line x → ArePaired line (x + 4 * clock)
 later_pairs line x clock pairs column =
     let here : x + 4 * clock + 2 * column ≡ x + 2 * (2 * clock + column) = omega arith in

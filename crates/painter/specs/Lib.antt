@@ -7,6 +7,7 @@ pub mod WindowCode
 pub mod Pixels
 pub mod SpriteState
 pub mod StartsCode
+pub mod SteadyCode
 pub mod Runs
 pub mod Overlay
 pub mod Painter

@@ -83,6 +83,10 @@ words_begun x s = record s { runs = runs_in x s; quiet_from = first_quiet x s 8 
 abbrev pub has_start : ℕ → SpriteRegisters → Bool
 has_start h s = list_any (λ sprite. slice_index s.pos sprite % 256 == h) all_sprites
 
+-- the same at a low-resolution position
+abbrev pub has_start_at : ℕ → SpriteRegisters → Bool
+has_start_at x s = list_any (λ sprite. 2 * (slice_index s.pos sprite % 256) + slice_index s.ctl sprite % 2 == x) all_sprites
+
 -- whether it is known at a clock that nothing begins there, and nothing shows from it on
 abbrev pub is_known_idle : ℕ → SpriteRegisters → Bool
 is_known_idle h s = nat_le s.quiet_from (2 * h) && ((s.armed == 0) || not (has_start h s))

@@ -12,7 +12,7 @@ ghost use Rattle.painter.specs.Overlay.{column_collisions, clock_over, quiet_in_
 ghost use Rattle.painter.specs.Inks.{is_held, backdrop};
 ghost use Rattle.painter.specs.SpriteState.{attached_in};
 ghost use Rattle.painter.specs.StartsCode.{IsIdle};
-ghost use Rattle.painter.specs.Line.{row_bits};
+ghost use Rattle.painter.specs.Line.{row_bits, ArePaired};
 ghost use Rattle.ocs_base.specs.Systems.{is_visible};
 
 use crate::ham::hold;
@@ -344,7 +344,7 @@ impl Painter {
             → IsPainterOf self.new (with_held (held_after v h 4 p) p) }
     {
         if self.window.contains_clock(v, h) {
-            self.show_inside(v, h, into);
+            self.show_inside(v, h, false, into);
         } else if self.window.excludes_clock(v, h) {
             self.show_outside(v, h, into);
         } else {
@@ -354,8 +354,9 @@ impl Painter {
 
     /// The four pixels of a clock inside the display window.
     #[inline(always)]
-    pub(crate) fn show_inside(&mut self, v: u16, h: u16, into: &mut [[u8; 3]; 4])
+    pub(crate) fn show_inside(&mut self, v: u16, h: u16, paired: bool, into: &mut [[u8; 3]; 4])
         requires place { h ≤ 227 }
+        requires pairs { paired ≡ true → ArePaired self.old.line (4 * h) }
         requires first { is_inside v (2 * h) self.old.window.diwstrt
             self.old.window.diwstop ≡ true }
         requires second { is_inside v (2 * h + 1) self.old.window.diwstrt
@@ -365,6 +366,7 @@ impl Painter {
             → IsPainterOf self.new (with_held (held_after v h 4 p) p) }
         ensures window { self.new.window ≡ self.old.window }
         ensures sprites { self.new.sprites ≡ self.old.sprites }
+        ensures line { self.new.line ≡ self.old.line }
     {
         if self.line.is_blank_from(4 * h as usize) {
             self.show_backdrop(into);
@@ -376,8 +378,8 @@ impl Painter {
         }
         let x = 2 * (2 * h) as usize;
         let next = 2 * (2 * h + 1) as usize;
-        show_inks(&self.inks, &self.line, x, 0, into);
-        show_inks(&self.inks, &self.line, next, 2, into);
+        show_inks(&self.inks, &self.line, paired, x, 0, into);
+        show_inks(&self.inks, &self.line, paired, next, 2, into);
         self.held = into[3];
     }
 
@@ -422,6 +424,7 @@ impl Painter {
             → IsPainterOf self.new (with_held (held_after v h 4 p) p) }
         ensures window { self.new.window ≡ self.old.window }
         ensures sprites { self.new.sprites ≡ self.old.sprites }
+        ensures line { self.new.line ≡ self.old.line }
     {
         let x = 2 * (2 * h) as usize;
         let next = 2 * (2 * h + 1) as usize;
@@ -459,7 +462,7 @@ impl Painter {
         } else if self.inks.holds_colour() {
             show_modified(&self.inks, &self.line, hold(&self.held), x, at, into);
         } else {
-            show_inks(&self.inks, &self.line, x, at, into);
+            show_inks(&self.inks, &self.line, false, x, at, into);
         }
         self.held = into[at + 1];
     }
@@ -555,7 +558,7 @@ impl Painter {
 
     /// The sprite in front over the two pixels of such a column, where there is one.
     #[inline(always)]
-    fn put_front(&self, column: u16, at: usize, attached: u8, into: &mut [[u8; 3]; 4])
+    pub(crate) fn put_front(&self, column: u16, at: usize, attached: u8, into: &mut [[u8; 3]; 4])
         requires place { at ≤ 2 }
         requires room { column ≤ 455 }
         requires attached { attached ≡ attached_in self.now.sprites }
@@ -573,7 +576,7 @@ impl Painter {
     /// What collides at the two pixels of such a column. Where all is gathered that may collide there,
     /// its planes are not looked at.
     #[inline(always)]
-    fn gather(&self, column: u16, clx: &mut u16)
+    pub(crate) fn gather(&self, column: u16, clx: &mut u16)
         requires { column ≤ 455 }
         ensures { (p : DeniseValue) → IsPainterOf self.now p
             → clx.new ≡ bit_or clx.old (covered_collisions column p) }

@@ -26,18 +26,31 @@ pub fn show_border(inks: &Inks, at: usize, into: &mut [[u8; 3]; 4])
     into[at + 1] = *bytes;
 }
 
-/// Two pixels inside the display window where no colour is held: the inks that their bits name.
+/// Two pixels inside the display window where no colour is held: the inks that their bits name, which
+/// may be known to be the same.
 #[inline(always)]
-pub fn show_inks(inks: &Inks, line: &Line, x: usize, at: usize, into: &mut [[u8; 3]; 4])
+pub fn show_inks(
+    inks: &Inks,
+    line: &Line,
+    paired: bool,
+    x: usize,
+    at: usize,
+    into: &mut [[u8; 3]; 4],
+)
     requires place { at ≤ 2 }
     requires room { x ≤ 1022 }
+    requires pair { paired ≡ true → row_bits line.now x ≡ row_bits line.now (x + 1) }
     ensures { into.new ≡ slice_set (slice_set into.old
         at (colour_bytes (ink_at inks.now line.now x)))
         (at + 1) (colour_bytes (ink_at inks.now line.now (x + 1))) }
 {
     let first = inks.bytes(inks.name(line.bits(x)));
-    let second = inks.bytes(inks.name(line.bits(x + 1)));
     into[at] = *first;
+    if paired {
+        into[at + 1] = *first;
+        return;
+    }
+    let second = inks.bytes(inks.name(line.bits(x + 1)));
     into[at + 1] = *second;
 }
 

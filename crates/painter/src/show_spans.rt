@@ -22,6 +22,9 @@ use crate::visible::{Alike, clocks_alike};
 use collisions::do_playfields_meet;
 use ocs_base::Beam;
 
+/// How many clocks there are in which words show that begin at the first.
+const WORD_CLOCKS: u16 = 9;
+
 /// Clocks that were shown: how many, and the place behind their bytes.
 #[derive(Drop)]
 struct Part {
@@ -107,7 +110,7 @@ impl Painter {
     }
 
     /// The picture steps of the next of so many clocks, at least one, in which sprites' words may run:
-    /// those up to their end.
+    /// those up to their end, or up to that of words which begin at the first.
     fn show_running(
         &mut self,
         from: FieldPlace,
@@ -131,8 +134,9 @@ impl Painter {
         ensures most { result.count ≤ near.now.count }
         ensures size { length room.new ≡ length room.old }
     {
-        let running = self.sprites.clocks_running(from.h).max(1).min(near.count);
-        let inside = self.window.clocks_inside(from.v, from.h, running);
+        let running = self.sprites.clocks_running(from.h);
+        let most = running.max(WORD_CLOCKS).min(near.count);
+        let inside = self.window.clocks_inside(from.v, from.h, most);
         if near.visible && inside > 0 {
             let behind = self.show_covered(from, inside, room, at, clx);
             return Part {
@@ -140,11 +144,9 @@ impl Painter {
                 behind,
             };
         }
-        let behind = self.show_each(from, running, room, at, clx);
-        Part {
-            count: running,
-            behind,
-        }
+        let count = running.max(1).min(near.count);
+        let behind = self.show_each(from, count, room, at, clx);
+        Part { count, behind }
     }
 
     /// The picture steps of so many clocks, one by one.

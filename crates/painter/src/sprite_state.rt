@@ -4,6 +4,7 @@ ghost use Rattle.std.specs.Prelude.{◌≡◌, ◌≢◌, ◌≤◌, ◌<◌, �
 ghost use Rattle.std.specs.Prelude.{bit_or, length, replicate, slice_index, slice_set, IfSome};
 ghost use Rattle.std.specs.List.{All};
 ghost use Rattle.serial_model.specs.Picture.{sprite_values};
+ghost use Rattle.sprite_rows.specs.LineValues.{pair_byte};
 ghost use Rattle.sprites.specs.SpriteFront.{front_pixel as pixel_of_front};
 ghost use Rattle.collisions.specs.Collision.{collision_bits};
 ghost use Rattle.painter.specs.SpriteState.{
@@ -12,10 +13,11 @@ ghost use Rattle.painter.specs.SpriteState.{
   quiet_or,
   words_begun,
   has_start,
+  has_start_at,
   is_known_idle,
   attached_in,
 };
-ghost use Rattle.painter.specs.StartsCode.{IsIdle, IsSteady};
+ghost use Rattle.painter.specs.StartsCode.{IsIdle, IsSteady, IsAlone};
 
 use collisions::{clx, playfields};
 use serial_model::Denise;
@@ -218,7 +220,7 @@ impl SpriteState {
         requires { column ≤ 455 }
         ensures { self.new ≡ words_begun column self.old }
     {
-        if self.armed == 0 || !self.may_begin(column / 2) {
+        if self.armed == 0 || !self.may_begin_at(column) {
             return;
         }
         for sprite in 0..8 {
@@ -328,6 +330,23 @@ impl SpriteState {
             | (i % 256 == h)
     }
 
+    /// Whether a sprite, armed or not, has its HSTART at this column.
+    #[inline(always)]
+    fn may_begin_at(&self, column: u16) -> bool
+        ensures { result ≡ has_start_at column self.now }
+    {
+        let [a, b, c, d, e, f, g, i] = self.pos;
+        let [j, k, l, m, n, o, p, q] = self.ctl;
+        (2 * (a % 256) + j % 2 == column)
+            | (2 * (b % 256) + k % 2 == column)
+            | (2 * (c % 256) + l % 2 == column)
+            | (2 * (d % 256) + m % 2 == column)
+            | (2 * (e % 256) + n % 2 == column)
+            | (2 * (f % 256) + o % 2 == column)
+            | (2 * (g % 256) + p % 2 == column)
+            | (2 * (i % 256) + q % 2 == column)
+    }
+
     /// The pixel of the sprite in front at a column, None where no sprite shows (Hardware Reference
     /// Manual, sprite hardware), where these pairs are attached, pair p as bit p.
     #[inline(always)]
@@ -341,6 +360,42 @@ impl SpriteState {
         } else {
             self.rows.front(column, attached)
         }
+    }
+
+    /// The one pair that may show at a column or behind it, 4 where more than one may, or where that is
+    /// not known.
+    #[inline(always)]
+    pub fn lone_from(&self, column: u16) -> u8
+        ensures { result ≤ 3 → IsAlone column result self.now.runs }
+    {
+        if column < self.exact_from {
+            return 4;
+        }
+        self.rows.lone_from(column)
+    }
+
+    /// The values of a pair's two sprites at a column, that of the odd one four times.
+    #[inline(always)]
+    pub fn pair_byte(&self, column: u16, pair: u8) -> u8
+        requires place { column ≤ 455 }
+        requires pair { pair ≤ 3 }
+        ensures value { result ≡ pair_byte column self.now.runs pair }
+        ensures few { result ≤ 15 }
+    {
+        if column < self.exact_from {
+            return self.running_byte(column, pair);
+        }
+        self.rows.byte(column, pair)
+    }
+
+    /// The same, looked up in the words that run.
+    fn running_byte(&self, column: u16, pair: u8) -> u8
+        requires place { column ≤ 455 }
+        requires pair { pair ≤ 3 }
+        ensures value { result ≡ pair_byte column self.now.runs pair }
+        ensures few { result ≤ 15 }
+    {
+        4 * self.runs.value(2 * pair + 1, column) + self.runs.value(2 * pair, column)
     }
 
     /// The collision bits of a pixel of a column inside the display window, by CLXCON and the bits
@@ -371,6 +426,18 @@ impl SpriteState {
             return 0x7fff;
         }
         self.rows.reach(column)
+    }
+
+    /// The same of each pixel from a column on.
+    #[inline(always)]
+    pub fn reach_from(&self, column: u16) -> u16
+        ensures { (x con bits : ℕ) → column ≤ x → x ≤ 455 → bit_or result
+            (collision_bits con bits (sprite_values x self.now.runs)) ≡ result }
+    {
+        if column < self.exact_from {
+            return 0x7fff;
+        }
+        self.rows.reach_from(column)
     }
 
     /// The values of the eight sprites at a column.

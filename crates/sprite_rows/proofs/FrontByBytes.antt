@@ -1,12 +1,12 @@
 -- The pixel in front by the bytes is that by the values.
-use Rattle.std.proofs.Common.{◌≡◌, ℕ, zero, suc, ◌+◌, ◌*◌, ◌/◌, ◌%◌, ◌^◌, ◌≤◌, Bool, true, false, nat_eq}
+use Rattle.std.proofs.Common.{◌≡◌, ◌≢◌, ℕ, zero, suc, ◌+◌, ◌*◌, ◌/◌, ◌%◌, ◌^◌, ◌≤◌, ◌<◌, Bool, true, false, nat_eq}
 use Rattle.std.proofs.Common.{bit_or, List, Option, None, Some, slice_index, refl, sym, ◌∙◌, ap, arith}
 use Rattle.std.specs.Bool.{if◌then◌else◌}
 use Rattle.std.specs.Option.{option_or}
 use Rattle.std.proofs.lemmas.Nat.{le_or_l, le_or_r}
 use Rattle.sprites.specs.declared.pixel.SpritePixel.{SpritePixel}
 use Rattle.sprites.specs.SpriteFront.{pixel_of, pair_pixel, front_pixel}
-use Rattle.sprite_rows.specs.PairFrontCode.{pixel_of_byte, front_of_bytes}
+use Rattle.sprite_rows.specs.PairFrontCode.{colour_of_byte, pixel_of_byte, front_of_bytes}
 
 -- a pair's pixel, by the values of its sprites and whether it is attached
 abbrev pub pixel_by_values : Bool → ℕ → ℕ → ℕ → Option SpritePixel
@@ -106,3 +106,39 @@ pub none_in_front : (a b c d attached : ℕ) → bit_or (bit_or (bit_or a b) c) 
 none_in_front a b c d attached none =
     let zeros : AreZero a b c d = are_zero a b c d none in
     rw (zeros.first, zeros.second, zeros.third, zeros.fourth) refl
+
+-- one pair alone
+or_none : (o : Option SpritePixel) → o ≡ option_or o None
+or_none None = refl
+or_none (Some s) = refl
+
+pub alone_in_front : (bytes : ℕ → ℕ) (pair attached : ℕ) → pair ≤ 3 → ((q : ℕ) → q < 4 → q ≢ pair → bytes q ≡ 0) →
+    pixel_of_byte pair (bytes pair) attached ≡ front_of_bytes (bytes 0) (bytes 1) (bytes 2) (bytes 3) attached
+alone_in_front bytes zero attached few none =
+    let b : bytes 1 ≡ 0 = none 1 (omega arith) (λ e. omega (arith, e)) in
+    let c : bytes 2 ≡ 0 = none 2 (omega arith) (λ e. omega (arith, e)) in
+    let d : bytes 3 ≡ 0 = none 3 (omega arith) (λ e. omega (arith, e)) in
+    or_none (pixel_of_byte 0 (bytes 0) attached) ∙ (rw (b, c, d) refl)
+alone_in_front bytes (suc zero) attached few none =
+    let a : bytes 0 ≡ 0 = none 0 (omega arith) (λ e. omega (arith, e)) in
+    let c : bytes 2 ≡ 0 = none 2 (omega arith) (λ e. omega (arith, e)) in
+    let d : bytes 3 ≡ 0 = none 3 (omega arith) (λ e. omega (arith, e)) in
+    or_none (pixel_of_byte 1 (bytes 1) attached) ∙ (rw (a, c, d) refl)
+alone_in_front bytes (suc (suc zero)) attached few none =
+    let a : bytes 0 ≡ 0 = none 0 (omega arith) (λ e. omega (arith, e)) in
+    let b : bytes 1 ≡ 0 = none 1 (omega arith) (λ e. omega (arith, e)) in
+    let d : bytes 3 ≡ 0 = none 3 (omega arith) (λ e. omega (arith, e)) in
+    or_none (pixel_of_byte 2 (bytes 2) attached) ∙ (rw (a, b, d) refl)
+alone_in_front bytes (suc (suc (suc zero))) attached few none =
+    let a : bytes 0 ≡ 0 = none 0 (omega arith) (λ e. omega (arith, e)) in
+    let b : bytes 1 ≡ 0 = none 1 (omega arith) (λ e. omega (arith, e)) in
+    let c : bytes 2 ≡ 0 = none 2 (omega arith) (λ e. omega (arith, e)) in
+    rw (a, b, c) refl
+alone_in_front bytes (suc (suc (suc (suc n)))) attached few none = absurd (omega (arith, few))
+
+pub some_pixel : (pair byte attached : ℕ) (s : SpritePixel) → nat_eq byte 0 ≡ false → s.pair ≡ pair → s.colour ≡ colour_of_byte pair byte attached →
+    Some s ≡ pixel_of_byte pair byte attached
+some_pixel pair byte attached s is one two =
+    let same : s ≡ record { pair = pair; colour = colour_of_byte pair byte attached } =
+    ap (λ (n : ℕ). record { pair = n; colour = s.colour }) one ∙ ap (λ (n : ℕ). record { pair = pair; colour = n }) two in
+    rw is (ap (λ (p : SpritePixel). Some p) same)

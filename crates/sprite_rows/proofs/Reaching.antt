@@ -1,6 +1,6 @@
 -- The most that a pixel may collide, by the bytes of the pairs.
-use Rattle.std.proofs.Common.{◌≡◌, ℕ, ◌+◌, ◌*◌, ◌%◌, ◌^◌, ◌<◌, Bool, true, false, not, ◌&&◌, ◌||◌, bit_or}
-use Rattle.std.proofs.Common.{nat_eq, List, [], ◌∷◌, slice_index, refl, sym, ◌∙◌, ap, arith, Option}
+use Rattle.std.proofs.Common.{◌≡◌, ℕ, ◌+◌, ◌*◌, ◌%◌, ◌^◌, ◌≤◌, ◌<◌, Bool, true, false, not, ◌&&◌, ◌||◌, bit_or}
+use Rattle.std.proofs.Common.{nat_eq, nat_lt, List, [], ◌∷◌, slice_index, refl, sym, ◌∙◌, ap, arith, Option}
 use Rattle.std.specs.Bool.{if◌then◌else◌}
 use mir.Val.{bool_byte}
 use Rattle.std.proofs.lemmas.Bool.Decides.{nat_tests}
@@ -133,6 +133,33 @@ reach_at x rows runs con bits are lt =
     (pair_shows con x 1 rows runs are lt (omega arith) (are.bytes 1 x (omega arith) (omega arith) lt))
     (pair_shows con x 2 rows runs are lt (omega arith) (are.bytes 2 x (omega arith) (omega arith) lt))
     (pair_shows con x 3 rows runs are lt (omega arith) (are.bytes 3 x (omega arith) (omega arith) lt))
+
+-- a pair of which nothing is laid from a position on shows nothing there
+pair_ahead : (con x y pair : ℕ) (rows : SpriteRows) (runs : List (Option Start)) → IsRowsOf y rows runs → x ≤ y → y < 512 → pair < 4 →
+    byte_of rows.pairs pair y ≡ 4 * slice_index (values_at y runs) (2 * pair + 1) + slice_index (values_at y runs) (2 * pair) →
+    is_present con (values_at y runs) pair ≡ true → (b : Bool) → nat_lt x (slice_index rows.ends pair) ≡ b → not (nat_eq (bool_byte b) 0) ≡ true
+pair_ahead con x y pair rows runs are le lt few is there true ahead = refl
+pair_ahead con x y pair rows runs are le lt few is there false ahead =
+    let end : slice_index rows.ends pair ≤ x = grind (arith, nat_tests) in
+    let none : byte_of rows.pairs pair y ≡ 0 = rows.ended pair y few (omega (arith, end, le)) in
+    let shown : not (nat_eq (byte_of rows.pairs pair y) 0) ≡ true = pair_shows con y pair rows runs are lt few is there in
+    sym (ap (λ (n : ℕ). not (nat_eq n 0)) none) ∙ shown
+
+pub reach_ahead : (x y : ℕ) (rows : SpriteRows) (runs : List (Option Start)) (con bits : ℕ) → IsRowsOf y rows runs → x ≤ y → y < 512 →
+    bit_or (most_collisions (bool_byte (nat_lt x (slice_index rows.ends 0))) (bool_byte (nat_lt x (slice_index rows.ends 1)))
+    (bool_byte (nat_lt x (slice_index rows.ends 2))) (bool_byte (nat_lt x (slice_index rows.ends 3))))
+    (collision_bits con bits (values_at y runs))
+    ≡ most_collisions (bool_byte (nat_lt x (slice_index rows.ends 0))) (bool_byte (nat_lt x (slice_index rows.ends 1)))
+    (bool_byte (nat_lt x (slice_index rows.ends 2))) (bool_byte (nat_lt x (slice_index rows.ends 3)))
+unfolding collision_bits
+reach_ahead x y rows runs con bits are le lt =
+    within_reach (playfield_matches con bits 1) (playfield_matches con bits 2)
+    (is_present con (values_at y runs) 0) (is_present con (values_at y runs) 1) (is_present con (values_at y runs) 2) (is_present con (values_at y runs) 3)
+    _ _ _ _
+    (λ there. pair_ahead con x y 0 rows runs are le lt (omega arith) (are.bytes 0 y (omega arith) (omega arith) lt) there _ refl)
+    (λ there. pair_ahead con x y 1 rows runs are le lt (omega arith) (are.bytes 1 y (omega arith) (omega arith) lt) there _ refl)
+    (λ there. pair_ahead con x y 2 rows runs are le lt (omega arith) (are.bytes 2 y (omega arith) (omega arith) lt) there _ refl)
+    (λ there. pair_ahead con x y 3 rows runs are le lt (omega arith) (are.bytes 3 y (omega arith) (omega arith) lt) there _ refl)
 
 -- all that any pixel may collide
 pub all_within : (con bits : ℕ) (values : List ℕ) → bit_or 32767 (collision_bits con bits values) ≡ 32767

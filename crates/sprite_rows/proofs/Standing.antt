@@ -13,11 +13,11 @@ use Rattle.collisions.specs.Collision.{number_of}
 use Rattle.sprite_rows.specs.declared.rows.SpriteRows.{SpriteRows}
 use Rattle.sprite_rows.specs.Laid.{byte_of, with_value, laid_byte}
 use Rattle.sprite_rows.specs.WordValues.{word_values}
-use Rattle.sprite_rows.specs.PairFrontCode.{front_of_bytes}
+use Rattle.sprite_rows.specs.PairFrontCode.{pixel_of_byte, front_of_bytes}
 use Rattle.sprite_rows.specs.PairCollision.{is_byte_present, present_pairs}
 use Rattle.sprite_rows.specs.LineValues.{value_at, values_at, pair_byte, IsRowsOf, StartsBy, SpriteStartsBy}
 use Rattle.sprite_rows.proofs.LaidBytes.{is_among}
-use Rattle.sprite_rows.proofs.FrontByBytes.{front_by_bytes}
+use Rattle.sprite_rows.proofs.FrontByBytes.{front_by_bytes, alone_in_front}
 use Rattle.sprite_rows.proofs.Meeting.{present_by_bytes}
 use Rattle.sprite_rows.proofs.Values.{kept-none, sprite_value-le, value_at-none, value_at-past, value_at-other, value_at-new, value_of-within, value_of-past}
 
@@ -83,6 +83,13 @@ front_at x rows runs attached are lt =
     front_by_bytes (values_at x runs) attached _ _ _ _ (values_at-le x runs)
     (are.bytes 0 x (omega arith) (omega arith) lt) (are.bytes 1 x (omega arith) (omega arith) lt)
     (are.bytes 2 x (omega arith) (omega arith) lt) (are.bytes 3 x (omega arith) (omega arith) lt)
+
+-- where no pair shows but one
+pub front_alone : (x : ℕ) (runs : List (Option Start)) (pair attached : ℕ) → pair ≤ 3 → ((q : ℕ) → q < 4 → q ≢ pair → pair_byte x runs q ≡ 0) →
+    front_pixel (values_at x runs) attached ≡ pixel_of_byte pair (pair_byte x runs pair) attached
+front_alone x runs pair attached few none =
+    sym (alone_in_front (λ (q : ℕ). pair_byte x runs q) pair attached few none
+    ∙ front_by_bytes (values_at x runs) attached _ _ _ _ (values_at-le x runs) refl refl refl refl)
 
 pub present_at : (x : ℕ) (rows : SpriteRows) (runs : List (Option Start)) (con : ℕ) → IsRowsOf x rows runs → x < 512 →
     number_of (is_byte_present con 0 (byte_of rows.pairs 0 x) ∷ is_byte_present con 1 (byte_of rows.pairs 1 x)

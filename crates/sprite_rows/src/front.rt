@@ -18,20 +18,20 @@ pub fn pixel_in_front(a: u8, b: u8, c: u8, d: u8, attached: u8) -> Option<Sprite
     if a | b | c | d == 0 {
         None
     } else if a != 0 {
-        Some(pixel(0, a, attached))
+        Some(pair_pixel(0, a, attached))
     } else if b != 0 {
-        Some(pixel(1, b, attached))
+        Some(pair_pixel(1, b, attached))
     } else if c != 0 {
-        Some(pixel(2, c, attached))
+        Some(pair_pixel(2, c, attached))
     } else {
-        Some(pixel(3, d, attached))
+        Some(pair_pixel(3, d, attached))
     }
 }
 
 /// The pixel of a pair whose byte is not 0. Attached sprites have the colours 16 to 31 by the byte;
 /// else a pair has four colours, and its even sprite is in front.
 #[inline(always)]
-fn pixel(pair: u8, byte: u8, attached: u8) -> SpritePixel
+pub fn pair_pixel(pair: u8, byte: u8, attached: u8) -> SpritePixel
     requires pair { pair ≤ 3 }
     requires byte { byte ≤ 15 }
     ensures pair { result.pair ≡ pair }

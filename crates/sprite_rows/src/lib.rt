@@ -9,5 +9,6 @@ pub mod rows;
 pub mod words;
 
 pub use collision::{collisions, playfield_worth};
+pub use front::pair_pixel;
 pub use rows::SpriteRows;
 pub use words::bits_as_bytes;

@@ -2,6 +2,7 @@
 
 ghost use Rattle.std.specs.Prelude.{
   ◌≡◌,
+  ◌≢◌,
   ◌≤◌,
   ◌<◌,
   ◌+◌,
@@ -12,8 +13,10 @@ ghost use Rattle.std.specs.Prelude.{
   None,
   IfSome,
   bit_or,
+  false,
   max,
   replicate,
+  slice_index,
   slice_set,
 };
 ghost use Rattle.sprites.specs.declared.runs.Start.{Start};
@@ -41,13 +44,17 @@ pub struct SpriteRows {
     pairs: [[u8; 512]; 4],
     /// From here on nothing is laid.
     end: usize,
+    /// The same for each pair.
+    ends: [u16; 4],
     pub ghost few: { (p x : ℕ) → byte_of pairs p x ≤ 15 },
     pub ghost within: { end ≤ 512 },
     pub ghost blank: { (p x : ℕ) → end ≤ x → byte_of pairs p x ≡ 0 },
+    pub ghost ended: { (p x : ℕ) → p < 4 → slice_index ends p ≤ x → byte_of pairs p x ≡ 0 },
 }
 
 impl SpriteRows {
     ghost use Rattle.sprite_rows.specs.LineValues.{
+      pair_byte,
       values_at,
       StartsBy,
       SpriteStartsBy,
@@ -62,6 +69,7 @@ impl SpriteRows {
         SpriteRows {
             pairs: [[0; 512]; 4],
             end: 0,
+            ends: [0; 4],
         }
     }
 
@@ -73,6 +81,7 @@ impl SpriteRows {
         if self.end > 0 {
             self.pairs = [[0; 512]; 4];
             self.end = 0;
+            self.ends = [0; 4];
         }
     }
 
@@ -93,8 +102,10 @@ impl SpriteRows {
         ensures end { self.new.end ≡ max self.old.end (x + 16) }
     {
         let values = values_of_words(word_a, word_b);
-        let row = &mut self.pairs[(sprite / 2) as usize];
+        let pair = (sprite / 2) as usize;
+        let row = &mut self.pairs[pair];
         lay(row, sprite % 2 == 0, x as usize, values.as_flattened());
+        self.ends[pair] = self.ends[pair].max(x + 16);
         self.end = self.end.max(x as usize + 16);
     }
 
@@ -118,6 +129,29 @@ impl SpriteRows {
             self.pairs[3][at],
             attached,
         )
+    }
+
+    /// The byte of a pair at position `x`: the value of its even sprite as bits 0 and 1, and that of its
+    /// odd one as bits 2 and 3.
+    #[inline(always)]
+    pub fn byte(&self, x: u16, pair: u8) -> u8
+        requires room { x ≤ 511 }
+        requires pair { pair ≤ 3 }
+        ensures value { (runs : List (Option Start)) → IsRowsOf x self.now runs →
+            result ≡ pair_byte x runs pair }
+        ensures few { result ≤ 15 }
+    {
+        self.pairs[pair as usize][x as usize]
+    }
+
+    /// The one pair that may show at position `x` or behind it, 4 where more than one may.
+    #[inline(always)]
+    pub fn lone_from(&self, x: u16) -> u8
+        ensures { result ≤ 3 → (q y : ℕ) → q < 4 → q ≢ result → x ≤ y
+            → byte_of self.now.pairs q y ≡ 0 }
+    {
+        let [a, b, c, d] = self.ends;
+        lone_of(x < a, x < b, x < c, x < d)
     }
 
     /// Which pairs are present at position `x` for collisions, pair p as bit p: by its even sprite,
@@ -154,5 +188,39 @@ impl SpriteRows {
             self.pairs[2][at],
             self.pairs[3][at],
         )
+    }
+
+    /// The collision bits that a pixel at position `x` or behind it has at most, whatever its planes
+    /// show and CLXCON says, in the places of CLXDAT.
+    #[inline(always)]
+    pub fn reach_from(&self, x: u16) -> u16
+        ensures { (y : ℕ) → (runs : List (Option Start)) → x ≤ y → y < 512 →
+            IsRowsOf y self.now runs → (con bits : ℕ) →
+            bit_or result (collision_bits con bits (values_at y runs)) ≡ result }
+    {
+        let [a, b, c, d] = self.ends;
+        reach_of((x < a) as u8, (x < b) as u8, (x < c) as u8, (x < d) as u8)
+    }
+}
+
+/// The pair that may show of four, if no other may, 4 where more than one may.
+fn lone_of(a: bool, b: bool, c: bool, d: bool) -> u8
+    ensures a { result ≤ 3 → 0 ≢ result → a ≡ false }
+    ensures b { result ≤ 3 → 1 ≢ result → b ≡ false }
+    ensures c { result ≤ 3 → 2 ≢ result → c ≡ false }
+    ensures d { result ≤ 3 → 3 ≢ result → d ≡ false }
+{
+    if a {
+        return if b || c || d { 4 } else { 0 };
+    }
+    if b {
+        return if c || d { 4 } else { 1 };
+    }
+    if c && d {
+        4
+    } else if c {
+        2
+    } else {
+        3
     }
 }

@@ -1,7 +1,16 @@
-use Rattle.std.proofs.Common.{[], ◌∙◌, ℕ, List, get_or, sym, ap}
+use Rattle.std.proofs.Common.{[], ◌∙◌, ◌+◌, ◌*◌, ℕ, List, get_or, sym, ap, arith}
 use Rattle.serial_model.specs.Picture.{held_after}
 use Rattle.painter.proofs.Showing.{backdrop_stands, ink_clock, unset_clock, with_held_stands}
+use Rattle.painter.proofs.Pairs.{column_pair}
 use Rattle.painter.proofs.painter.Painter.show_inside.Goals as goal
+
+pub show_inks-requires-clause-pair : goal.show_inks-requires-clause-pair
+show_inks-requires-clause-pair c paired =
+    column_pair c.args.self.now.line c.args.h (2 * c.args.h) (c.requires.pairs paired) (omega arith)
+
+pub show_inks-requires-2-clause-pair : goal.show_inks-requires-2-clause-pair
+show_inks-requires-2-clause-pair c paired =
+    column_pair c.args.self.now.line c.args.h (2 * c.args.h + 1) (c.requires.pairs paired) (omega arith)
 
 pub returns-clause-pixels : goal.returns-clause-pixels
 returns-clause-pixels c p stands =

@@ -32,5 +32,5 @@ returns-then-inside-gt0-clause-filled c =
 
 pub show_each-behind-requires-clause-room : goal.show_each-behind-requires-clause-room
 show_each-behind-requires-clause-room c =
-    let within = visible_within c.args.from.system c.args.from.v c.args.from.h c.min-running.result c.args.near.now.count (omega arith) in
+    let within = visible_within c.args.from.system c.args.from.v c.args.from.h c.min-count.result c.args.near.now.count (omega arith) in
     omega (arith, c.requires.room)

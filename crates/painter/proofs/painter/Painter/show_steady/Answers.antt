@@ -4,9 +4,9 @@ use Rattle.serial_model.specs.Spans.{after_shows}
 use Rattle.serial_model.specs.Window.{is_inside}
 use Rattle.painter.specs.declared.field_place.FieldPlace.{FieldPlace}
 use Rattle.painter.specs.Span.{IsSpan}
-use Rattle.painter.specs.SpriteState.{SpriteRegisters, attached_in}
 use Rattle.painter.specs.StartsCode.{IsSteady}
-use Rattle.painter.proofs.Covering.{steady_same}
+use Rattle.painter.specs.SteadyCode.{IsSteadyFrom}
+use Rattle.painter.proofs.Covering.{steady_same, steady_further}
 use Rattle.painter.proofs.Spans.{no_span, joined}
 use Rattle.painter.proofs.painter.Painter.show_steady.Goals as goal
 
@@ -24,6 +24,7 @@ loop-shown-init c = record {
       (no_span c.args.from.system c.args.from.v c.args.from.h p c.args.self.now (take c.args.filled c.args.room.now) c.args.clx.now stands);
   window = refl;
   sprites = refl;
+  line = refl;
   size = refl;
 }
 
@@ -52,9 +53,11 @@ show_steady_clock-requires-clause-steady c =
     (steady_same (c.args.from.h + c.loop-shown.shown) c.args.self.now c.loop-shown.self c.loop-shown.invariant.sprites
     (c.requires.steady c.loop-shown.shown (omega (arith, c.loop-shown-test.true))))
 
-pub show_steady_clock-requires-clause-attached : goal.show_steady_clock-requires-clause-attached
-show_steady_clock-requires-clause-attached c =
-    c.attached_pairs-attached.ensures ∙ ap (λ (s : SpriteRegisters). attached_in s) (sym c.loop-shown.invariant.sprites)
+pub show_steady_clock-requires-clause-holds : goal.show_steady_clock-requires-clause-holds
+show_steady_clock-requires-clause-holds c =
+    subst (λ (place : FieldPlace). IsSteadyFrom place.h c.steady_from-steady.result c.loop-shown.self) (sym c.further.ensures)
+    (steady_further c.args.from.h c.loop-shown.shown c.steady_from-steady.result c.args.self.now c.loop-shown.self
+    c.loop-shown.invariant.sprites c.loop-shown.invariant.line c.steady_from-steady.ensures)
 
 pub show_steady_clock-requires-clause-room : goal.show_steady_clock-requires-clause-room
 show_steady_clock-requires-clause-room c =
@@ -74,6 +77,7 @@ loop-shown-preserved c = record {
       (c.show_steady_clock.ensures.given (after_shows c.args.from.system c.args.from.v c.args.from.h c.loop-shown.shown p) one.painted));
   window = c.show_steady_clock.ensures.window ∙ c.loop-shown.invariant.window;
   sprites = c.show_steady_clock.ensures.sprites ∙ c.loop-shown.invariant.sprites;
+  line = c.show_steady_clock.ensures.line ∙ c.loop-shown.invariant.line;
   size = c.show_steady_clock.ensures.size ∙ c.loop-shown.invariant.size;
 }
 
@@ -83,3 +87,7 @@ returns-clause-given c p stands =
     subst (λ (n : ℕ). IsSpan c.args.from.system c.args.from.v c.args.from.h n p c.loop-shown.self
     (take c.args.filled c.args.room.now) (take (c.args.filled + 12 * n) c.loop-shown.room) c.args.clx.now c.loop-shown.clx) last
     (c.loop-shown.invariant.given p stands)
+
+pub returns-then-clx-steady-clause-given : goal.returns-then-clx-steady-clause-given
+returns-then-clx-steady-clause-given c p stands =
+    c.show_alone.ensures.given p c.args.clx.now stands (grind arith)

@@ -11,5 +11,6 @@ invariant-loop-shown l = record {
       IsSpan l.from.system l.from.v l.from.h l.shown p l.self (take l.filled l.initial.room) (take (l.filled + 12 * l.shown) l.room) l.initial.clx l.clx;
   window : l.self.window ≡ l.initial.self.window;
   sprites : l.self.sprites ≡ l.initial.self.sprites;
+  line : l.self.line ≡ l.initial.self.line;
   size : length l.room ≡ length l.initial.room;
 }

@@ -1,10 +1,10 @@
-use Rattle.std.proofs.Common.{◌∙◌, ◌+◌, ◌*◌, ◌++◌, ℕ, List, bit_or, take, sym, ap}
+use Rattle.std.proofs.Common.{◌≡◌, ◌∙◌, ◌+◌, ◌*◌, ◌++◌, ℕ, List, bit_or, take, ap, subst, arith}
 use Rattle.serial_model.specs.declared.picture.Denise.{Denise}
 use Rattle.serial_model.specs.Picture.{held_after, step_of}
 use Rattle.serial_model.specs.Window.{is_inside}
 use Rattle.painter.specs.Painter.{with_held}
-use Rattle.painter.specs.SpriteState.{SpriteRegisters, attached_in}
-use Rattle.painter.proofs.Covering.{steady_same, steady_runs}
+use Rattle.painter.specs.SteadyCode.{IsSteadyFrom}
+use Rattle.painter.proofs.Covering.{steady_same, steady_runs, steady_further}
 use Rattle.painter.proofs.Overlays.{clock_shown, clock_stands, bits_apart}
 use Rattle.painter.proofs.Spans.{one_span}
 use Rattle.painter.proofs.painter.Painter.show_steady_clock.Goals as goal
@@ -21,9 +21,15 @@ pub cover_clock-requires-clause-steady : goal.cover_clock-requires-clause-steady
 cover_clock-requires-clause-steady c =
     steady_same c.args.place.h c.args.self.now c.show_inside.new.self c.show_inside.ensures.sprites c.requires.steady
 
-pub cover_clock-requires-clause-attached : goal.cover_clock-requires-clause-attached
-cover_clock-requires-clause-attached c =
-    c.requires.attached ∙ ap (λ (s : SpriteRegisters). attached_in s) (sym c.show_inside.ensures.sprites)
+pub show_inside-requires-clause-pairs : goal.show_inside-requires-clause-pairs
+show_inside-requires-clause-pairs c = λ never. cc
+
+pub cover_clock-requires-clause-holds : goal.cover_clock-requires-clause-holds
+cover_clock-requires-clause-holds c =
+    let same : c.args.place.h + 0 ≡ c.args.place.h = omega arith in
+    subst (λ (h : ℕ). IsSteadyFrom h c.args.steady.now c.show_inside.new.self) same
+    (steady_further c.args.place.h 0 c.args.steady.now c.args.self.now c.show_inside.new.self c.show_inside.ensures.sprites c.show_inside.ensures.line
+    c.requires.holds)
 
 pub returns-clause-given : goal.returns-clause-given
 unfolding step_of

@@ -1,9 +1,9 @@
-use Rattle.std.proofs.Common.{◌≡◌, ◌∙◌, ◌/◌, ℕ, List, Option, length, sym, ap, subst, refl, arith}
+use Rattle.std.proofs.Common.{◌≡◌, ◌∙◌, ℕ, List, Option, length, sym, ap, subst, arith}
 use Rattle.sprites.specs.declared.runs.Start.{Start}
 use Rattle.painter.specs.SpriteState.{SpriteRegisters, first_quiet, first_begun}
-use Rattle.painter.proofs.Beginning.{NoneBegins, none_armed, none_starts, none_there, none_begun_at_all, none_more, one_more, all_begun}
+use Rattle.painter.proofs.Beginning.{NoneBegins, none_armed, none_there_at, none_begun_at_all, none_more, one_more, all_begun}
 use Rattle.painter.proofs.sprite_state.SpriteState.begin_words.Goals as goal
-use Rattle.painter.proofs.sprite_state.SpriteState.begin_words.Goals.{then-self-eq0-via-then-self-eq0, then-self-eq0-via-else-self-eq0+then-not-may_begin}
+use Rattle.painter.proofs.sprite_state.SpriteState.begin_words.Goals.{then-self-eq0-via-then-self-eq0, then-self-eq0-via-else-self-eq0+then-not-may_begin_at}
 
 pub returns-then-self-eq0 : goal.returns-then-self-eq0
 returns-then-self-eq0 c =
@@ -12,9 +12,8 @@ returns-then-self-eq0 c =
     elim c.then-self-eq0.branch [
       | then-self-eq0-via-then-self-eq0 w ↦
           none_armed c.args.column c.args.self.now (ap (λ (s : SpriteRegisters). s.armed) (sym c.self.view_is) ∙ w.if-self-eq0.true)
-      | then-self-eq0-via-else-self-eq0+then-not-may_begin w ↦
-          none_starts c.args.column (c.args.column / 2) c.args.self.now refl
-          (none_there (c.args.column / 2) c.args.self.now (sym w.may_begin.ensures ∙ w.if-not-may_begin.true))
+      | then-self-eq0-via-else-self-eq0+then-not-may_begin_at w ↦
+          none_there_at c.args.column c.args.self.now (sym w.may_begin_at.ensures ∙ w.if-not-may_begin_at.true)
     ] in
     none_begun_at_all c.args.column c.args.self.now eight none
 

@@ -8,6 +8,7 @@ invariant_of-self c = record {
   few = λ (p x : ℕ). omega (arith, no_pixels-byte p x);
   within = omega arith;
   blank = λ (p x : ℕ) from. no_pixels-byte p x;
+  ended = λ (p x : ℕ) few from. no_pixels-byte p x;
 }
 
 pub returns-then-self-gt0-clause-rows : goal.returns-then-self-gt0-clause-rows

@@ -8,6 +8,7 @@ invariant_of-result c = record {
   few = λ (p x : ℕ). omega (arith, no_pixels-byte p x);
   within = omega arith;
   blank = λ (p x : ℕ) from. no_pixels-byte p x;
+  ended = λ (p x : ℕ) few from. no_pixels-byte p x;
 }
 
 pub returns-clause-rows : goal.returns-clause-rows

@@ -1,0 +1,63 @@
+use Rattle.std.proofs.Common.{◌≡◌, ◌∙◌, ◌+◌, ◌*◌, ◌++◌, true, ℕ, List, bit_or, length, take, ap, arith}
+use Rattle.serial_model.specs.declared.picture.Denise.{Denise}
+use Rattle.serial_model.specs.Picture.{clock_collisions, held_after, step_of}
+use Rattle.serial_model.specs.Window.{is_inside}
+use Rattle.painter.specs.Overlay.{clock_over}
+use Rattle.painter.specs.Painter.{with_held}
+use Rattle.painter.specs.SteadyCode.{IsSteadyFrom}
+use Rattle.painter.proofs.Covering.{steady_same, steady_runs, steady_further, steady_first, steady_second, steady_pixels, steady_bits, column_reached}
+use Rattle.painter.proofs.Overlays.{after_first, after_second, clock_shown, clock_stands, bits_apart}
+use Rattle.painter.proofs.Pairs.{column_pair}
+use Rattle.painter.proofs.Spans.{one_span}
+use Rattle.painter.proofs.painter.Painter.show_alone_clock.Goals as goal
+
+pub put_alone-requires-clause-pair : goal.put_alone-requires-clause-pair
+put_alone-requires-clause-pair c paired =
+    let holds : IsSteadyFrom (c.args.place.h + 0) c.args.steady.now c.show_inside.new.self =
+    steady_further c.args.place.h 0 c.args.steady.now c.args.self.now c.show_inside.new.self c.show_inside.ensures.sprites c.show_inside.ensures.line
+    c.requires.holds in
+    column_pair c.show_inside.new.self.line (c.args.place.h + 0) (2 * c.args.place.h) (holds.pairs paired) (omega arith)
+
+pub put_alone-requires-2-clause-pair : goal.put_alone-requires-2-clause-pair
+put_alone-requires-2-clause-pair c paired =
+    let holds : IsSteadyFrom (c.args.place.h + 0) c.args.steady.now c.show_inside.new.self =
+    steady_further c.args.place.h 0 c.args.steady.now c.args.self.now c.show_inside.new.self c.show_inside.ensures.sprites c.show_inside.ensures.line
+    c.requires.holds in
+    column_pair c.show_inside.new.self.line (c.args.place.h + 0) (2 * c.args.place.h + 1) (holds.pairs paired) (omega arith)
+
+pub returns-clause-given : goal.returns-clause-given
+unfolding step_of
+returns-clause-given c p clx stands reached =
+    let v = c.args.place.v in
+    let h = c.args.place.h in
+    let reach = c.args.steady.now.reach in
+    let now = c.show_inside.new.self in
+    let shown = c.show_inside.new.into in
+    let next : Denise = with_held (held_after c.args.place.v c.args.place.h 4 p) p in
+    let held = c.show_inside.ensures.held p stands in
+    let steady = steady_same c.args.place.h c.args.self.now c.show_inside.new.self c.show_inside.ensures.sprites c.requires.steady in
+    let first : is_inside c.args.place.v (2 * c.args.place.h) c.show_inside.new.self.window.diwstrt c.show_inside.new.self.window.diwstop ≡ true =
+    ap (λ window. is_inside v (2 * h) window.diwstrt window.diwstop) c.show_inside.ensures.window ∙ c.requires.first in
+    let second : is_inside c.args.place.v (2 * c.args.place.h + 1) c.show_inside.new.self.window.diwstrt c.show_inside.new.self.window.diwstop ≡ true =
+    ap (λ window. is_inside v (2 * h + 1) window.diwstrt window.diwstop) c.show_inside.ensures.window ∙ c.requires.second in
+    let four : length c.show_inside.new.into ≡ 4 = ap (λ (l : List (List ℕ)). length l) (c.show_inside.ensures.pixels p stands) in
+    let holds : IsSteadyFrom (c.args.place.h + 0) c.args.steady.now c.show_inside.new.self =
+    steady_further c.args.place.h 0 c.args.steady.now c.args.self.now c.show_inside.new.self c.show_inside.ensures.sprites c.show_inside.ensures.line
+    c.requires.holds in
+    let over : c.put_alone-2.new.into ≡ clock_over c.args.place.v c.args.place.h c.show_inside.new.into next =
+    steady_pixels v h now next shown c.put_alone.new.into c.put_alone-2.new.into held four first second
+    (c.put_alone.ensures (after_first h next) (steady_first h now next held steady))
+    (c.put_alone-2.ensures (after_second h next) (steady_second h now next held steady)) in
+    let bits : clx ≡ bit_or clx (clock_collisions c.args.place.v c.args.place.h next) =
+    steady_bits v h clx clx clx now next held first second
+    (column_reached (2 * h) clx reach now (after_first h next) (steady_first h now next held steady)
+    (λ con bits. holds.reach (2 * h) con bits (omega arith) (omega (arith, c.requires.place))) reached)
+    (column_reached (2 * h + 1) clx reach now (after_second h next) (steady_second h now next held steady)
+    (λ con bits. holds.reach (2 * h + 1) con bits (omega arith) (omega (arith, c.requires.place))) reached) in
+    one_span c.args.place.system v h p now (take c.args.at c.args.room.now) (take (c.args.at + 12) c.put.new.room) clx clx
+    (clock_stands c.args.place.system v h now p (steady_runs h now next held steady))
+    (c.put.ensures.bytes
+    ∙ ap (λ (l : List ℕ). take c.args.at c.args.room.now ++ l)
+    (clock_shown c.args.place.system v h (held_after v h 4 p) p c.put_alone-2.new.into shown c.requires.seen
+    (c.show_inside.ensures.pixels p stands) over))
+    (bits ∙ ap (bit_or clx) (bits_apart v h (held_after v h 4 p) p))
