@@ -1,5 +1,5 @@
 -- How far the fetches of bitplanes have come before the clocks that are shown.
-use Rattle.std.specs.Prelude.{◌≡◌, ◌≤◌, ◌<◌, ℕ, ◌+◌, ◌-◌, ◌*◌, List, length, drop, Option, None, Some}
+use Rattle.std.specs.Prelude.{◌≡◌, ◌≤◌, ◌<◌, ℕ, ◌+◌, ◌-◌, ◌*◌, List, length, drop, Option, None, Some, Bool, false, nat_le}
 use Rattle.serial_model.specs.declared.picture.Denise.{Denise}
 use Rattle.serial_bands.specs.declared.event.Event.{Event}
 use Rattle.serial_bands.specs.declared.event.Event.TheVariants as E
@@ -36,3 +36,10 @@ first_clock other None = other
 first_clock other (Some (E.Set at reg word)) = at.0 - 1
 first_clock other (Some (E.Plane at plane addr)) = at.0
 first_clock other (Some (E.Sprite at sprite second addr)) = at.0
+
+-- whether it is the fetch of a sprite by a clock or the next one
+abbrev pub sprite_by : ℕ → Option Event → Bool
+sprite_by clock None = false
+sprite_by clock (Some (E.Set at reg word)) = false
+sprite_by clock (Some (E.Plane at plane addr)) = false
+sprite_by clock (Some (E.Sprite at sprite second addr)) = nat_le (at.0 - 1) clock

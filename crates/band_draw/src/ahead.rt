@@ -9,7 +9,7 @@ ghost use Rattle.serial_bands.specs.Spans.{IsBehind};
 ghost use Rattle.serial_bands.specs.declared.event.Event.TheVariants.{Plane as PlaneFetch};
 ghost use Rattle.band_draw.specs.BandPainter.{Paints};
 ghost use Rattle.band_draw.specs.ProgressCode.{IsSource};
-ghost use Rattle.band_draw.specs.AheadCode.{IsPlaced, IsFetched, first_clock};
+ghost use Rattle.band_draw.specs.AheadCode.{IsPlaced, IsFetched, first_clock, sprite_by};
 
 use crate::progress::Progress;
 use band_log::{Event, Run};
@@ -104,6 +104,16 @@ fn fetch_before(events: &[Event], place: usize, end: u64) -> Option<Fetch>
             None
         }
         _ => None,
+    }
+}
+
+/// Whether the event at a place is the fetch of a sprite by a clock or the next one.
+pub fn is_sprite_near(events: &[Event], place: usize, clock: u64) -> bool
+    ensures { result ≡ sprite_by clock (slice_get events.now place) }
+{
+    match events.get(place) {
+        Some(Event::Sprite { at, .. }) => at.0.saturating_sub(1) <= clock,
+        _ => false,
     }
 }
 

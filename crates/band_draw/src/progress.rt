@@ -5,6 +5,7 @@ ghost use Rattle.serial_bands.specs.DrawnTo.{IsDrawnTo};
 ghost use Rattle.serial_bands.specs.Run.{run_over};
 ghost use Rattle.band_draw.specs.ProgressCode.{IsSource, IsAt, IsEnded};
 
+use crate::ahead::is_sprite_near;
 use crate::band_painter::BandPainter;
 use crate::clock::{behind, next_place, part, show_clock, touch_access};
 use crate::due::{due_from, find_due};
@@ -40,7 +41,8 @@ pub struct Progress {
 
 impl Progress {
     /// Draws the clocks up to the next change, at most to the last of the line and of the band, as one
-    /// span: none where the next clock has a change. Fetches of bitplanes are made before it is shown.
+    /// span: none where the next clock has a change, or where a sprite's fetch comes so soon that a clock
+    /// alone is cheaper. Fetches of bitplanes are made before it is shown.
     pub fn pass<S: Side>(&mut self, run: &Run<S>, events: &[Event], view: &MemView, room: &mut [u8])
         requires source { IsSource (run_over S.seen run.now) self.old.from self.old.to view.now }
         requires at { IsAt (run_over S.seen run.now) events.now room.old self.old }
@@ -50,6 +52,9 @@ impl Progress {
         ensures clock { self.old.clock ≤ self.new.clock }
         ensures size { length room.new ≡ length room.old }
     {
+        if is_sprite_near(events, self.next, self.clock) {
+            return;
+        }
         let until = self.fetch_ahead(run, events, view);
         if until == self.clock {
             return;
