@@ -1,5 +1,5 @@
--- Clocks that refresh, planes, sprites and the Copper leave to the blitter and the processor.
-use Rattle.std.proofs.Common.{◌≡◌, ◌⊎◌, ◌<◌, ◌≤◌, ℕ, ◌-◌, Bool, true, false, not, ◌&&◌, if◌then◌else◌, true≢false}
+-- Clocks that refresh, sprites and the Copper leave to the planes, the blitter and the processor.
+use Rattle.std.proofs.Common.{◌≡◌, ◌⊎◌, inl, inr, ◌<◌, ◌≤◌, ℕ, ◌-◌, Bool, true, false, not, ◌&&◌, if◌then◌else◌, true≢false}
 use Rattle.std.proofs.Common.{List, [], ◌∷◌, Option, Some, None, is_some, arith, refl, ap, subst, ◌∙◌, sym}
 use Rattle.std.proofs.lemmas.Bool.{false≢true}
 use Rattle.std.proofs.lemmas.Bool.Decides.{nat_tests}
@@ -27,7 +27,7 @@ use Rattle.serial_model.specs.declared.fetch.SpriteKind.{SpriteKind}
 use Rattle.copper.specs.Quiet.{DoesNothing}
 use Rattle.sprite_dma.specs.Quiet.{ReadsNothing}
 use Rattle.serial_model.specs.Owner.{is_refresh, owner_of}
-use Rattle.serial_model.specs.PlaneFetch.{begins_unit, is_running, fetched_plane, fetches_plane, slot_plane, high_resolution, last_unit, units_at}
+use Rattle.serial_model.specs.PlaneFetch.{last_unit_at, begins_unit, is_running, fetched_plane, fetches_plane, slot_plane, high_resolution, last_unit, units_at}
 use Rattle.serial_model.specs.PlaneFetch.{ask_for_plane, move_planes, move_if_fetched, IsLastUnit}
 use Rattle.serial_model.specs.Registers.{Registers, copper_dma, is_danger}
 use Rattle.serial_model.specs.SpriteFetch.{kinds_at, sprite_ask, move_if_asked}
@@ -38,10 +38,19 @@ use Rattle.quiet_clocks.specs.QuietClock.{CopperIsStill}
 use Rattle.quiet_clocks.proofs.Owners.{asked_in, late_wishes}
 use Rattle.quiet_clocks.proofs.QuietClock.{still_copper, still_steps, if_either}
 use Rattle.cpu_bus.specs.Bus.{wish_shown}
-use Rattle.chip_set.specs.BusCode.{LeavesBus, KeepsBus, is_bus_ask, is_bus_made, reaches_memory}
+use Rattle.chip_set.specs.BusCode.{LeavesToPlanes, LeavesBus, LeavesBeside, KeepsBus, KeepsToPlanes, KeepsBeside}
+use Rattle.chip_set.specs.BusCode.{ask_beside_planes, is_bus_ask, is_bus_made, reaches_memory}
 use Rattle.chip_set.specs.Chips.{WorkingChips, IsChipsOf, HasAsked, HasAccessed, CanAsk, IsBlitAsk, some_blit, plain_chips, kept_wish, late_ask}
-use Rattle.chip_set.specs.Chips.{ask_with, answering, act_at, made_with, IsAnswer, AnswersOwner}
-use Rattle.chip_set.specs.Quiet.{IsCopperIdle}
+use Rattle.chip_set.specs.Chips.{wishes_with, ask_with, answering, act_at, made_with, IsAnswer, AnswersOwner}
+use Rattle.chip_set.specs.Quiet.{IsCopperIdle, fetching_in, with_fetching}
+use Rattle.quiet_clocks.specs.FetchClocks.{fetching_after, ask_of_fetching}
+use Rattle.bitplane_dma.specs.RulesCode.{rules_of}
+use Rattle.bitplane_dma.specs.declared.rules.FetchRules.{FetchRules}
+use Rattle.bitplane_dma.proofs.RuleLaws.{rules_kept}
+use Rattle.irq_cia.specs.Bits.{has_bits}
+use Rattle.serial_model.proofs.FetchLaws.{last_unit-units_at, last_unit_at-is}
+use Rattle.serial_model.proofs.SlotLaws.{SameForSprites, move_planes-same, kinds_at-same, sprite_ask-same}
+use Rattle.serial_model.specs.declared.fetch.PlaneAsk.{PlaneAsk}
 use Rattle.chip_set.proofs.AbleLaws.{ask_can}
 use Rattle.chip_set.proofs.AskLaws.{HasFetched, ask_is_at, has_asked, ask_is_of_blit, answer_is}
 use Rattle.chip_set.proofs.QuietLaws.{StillWith, still_with, same_busy}
@@ -67,7 +76,7 @@ late_whole : (b : Beam) (now : WorkingChips)
 unfolding ask_with owner_of
 late_whole b now = refl
 
-late_left : (b : Beam) (now : WorkingChips) → LeavesBus b now
+late_left : (b : Beam) (now : WorkingChips) → LeavesToPlanes b now
     → late_ask b now ≡ asked_in false (comes_first (plain_chips now)) (late_wishes None (kept_wish now) (wish_shown now.processor))
 late_left b now leaves =
     late_whole b now
@@ -96,12 +105,12 @@ by_processor true (Some ask) (Some other) turn = refl
 abbrev pub has_turn : WorkingChips → Bool
 has_turn now = is_some (kept_wish now) && not (comes_first (plain_chips now) && is_some (wish_shown now.processor))
 
-pub turn_of_blitter : (now : WorkingChips) (turn : Bool) → turn ≡ has_turn now → turn ≡ true → (b : Beam) → LeavesBus b now
+pub turn_of_blitter : (now : WorkingChips) (turn : Bool) → turn ≡ has_turn now → turn ≡ true → (b : Beam) → LeavesToPlanes b now
     → late_ask b now ≡ blit_owner_ask (kept_wish now)
 turn_of_blitter now turn is has b leaves =
     late_left b now leaves ∙ by_blitter (comes_first (plain_chips now)) (kept_wish now) (wish_shown now.processor) (sym is ∙ has)
 
-pub turn_of_processor : (now : WorkingChips) (turn : Bool) → turn ≡ has_turn now → turn ≡ false → (b : Beam) → LeavesBus b now
+pub turn_of_processor : (now : WorkingChips) (turn : Bool) → turn ≡ has_turn now → turn ≡ false → (b : Beam) → LeavesToPlanes b now
     → late_ask b now ≡ processor_ask (wish_shown now.processor)
 turn_of_processor now turn is has b leaves =
     late_left b now leaves ∙ by_processor (comes_first (plain_chips now)) (kept_wish now) (wish_shown now.processor) (sym is ∙ has)
@@ -131,40 +140,96 @@ none_fetched h registers (Some start) none =
     let plane : ℕ = slot_plane (high_resolution registers) (h - start) in
     ap (λ within. if within && fetches_plane registers plane then Some plane else None) none
 
-pub nobody_fetches : (b : Beam) (now : WorkingChips) → LeavesBus b now → HasFetched b now now None None
+nobody_fetches : (b : Beam) (now : WorkingChips) → LeavesBus b now → HasFetched b now now None None
 nobody_fetches b now leaves =
     let none : fetched_plane b.h now.registers now.last ≡ None = none_fetched b.h now.registers now.last leaves.runs in
     let stays : move_planes b.h now.last now.registers ≡ now.registers = ap (λ found. move_if_fetched b.h now.last found now.registers) none in
     record {
-      begun = leaves.unit;
-      units = λ units is. is ∙ sym (ap (λ (us : List ℕ). last_unit us) (units_stay b now.registers units leaves.inner
+      begun = leaves.others.unit;
+      units = λ units is. is ∙ sym (ap (λ (us : List ℕ). last_unit us) (units_stay b now.registers units leaves.others.inner
           (subst (λ (last : Option ℕ). begins_unit b now.registers last ≡ false) is leaves.begins)));
       plane_ask = sym (ap (λ found. option_map (λ plane. ask_for_plane now.registers plane) found) none);
-      kinds = sym (ap (λ (r : Registers). kinds_at b r now.kinds) stays ∙ leaves.sprites.stay);
-      sprite_ask = sym (ap (λ (r : Registers). sprite_ask b.h r now.kinds false) stays ∙ leaves.sprites.ask false);
+      kinds = sym (ap (λ (r : Registers). kinds_at b r now.kinds) stays ∙ leaves.others.sprites.stay);
+      sprite_ask = sym (ap (λ (r : Registers). sprite_ask b.h r now.kinds false) stays ∙ leaves.others.sprites.ask false);
       moved = sym (ap (λ (r : Registers). move_if_asked (sprite_ask b.h r now.kinds false) r) stays
-          ∙ ap (λ asked. move_if_asked asked now.registers) (leaves.sprites.ask false));
+          ∙ ap (λ asked. move_if_asked asked now.registers) (leaves.others.sprites.ask false));
       rest = refl;
     }
 
-pub bus_ask_is : (b : Beam) (now : WorkingChips) → LeavesBus b now → (c : Chips) → IsChipsOf now c → late_ask b now ≡ ask_at S.Nothing b c
-bus_ask_is b now leaves = ask_is_at S.Nothing b (late_ask b now) now now None None (nobody_fetches b now leaves) refl
+-- ---- or a plane has its fetch, and sprites have nothing to do
 
-pub bus_has_asked : (b : Beam) (now : WorkingChips) → LeavesBus b now → (c : Chips) → IsChipsOf now c → HasAsked b c now
-bus_has_asked b now leaves = has_asked b now now None None (nobody_fetches b now leaves)
+-- the fetch of a plane is not seen by them
+abbrev fetched : Beam → WorkingChips → WorkingChips
+fetched b now = with_fetching (fetching_after b (fetching_in now)) now
 
-pub bus_ask_can : (b : Beam) (now : WorkingChips) → LeavesBus b now → CanAsk (late_ask b now)
-bus_ask_can b now leaves = ask_can S.Nothing b (late_ask b now) now now None None (nobody_fetches b now leaves) refl
+fetch_same : (b : Beam) (now : WorkingChips) → IsLastUnit now.last → SameForSprites (fetched b now).registers now.registers
+fetch_same b now begun =
+    move_planes-same b.h (last_unit_at b now.registers now.last) now.registers (last_unit_at-is b now.registers now.last begun)
 
-pub bus_ask_of_blit : (b : Beam) (now : WorkingChips) → IsBlitAsk (late_ask b now) (kept_wish now)
-bus_ask_of_blit b now = ask_is_of_blit S.Nothing b None None (kept_wish now) (wish_shown now.processor) (plain_chips now)
+reads_behind : (b : Beam) (moved registers : Registers) (kinds : List SpriteKind) → SameForSprites moved registers → ReadsNothing b registers kinds
+    → ReadsNothing b moved kinds
+reads_behind b moved registers kinds same reads = record {
+  stay = kinds_at-same b moved registers kinds same ∙ reads.stay;
+  ask = λ taken. sprite_ask-same b.h moved registers kinds taken same ∙ reads.ask taken;
+}
+
+plane_fetches : (b : Beam) (now : WorkingChips) (plane : Option PlaneAsk) → LeavesToPlanes b now → plane ≡ ask_of_fetching b (fetching_in now)
+    → HasFetched b now (fetched b now) plane None
+plane_fetches b now plane leaves asks =
+    let moved : Registers = (fetched b now).registers in
+    let reads : ReadsNothing b moved now.kinds = reads_behind b moved now.registers now.kinds (fetch_same b now leaves.unit) leaves.sprites in
+    record {
+      begun = last_unit_at-is b now.registers now.last leaves.unit;
+      units = λ units is. ap (λ last. last_unit_at b now.registers last) is ∙ sym (last_unit-units_at b now.registers units);
+      plane_ask = asks;
+      kinds = sym reads.stay;
+      sprite_ask = sym (reads.ask (is_some plane));
+      moved = sym (ap (λ asked. move_if_asked asked moved) (reads.ask (is_some plane)));
+      rest = refl;
+    }
+
+ask_by : (plane : Option PlaneAsk) (b : Beam) (now : WorkingChips) → is_refresh b.h ≡ false
+    → ask_beside_planes plane b now ≡ ask_with S.Nothing b plane None (kept_wish now) (wish_shown now.processor) (plain_chips now)
+unfolding ask_with owner_of
+ask_by None b now none = refl
+ask_by (Some ask) b now none =
+    sym (ap (λ refresh. asked_in refresh (comes_first (plain_chips now))
+    (wishes_with S.Nothing b (Some ask) None (kept_wish now) (wish_shown now.processor) (plain_chips now))) none)
+
+pub record HasAskedOnBus (b : Beam) (old new : WorkingChips) (plane : Option PlaneAsk) : Type 0 where
+  pub ask : (c : Chips) → IsChipsOf old c → ask_beside_planes plane b new ≡ ask_at S.Nothing b c
+  pub chips : (c : Chips) → IsChipsOf old c → HasAsked b c new
+  pub able : CanAsk (ask_beside_planes plane b new)
+  pub wish : IsBlitAsk (ask_beside_planes plane b new) (kept_wish new)
+
+has_asked_by : (b : Beam) (old new : WorkingChips) (plane : Option PlaneAsk) → is_refresh b.h ≡ false → HasFetched b old new plane None
+    → HasAskedOnBus b old new plane
+has_asked_by b old new plane none fetched =
+    let is : ask_beside_planes plane b new ≡ ask_with S.Nothing b plane None (kept_wish new) (wish_shown new.processor) (plain_chips new) =
+    ask_by plane b new none in
+    record {
+      ask = ask_is_at S.Nothing b (ask_beside_planes plane b new) old new plane None fetched is;
+      chips = has_asked b old new plane None fetched;
+      able = ask_can S.Nothing b (ask_beside_planes plane b new) old new plane None fetched is;
+      wish = subst (λ a. IsBlitAsk a (kept_wish new)) (sym is)
+          (ask_is_of_blit S.Nothing b plane None (kept_wish new) (wish_shown new.processor) (plain_chips new));
+    }
+
+pub asked_without_planes : (b : Beam) (now : WorkingChips) → LeavesBus b now → HasAskedOnBus b now now None
+asked_without_planes b now leaves = has_asked_by b now now None leaves.others.refresh (nobody_fetches b now leaves)
+
+-- the planes' part of such a clock
+pub record HasFetchedBeside (rules : Option FetchRules) (b : Beam) (old new : WorkingChips) (plane : Option PlaneAsk) : Type 0 where
+  pub asks : HasAskedOnBus b old new plane
+  pub leaves : LeavesToPlanes b new
+  pub keeps : KeepsBeside rules old new
 
 -- ---- the answer
 
 no_word : (ask : Ask) (word : ℕ) → is_bus_ask ask ≡ true → copper_word ask word ≡ None
 no_word A.Free word is = refl
 no_word (A.Side ask) word is = absurd (false≢true is)
-no_word (A.Plane ask) word is = absurd (false≢true is)
+no_word (A.Plane ask) word is = refl
 no_word (A.Sprite ask) word is = absurd (false≢true is)
 no_word (A.Copper at) word is = absurd (false≢true is)
 no_word (A.Blit ask) word is = refl
@@ -173,7 +238,7 @@ no_word (A.Processor ask) word is = refl
 abbrev counted : Ask → WorkingChips → WorkingChips
 counted ask now = record now { missed = missed_after (wish_shown now.processor) ask now.missed }
 
-copper_rests : (b : Beam) (ask : Ask) (word : ℕ) (now : WorkingChips) → LeavesBus b now → is_bus_ask ask ≡ true → answering b ask word now ≡ counted ask now
+copper_rests : (b : Beam) (ask : Ask) (word : ℕ) (now : WorkingChips) → LeavesToPlanes b now → is_bus_ask ask ≡ true → answering b ask word now ≡ counted ask now
 copper_rests b ask word now leaves is =
     let missed : ℕ = missed_after (wish_shown now.processor) ask now.missed in
     ap (λ w. record now { copper = copper_after b w (plain_chips now); missed = missed }) (no_word ask word is)
@@ -192,7 +257,7 @@ no_act b ask word c is =
     ∙ if_either (copper_runs b c) (act_in (is_danger c.registers) None c.copper.phase c.copper.first) NoAct
     (act_none (is_danger c.registers) c.copper.phase c.copper.first)
 
-pub bus_answered : (b : Beam) (clx : ℕ) (memory : List ℕ) (ask : Ask) (old new : WorkingChips) (word : ℕ) (made : Made) → LeavesBus b old
+pub bus_answered : (b : Beam) (clx : ℕ) (memory : List ℕ) (ask : Ask) (old new : WorkingChips) (word : ℕ) (made : Made) → LeavesToPlanes b old
     → is_bus_ask ask ≡ true → IsAnswer ask b clx old memory word → AnswersOwner ask word (counted ask old) new → made ≡ made_with ask word NoAct
     → (side : SideAsk) (c : Chips) → IsInTime b side → HasAsked b c old → ask ≡ ask_at side b c → HasAccessed side b clx c memory made new
 bus_answered b clx memory ask old new word made leaves is answer owner makes =
@@ -218,7 +283,7 @@ processor_makes (P.WriteRegister reg stored) word is = absurd (false≢true is)
 owner_makes : (ask : Ask) (word : ℕ) → is_bus_ask ask ≡ true → is_bus_made (made_with ask word NoAct) ≡ true
 owner_makes A.Free word is = refl
 owner_makes (A.Side ask) word is = absurd (false≢true is)
-owner_makes (A.Plane ask) word is = absurd (false≢true is)
+owner_makes (A.Plane ask) word is = refl
 owner_makes (A.Sprite ask) word is = absurd (false≢true is)
 owner_makes (A.Copper at) word is = absurd (false≢true is)
 owner_makes (A.Blit ask) word is = blit_makes ask word
@@ -258,20 +323,82 @@ kept_alike old new c before after = record {
 -- ---- clocks one behind the other
 
 -- what tells that the bus is left stays
-pub leaves_kept : (b : Beam) (old new : WorkingChips) → KeepsBus old new → LeavesBus b old → LeavesBus b new
-leaves_kept b old new kept leaves = record {
+pub leaves_to_planes_kept : (b : Beam) (old new : WorkingChips) → KeepsBus old new → LeavesToPlanes b old → LeavesToPlanes b new
+leaves_to_planes_kept b old new kept leaves = record {
   inner = leaves.inner;
   refresh = leaves.refresh;
   unit = subst IsLastUnit (sym kept.last) leaves.unit;
-  begins = ap (λ (r : Registers). begins_unit b r new.last) kept.registers
-      ∙ ap (λ last. begins_unit b old.registers last) kept.last ∙ leaves.begins;
-  runs = ap (λ last. is_running b.h last) kept.last ∙ leaves.runs;
   sprites = subst (λ (r : Registers). ReadsNothing b r new.kinds) (sym kept.registers)
       (subst (λ (kinds : List SpriteKind). ReadsNothing b old.registers kinds) (sym kept.kinds) leaves.sprites);
   copper = subst (λ (r : Registers). IdleWith b r (is_some new.blit) new.copper) (sym kept.registers)
       (subst (λ (copper : CopperState). IdleWith b old.registers (is_some new.blit) copper) (sym kept.copper)
       (subst (λ busy. IdleWith b old.registers busy old.copper) (sym kept.busy) leaves.copper));
 }
+
+leaves_kept : (b : Beam) (old new : WorkingChips) → KeepsBus old new → LeavesBus b old → LeavesBus b new
+leaves_kept b old new kept leaves = record {
+  others = leaves_to_planes_kept b old new kept leaves.others;
+  begins = ap (λ (r : Registers). begins_unit b r new.last) kept.registers
+      ∙ ap (λ last. begins_unit b old.registers last) kept.last ∙ leaves.begins;
+  runs = ap (λ last. is_running b.h last) kept.last ∙ leaves.runs;
+}
+
+copper_behind : (b : Beam) (busy : Bool) (copper : CopperState) (moved registers : Registers) → SameForSprites moved registers
+    → IdleWith b registers busy copper → IdleWith b moved busy copper
+copper_behind b busy copper moved registers same (inl off) = inl (ap (λ word. has_bits word 640) (same.kept 0x96 (inl (omega arith))) ∙ off)
+copper_behind b busy copper moved registers same (inr idle) = inr idle
+
+pub fetch_keeps : (b : Beam) (now : WorkingChips) → IsLastUnit now.last → KeepsToPlanes now (fetched b now)
+fetch_keeps b now begun =
+    let behind : IsLastUnit (fetched b now).last = last_unit_at-is b now.registers now.last begun in
+    let same : SameForSprites (fetched b now).registers now.registers = fetch_same b now begun in
+    record {
+      leaves = λ at leaves. record {
+        inner = leaves.inner;
+        refresh = leaves.refresh;
+        unit = behind;
+        sprites = reads_behind at (fetched b now).registers now.registers now.kinds same leaves.sprites;
+        copper = copper_behind at (is_some now.blit) now.copper (fetched b now).registers now.registers same leaves.copper;
+      };
+      rules = λ v. rules_kept v b.h (fetched b now).last now.registers behind;
+    }
+
+bus_kept : (old new : WorkingChips) → KeepsBus old new → KeepsToPlanes old new
+bus_kept old new kept = record {
+  leaves = λ b leaves. leaves_to_planes_kept b old new kept leaves;
+  rules = λ v. ap (λ (r : Registers). rules_of v r) kept.registers;
+}
+
+pub beside_kept : (rules : Option FetchRules) (old new : WorkingChips) → KeepsBus old new → KeepsBeside rules old new
+beside_kept None old new kept = kept
+beside_kept (Some rules) old new kept = bus_kept old new kept
+
+pub beside_then : (rules : Option FetchRules) (old mid new : WorkingChips) → KeepsBeside rules old mid → KeepsBeside rules mid new
+    → KeepsBeside rules old new
+beside_then None old mid new one two = kept_then old mid new one two
+beside_then (Some rules) old mid new one two = record {
+  leaves = λ b leaves. two.leaves b (one.leaves b leaves);
+  rules = λ v. two.rules v ∙ one.rules v;
+}
+
+pub leaves_beside_kept : (rules : Option FetchRules) (b : Beam) (old new : WorkingChips) → KeepsBeside rules old new → LeavesBeside rules b old
+    → LeavesBeside rules b new
+leaves_beside_kept None b old new kept leaves = leaves_kept b old new kept leaves
+leaves_beside_kept (Some rules) b old new kept leaves = (kept.leaves b leaves.0, leaves.1 ∙ sym (kept.rules b.v))
+
+pub others_left : (rules : Option FetchRules) (b : Beam) (now : WorkingChips) → LeavesBeside rules b now → LeavesToPlanes b now
+others_left None b now leaves = leaves.others
+others_left (Some rules) b now leaves = leaves.0
+
+pub fetched_beside : (rules : FetchRules) (b : Beam) (old new : WorkingChips) (plane : Option PlaneAsk) → LeavesToPlanes b old
+    → plane ≡ ask_of_fetching b (fetching_in old) → new ≡ fetched b old → HasFetchedBeside (Some rules) b old new plane
+fetched_beside rules b old new plane leaves asks is =
+    let keeps : KeepsToPlanes old (fetched b old) = fetch_keeps b old leaves.unit in
+    subst (λ now. HasFetchedBeside (Some rules) b old now plane) (sym is) (record {
+      asks = has_asked_by b old (fetched b old) plane leaves.refresh (plane_fetches b old plane leaves asks);
+      leaves = keeps.leaves b leaves;
+      keeps = keeps;
+    })
 
 -- refresh has its slots at a line's ends
 pub no_refresh : (h : ℕ) → 6 ≤ h → h < 225 → is_refresh h ≡ false

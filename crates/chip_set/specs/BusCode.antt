@@ -1,5 +1,7 @@
--- Clocks that refresh, planes, sprites and the Copper leave to the blitter and the processor.
-use Rattle.std.specs.Prelude.{◌≡◌, ◌<◌, ℕ, Bool, true, false, is_some}
+-- Clocks that refresh, sprites and the Copper leave to the planes, the blitter and the processor.
+use Rattle.std.specs.Prelude.{◌≡◌, ◌<◌, ℕ, Bool, true, false, Option, Some, None, is_some}
+use Rattle.bitplane_dma.specs.RulesCode.{rules_of}
+use Rattle.bitplane_dma.specs.declared.rules.FetchRules.{FetchRules}
 use Rattle.ocs_base.specs.declared.beam.Beam.{Beam}
 use Rattle.quiet_clocks.specs.QuietClocks.{later_beam}
 use Rattle.serial_model.specs.Owner.{is_refresh}
@@ -8,25 +10,35 @@ use Rattle.serial_model.specs.declared.bus.Ask.{Ask}
 use Rattle.serial_model.specs.declared.bus.Ask.TheVariants as A
 use Rattle.serial_model.specs.declared.bus.Made.{Made}
 use Rattle.serial_model.specs.declared.bus.Made.TheVariants as M
+use Rattle.serial_model.specs.declared.fetch.PlaneAsk.{PlaneAsk}
 use Rattle.serial_model.specs.declared.bus.ProcessorAsk.{ProcessorAsk}
 use Rattle.serial_model.specs.declared.bus.ProcessorAsk.TheVariants as P
 use Rattle.sprite_dma.specs.Quiet.{ReadsNothing}
-use Rattle.chip_set.specs.Chips.{WorkingChips}
+use Rattle.chip_set.specs.Chips.{WorkingChips, late_ask}
 use Rattle.chip_set.specs.Quiet.{IsCopperIdle}
 
--- what the working chips tell of a clock, with the beam there, by which none of those needs its slot
-pub record LeavesBus (b : Beam) (now : WorkingChips) : Type 0 where
+-- what the working chips tell of a clock, with the beam there, by which none of refresh, sprites and the Copper needs its slot
+pub record LeavesToPlanes (b : Beam) (now : WorkingChips) : Type 0 where
   pub inner : 0 < b.h
   pub refresh : is_refresh b.h ≡ false
   pub unit : IsLastUnit now.last
-  pub begins : begins_unit b now.registers now.last ≡ false
-  pub runs : is_running b.h now.last ≡ false
   pub sprites : ReadsNothing b now.registers now.kinds
   pub copper : IsCopperIdle b now
 
+-- and by which the planes need it no more than those
+pub record LeavesBus (b : Beam) (now : WorkingChips) : Type 0 where
+  pub others : LeavesToPlanes b now
+  pub begins : begins_unit b now.registers now.last ≡ false
+  pub runs : is_running b.h now.last ≡ false
+
+-- the planes have their slots by these rules, or, without rules, they need none
+abbrev pub LeavesBeside : Option FetchRules → Beam → WorkingChips → Type 0
+LeavesBeside None b now = LeavesBus b now
+LeavesBeside (Some rules) b now = LeavesToPlanes b now × (rules ≡ rules_of b.v now.registers)
+
 -- and of n clocks from there on
-abbrev pub LeaveBus : Beam → ℕ → WorkingChips → Type 0
-LeaveBus b n now = (k : ℕ) → k < n → LeavesBus (later_beam k b) now
+abbrev pub LeaveBus : Option FetchRules → Beam → ℕ → WorkingChips → Type 0
+LeaveBus rules b n now = (k : ℕ) → k < n → LeavesBeside rules (later_beam k b) now
 
 -- all that tells so stays
 pub record KeepsBus (old new : WorkingChips) : Type 0 where
@@ -36,7 +48,21 @@ pub record KeepsBus (old new : WorkingChips) : Type 0 where
   pub copper : new.copper ≡ old.copper
   pub busy : is_some new.blit ≡ is_some old.blit
 
--- the blitter asks, or the processor for memory, or nobody
+-- or all but the planes' own part of it
+pub record KeepsToPlanes (old new : WorkingChips) : Type 0 where
+  pub leaves : (b : Beam) → LeavesToPlanes b old → LeavesToPlanes b new
+  pub rules : (v : ℕ) → rules_of v new.registers ≡ rules_of v old.registers
+
+abbrev pub KeepsBeside : Option FetchRules → WorkingChips → WorkingChips → Type 0
+KeepsBeside None old new = KeepsBus old new
+KeepsBeside (Some rules) old new = KeepsToPlanes old new
+
+-- the ask of such a clock, where this plane has its slot, or none
+abbrev pub ask_beside_planes : Option PlaneAsk → Beam → WorkingChips → Ask
+ask_beside_planes None b now = late_ask b now
+ask_beside_planes (Some ask) b now = A.Plane ask
+
+-- a plane asks, or the blitter, or the processor for memory, or nobody
 abbrev pub reaches_memory : ProcessorAsk → Bool
 reaches_memory (P.Read at) = true
 reaches_memory (P.Write at half word) = true
@@ -46,17 +72,17 @@ reaches_memory (P.WriteRegister reg word) = false
 abbrev pub is_bus_ask : Ask → Bool
 is_bus_ask A.Free = true
 is_bus_ask (A.Side ask) = false
-is_bus_ask (A.Plane ask) = false
+is_bus_ask (A.Plane ask) = true
 is_bus_ask (A.Sprite ask) = false
 is_bus_ask (A.Copper at) = false
 is_bus_ask (A.Blit ask) = true
 is_bus_ask (A.Processor ask) = reaches_memory ask
 
--- which makes no more than that a word is stored
+-- which makes no more than that a word is stored or fills a plane's latch
 abbrev pub is_bus_made : Made → Bool
 is_bus_made M.Nothing = true
 is_bus_made (M.Wrote reg word by) = false
 is_bus_made (M.Read reg by) = false
 is_bus_made (M.Stored at half word) = true
-is_bus_made (M.Plane plane at) = false
+is_bus_made (M.Plane plane at) = true
 is_bus_made (M.Sprite sprite second at) = false

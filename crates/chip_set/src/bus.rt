@@ -1,33 +1,60 @@
-//! Clocks that refresh, planes, sprites and the Copper leave to the blitter and the processor.
+//! Clocks that refresh, sprites and the Copper leave to the planes, the blitter and the processor.
 
 ghost use Rattle.std.specs.Prelude.{◌≡◌, ◌≤◌, ◌<◌, ◌+◌, ◌&&◌, ℕ, true, false, is_some};
 ghost use Rattle.ocs_base.specs.declared.beam.Beam.{Beam as BeamOf};
 ghost use Rattle.serial_model.specs.Bus.{blit_owner_ask, processor_ask as processor_ask_of};
 ghost use Rattle.quiet_clocks.specs.PlainClock.{comes_first};
+ghost use Rattle.quiet_clocks.specs.QuietClocks.{later_beam};
+ghost use Rattle.serial_model.specs.PlaneFetch.{IsLastUnit};
 ghost use Rattle.serial_model.specs.Side.{IsInTime};
 ghost use Rattle.serial_model.specs.State.{Chips as ChipsOf};
 ghost use Rattle.serial_model.specs.Bus.{ask_at};
 ghost use Rattle.serial_model.specs.declared.bus.SideAsk.{SideAsk};
 ghost use Rattle.cpu_bus.specs.Bus.{wish_shown};
-ghost use Rattle.chip_set.specs.Chips.{HasAsked, HasAccessed, CanDo, WorkingChips, plain_chips, IsAnswer, IsBlitAsk, kept_wish, late_ask as asked_late};
+ghost use Rattle.chip_set.specs.Chips.{IsChipsOf, HasAsked, HasAccessed, CanAsk, CanDo, WorkingChips, plain_chips, IsAnswer, IsBlitAsk, kept_wish, late_ask as asked_late};
 ghost use Rattle.chip_set.specs.Chips.{reads_by_chips, read_by};
-ghost use Rattle.chip_set.specs.BusCode.{LeavesBus, LeaveBus, KeepsBus, is_bus_ask, is_bus_made};
+ghost use Rattle.chip_set.specs.BusCode.{LeavesToPlanes, LeavesBeside, LeaveBus, KeepsBus, KeepsBeside};
+ghost use Rattle.chip_set.specs.BusCode.{ask_beside_planes, is_bus_ask, is_bus_made};
 
 use crate::asks::made_by;
 use crate::chips::{Chips, read_for_blit};
+use bitplane_dma::{FetchRules, PlaneAsk};
 use mem_versions::Chip;
 use ocs_base::Beam;
 use serial_model::{Ask, CopperAct, Made, ProcessorAsk};
 
 impl Chips {
-    /// For how many clocks of this line, from this one on and at most so many, neither refresh nor planes,
-    /// sprites and the Copper need the slot, while registers and Copper stay and no blit begins or ends.
-    /// Nothing hangs on the answer but how fast a run is.
-    pub fn bus_clocks(&self, beam: &Beam, most: u16) -> u16
+    /// For how many clocks of this line, from this one on and at most so many, neither refresh nor sprites
+    /// and the Copper need the slot, while their registers and the Copper stay and no blit begins or ends;
+    /// and by what the planes have their slots in them, None where they need none. Nothing hangs on the
+    /// answer but how fast a run is.
+    pub fn bus_clocks(&self, beam: &Beam, most: u16) -> (u16, Option<FetchRules>)
+        requires inner { 0 < beam.now.h }
+        requires room { beam.now.h + most ≤ 226 }
+        ensures most { result.0 ≤ most }
+        ensures leave { 0 < result.0 → LeaveBus result.1 beam.now result.0 self.now }
+    {
+        let clocks = self.clocks_beside_planes(beam, most);
+        if clocks == 0 {
+            return (0, None);
+        }
+        let alone = self.fetcher.rest(beam, &self.registers, clocks);
+        if alone > 0 {
+            return (alone, None);
+        }
+        let fetches = self
+            .fetcher
+            .before_last_fetch(beam, &self.registers, clocks);
+        (fetches, Some(self.fetch_rules(beam)))
+    }
+
+    /// The same, whatever slots the planes need.
+    fn clocks_beside_planes(&self, beam: &Beam, most: u16) -> u16
         requires inner { 0 < beam.now.h }
         requires room { beam.now.h + most ≤ 226 }
         ensures most { result ≤ most }
-        ensures leave { 0 < result → LeaveBus beam.now result self.now }
+        ensures leave { IsLastUnit self.now.last → (k : ℕ) → k < result
+            → LeavesToPlanes (later_beam k beam.now) self.now }
     {
         if beam.h < 6 || 225 <= beam.h {
             return 0;
@@ -36,11 +63,27 @@ impl Chips {
         if copper == 0 {
             return 0;
         }
-        let planes = self.fetcher.rest(beam, &self.registers, copper);
-        if planes == 0 {
-            return 0;
+        self.sprites.quiet(beam, &self.registers, copper)
+    }
+
+    /// The planes' part of such a clock: the plane that has its slot, if one has; else the blitter or the
+    /// processor may (`has_blitter_turn`). `answer_on_bus` is to be called next.
+    #[inline(always)]
+    pub fn ask_on_bus(&mut self, rules: &Option<FetchRules>, beam: &Beam) -> Option<PlaneAsk>
+        requires leaves { LeavesBeside rules.now beam.now self.old }
+        ensures ask { (c : ChipsOf) → IsChipsOf self.old c
+            → ask_beside_planes result beam.now self.new ≡ ask_at SideAsk.Nothing beam.now c }
+        ensures chips { (c : ChipsOf) → IsChipsOf self.old c → HasAsked beam.now c self.new }
+        ensures able { CanAsk (ask_beside_planes result beam.now self.new) }
+        ensures wish { IsBlitAsk (ask_beside_planes result beam.now self.new)
+            (kept_wish self.new) }
+        ensures leaves { LeavesToPlanes beam.now self.new }
+        ensures kept { KeepsBeside rules.now self.old self.new }
+    {
+        match rules {
+            Some(rules) => self.fetch_plane(rules, beam),
+            None => None,
         }
-        self.sprites.quiet(beam, &self.registers, planes)
     }
 
     /// Whether a blit is under way.
@@ -51,12 +94,13 @@ impl Chips {
         self.blit.is_some()
     }
 
-    /// Whether the blitter has the slot of such a clock; else the processor has it if it asks.
+    /// Whether the blitter has the slot of such a clock, where no plane has it; else the processor has it if
+    /// it asks.
     #[inline(always)]
     pub fn has_blitter_turn(&self) -> bool
-        ensures blitter { result ≡ true → (b : BeamOf) → LeavesBus b self.now
+        ensures blitter { result ≡ true → (b : BeamOf) → LeavesToPlanes b self.now
             → asked_late b self.now ≡ blit_owner_ask (kept_wish self.now) }
-        ensures processor { result ≡ false → (b : BeamOf) → LeavesBus b self.now
+        ensures processor { result ≡ false → (b : BeamOf) → LeavesToPlanes b self.now
             → asked_late b self.now ≡ processor_ask_of (wish_shown self.now.processor) }
     {
         self.has_blitter_wish() && !self.is_processor_first()
@@ -71,12 +115,13 @@ impl Chips {
         !self.is_nasty() && self.missed >= 3 && self.processor.wish().is_some()
     }
 
-    /// As `answer`, at such a clock, where the owner of the slot is the blitter, the processor with an
-    /// access to memory, or nobody: the Copper has no step.
+    /// As `answer`, at such a clock, where the owner of the slot is a plane, the blitter, the processor with
+    /// an access to memory, or nobody: the Copper has no step.
     #[inline(always)]
     pub fn answer_on_bus(&mut self, ask: &Ask, beam: &Beam, chip: &mut Chip) -> Made
-        requires leaves { LeavesBus beam.now self.old }
+        requires leaves { LeavesToPlanes beam.now self.old }
         requires bus { is_bus_ask ask.now ≡ true }
+        requires able { CanAsk ask.now }
         requires wish { IsBlitAsk ask.now (kept_wish self.old) }
         ensures access { (clx : ℕ) (side : SideAsk) (c : ChipsOf) → IsInTime beam.now side
             → HasAsked beam.now c self.old → ask.now ≡ ask_at side beam.now c

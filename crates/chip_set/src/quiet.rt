@@ -42,12 +42,12 @@ impl Chips {
     }
 
     /// Whether a glance tells that it does not pay to look for quiet clocks here: a blit is under way, the
-    /// processor does not wait for time to pass, or the Copper fetches. Nothing hangs on the answer but how
-    /// fast a run is.
+    /// processor does not wait for four clocks to pass, or the Copper fetches. Nothing hangs on the answer
+    /// but how fast a run is.
     #[inline(always)]
     pub fn is_busy(&self) -> bool {
         self.blit.is_some()
-            || self.processor.quiet(&self.irq) == 0
+            || self.processor.quiet(&self.irq) < 4
             || self.copper.wants().is_some() && self.has_copper_dma()
     }
 

@@ -1,5 +1,5 @@
-//! Clocks of a line that refresh, planes, sprites and the Copper leave to the blitter and the processor, made
-//! one behind the other.
+//! Clocks of a line that refresh, sprites and the Copper leave to the planes, the blitter and the processor,
+//! made one behind the other.
 
 ghost use Rattle.std.specs.Prelude.{◌≡◌, ◌≤◌, ◌<◌, ◌+◌, ◌-◌, ◌^◌, max, ℕ, true, false, [], IfOk, OnOk, OnErr};
 ghost use Rattle.serial_model.specs.Events.{due_events};
@@ -9,7 +9,8 @@ ghost use Rattle.serial_model.specs.declared.bus.Ask.TheVariants as A;
 ghost use Rattle.serial_bands.specs.BusReads.{bus_reads, reads_of_ask};
 ghost use Rattle.quiet_clocks.specs.QuietClocks.{later_beam};
 ghost use Rattle.band_log.specs.Raster.{RasterValue};
-ghost use Rattle.chip_set.specs.BusCode.{LeavesBus, LeaveBus, KeepsBus, is_bus_ask};
+ghost use Rattle.chip_set.specs.BusCode.{LeavesToPlanes, LeavesBeside, LeaveBus, KeepsBus, KeepsBeside};
+ghost use Rattle.chip_set.specs.BusCode.{ask_beside_planes, is_bus_ask};
 ghost use Rattle.chip_set.specs.Chips.{CanAsk, IsBlitAsk, kept_wish, late_ask};
 ghost use Rattle.foreground.specs.AccessCode.{CanAccess, MakesAccessWith};
 ghost use Rattle.foreground.specs.Clock.{Rises};
@@ -21,17 +22,22 @@ ghost use Rattle.foreground.specs.RunTo.{RunsOn, RisesIn, RisesInSome};
 ghost use Rattle.foreground.specs.Steps.{MakesAskedAccess, AccessesPart, KeepsClock, reads_more};
 
 use crate::fore::Fore;
+use crate::lookout::{WORTH, is_beside_refresh};
 use band_log::Raster;
+use chip_set::FetchRules;
 use machine::touch_of;
 use ocs_base::OutOfMemory;
 use out_files::OutFiles;
-use serial_model::{Ask, ProcessorAsk, Side};
+use serial_model::{Ask, PlaneAsk, ProcessorAsk, Side};
+
+/// The most clocks that are made without a look for quiet ones.
+const LONGEST_RUN: u16 = 128;
 
 impl<S: Side> Fore<S> {
     /// The clocks of this line that come before the clock `limit`, before the next event of the script and
-    /// before quiet clocks are looked for again, as far as nobody but the blitter and the processor is known
-    /// to need the bus in them, up to an access of the processor to a register and to the end of a blit. All
-    /// of it is what as many calls of `advance` give, a refusal too.
+    /// before quiet clocks are looked for again, as far as nobody but the planes, the blitter and the
+    /// processor is known to need the bus in them, up to an access of the processor to a register and to the
+    /// end of a blit. All of it is what as many calls of `advance` give, a refusal too.
     #[inline(never)]
     pub(crate) fn run_on_bus<Q: Raster<S>>(
         &mut self,
@@ -58,9 +64,10 @@ impl<S: Side> Fore<S> {
         ensures few { OnErr result (RisesInSome limit (over S.seen self.old).run self.old.machine.t
             self.old.machine.chip.reads self.new.machine.chip.reads) }
     {
-        let mut left = self.bus_clocks(limit);
+        let (clocks, rules) = self.bus_clocks(limit);
+        let mut left = clocks;
         while left > 0 && self.log.band.from < self.machine.t && self.machine.side.is_nothing() {
-            match self.clock_on_bus(raster, out) {
+            match self.clock_on_bus(&rules, raster, out) {
                 Ok(on) => left = if on { left - 1 } else { 0 },
                 Err(refused) => {
                     self.spent = true;
@@ -71,23 +78,33 @@ impl<S: Side> Fore<S> {
         Ok(())
     }
 
-    /// How many they are, as far as that is known at their begin; nothing hangs on it but how fast a run is.
-    /// A glance tells whether it pays to look.
+    /// How many they are, as far as that is known at their begin, and by what the planes have their slots in
+    /// them; nothing hangs on it but how fast a run is. A glance tells whether it pays to look.
     #[inline(always)]
-    fn bus_clocks(&self, limit: u64) -> u16
+    fn bus_clocks(&mut self, limit: u64) -> (u16, Option<FetchRules>)
         requires { (first : ℕ) × (seen : RasterValue) × IsUnderway
-            (over S.seen self.now) first seen }
-        ensures line { 0 < result → AreInLine limit result (over S.seen self.now) }
-        ensures leave { 0 < result → LeaveBus self.now.machine.beam result self.now.machine.chips }
+            (over S.seen self.old) first seen }
+        ensures line { 0 < result.0 → AreInLine limit result.0 (over S.seen self.old) }
+        ensures leave { 0 < result.0 → LeaveBus result.1 self.old.machine.beam result.0
+            self.old.machine.chips }
+        ensures same { self.new ≡ self.old }
     {
-        if !self.machine.chips.is_busy() {
-            return 0;
+        let now = self.machine.t;
+        if !self.lookout.is_due(now) || !self.machine.chips.is_busy() {
+            return (0, None);
         }
-        let most = self.clocks_in_line(limit);
+        let h = self.machine.beam.h;
+        if is_beside_refresh(h) {
+            self.lookout.wait_for_refresh(now, h);
+            return (0, None);
+        }
+        let most = self.clocks_before(limit).min(LONGEST_RUN);
         if most < 2 {
-            return 0;
+            return (0, None);
         }
-        self.machine.chips.bus_clocks(&self.machine.beam, most)
+        let (clocks, rules) = self.machine.chips.bus_clocks(&self.machine.beam, most);
+        self.lookout.note(now, h, clocks >= WORTH);
+        (clocks, rules)
     }
 
     /// One of them. The answer says whether the bus is known to be left in further clocks. That memory was
@@ -95,6 +112,7 @@ impl<S: Side> Fore<S> {
     #[inline(always)]
     fn clock_on_bus<Q: Raster<S>>(
         &mut self,
+        rules: &Option<FetchRules>,
         raster: &mut Q,
         out: &mut OutFiles,
     ) -> Result<bool, OutOfMemory>
@@ -106,7 +124,7 @@ impl<S: Side> Fore<S> {
         requires due { due_events self.old.machine.beam self.old.run.script.events ≡ [] }
         requires before { self.old.log.band.from < self.old.machine.t }
         requires side { S.seen self.old.machine.side ≡ no_side }
-        requires leaves { LeavesBus self.old.machine.beam self.old.machine.chips }
+        requires leaves { LeavesBeside rules.now self.old.machine.beam self.old.machine.chips }
         ensures clock { OnOk result (Advances (over S.seen self.old) (over S.seen self.new)
             (Q.seen raster.old) (Q.seen raster.new) out.old out.new) }
         ensures place { OnOk result (IsSamePlace (later_beam 1 self.old.machine.beam)
@@ -125,36 +143,67 @@ impl<S: Side> Fore<S> {
             (over S.seen self.old))
             self.old.machine.chip.reads self.new.machine.chip.reads) }
         ensures bus { IfOk result (λ on. on ≡ true
-            → KeepsBus self.old.machine.chips self.new.machine.chips) }
+            → KeepsBeside rules.now self.old.machine.chips self.new.machine.chips) }
     {
         self.go_on()?;
-        self.ask_on_bus();
-        let on = self.access_on_bus(raster, out)?;
+        let plane = self.ask_on_bus(rules);
+        let on = self.access_on_bus(plane, raster, out)?;
         self.end_clock(out)?;
         Ok(on)
     }
 
-    /// The third and the fourth step of it, and the ask of the slot's owner.
+    /// The third and the fourth step of it, and the plane that has the slot, if one has.
     #[inline(always)]
-    fn ask_on_bus(&mut self)
+    fn ask_on_bus(&mut self, rules: &Option<FetchRules>) -> Option<PlaneAsk>
         requires side { S.seen self.old.machine.side ≡ no_side }
-        requires leaves { LeavesBus self.old.machine.beam self.old.machine.chips }
-        ensures asks { AsksInTime (late_ask self.new.machine.beam self.new.machine.chips)
+        requires leaves { LeavesBeside rules.now self.old.machine.beam self.old.machine.chips }
+        ensures asks { AsksInTime
+            (ask_beside_planes result self.new.machine.beam self.new.machine.chips)
             (over S.seen self.old).machine (over S.seen self.new).machine }
-        ensures able { CanAsk (late_ask self.new.machine.beam self.new.machine.chips) }
-        ensures wish { IsBlitAsk (late_ask self.new.machine.beam self.new.machine.chips)
+        ensures able { CanAsk
+            (ask_beside_planes result self.new.machine.beam self.new.machine.chips) }
+        ensures wish { IsBlitAsk
+            (ask_beside_planes result self.new.machine.beam self.new.machine.chips)
             (kept_wish self.new.machine.chips) }
-        ensures bus { KeepsBus self.old.machine.chips self.new.machine.chips }
+        ensures leaves { LeavesToPlanes self.new.machine.beam self.new.machine.chips }
+        ensures bus { KeepsBeside rules.now self.old.machine.chips self.new.machine.chips }
         ensures beam { self.new.machine.beam ≡ self.old.machine.beam }
         ensures same { self.new ≡ record self.old { machine = self.new.machine } }
         ensures chip { self.new.machine.chip ≡ self.old.machine.chip }
     {
-        self.machine.ask_on_bus();
+        self.machine.ask_on_bus(rules)
     }
 
-    /// The fifth. The answer says whether the bus is known to be left in further clocks.
+    /// The fifth, where this plane has the slot, or none. The answer says whether the bus is known to be left
+    /// in further clocks.
     #[inline(always)]
     fn access_on_bus<Q: Raster<S>>(
+        &mut self,
+        plane: Option<PlaneAsk>,
+        raster: &mut Q,
+        out: &mut OutFiles,
+    ) -> Result<bool, OutOfMemory>
+        requires can { CanAccess
+            (ask_beside_planes plane self.old.machine.beam self.old.machine.chips)
+            (over S.seen self.old) (Q.seen raster.old) }
+        requires room { self.old.machine.t + 1 < 2 ^ 64 }
+        requires leaves { LeavesToPlanes self.old.machine.beam self.old.machine.chips }
+        ensures access { MakesAccessWith
+            (ask_beside_planes plane self.old.machine.beam self.old.machine.chips)
+            (over S.seen self.old) (over S.seen self.new)
+            (Q.seen raster.old) (Q.seen raster.new) out.old out.new result }
+        ensures bus { IfOk result (λ on. on ≡ true
+            → KeepsBus self.old.machine.chips self.new.machine.chips) }
+    {
+        match plane {
+            Some(ask) => self.serve_on_bus(&Ask::Plane { ask }, out),
+            None => self.access_without_plane(raster, out),
+        }
+    }
+
+    /// The same where no plane has it.
+    #[inline(always)]
+    fn access_without_plane<Q: Raster<S>>(
         &mut self,
         raster: &mut Q,
         out: &mut OutFiles,
@@ -162,7 +211,7 @@ impl<S: Side> Fore<S> {
         requires can { CanAccess (late_ask self.old.machine.beam self.old.machine.chips)
             (over S.seen self.old) (Q.seen raster.old) }
         requires room { self.old.machine.t + 1 < 2 ^ 64 }
-        requires leaves { LeavesBus self.old.machine.beam self.old.machine.chips }
+        requires leaves { LeavesToPlanes self.old.machine.beam self.old.machine.chips }
         ensures access { MakesAccessWith (late_ask self.old.machine.beam self.old.machine.chips)
             (over S.seen self.old) (over S.seen self.new)
             (Q.seen raster.old) (Q.seen raster.new) out.old out.new result }
@@ -188,7 +237,7 @@ impl<S: Side> Fore<S> {
         requires can { CanAccess (blit_owner_ask (kept_wish self.old.machine.chips))
             (over S.seen self.old) (Q.seen raster.old) }
         requires room { self.old.machine.t + 1 < 2 ^ 64 }
-        requires leaves { LeavesBus self.old.machine.beam self.old.machine.chips }
+        requires leaves { LeavesToPlanes self.old.machine.beam self.old.machine.chips }
         ensures access { MakesAccessWith (blit_owner_ask (kept_wish self.old.machine.chips))
             (over S.seen self.old) (over S.seen self.new)
             (Q.seen raster.old) (Q.seen raster.new) out.old out.new result }
@@ -214,7 +263,7 @@ impl<S: Side> Fore<S> {
     ) -> Result<bool, OutOfMemory>
         requires can { CanAccess (A.Processor ask) (over S.seen self.old) (Q.seen raster.old) }
         requires room { self.old.machine.t + 1 < 2 ^ 64 }
-        requires leaves { LeavesBus self.old.machine.beam self.old.machine.chips }
+        requires leaves { LeavesToPlanes self.old.machine.beam self.old.machine.chips }
         ensures access { MakesAccessWith (A.Processor ask)
             (over S.seen self.old) (over S.seen self.new)
             (Q.seen raster.old) (Q.seen raster.new) out.old out.new result }
@@ -241,13 +290,13 @@ impl<S: Side> Fore<S> {
         }
     }
 
-    /// The access of the blitter, of the processor to memory, or of nobody.
+    /// The access of a plane, of the blitter, of the processor to memory, or of nobody.
     #[inline(always)]
     fn serve_on_bus(&mut self, ask: &Ask, out: &mut OutFiles) -> Result<bool, OutOfMemory>
         requires can { (seen : RasterValue) × CanAccess ask.now (over S.seen self.old) seen }
         requires bus { is_bus_ask ask.now ≡ true }
         requires room { self.old.machine.t + 1 < 2 ^ 64 }
-        requires leaves { LeavesBus self.old.machine.beam self.old.machine.chips }
+        requires leaves { LeavesToPlanes self.old.machine.beam self.old.machine.chips }
         ensures makes { OnOk result ((seen : RasterValue) → MakesAskedAccess
             (over S.seen self.old) (over S.seen self.new) seen seen out.old out.new) }
         ensures part { OnErr result ((seen : RasterValue) → AccessesPart

@@ -49,7 +49,7 @@ impl<S: Side> Fore<S> {
         let machine = &self.machine;
         let clocks = machine.chips.fetch_clocks(&machine.beam, machine.t, most);
         let until = machine.t.saturating_add(clocks as u64);
-        self.lookout.note(until, clocks);
+        self.lookout.note(until, machine.beam.h, clocks > 0);
         if clocks == 0 {
             return Ok(false);
         }

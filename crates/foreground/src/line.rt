@@ -93,12 +93,22 @@ impl<S: Side> Fore<S> {
 
     /// How many they are, if the open band goes on with each; nothing hangs on it but how fast a run is.
     #[inline(always)]
-    pub(crate) fn clocks_in_line(&self, limit: u64) -> u16
+    fn clocks_in_line(&self, limit: u64) -> u16
         requires { (first : ℕ) × (seen : RasterValue) × IsUnderway
             (over S.seen self.now) first seen }
         ensures { 0 < result → AreInLine limit result (over S.seen self.now) }
     {
-        let until = limit.min(self.lookout.from);
+        self.clocks_before(limit.min(self.lookout.from))
+    }
+
+    /// How many clocks of this line come before the clock `until` and before the next event of the script, as
+    /// far as one behind another may be made; nothing hangs on it but how fast a run is.
+    #[inline(always)]
+    pub(crate) fn clocks_before(&self, until: u64) -> u16
+        requires { (first : ℕ) × (seen : RasterValue) × IsUnderway
+            (over S.seen self.now) first seen }
+        ensures { 0 < result → AreInLine until result (over S.seen self.now) }
+    {
         let h = self.machine.beam.h;
         if h == 0 || 226 <= h || until <= self.machine.t || self.done() {
             return 0;

@@ -11,6 +11,7 @@ ghost use Rattle.foreground.specs.Fore.{over, HasScript, IsUnderway, is_done};
 ghost use Rattle.foreground.specs.QuietCode.{HasPassed};
 
 use crate::fore::Fore;
+use crate::lookout::{BEHIND_SPRITES, WORTH};
 use ocs_base::{At, Beam, OutOfMemory};
 use serial_model::Side;
 
@@ -37,8 +38,11 @@ impl<S: Side> Fore<S> {
         if !due || h == 0 || 226 <= h || self.machine.t <= self.log.band.from {
             return Ok(false);
         }
-        if self.machine.chips.is_busy() || !self.machine.side.is_nothing() {
-            self.lookout.note(self.machine.t, 0);
+        if !self.machine.side.is_nothing() {
+            self.lookout.note(self.machine.t, h, false);
+            return Ok(false);
+        }
+        if self.machine.chips.is_busy() {
             return Ok(false);
         }
         self.pass_in_line(limit)
@@ -69,7 +73,9 @@ impl<S: Side> Fore<S> {
         if passed == 0 {
             return self.pass_fetches(limit, most);
         }
-        self.lookout.note(self.machine.t, passed);
+        let h = self.machine.beam.h;
+        let pays = passed >= WORTH || h >= BEHIND_SPRITES;
+        self.lookout.note(self.machine.t, h, pays);
         match self.log.take_waiting() {
             Ok(()) => Ok(true),
             Err(refusal) => {

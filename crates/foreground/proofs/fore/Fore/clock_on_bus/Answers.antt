@@ -1,7 +1,10 @@
 -- A clock within a line: what it need not look at does nothing.
-use Rattle.std.proofs.Common.{ap, refl}
+use Rattle.std.proofs.Common.{ap, refl, subst}
+use Rattle.chip_set.specs.BusCode.{KeepsBeside}
+use Rattle.chip_set.specs.Chips.{WorkingChips}
+use Rattle.chip_set.proofs.BusLaws.{beside_kept, beside_then}
 use Rattle.mem_versions.specs.Chip.{ChipValue}
-use Rattle.foreground.specs.Fore.{over, looked_up}
+use Rattle.foreground.specs.Fore.{ForeOf, over, looked_up}
 use Rattle.foreground.proofs.BeginLaws.{begins_no_part, rises_same}
 use Rattle.foreground.proofs.MadeLaws.{on_err}
 use Rattle.foreground.proofs.AskedLaws.{reaches_ask, at_ask, makes_from_ask, part_from_ask, kept_from_ask, rises_from_ask}
@@ -29,9 +32,9 @@ access_on_bus-requires-clause-can g c =
     let begins = c.in_ok-go_on.ensures.begins (g.Q.Raster.seen c.args.raster.now) c.args.out.now in
     let runs = runs_none_behind f0 f1 _ _ c.args.out.now (ap (over g.S.Side.seen) c.go_on.ensures.same) c.requires.underway.1 c.requires.inner
     c.requires.due in
-    let reaches = reaches_ask _ _ _ _ _ _ _ runs c.ask_on_bus.ensures.asks (ap (over g.S.Side.seen) c.ask_on_bus.ensures.same) in
+    let reaches = reaches_ask _ _ _ _ _ _ _ runs c.ask_on_bus-plane.ensures.asks (ap (over g.S.Side.seen) c.ask_on_bus-plane.ensures.same) in
     let at = at_ask _ _ _ _ _ _ _ _ _ _ _ c.requires.underway.1 begins reaches in
-    record { logged = at.1; asked = at.0; able = c.ask_on_bus.ensures.able; wish = c.ask_on_bus.ensures.wish }
+    record { logged = at.1; asked = at.0; able = c.ask_on_bus-plane.ensures.able; wish = c.ask_on_bus-plane.ensures.wish }
 
 pub returns-in_err-on-clause-part : goal.returns-in_err-on-clause-part
 returns-in_err-on-clause-part g c =
@@ -40,7 +43,7 @@ returns-in_err-on-clause-part g c =
     let begins = c.in_ok-go_on.ensures.begins (g.Q.Raster.seen c.args.raster.now) c.args.out.now in
     let runs = runs_none_behind f0 f1 _ _ c.args.out.now (ap (over g.S.Side.seen) c.go_on.ensures.same) c.requires.underway.1 c.requires.inner
     c.requires.due in
-    let reaches = reaches_ask _ _ _ _ _ _ _ runs c.ask_on_bus.ensures.asks (ap (over g.S.Side.seen) c.ask_on_bus.ensures.same) in
+    let reaches = reaches_ask _ _ _ _ _ _ _ runs c.ask_on_bus-plane.ensures.asks (ap (over g.S.Side.seen) c.ask_on_bus-plane.ensures.same) in
     on_err c.from_residual-in_err-on.result
     (part_accessing _ _ _ _ _ _ _ _ _ _ _ begins reaches.reaches (part_from_ask _ _ _ _ _ _ _ _ _ reaches c.in_err-on.ensures.access.part))
 
@@ -51,7 +54,7 @@ returns-in_err-on-clause-few g c =
     let begins = c.in_ok-go_on.ensures.begins (g.Q.Raster.seen c.args.raster.now) c.args.out.now in
     let runs = runs_none_behind f0 f1 _ _ c.args.out.now (ap (over g.S.Side.seen) c.go_on.ensures.same) c.requires.underway.1 c.requires.inner
     c.requires.due in
-    let reaches = reaches_ask _ _ _ _ _ _ _ runs c.ask_on_bus.ensures.asks (ap (over g.S.Side.seen) c.ask_on_bus.ensures.same) in
+    let reaches = reaches_ask _ _ _ _ _ _ _ runs c.ask_on_bus-plane.ensures.asks (ap (over g.S.Side.seen) c.ask_on_bus-plane.ensures.same) in
     on_err c.from_residual-in_err-on.result (rises_from_ask f0 f1 _ _ _ _ (looked_up f0) _ _ _ _ _ _ _ c.requires.underway.1 begins
     (rises_same (looked_up f0) _ _ c.go_on.ensures.reads) reaches
     c.in_err-on.ensures.access.reads refl).1
@@ -63,7 +66,7 @@ returns-in_err-end_clock-clause-part g c =
     let begins = c.in_ok-go_on.ensures.begins (g.Q.Raster.seen c.args.raster.now) c.args.out.now in
     let runs = runs_none_behind f0 f1 _ _ c.args.out.now (ap (over g.S.Side.seen) c.go_on.ensures.same) c.requires.underway.1 c.requires.inner
     c.requires.due in
-    let reaches = reaches_ask _ _ _ _ _ _ _ runs c.ask_on_bus.ensures.asks (ap (over g.S.Side.seen) c.ask_on_bus.ensures.same) in
+    let reaches = reaches_ask _ _ _ _ _ _ _ runs c.ask_on_bus-plane.ensures.asks (ap (over g.S.Side.seen) c.ask_on_bus-plane.ensures.same) in
     on_err c.from_residual-in_err-end_clock.result (part_ending _ _ _ _ _ _ _ _ _ _ _ _ _ begins
     reaches.reaches (makes_from_ask _ _ _ _ _ _ _ _ _ _ reaches c.in_ok-on.ensures.access.makes)
     (kept_from_ask _ _ _ _ _ _ _ reaches c.in_ok-on.ensures.access.kept) c.in_err-end_clock.ensures.refused)
@@ -75,7 +78,7 @@ returns-in_err-end_clock-clause-few g c =
     let begins = c.in_ok-go_on.ensures.begins (g.Q.Raster.seen c.args.raster.now) c.args.out.now in
     let runs = runs_none_behind f0 f1 _ _ c.args.out.now (ap (over g.S.Side.seen) c.go_on.ensures.same) c.requires.underway.1 c.requires.inner
     c.requires.due in
-    let reaches = reaches_ask _ _ _ _ _ _ _ runs c.ask_on_bus.ensures.asks (ap (over g.S.Side.seen) c.ask_on_bus.ensures.same) in
+    let reaches = reaches_ask _ _ _ _ _ _ _ runs c.ask_on_bus-plane.ensures.asks (ap (over g.S.Side.seen) c.ask_on_bus-plane.ensures.same) in
     on_err c.from_residual-in_err-end_clock.result (rises_from_ask f0 f1 _ _ _ _ (looked_up f0) _ _ _ _ _ _ _ c.requires.underway.1 begins
     (rises_same (looked_up f0) _ _ c.go_on.ensures.reads) reaches
     c.in_ok-on.ensures.access.reads (ap (λ (x : ChipValue). x.reads) c.end_clock.ensures.chip)).1
@@ -87,7 +90,7 @@ returns-clause-clock g c =
     let begins = c.in_ok-go_on.ensures.begins (g.Q.Raster.seen c.args.raster.now) c.args.out.now in
     let runs = runs_none_behind f0 f1 _ _ c.args.out.now (ap (over g.S.Side.seen) c.go_on.ensures.same) c.requires.underway.1 c.requires.inner
     c.requires.due in
-    let reaches = reaches_ask _ _ _ _ _ _ _ runs c.ask_on_bus.ensures.asks (ap (over g.S.Side.seen) c.ask_on_bus.ensures.same) in
+    let reaches = reaches_ask _ _ _ _ _ _ _ runs c.ask_on_bus-plane.ensures.asks (ap (over g.S.Side.seen) c.ask_on_bus-plane.ensures.same) in
     let place = c.in_ok-end_clock.ensures.place in
     advances _ _ _ _ _ _ place.0 _ _ _ _ _ _ _ _ c.requires.running begins
     reaches.reaches (makes_from_ask _ _ _ _ _ _ _ _ _ _ reaches c.in_ok-on.ensures.access.makes)
@@ -100,7 +103,7 @@ returns-clause-place g c =
     let begins = c.in_ok-go_on.ensures.begins (g.Q.Raster.seen c.args.raster.now) c.args.out.now in
     let runs = runs_none_behind f0 f1 _ _ c.args.out.now (ap (over g.S.Side.seen) c.go_on.ensures.same) c.requires.underway.1 c.requires.inner
     c.requires.due in
-    let reaches = reaches_ask _ _ _ _ _ _ _ runs c.ask_on_bus.ensures.asks (ap (over g.S.Side.seen) c.ask_on_bus.ensures.same) in
+    let reaches = reaches_ask _ _ _ _ _ _ _ runs c.ask_on_bus-plane.ensures.asks (ap (over g.S.Side.seen) c.ask_on_bus-plane.ensures.same) in
     let place = c.in_ok-end_clock.ensures.place in
     let there = place_made f0 f1 _ _ _ _ _ _ _ _ _ c.requires.underway.1 begins reaches.reaches
     (kept_from_ask _ _ _ _ _ _ _ reaches c.in_ok-on.ensures.access.kept) in
@@ -114,7 +117,19 @@ returns-clause-reads g c =
     let begins = c.in_ok-go_on.ensures.begins (g.Q.Raster.seen c.args.raster.now) c.args.out.now in
     let runs = runs_none_behind f0 f1 _ _ c.args.out.now (ap (over g.S.Side.seen) c.go_on.ensures.same) c.requires.underway.1 c.requires.inner
     c.requires.due in
-    let reaches = reaches_ask _ _ _ _ _ _ _ runs c.ask_on_bus.ensures.asks (ap (over g.S.Side.seen) c.ask_on_bus.ensures.same) in
+    let reaches = reaches_ask _ _ _ _ _ _ _ runs c.ask_on_bus-plane.ensures.asks (ap (over g.S.Side.seen) c.ask_on_bus-plane.ensures.same) in
     (rises_from_ask f0 f1 _ _ _ _ (looked_up f0) _ _ _ _ _ _ _ c.requires.underway.1 begins
     (rises_same (looked_up f0) _ _ c.go_on.ensures.reads) reaches
     c.in_ok-on.ensures.access.reads (ap (λ (x : ChipValue). x.reads) c.end_clock.ensures.chip)).0
+
+pub returns-clause-bus : goal.returns-clause-bus
+returns-clause-bus g c on =
+    let rules = c.args.rules.now in
+    let began = c.go_on.new.self.machine.chips in
+    let asked = c.ask_on_bus-plane.new.self.machine.chips in
+    let accessed = c.access_on_bus.new.self.machine.chips in
+    let ended = c.end_clock.new.self.machine.chips in
+    subst (λ (now : WorkingChips). KeepsBeside rules now ended) (ap (λ (f : ForeOf _). f.machine.chips) c.go_on.ensures.same)
+    (beside_then rules began asked ended c.ask_on_bus-plane.ensures.bus
+    (beside_then rules asked accessed ended (beside_kept rules asked accessed (c.in_ok-on.ensures.bus on))
+    (beside_kept rules accessed ended c.end_clock.ensures.bus)))

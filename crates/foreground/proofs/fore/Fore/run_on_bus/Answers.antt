@@ -1,27 +1,31 @@
-use Rattle.std.proofs.Common.{◌<◌, arith, refl, ◌∙◌, ap, subst, sym}
+use Rattle.std.proofs.Common.{◌≡◌, ◌<◌, false, arith, refl, ◌∙◌, ap, subst, sym}
 use Rattle.chip_set.specs.BusCode.{LeaveBus}
-use Rattle.foreground.specs.Fore.{over}
+use Rattle.foreground.specs.Fore.{ForeOf, over, CanGo}
 use Rattle.foreground.specs.LineCode.{AreInLine}
 use Rattle.foreground.specs.RunTo.{RisesInSome}
 use Rattle.foreground.proofs.RunToLaws.{runs_none, runs_then, part_behind, can_go_on, no_reads, reads_then, few_behind}
-use Rattle.foreground.proofs.BusLaws.{first_leaves, leave_next, alone_view}
+use Rattle.foreground.proofs.BusLaws.{first_leaves, leave_next, alone_view, part_alike, few_alike}
 use Rattle.foreground.proofs.LineLaws.{in_line_next, first_due, open_view}
 use Rattle.foreground.proofs.fore.Fore.run_on_bus.Goals as goal
 use Rattle.foreground.proofs.fore.Fore.run_on_bus.Goals.{then-on, else-on}
 
 pub loop-left-init : goal.loop-left-init
-loop-left-init g c = record {
-  able = c.requires.fits;
-  runs = runs_none _ _ _;
-  run = refl;
-  on = omega arith;
-  most = omega arith;
-  reads = no_reads _ _ _;
-  fresh = c.requires.fresh;
-  still = λ same. refl;
-  line = c.bus_clocks-left.ensures.line;
-  leave = c.bus_clocks-left.ensures.leave;
-}
+loop-left-init g c =
+    let of = over g.S.Side.seen in
+    let same = sym c.bus_clocks-clocks.ensures.same in
+    record {
+      able = subst (λ f. CanGo (of f) (g.Q.Raster.seen c.args.raster.now)) same c.requires.fits;
+      runs = runs_none _ _ _;
+      run = refl;
+      on = omega arith;
+      most = omega arith;
+      reads = no_reads _ _ _;
+      fresh = subst (λ (f : ForeOf _). f.spent ≡ false) same c.requires.fresh;
+      still = λ there. refl;
+      line = λ some. subst (λ f. AreInLine c.args.limit c.bus_clocks-clocks.result.0 (of f)) same (c.bus_clocks-clocks.ensures.line some);
+      leave = λ some. subst (λ (f : ForeOf _). LeaveBus c.bus_clocks-clocks.result.1 f.machine.beam c.bus_clocks-clocks.result.0 f.machine.chips) same
+          (c.bus_clocks-clocks.ensures.leave some);
+    }
 
 pub clock_on_bus-requires : goal.clock_on_bus-requires
 clock_on_bus-requires g c =
@@ -34,17 +38,18 @@ clock_on_bus-requires g c =
       inner = are.inner;
       last = omega (arith, are.line, some);
       due = first_due c.args.limit c.loop-left.left f some are;
-      before = open_view _ c.loop-left.self c.self-in-loop-left.view_is c.if-self.true;
-      side = alone_view g.S.Side.seen _ c.loop-left.self c.self-in-loop-left.view_is (c.is_nothing.ensures c.if-is_nothing.true);
-      leaves = first_leaves c.loop-left.left f.machine.beam f.machine.chips some (c.loop-left.invariant.leave some);
+      before = open_view _ c.loop-left.self c.self.view_is c.if-self.true;
+      side = alone_view g.S.Side.seen _ c.loop-left.self c.self.view_is (c.is_nothing.ensures c.if-is_nothing.true);
+      leaves = first_leaves c.bus_clocks-clocks.result.1 c.loop-left.left f.machine.beam f.machine.chips some (c.loop-left.invariant.leave some);
     }
 
 pub loop-left-preserved : goal.loop-left-preserved
 loop-left-preserved g c =
     let of = over g.S.Side.seen in
-    let f0 = of c.args.self.now in
+    let f0 = of c.bus_clocks-clocks.new.self in
     let f = of c.loop-left.self in
     let next = of c.clock_on_bus.new.self in
+    let rules = c.bus_clocks-clocks.result.1 in
     let some : 0 < c.loop-left.left = c.loop-left-test.true in
     let are : AreInLine c.args.limit c.loop-left.left f = c.loop-left.invariant.line some in
     let one = c.in-Ok.ensures in
@@ -64,9 +69,9 @@ loop-left-preserved g c =
         | else-on w ↦ absurd (omega (arith, more, w.left-is))
       ];
       leave = λ more. elim c.if-on.branch [
-        | then-on w ↦ subst (λ n. LeaveBus next.machine.beam n next.machine.chips) (sym w.left-is)
-            (leave_next c.loop-left.left f.machine.beam next.machine.beam f.machine.chips next.machine.chips some (c.loop-left.invariant.leave some)
-            one.place (one.bus w.if-on.true))
+        | then-on w ↦ subst (λ n. LeaveBus rules next.machine.beam n next.machine.chips) (sym w.left-is)
+            (leave_next rules c.loop-left.left f.machine.beam next.machine.beam f.machine.chips next.machine.chips some
+            (c.loop-left.invariant.leave some) one.place (one.bus w.if-on.true))
         | else-on w ↦ absurd (omega (arith, more, w.left-is))
       ];
     }
@@ -74,15 +79,19 @@ loop-left-preserved g c =
 pub returns-in-Err-clause-part : goal.returns-in-Err-clause-part
 returns-in-Err-clause-part g c =
     let of = over g.S.Side.seen in
-    part_behind (of c.args.self.now) (of c.loop-left.self) _ _ _ _ _ _ c.loop-left.invariant.runs c.in-Err.ensures.part c.loop-left.invariant.run
+    part_alike (of c.bus_clocks-clocks.new.self) (of c.args.self.now) _ _ _ _ (ap of c.bus_clocks-clocks.ensures.same)
+    (part_behind (of c.bus_clocks-clocks.new.self) (of c.loop-left.self) _ _ _ _ _ _ c.loop-left.invariant.runs c.in-Err.ensures.part
+    c.loop-left.invariant.run)
 
 pub returns-in-Err-clause-few : goal.returns-in-Err-clause-few
 returns-in-Err-clause-few g c =
     let of = over g.S.Side.seen in
+    let f0 = c.bus_clocks-clocks.new.self in
     let some : 0 < c.loop-left.left = c.loop-left-test.true in
     let are : AreInLine c.args.limit c.loop-left.left (of c.loop-left.self) = c.loop-left.invariant.line some in
-    let same = ap (λ f. f.machine.chip.reads) c.self-in-loop-left-2.view_is in
-    subst (λ reads. RisesInSome c.args.limit (of c.args.self.now).run c.args.self.now.machine.t c.args.self.now.machine.chip.reads reads) (sym same)
-    (few_behind (of c.args.self.now) (of c.loop-left.self) (of c.clock_on_bus.new.self) _ c.args.limit c.loop-left.invariant.run
+    let same = ap (λ f. f.machine.chip.reads) c.self-in-loop-left.view_is in
+    few_alike c.args.limit (of f0) (of c.args.self.now) _ (ap of c.bus_clocks-clocks.ensures.same)
+    (subst (λ reads. RisesInSome c.args.limit (of f0).run f0.machine.t f0.machine.chip.reads reads) (sym same)
+    (few_behind (of f0) (of c.loop-left.self) (of c.clock_on_bus.new.self) _ c.args.limit c.loop-left.invariant.run
     c.loop-left.invariant.on (omega (arith, are.before, some)) c.loop-left.invariant.fresh c.loop-left.invariant.able c.loop-left.invariant.reads
-    c.in-Err.ensures.few)
+    c.in-Err.ensures.few))

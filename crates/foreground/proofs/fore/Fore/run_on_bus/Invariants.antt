@@ -20,7 +20,7 @@ invariant-loop-left g l =
       fresh : l.self.spent ≡ false;
       still : l.self.machine.t ≡ l.initial.self.machine.t → l.self ≡ l.initial.self;
       line : 0 < l.left → AreInLine l.limit l.left (of l.self);
-      leave : 0 < l.left → LeaveBus l.self.machine.beam l.left l.self.machine.chips;
+      leave : 0 < l.left → LeaveBus l.rules l.self.machine.beam l.left l.self.machine.chips;
     }
 
 abbrev pub decreases-loop-left : goal.decreases-loop-left
