@@ -236,7 +236,8 @@ impl Cpu {
     fn settle_access(&mut self, level: u8) -> bool
         ensures { (r : CpuRegs) (u : Under) (ws : List ℕ)
             → Stands self.old r u ws
-            → Reaches self.new (interrupt_if result level) (settled (after (program r u) ws) r u ws level) }
+            → Reaches self.new (interrupt_if result level)
+            (settled (after (program r u) ws) r u ws level) }
     {
         match self.machine.step {
             Step::Ended { clocks, .. } => {

@@ -102,8 +102,8 @@ fn dispatch_rare(context: &Context, machine: &mut Machine)
     }
 }
 
-/// An instruction. Most are rows with a source, a destination and a result, and no change of the status register
-/// that is the supervisor's alone.
+/// An instruction. Most are rows with a source, a destination and a result, which change the status register
+/// by their flags alone, as all may.
 #[inline(always)]
 fn execute_instruction(context: &Context, machine: &mut Machine)
     ensures { meaning context.now machine.new
@@ -348,7 +348,7 @@ fn continue_after_write(context: &Context, machine: &mut Machine, then: Then)
     }
 }
 
-/// Goes on with the word of an access.
+/// Goes on with the word of an access; what comes most often is looked for first.
 pub fn continue_with_word(context: &mut Context, machine: &mut Machine, word: u16)
     ensures start { context.new.start ≡ context.old.start }
     ensures walk { meaning context.new machine.new ≡ follow (meaning context.old machine.old) word }
@@ -387,13 +387,13 @@ pub fn continue_with_word(context: &mut Context, machine: &mut Machine, word: u1
             },
         } => take_dest_words(context, machine, value, pc, high, word),
         Step::Fetch { part: Part::Own } => take_next_own_word(context, machine, word),
-        _ => continue_after_transfer(context, machine, word),
+        _ => continue_after_read(context, machine, word),
     }
 }
 
-/// Goes on with the word of an access, of which a read or a write of a value is looked for first.
+/// Goes on with the word of an access; the read of a value is looked for first.
 #[inline(always)]
-fn continue_after_transfer(context: &mut Context, machine: &mut Machine, word: u16)
+fn continue_after_read(context: &mut Context, machine: &mut Machine, word: u16)
     ensures start { context.new.start ≡ context.old.start }
     ensures walk { meaning context.new machine.new ≡ follow (meaning context.old machine.old) word }
 {
@@ -424,6 +424,17 @@ fn continue_after_transfer(context: &mut Context, machine: &mut Machine, word: u
             word,
             into,
         ),
+        _ => continue_after_store(context, machine, word),
+    }
+}
+
+/// Goes on with the word of an access; the write of a result is looked for first.
+#[inline(always)]
+fn continue_after_store(context: &mut Context, machine: &mut Machine, word: u16)
+    ensures start { context.new.start ≡ context.old.start }
+    ensures walk { meaning context.new machine.new ≡ follow (meaning context.old machine.old) word }
+{
+    match machine.step {
         Step::WriteWord {
             then: Then::End { clocks },
             ..
