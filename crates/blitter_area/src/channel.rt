@@ -57,6 +57,7 @@ impl Channel {
     }
 
     /// Moves on by a word.
+    #[inline(always)]
     fn step_word(&mut self)
         ensures { StepsWord self.old self.new }
     {
@@ -115,6 +116,7 @@ impl Pointers {
     }
 
     /// Moves on by a word.
+    #[inline(always)]
     pub(crate) fn step_word(&mut self)
         ensures { AllStepWord self.old self.new }
     {

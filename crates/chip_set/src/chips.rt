@@ -622,6 +622,7 @@ impl Chips {
     }
 
     /// The blit under way has the answer of its slot.
+    #[inline(always)]
     fn give_blit(&mut self, word: u16)
         requires { IsGoing self.old.blit }
         ensures gives { GivesBlit word self.old self.new }
