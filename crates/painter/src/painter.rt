@@ -508,6 +508,7 @@ impl Painter {
     }
 
     /// The sprites over the two pixels of a column, and what collides there.
+    #[inline(always)]
     fn show_sprite_column(
         &mut self,
         v: u16,
