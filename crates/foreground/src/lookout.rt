@@ -17,7 +17,7 @@ const LAST_REFRESH: u16 = 225;
 const LINE: u16 = 227;
 
 /// The longest pause between two looks, in colour clocks.
-const LONGEST: u8 = 31;
+const LONGEST: u8 = 63;
 
 /// The clock from which on they are looked for, as a number of colour clocks since reset, and how long the
 /// last pause was: each look that finds few makes the next pause twice as long.
@@ -47,7 +47,7 @@ impl Lookout {
     /// It has looked at clock `h` of a line, and did so up to the clock `now`; `pays` says whether enough
     /// clocks were found. A pause does not go on behind the last slot of a sprite.
     pub fn note(&mut self, now: u64, h: u16, pays: bool)
-        ensures { self.new.pause ≤ 31 }
+        ensures { self.new.pause ≤ 63 }
     {
         self.pause = if pays {
             0

@@ -1,5 +1,4 @@
 use Rattle.std.proofs.Common.{refl}
-use Rattle.chip_set.specs.BusCode.{KeepsBeside}
 use Rattle.chip_set.proofs.BusLaws.{timers_kept, beside_kept, beside_then, leaves_beside_kept}
 use Rattle.machine.specs.Machine.{machine_over}
 use Rattle.machine.proofs.AskedLaws.{asks_alone}
