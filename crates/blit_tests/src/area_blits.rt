@@ -18,7 +18,9 @@ fn written(blit: &mut AreaBlit, reads: &[u16]) -> Option<u16> {
                 last = Some(word);
                 blit.give(0x5555);
             }
-            SlotAsk::Rest => blit.give(0x5555),
+            SlotAsk::Rest => {
+                blit.give(0x5555);
+            }
             SlotAsk::Done => break,
         }
     }
@@ -39,7 +41,9 @@ fn place(blit: &AreaBlit) -> Option<u32> {
 fn answer(blit: &mut AreaBlit, word: u16) {
     match blit.next() {
         SlotAsk::Done => {}
-        _ => blit.give(word),
+        _ => {
+            blit.give(word);
+        }
     }
 }
 

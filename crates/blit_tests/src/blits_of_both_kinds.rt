@@ -21,12 +21,16 @@ fn write_of(rt: &impl Abort, blit: &mut Blit) -> Option<(u32, u16)> {
     for _ in 0..5 {
         assert!(rt; blit.zero());
         match blit.next() {
-            SlotAsk::Read { .. } => blit.give(0x0420),
+            SlotAsk::Read { .. } => {
+                blit.give(0x0420);
+            }
             SlotAsk::Write { at, word } => {
                 blit.give(0);
                 return Some((at.raw(), word));
             }
-            SlotAsk::Rest => blit.give(0xffff),
+            SlotAsk::Rest => {
+                blit.give(0xffff);
+            }
             SlotAsk::Done => break,
         }
     }

@@ -48,16 +48,18 @@ fn slots(blit: &mut LineBlit, memory: &mut [u16]) -> u32 {
     let mut slots = 0;
     for asked in 1..40 {
         match blit.next() {
-            SlotAsk::Read { at } => blit.give(
-                memory.get((at.raw() / 2) as usize).copied().unwrap_or(0),
-            ),
+            SlotAsk::Read { at } => {
+                blit.give(memory.get((at.raw() / 2) as usize).copied().unwrap_or(0));
+            }
             SlotAsk::Write { at, word } => {
                 if let Some(cell) = memory.get_mut((at.raw() / 2) as usize) {
                     *cell = word;
                 }
                 blit.give(0x5555);
             }
-            SlotAsk::Rest => blit.give(0x5555),
+            SlotAsk::Rest => {
+                blit.give(0x5555);
+            }
             SlotAsk::Done => break,
         }
         slots = asked;
