@@ -41,6 +41,14 @@ WritesRun-err audio (Err x) a b c f is first second = record {
       (fault_since audio a b c (of_write f) first.write_faults (run_fault_of audio b c f second.cause));
 }
 
+pub WritesRun-again : (audio : Option (List ℕ)) (r : Result (Unit {0}) Fault) (a b c : Outside) (x : Fault) → IsErrAnd r (λ y. y ≡ x)
+    → OnlyWrites a b → WritesRun audio (Err x) b c → WritesRun audio r a c
+WritesRun-again audio (Ok done) a b c x is first second = record { kept = OnlyWrites-more a b c first second.kept; cause = tt }
+WritesRun-again audio (Err y) a b c x is first second = record {
+  kept = OnlyWrites-more a b c first second.kept;
+  cause = subst (λ (fault : Fault). IsRunFault audio a c fault) (sym is) (fault_since audio a b c x first.write_faults second.cause);
+}
+
 pub fault_of_all : {T : Type 0} (audio : Option (List ℕ)) (r : Result T Fault) (a b c : Outside) → OnlyWrites a b → IfErr r (IsRunFault audio b c)
     → IfErr r (IsRunFault audio a c)
 fault_of_all audio (Ok v) a b c kept is = tt

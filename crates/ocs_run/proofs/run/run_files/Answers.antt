@@ -12,7 +12,7 @@ use Rattle.ocs_run.specs.Run.{HasAllFiles}
 use Rattle.ocs_run.specs.UnderwayCode.{run_of, fore_of, IsFresh}
 use Rattle.ocs_run.proofs.AudioLaws.{LeavesFiles-none, LeavesFiles-made, LeavesFiles-empty}
 use Rattle.ocs_run.proofs.AudioLaws.{Begins-audio, IsAllButAudio-run, HasAllFiles-run, LeavesFiles-run}
-use Rattle.ocs_run.proofs.FaultLaws.{WritesRun-err}
+use Rattle.ocs_run.proofs.FaultLaws.{WritesRun-err, WritesRun-again}
 use Rattle.ocs_run.proofs.KeptLaws.{OnlyWrites-none, OnlyWrites-more}
 use Rattle.ocs_run.proofs.PrefixLaws.{prefixes_kept}
 use Rattle.ocs_run.proofs.RunLaws.{on_err, LeavesPrefixes-run, LeavesPrefixes-memory, LeavesPrefixes-create_refused}
@@ -120,6 +120,11 @@ pub returns-in_err-create-clause-place : goal.returns-in_err-create-clause-place
 returns-in_err-create-clause-place g c =
     WritesRun-err _ _ _ _ _ _ c.from_residual-in_err-create.ensures.1 (OnlyWrites-none (g.P.Place.outside c.args.place.now))
     c.in_err-create.ensures.place.seen
+
+pub returns-in_err-create_audio-clause-place : goal.returns-in_err-create_audio-clause-place
+returns-in_err-create_audio-clause-place g c =
+    WritesRun-again _ _ _ _ _ _ c.from_residual-in_err-create_audio.ensures.1 c.create.ensures.place.seen.kept
+    c.in_err-create_audio.ensures.place.seen
 
 pub returns-in_err-draw_with_crew-clause-place : goal.returns-in_err-draw_with_crew-clause-place
 returns-in_err-draw_with_crew-clause-place g c =
