@@ -238,7 +238,8 @@ no_word (A.Processor ask) word is = refl
 abbrev counted : Ask → WorkingChips → WorkingChips
 counted ask now = record now { missed = missed_after (wish_shown now.processor) ask now.missed }
 
-copper_rests : (b : Beam) (ask : Ask) (word : ℕ) (now : WorkingChips) → LeavesToPlanes b now → is_bus_ask ask ≡ true → answering b ask word now ≡ counted ask now
+copper_rests : (b : Beam) (ask : Ask) (word : ℕ) (now : WorkingChips) → LeavesToPlanes b now → is_bus_ask ask ≡ true
+    → answering b ask word now ≡ counted ask now
 copper_rests b ask word now leaves is =
     let missed : ℕ = missed_after (wish_shown now.processor) ask now.missed in
     ap (λ w. record now { copper = copper_after b w (plain_chips now); missed = missed }) (no_word ask word is)
