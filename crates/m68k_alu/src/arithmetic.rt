@@ -106,6 +106,7 @@ fn subtract_with_borrow(size: Size, a: u32, b: u32, extend: bool, zero: bool) ->
 }
 
 /// ADD, ADDI and ADDQ.
+#[inline(always)]
 pub fn op_add(size: Size, a: u32, b: u32, f: Flags) -> Outcome
     ensures { result ≡ add_of size a b f }
 {
@@ -113,6 +114,7 @@ pub fn op_add(size: Size, a: u32, b: u32, f: Flags) -> Outcome
 }
 
 /// SUB, SUBI and SUBQ.
+#[inline(always)]
 pub fn op_sub(size: Size, a: u32, b: u32, f: Flags) -> Outcome
     ensures { result ≡ sub_of size a b f }
 {
@@ -127,6 +129,7 @@ pub fn op_neg(size: Size, a: u32, b: u32, f: Flags) -> Outcome
 }
 
 /// CMP, CMPA, CMPI and CMPM: the value is `a`.
+#[inline(always)]
 pub fn op_cmp(size: Size, a: u32, b: u32, f: Flags) -> Outcome
     ensures { result ≡ cmp_of size a b f }
 {

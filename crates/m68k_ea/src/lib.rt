@@ -33,6 +33,7 @@ pub fn extension_words(mode: &Mode, size: Size) -> u8
 /// PC-relative modes count. Addresses keep their 32 bits and wrap. A register number counts by its
 /// low three bits, and A7 is the active stack pointer (M68000 Programmer's Reference Manual,
 /// effective addressing).
+#[inline(always)]
 #[tactic(auto, unfolding(m68k_decode::specs::Places::place_of, m68k_decode::specs::Places::stepped))]
 pub fn resolve(mode: &Mode, regs: &mut CpuRegs, words: &[u16], pc: u32, size: Size) -> Place68
     requires { extensions mode.now size ≤ length words.now }
@@ -72,6 +73,7 @@ pub fn resolve(mode: &Mode, regs: &mut CpuRegs, words: &[u16], pc: u32, size: Si
 }
 
 /// The place of (An)+.
+#[inline(always)]
 fn post(regs: &mut CpuRegs, reg: u8, size: Size) -> Place68
     ensures place { result ≡ P.Memory (address_of regs.old reg) }
     ensures step { regs.new ≡ with_address regs.old reg (after_post regs.old reg size) }
@@ -82,6 +84,7 @@ fn post(regs: &mut CpuRegs, reg: u8, size: Size) -> Place68
 }
 
 /// The place of -(An).
+#[inline(always)]
 fn pre(regs: &mut CpuRegs, reg: u8, size: Size) -> Place68
     ensures place { result ≡ P.Memory (after_pre regs.old reg size) }
     ensures step { regs.new ≡ with_address regs.old reg (after_pre regs.old reg size) }
