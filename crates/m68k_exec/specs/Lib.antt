@@ -1,3 +1,4 @@
 pub mod Meaning
 pub mod Stands
 pub mod Stopped
+pub mod Plain

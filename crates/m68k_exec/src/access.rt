@@ -85,6 +85,7 @@ pub fn fetch_word(context: &Context, machine: &mut Machine, part: Part)
 }
 
 /// Asks for the extension words of an operand, of which it has one or two.
+#[inline(always)]
 #[tactic(auto, unfolding(m68k_decode::specs::Run::place))]
 pub fn fetch_extension(context: &Context, machine: &mut Machine, words: u8, role: Role)
     requires some { 0 < words }

@@ -102,13 +102,17 @@ fn dispatch_rare(context: &Context, machine: &mut Machine)
     }
 }
 
-/// An instruction. Most are rows with a source, a destination and a result, which change the status register
+/// An instruction, of which the plain rows are looked for first. Most are rows with a source, a destination and a result, which change the status register
 /// by their flags alone, as all may.
 #[inline(always)]
 fn execute_instruction(context: &Context, machine: &mut Machine)
     ensures { meaning context.now machine.new
         ≡ execute context.now.fetched.instr (run_of context.now machine.old) }
 {
+    if context.fetched.is_plain() {
+        start_general_row(context, machine);
+        return;
+    }
     match context.fetched.row.op {
         Op::Other | Op::ImmediateToStatus { .. } | Op::MoveToStatus { .. } => execute_other(
             context, machine,
@@ -139,7 +143,26 @@ fn take_opcode(context: &mut Context, machine: &mut Machine, opcode: u16)
     ensures walk { meaning context.new machine.new
         ≡ opcode_read opcode (run_of context.old machine.old) }
 {
-    context.fetched = context.rows.row(opcode);
+    let fetched = context.rows.kept(opcode);
+    if fetched.opcode != opcode {
+        take_new_opcode(context, machine, opcode);
+        return;
+    }
+    context.fetched = fetched;
+    context.taking = false;
+    execute_instruction(context, machine);
+}
+
+/// The opcode is read, which is not among those kept: the context takes it.
+#[cold]
+#[inline(never)]
+#[tactic(auto, unfolding(m68k_decode::specs::Walk::opcode_read))]
+fn take_new_opcode(context: &mut Context, machine: &mut Machine, opcode: u16)
+    ensures start { context.new.start ≡ context.old.start }
+    ensures walk { meaning context.new machine.new
+        ≡ opcode_read opcode (run_of context.old machine.old) }
+{
+    context.fetched = context.rows.renewed(opcode);
     context.taking = false;
     execute_instruction(context, machine);
 }

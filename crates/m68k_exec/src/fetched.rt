@@ -5,6 +5,7 @@ ghost use Rattle.m68k_opcodes.specs.Table.{decode_of, clocks_at};
 ghost use Rattle.m68k_opcodes.specs.Clocks.{number};
 ghost use Rattle.m68k_decode.specs.RowResults.{count_by};
 ghost use Rattle.m68k_decode.specs.Rows.{general_row};
+ghost use Rattle.m68k_exec.specs.Plain.{is_plain, is_plain_op};
 
 use crate::row_data::clock_count;
 use m68k_decode::{
@@ -17,12 +18,17 @@ pub struct Fetched {
     pub opcode: u16,
     pub instr: Instr,
     pub row: GeneralRow,
-    /// The clocks of the row for a count of 0.
+    /// The clocks of the row for a count of 0, and for one of 1.
     first: u32,
+    second: u32,
+    /// Whether the row is plain.
+    plain: bool,
     ghost word: { opcode < 65536 },
     ghost known: { decode_of opcode ≡ instr },
     ghost made: { general_row instr ≡ row },
     ghost ready: { number (clocks_at opcode) 0 ≡ first },
+    ghost next: { number (clocks_at opcode) 1 ≡ second },
+    ghost simple: { is_plain row ≡ plain },
 }
 
 impl Fetched {
@@ -32,16 +38,19 @@ impl Fetched {
         ensures instr { result.instr ≡ decode_of opcode }
     {
         let instr = decode(opcode);
+        let row = general_row(&instr);
         Fetched {
             opcode,
             instr,
-            row: general_row(&instr),
+            row,
             first: clocks(&instr, 0),
+            second: clocks(&instr, 1),
+            plain: is_plain(&row),
         }
     }
 
     /// Opcode 0, for what has none: ORI.B to D0.
-    #[tactic(auto, unfolding(m68k_opcodes::specs::Table::decode_of, m68k_opcodes::specs::Table::clocks_at, m68k_decode::specs::Rows::general_row))]
+    #[tactic(auto, unfolding(m68k_opcodes::specs::Table::decode_of, m68k_opcodes::specs::Table::clocks_at, m68k_decode::specs::Rows::general_row, crate::specs::Plain::is_plain, crate::specs::Plain::is_plain_with, crate::specs::Plain::is_plain_op))]
     pub fn none() -> Fetched
         ensures { result.opcode ≡ 0 }
     {
@@ -66,6 +75,8 @@ impl Fetched {
                 traps: Traps::Never,
             },
             first: 8,
+            second: 8,
+            plain: true,
         }
     }
 
@@ -77,7 +88,26 @@ impl Fetched {
         if extra == 0 {
             return self.first;
         }
+        if extra == 1 {
+            return self.second;
+        }
         clocks(&self.instr, extra)
+    }
+
+    /// The clocks of the row, where it counts nothing.
+    #[inline(always)]
+    pub fn first_clocks(&self) -> u32
+        ensures { result ≡ number (clocks_at self.now.opcode) 0 }
+    {
+        self.first
+    }
+
+    /// Whether its row is plain.
+    #[inline(always)]
+    pub fn is_plain(&self) -> bool
+        ensures { result ≡ is_plain self.now.row }
+    {
+        self.plain
     }
 
     /// The clocks of the row, by what it counts in its source and the status register.
@@ -94,13 +124,73 @@ impl Fetched {
     }
 }
 
-/// Puts the row of another opcode at a place.
-#[cold]
-#[inline(never)]
-fn renew(place: &mut Fetched, opcode: u16)
-    ensures { place.new.opcode ≡ opcode }
+/// Whether the row is plain.
+#[tactic(auto, unfolding(crate::specs::Plain::is_plain, crate::specs::Plain::is_plain_with))]
+fn is_plain(row: &GeneralRow) -> bool
+    ensures { result ≡ is_plain row.now }
 {
-    *place = Fetched::new(opcode);
+    match row.count {
+        Count::Nothing => match row.traps {
+            Traps::Never => is_plain_op(row.op),
+            Traps::ByZero | Traps::Outside => false,
+        },
+        Count::Ones | Count::Turns | Count::Shift | Count::Condition { .. } => false,
+    }
+}
+
+/// Whether an operation is plain.
+#[tactic(auto, unfolding(crate::specs::Plain::is_plain_op))]
+fn is_plain_op(op: Op) -> bool
+    ensures { result ≡ is_plain_op op }
+{
+    match op {
+        Op::Or
+        | Op::And
+        | Op::Sub
+        | Op::Add
+        | Op::Eor
+        | Op::Cmp
+        | Op::Move
+        | Op::MoveAddress
+        | Op::Clr
+        | Op::Tst
+        | Op::AddAddress
+        | Op::SubAddress
+        | Op::CmpAddress => true,
+        Op::ImmediateToStatus { .. }
+        | Op::MoveToStatus { .. }
+        | Op::Btst
+        | Op::Bchg
+        | Op::Bclr
+        | Op::Bset
+        | Op::Negx
+        | Op::Neg
+        | Op::Not
+        | Op::MoveFromSr
+        | Op::Nbcd
+        | Op::Swap
+        | Op::Ext
+        | Op::Tas
+        | Op::Chk
+        | Op::Scc { .. }
+        | Op::Addx
+        | Op::Subx
+        | Op::Abcd
+        | Op::Sbcd
+        | Op::Mulu
+        | Op::Muls
+        | Op::Divu
+        | Op::Divs
+        | Op::Asl
+        | Op::Asr
+        | Op::Lsl
+        | Op::Lsr
+        | Op::Roxl
+        | Op::Roxr
+        | Op::Rol
+        | Op::Ror
+        | Op::Other => false,
+    }
 }
 
 /// The opcodes that were last met, each at a place of its own among 1024. Each is decoded as it is,
@@ -118,14 +208,26 @@ impl Rows {
         }
     }
 
-    /// The opcode with its instruction and its row.
-    pub fn row(&mut self, opcode: u16) -> Fetched
+    /// The opcode that stands at the place of another.
+    #[inline(always)]
+    pub fn kept(&self, opcode: u16) -> Fetched {
+        self.places[place_of(opcode)]
+    }
+
+    /// The opcode with its instruction and its row, put at its place.
+    pub fn renewed(&mut self, opcode: u16) -> Fetched
         ensures { result.opcode ≡ opcode }
     {
-        let place = usize::from((opcode ^ (opcode >> 6)) & 0x3ff);
-        if self.places[place].opcode != opcode {
-            renew(&mut self.places[place], opcode);
-        }
-        self.places[place]
+        let fetched = Fetched::new(opcode);
+        self.places[place_of(opcode)] = fetched;
+        fetched
     }
+}
+
+/// The place of an opcode.
+#[inline(always)]
+fn place_of(opcode: u16) -> usize
+    ensures { result < 1024 }
+{
+    usize::from((opcode ^ (opcode >> 6)) & 0x3ff)
 }

@@ -9,6 +9,7 @@ ghost use Rattle.m68k_decode.specs.Flow.{lowered_stack, lowered, written_on_stac
 ghost use Rattle.m68k_decode.specs.Flow.{branch_target, branched, counted_down, counted, linked, link, unlinked, unlink, raised, returned};
 ghost use Rattle.m68k_decode.specs.Flow.{resumed, resuming, resume, stop, own, own_word, system, returning, usp_moved, exchanged, branch};
 ghost use Rattle.m68k_decode.specs.declared.under.Under.TheVariants as U;
+ghost use Rattle.m68k_decode.specs.Status.{condition, flags_of};
 ghost use Rattle.m68k_exec.specs.declared.state.Context.{Context};
 ghost use Rattle.m68k_exec.specs.declared.state.Machine.{Machine};
 ghost use Rattle.m68k_exec.specs.Meaning.{meaning, run_of, written};
@@ -171,13 +172,25 @@ fn count_down(regs: &mut CpuRegs, r: u8)
     regs.set_data(r, lowered);
 }
 
+/// Whether the condition of DBcc holds; that of DBRA, which never does, is looked for first.
+#[inline(always)]
+#[tactic(auto, unfolding(m68k_decode::specs::Status::condition))]
+fn stops_loop(c: u8, sr: u16) -> bool
+    ensures { result ≡ condition c (flags_of sr) }
+{
+    if c == 1 {
+        return false;
+    }
+    condition(c, flags_of(sr))
+}
+
 /// The displacement of DBcc is known.
 #[tactic(auto, unfolding(m68k_decode::specs::Flow::counted))]
 fn decrement_and_branch(context: &Context, machine: &mut Machine, c: u8, r: u8, displacement: u16)
     ensures { meaning context.now machine.new
         ≡ counted c r displacement (run_of context.now machine.old) }
 {
-    if condition(c, flags_of(machine.regs.sr)) {
+    if stops_loop(c, machine.regs.sr) {
         finish_row(context, machine, 0);
         return;
     }

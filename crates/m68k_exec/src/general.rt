@@ -1,16 +1,22 @@
 //! The rows with a source, a destination and a result.
 
-ghost use Rattle.std.specs.Prelude.{◌≡◌, ◌≤◌, false};
+ghost use Rattle.std.specs.Prelude.{◌≡◌, ◌≤◌, true, false};
 ghost use Rattle.m68k_decode.specs.Run.{load, place, store};
-ghost use Rattle.m68k_decode.specs.RowData.{dest_size, source_size, source_mode};
+ghost use Rattle.m68k_decode.specs.RowData.{dest_size, source_size, source_mode, result_of, status_after};
 ghost use Rattle.m68k_decode.specs.General.{completed, compute, with_dest, dest, with_source, general};
 ghost use Rattle.m68k_decode.specs.declared.place.Place68.TheVariants as P;
 ghost use Rattle.m68k_exec.specs.Meaning.{meaning, run_of};
+ghost use Rattle.m68k_exec.specs.Plain.{is_plain};
 
-use crate::access::{end_instruction, fetch_extension, held_value, read_value, store_result};
-use crate::operation::{operand_trap, operation, status_after, trap_ea};
+use crate::access::{
+    end_instruction, fetch_extension, held_value, merged_value, read_value, store_result,
+    write_value,
+};
+use crate::operation::{operand_trap, operation, plain_operation, status_after, trap_ea};
 use crate::row_data::{is_program, source_mode};
-use crate::state::{Context, Machine, Role, Step, Use};
+use crate::state::{Context, Machine, Role, Step, Then, Use};
+use crate::status::with_flags;
+use m68k_alu::low_part;
 use m68k_decode::{Dest, Mode, Place68, Source, Trap, Under};
 use m68k_ea::{extension_words, resolve};
 
@@ -46,15 +52,27 @@ fn finish_operation(
     }
 }
 
+/// Does the operation of a plain row: the result is the answer, and the flags are set.
+#[inline(never)]
+#[tactic(auto, using(crate::proofs::PlainResults::plain_op, crate::proofs::PlainResults::plain_status))]
+fn perform_plain(context: &Context, machine: &mut Machine, value: u32, old: u32) -> u32
+    requires { is_plain context.now.fetched.row ≡ true }
+    ensures value { result ≡ (result_of context.now.fetched.instr value old machine.old.regs.sr).value }
+    ensures regs { machine.new.regs ≡ record machine.old.regs {
+      sr = status_after context.now.fetched.instr value
+          (result_of context.now.fetched.instr value old machine.old.regs.sr).flags
+          machine.old.regs.sr;
+    } }
+{
+    let sr = machine.regs.sr;
+    let outcome = plain_operation(&context.fetched.row, value, old, sr);
+    machine.regs.sr = with_flags(sr, outcome.flags);
+    outcome.value
+}
+
 /// Source and old value are known.
 #[tactic(auto, unfolding(m68k_decode::specs::General::compute))]
-pub fn compute_result(
-    context: &Context,
-    machine: &mut Machine,
-    value: u32,
-    place: Place68,
-    old: u32,
-)
+fn compute_result(context: &Context, machine: &mut Machine, value: u32, place: Place68, old: u32)
     ensures { meaning context.now machine.new
         ≡ compute context.now.fetched.instr value place old (run_of context.now machine.old) }
 {
@@ -75,12 +93,42 @@ pub fn compute_result(
 
 /// Source and old value are known, and the destination is in memory.
 #[inline(never)]
+#[tactic(auto, using(crate::proofs::PlainResults::plain_count, crate::proofs::PlainResults::plain_trap), unfolding(m68k_decode::specs::General::compute, m68k_decode::specs::General::completed, m68k_decode::specs::Run::store))]
 pub fn compute_in_memory(context: &Context, machine: &mut Machine, value: u32, at: u32, old: u32)
     ensures { meaning context.now machine.new
         ≡ compute context.now.fetched.instr value (P.Memory at) old
         (run_of context.now machine.old) }
 {
-    compute_result(context, machine, value, Place68::Memory { at }, old);
+    if !context.fetched.is_plain() {
+        compute_result(context, machine, value, Place68::Memory { at }, old);
+        return;
+    }
+    let result = perform_plain(context, machine, value, old);
+    let row = &context.fetched.row;
+    let clocks = context.fetched.first_clocks();
+    if row.writes {
+        write_value(context, machine, row.size, at, result, Then::End { clocks });
+    } else {
+        end_instruction(machine, clocks);
+    }
+}
+
+/// Source and old value are known, and the destination is a data register.
+#[inline(always)]
+#[tactic(auto, using(crate::proofs::PlainResults::plain_count, crate::proofs::PlainResults::plain_trap), unfolding(m68k_decode::specs::General::compute, m68k_decode::specs::General::completed, m68k_decode::specs::Run::store))]
+fn compute_in_register(context: &Context, machine: &mut Machine, value: u32, reg: u8, old: u32)
+    requires { is_plain context.now.fetched.row ≡ true }
+    ensures { meaning context.now machine.new
+        ≡ compute context.now.fetched.instr value (P.Data reg) old
+        (run_of context.now machine.old) }
+{
+    let result = perform_plain(context, machine, value, old);
+    let row = &context.fetched.row;
+    if row.writes {
+        let merged = merged_value(row.size, machine.regs.data(reg), result);
+        machine.regs.set_data(reg, merged);
+    }
+    end_instruction(machine, context.fetched.first_clocks());
 }
 
 /// Takes the old value of the destination.
@@ -110,9 +158,9 @@ fn load_old_value(context: &Context, machine: &mut Machine, value: u32, place: P
 }
 
 /// The place of the destination is known.
-#[inline(always)]
+#[inline(never)]
 #[tactic(auto, unfolding(m68k_decode::specs::General::with_dest))]
-pub fn take_dest_place(context: &Context, machine: &mut Machine, value: u32, place: Place68)
+fn take_any_dest(context: &Context, machine: &mut Machine, value: u32, place: Place68)
     ensures { meaning context.now machine.new
         ≡ with_dest context.now.fetched.instr value place (run_of context.now machine.old) }
 {
@@ -123,13 +171,61 @@ pub fn take_dest_place(context: &Context, machine: &mut Machine, value: u32, pla
     }
 }
 
+/// The destination is in memory.
+#[inline(always)]
+#[tactic(auto, unfolding(m68k_decode::specs::General::with_dest, m68k_decode::specs::Run::load))]
+fn take_memory_dest(context: &Context, machine: &mut Machine, value: u32, at: u32)
+    ensures { meaning context.now machine.new
+        ≡ with_dest context.now.fetched.instr value (P.Memory at) (run_of context.now machine.old) }
+{
+    let row = &context.fetched.row;
+    if row.reads_old {
+        read_value(
+            context,
+            machine,
+            row.size,
+            false,
+            at,
+            Use::Old { value, at },
+        );
+    } else {
+        compute_in_memory(context, machine, value, at, 0);
+    }
+}
+
 /// The destination is a data register.
 #[inline(never)]
+#[tactic(auto, unfolding(m68k_decode::specs::General::with_dest, m68k_decode::specs::Run::load))]
 fn take_register_dest(context: &Context, machine: &mut Machine, value: u32, reg: u8)
     ensures { meaning context.now machine.new
         ≡ with_dest context.now.fetched.instr value (P.Data reg) (run_of context.now machine.old) }
 {
-    take_dest_place(context, machine, value, Place68::Data { reg });
+    if !context.fetched.is_plain() {
+        take_any_dest(context, machine, value, Place68::Data { reg });
+        return;
+    }
+    let row = &context.fetched.row;
+    let old = if row.reads_old {
+        low_part(row.size, machine.regs.data(reg))
+    } else {
+        0
+    };
+    compute_in_register(context, machine, value, reg, old);
+}
+
+/// The place of the destination is known.
+#[inline(always)]
+pub fn take_dest_place(context: &Context, machine: &mut Machine, value: u32, place: Place68)
+    ensures { meaning context.now machine.new
+        ≡ with_dest context.now.fetched.instr value place (run_of context.now machine.old) }
+{
+    match place {
+        Place68::Memory { at } => take_memory_dest(context, machine, value, at),
+        Place68::Data { reg } => take_register_dest(context, machine, value, reg),
+        Place68::Address { .. } | Place68::Value { .. } => take_any_dest(
+            context, machine, value, place,
+        ),
+    }
 }
 
 /// The source is known.

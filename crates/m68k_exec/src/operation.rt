@@ -1,12 +1,13 @@
 //! The results of the rows with a source, a destination and a result, and the exceptions that their
 //! operands make.
 
-ghost use Rattle.std.specs.Prelude.{◌≡◌, ◌≢◌, ◌≤◌, ◌<◌, ◌+◌, ◌*◌, ◌/◌, ◌%◌, ◌==◌, false};
+ghost use Rattle.std.specs.Prelude.{◌≡◌, ◌≢◌, ◌≤◌, ◌<◌, ◌+◌, ◌*◌, ◌/◌, ◌%◌, ◌==◌, true, false};
 ghost use Rattle.m68k_opcodes.specs.Modes.{ea};
 ghost use Rattle.m68k_opcodes.specs.declared.operand.Size.TheVariants as S;
 ghost use Rattle.m68k_decode.specs.Results.{signed, low};
 ghost use Rattle.m68k_decode.specs.RowWords.{unflagged, status_logical, is_outside, word_of};
 ghost use Rattle.m68k_decode.specs.RowResults.{division, result_by, status_by, trap_by, trap_ea_by};
+ghost use Rattle.m68k_exec.specs.Plain.{is_plain_op};
 
 use crate::row_data::extended_value;
 use crate::status::{condition, flags_of, kept_status, with_code, with_flags};
@@ -127,6 +128,87 @@ pub fn operation(row: &GeneralRow, value: u32, old: u32, sr: u16) -> Outcome
             0,
             flags_of(sr),
         ),
+    }
+}
+
+/// The result and the flags of a plain operation.
+#[inline(always)]
+#[tactic(auto, unfolding(m68k_decode::specs::RowResults::result_of_op, crate::specs::Plain::is_plain_op))]
+pub fn plain_operation(row: &GeneralRow, value: u32, old: u32, sr: u16) -> Outcome
+    requires { is_plain_op row.now.op ≡ true }
+    ensures { result ≡ result_by row.now.op row.now.source_size row.now.size value old sr }
+{
+    let size = row.size;
+    match row.op {
+        Op::Or => op_or(size, old, value, flags_of(sr)),
+        Op::And => op_and(size, old, value, flags_of(sr)),
+        Op::Sub => op_sub(size, old, value, flags_of(sr)),
+        Op::Add => op_add(size, old, value, flags_of(sr)),
+        Op::Eor => op_eor(size, old, value, flags_of(sr)),
+        Op::Cmp => op_cmp(size, old, value, flags_of(sr)),
+        Op::Move => op_move(size, value, 0, flags_of(sr)),
+        Op::MoveAddress => outcome_with_flags(extended_value(row.source_size, value), flags_of(sr)),
+        Op::Clr => op_clr(size, old, 0, flags_of(sr)),
+        Op::Tst => op_tst(size, old, 0, flags_of(sr)),
+        Op::AddAddress => outcome_with_flags(
+            op_add(
+                size,
+                old,
+                extended_value(row.source_size, value),
+                flags_of(sr),
+            )
+            .value,
+            flags_of(sr),
+        ),
+        Op::SubAddress => outcome_with_flags(
+            op_sub(
+                size,
+                old,
+                extended_value(row.source_size, value),
+                flags_of(sr),
+            )
+            .value,
+            flags_of(sr),
+        ),
+        Op::CmpAddress => op_cmp(
+            size,
+            old,
+            extended_value(row.source_size, value),
+            flags_of(sr),
+        ),
+        Op::ImmediateToStatus { .. }
+        | Op::MoveToStatus { .. }
+        | Op::Btst
+        | Op::Bchg
+        | Op::Bclr
+        | Op::Bset
+        | Op::Negx
+        | Op::Neg
+        | Op::Not
+        | Op::MoveFromSr
+        | Op::Nbcd
+        | Op::Swap
+        | Op::Ext
+        | Op::Tas
+        | Op::Chk
+        | Op::Scc { .. }
+        | Op::Addx
+        | Op::Subx
+        | Op::Abcd
+        | Op::Sbcd
+        | Op::Mulu
+        | Op::Muls
+        | Op::Divu
+        | Op::Divs
+        | Op::Asl
+        | Op::Asr
+        | Op::Lsl
+        | Op::Lsr
+        | Op::Roxl
+        | Op::Roxr
+        | Op::Rol
+        | Op::Ror
+        | Op::Other => outcome_with_flags(0, flags_of(sr)),
     }
 }
 
