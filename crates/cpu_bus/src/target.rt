@@ -40,7 +40,7 @@ pub fn look_ahead(wait: &mut Wait, chip: ChipSize, cpu: &Cpu)
 }
 
 /// The same in all cases; a write to the first 512 KiB of chip memory, and idle clocks, are looked for first.
-#[inline(never)]
+#[inline(always)]
 pub fn look_further(wait: &mut Wait, chip: ChipSize, cpu: &Cpu)
     ensures { (r : CpuRegs) (u : Under) (ws : List ℕ) → Stands cpu.now r u ws
         → wait.new ≡ wait_of chip (next r u ws) }
