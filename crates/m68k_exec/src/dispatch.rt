@@ -102,8 +102,8 @@ fn dispatch_rare(context: &Context, machine: &mut Machine)
     }
 }
 
-/// An instruction, of which the plain rows are looked for first. Most are rows with a source, a destination and a result, which change the status register
-/// by their flags alone, as all may.
+/// An instruction, of which the plain rows are looked for first. Most are rows with a source, a destination
+/// and a result, which change the status register by their flags alone, as all may.
 #[inline(always)]
 fn execute_instruction(context: &Context, machine: &mut Machine)
     ensures { meaning context.now machine.new
