@@ -128,7 +128,34 @@ impl Chip {
 
     /// Writes a word at a clock, not below that of the newest write or cut; above the memory no word
     /// changes. Every view stays as it was. After a refusal all is as before.
+    #[inline(always)]
     pub fn write(&mut self, now: Clock, at: Addr, word: u16) -> Result<(), OutOfMemory>
+        requires { self.old.newest ≤ now.0 }
+        ensures ok { OnOk result (self.new ≡ after_write self.old now.0 at word) }
+        ensures refused { OnErr result (self.new ≡ self.old) }
+    {
+        if self.writes.len() < self.writes.capacity() {
+            self.note_write(now, at, word)
+        } else {
+            self.write_where_full(now, at, word)
+        }
+    }
+
+    /// The same where there is no room for one more write. It stands apart, so that a write for which there is
+    /// room makes none for it.
+    #[cold]
+    #[inline(never)]
+    fn write_where_full(&mut self, now: Clock, at: Addr, word: u16) -> Result<(), OutOfMemory>
+        requires { self.old.newest ≤ now.0 }
+        ensures ok { OnOk result (self.new ≡ after_write self.old now.0 at word) }
+        ensures refused { OnErr result (self.new ≡ self.old) }
+    {
+        self.note_write(now, at, word)
+    }
+
+    /// The same, whether there is room or not.
+    #[inline(always)]
+    fn note_write(&mut self, now: Clock, at: Addr, word: u16) -> Result<(), OutOfMemory>
         requires { self.old.newest ≤ now.0 }
         ensures ok { OnOk result (self.new ≡ after_write self.old now.0 at word) }
         ensures refused { OnErr result (self.new ≡ self.old) }

@@ -2,7 +2,7 @@
 use Rattle.std.proofs.Common.{◌/◌, ◌≤◌, ap, arith}
 use Rattle.mem_versions.specs.declared.write.Write.{Write}
 use Rattle.mem_versions.proofs.MemoryLaws.{IsSound-write}
-use Rattle.mem_versions.proofs.chip.Chip.write.Goals as goal
+use Rattle.mem_versions.proofs.chip.Chip.note_write.Goals as goal
 
 pub invariant_of-self-2 : goal.invariant_of-self-2
 invariant_of-self-2 c =
