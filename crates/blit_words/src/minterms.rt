@@ -28,8 +28,9 @@ impl Choice {
     }
 
     /// The chosen bits.
-    fn by(self, c: u16) -> u16
-        ensures { result ≡ chosen_by_c self.clear self.turn c }
+    #[inline(always)]
+    fn by(&self, c: u16) -> u16
+        ensures { result ≡ chosen_by_c self.now.clear self.now.turn c }
     {
         self.clear ^ c & self.turn
     }
