@@ -1,5 +1,5 @@
 -- A channel that moves after each word and each row stands where its address is by one expression.
-use Rattle.std.proofs.Common.{arith, ◌≡◌, ℕ, ◌+◌, ◌*◌, ◌%◌, ◌<◌, bit_and, Bool, true, false, if◌then◌else◌, ℤ, pos, ◌+ℤ◌, ◌*ℤ◌, unsigned_abs, sym, ap, ◌∙◌, refl}
+use Rattle.std.proofs.Common.{arith, ◌≡◌, ℕ, ◌+◌, ◌*◌, ◌%◌, ◌<◌, bit_and, Bool, true, false, if◌then◌else◌, ℤ, pos, ◌+ℤ◌, ◌*ℤ◌, unsigned_abs, subst, sym, ap, ◌∙◌, refl}
 use Rattle.std.specs.Int.{int_rem_euclid}
 use Rattle.std.proofs.lemmas.Int.{ints}
 use Rattle.std.proofs.lemmas.Nat.{and_mask}
@@ -11,13 +11,14 @@ use Rattle.ocs_base.specs.declared.chip_size.ChipSize.{ChipSize}
 use Rattle.ocs_base.specs.declared.chip_size.ChipSize.TheVariants.{Kib512, Mib1}
 use Rattle.blit_words.specs.declared.blit.BlitRegs.{BlitRegs}
 use Rattle.blit_words.specs.declared.blit.WordAsk.{WordAsk}
+use Rattle.blit_words.specs.declared.blit.WordAsk.TheVariants.{A, B, C, D}
 use Rattle.blit_words.specs.Blit.{width_of, even_part, address_on}
 use Rattle.blit_words.specs.AreaBlit.{is_used, is_descending, modulo_of, pointer_of, opposite_if, way_to, address_of}
 use Rattle.ocs_base.proofs.Addresses.{same_addr}
 use Rattle.blit_words.proofs.Addresses.{address_is}
-use Rattle.blitter_area.specs.declared.channel.Channel.{Channel}
-use Rattle.blitter_area.specs.Pointing.{IsAt, IsMade, HasMoved, address_number, way_if}
-use Rattle.blitter_area.specs.Spans.{within_span}
+use Rattle.blitter_area.specs.declared.channel.Pointers.{Pointers}
+use Rattle.blitter_area.specs.Pointing.{Lane, lane_a, lane_b, lane_c, lane_d, AreAt, HaveMoved, IsAt, IsMade, HasMoved, address_number, way_if}
+use Rattle.blitter_area.specs.Spans.{within_span, IsInside, IsLane}
 use Rattle.blitter_area.proofs.Remainders.{rem_add_any}
 
 opposite_next : (d : Bool) (n : ℕ) (z : ℤ) → opposite_if d (pos (2 * (n + 1)) +ℤ z) ≡ opposite_if d (pos (2 * n) +ℤ z) +ℤ opposite_if d (pos 2)
@@ -115,12 +116,12 @@ stepped s k r c r' c' at to bytes step way_is at_is to_is bytes_is =
     ] at_is bytes_is
 
 -- where the channel stands in the span of a pointer, it moved modulo that span
-in_span : (x x' : Channel) (bytes : ℕ) (size : ChipSize) → HasMoved x x' bytes → x.at.size ≡ size
+in_span : (x x' : Lane) (bytes : ℕ) (size : ChipSize) → HasMoved x x' bytes → x.at.size ≡ size
     → pos x'.at.value ≡ modulo_span size (pos x.at.value +ℤ pos bytes)
 in_span x x' bytes size moved is =
     ap pos (moved.value ∙ ap (λ (k : ChipSize). (x.at.value + bytes) % bytes_of k) is) ∙ natural size (x.at.value + bytes)
 
-pub moved_word : (s : BlitRegs) (k : WordAsk) (r c : ℕ) (x x' : Channel) → IsAt x s k r c → HasMoved x x' x.forward → IsAt x' s k r (c + 1)
+pub moved_word : (s : BlitRegs) (k : WordAsk) (r c : ℕ) (x x' : Lane) → IsAt x s k r c → HasMoved x x' x.forward → IsAt x' s k r (c + 1)
 moved_word s k r c x x' is moved =
     let to_is = in_span x x' x.forward (pointer_of s k).size moved is.size in
     record {
@@ -130,7 +131,7 @@ moved_word s k r c x x' is moved =
       over = ap pos moved.over ∙ is.over;
     }
 
-pub moved_row : (s : BlitRegs) (k : WordAsk) (r c : ℕ) (x x' : Channel) → c ≡ width_of s → IsAt x s k r c → HasMoved x x' x.over
+pub moved_row : (s : BlitRegs) (k : WordAsk) (r c : ℕ) (x x' : Lane) → c ≡ width_of s → IsAt x s k r c → HasMoved x x' x.over
     → IsAt x' s k (r + 1) 0
 moved_row s k r c x x' whole is moved =
     let to_is = in_span x x' x.over (pointer_of s k).size moved is.size in
@@ -140,6 +141,22 @@ moved_row s k r c x x' whole is moved =
       forward = ap pos moved.forward ∙ is.forward;
       over = ap pos moved.over ∙ is.over;
     }
+
+pub all_moved_word : (s : BlitRegs) (r c : ℕ) (p p' : Pointers) → AreAt p s r c → HaveMoved p p' p.forward → AreAt p' s r (c + 1)
+all_moved_word s r c p p' is moved = record {
+  of_a = moved_word s A r c (lane_a p) (lane_a p') is.of_a moved.of_a;
+  of_b = moved_word s B r c (lane_b p) (lane_b p') is.of_b moved.of_b;
+  of_c = moved_word s C r c (lane_c p) (lane_c p') is.of_c moved.of_c;
+  of_d = moved_word s D r c (lane_d p) (lane_d p') is.of_d moved.of_d;
+}
+
+pub all_moved_row : (s : BlitRegs) (r c : ℕ) (p p' : Pointers) → c ≡ width_of s → AreAt p s r c → HaveMoved p p' p.over → AreAt p' s (r + 1) 0
+all_moved_row s r c p p' whole is moved = record {
+  of_a = moved_row s A r c (lane_a p) (lane_a p') whole is.of_a moved.of_a;
+  of_b = moved_row s B r c (lane_b p) (lane_b p') whole is.of_b moved.of_b;
+  of_c = moved_row s C r c (lane_c p) (lane_c p') whole is.of_c moved.of_c;
+  of_d = moved_row s D r c (lane_d p) (lane_d p') whole is.of_d moved.of_d;
+}
 
 opposite_zero : (d : Bool) → opposite_if d (pos 0) ≡ pos 0
 opposite_zero true = refl
@@ -170,7 +187,7 @@ first_number s k =
     ]
 
 -- at its pointer a channel stands at the first word
-pub at_first : (s : BlitRegs) (k : WordAsk) (x : Channel) (used descending : Bool) (modulo : ℤ)
+pub at_first : (s : BlitRegs) (k : WordAsk) (x : Lane) (used descending : Bool) (modulo : ℤ)
     → IsMade x (pointer_of s k) used modulo descending
     → used ≡ is_used s k
     → modulo ≡ modulo_of s k
@@ -191,7 +208,7 @@ at_first s k x used descending modulo is used_is modulo_is descending_is = recor
 }
 
 -- the address itself
-pub address_at : (s : BlitRegs) (k : WordAsk) (r c : ℕ) (x : Channel) → IsAt x s k r c → x.at ≡ address_of s k r c
+pub address_at : (s : BlitRegs) (k : WordAsk) (r c : ℕ) (x : Lane) → IsAt x s k r c → x.at ≡ address_of s k r c
 unfolding address_number address_of
 address_at s k r c x is =
     let base : Addr = pointer_of s k in
@@ -217,3 +234,26 @@ even_rest Mib1 n even = omega (arith, even)
 pub below_span : (size : ChipSize) (n : ℕ) → n % bytes_of size < bytes_of size
 below_span Kib512 n = omega arith
 below_span Mib1 n = omega arith
+
+pub lane_moves : (size : ChipSize) (value forward over mask bytes : ℕ) → IsLane size value forward over mask → IsInside size bytes
+    → IsLane size (bit_and (value + bytes) mask) forward over mask
+lane_moves size value forward over mask bytes is inside =
+    let at : Addr = record { value = value; size = size; even = is.even; below = is.below } in
+    let moved : ℕ = value + bytes in
+    let e : bit_and moved mask ≡ moved % bytes_of size = masked at mask bytes is.mask_is in
+    let value_even = is.even in
+    let bytes_even = inside.even in
+    let even : moved % 2 ≡ 0 = omega (arith, value_even, bytes_even) in
+    record {
+      even = ap (λ (n : ℕ). n % 2) e ∙ even_rest size moved even;
+      below = subst (λ (n : ℕ). n < bytes_of size) (sym e) (below_span size moved);
+      mask_is = is.mask_is;
+      forward_inside = is.forward_inside;
+      over_inside = is.over_inside;
+    }
+
+-- a channel whose number alone is new
+pub has_moved : (x x' : Lane) (mask bytes : ℕ) → mask + 1 ≡ span_of x.at → x'.at.value ≡ bit_and (x.at.value + bytes) mask → x'.at.size ≡ x.at.size
+    → x'.forward ≡ x.forward → x'.over ≡ x.over → HasMoved x x' bytes
+has_moved x x' mask bytes is value size forward over =
+    record { forward = forward; over = over; value = value ∙ masked x.at mask bytes is; size = size }

@@ -23,7 +23,7 @@ use Rattle.blitter_area.specs.declared.data_path.Words.{Words}
 use Rattle.blitter_area.specs.declared.data_path.Past.{Past}
 use Rattle.blitter_area.specs.declared.data_path.Outcome.{Outcome}
 use Rattle.blitter_area.specs.declared.channel.Pointers.{Pointers}
-use Rattle.blitter_area.specs.Pointing.{AreAt}
+use Rattle.blitter_area.specs.Pointing.{AreAt, lane_a, lane_b, lane_c, lane_d}
 use Rattle.blitter_area.specs.Data.{words_with, outcome_of}
 use Rattle.blitter_area.specs.Walk.{Holds, IsPast, Walks, Stands, shown, IsDoneAfterAll, shown_by, shown_ask, outcome_now, aptl_now}
 use Rattle.blitter_area.proofs.Moves.{address_at}
@@ -75,13 +75,13 @@ inputs_at b s ws place h low writes =
 
 same_ask : (b : AreaBlit) (s : BlitRegs) (ws : List ℕ) → Stands b s ws → (k : WordAsk) → word_ask s b.place ≡ k
     → shown_ask b s k ≡ ask_of s ws b.row b.column k
-same_ask b s ws h A is = ap S.Read (address_at s A b.row b.column b.pointers.a h.walks.pointers.of_a)
-same_ask b s ws h B is = ap S.Read (address_at s B b.row b.column b.pointers.b h.walks.pointers.of_b)
-same_ask b s ws h C is = ap S.Read (address_at s C b.row b.column b.pointers.c h.walks.pointers.of_c)
+same_ask b s ws h A is = ap S.Read (address_at s A b.row b.column (lane_a b.pointers) h.walks.pointers.of_a)
+same_ask b s ws h B is = ap S.Read (address_at s B b.row b.column (lane_b b.pointers) h.walks.pointers.of_b)
+same_ask b s ws h C is = ap S.Read (address_at s C b.row b.column (lane_c b.pointers) h.walks.pointers.of_c)
 same_ask b s ws h D is =
     let inside = column_below b s h.walks.start in
     let inputs = inputs_at b s ws b.place h.walks h.place is in
-    ap (λ (a : Addr). S.Write a (outcome_of s b.past b.column b.words).word) (address_at s D b.row b.column b.pointers.d h.walks.pointers.of_d)
+    ap (λ (a : Addr). S.Write a (outcome_of s b.past b.column b.words).word) (address_at s D b.row b.column (lane_d b.pointers) h.walks.pointers.of_d)
     ∙ ap (λ (n : ℕ). S.Write (address_of s D b.row b.column) n) (outcome_word s ws b.row b.column b.words b.past inside inputs h.walks.past)
 same_ask b s ws h Rest is = refl
 
@@ -135,7 +135,7 @@ end_here b s ws h =
     ∙ ap (λ (x : ℕ). end_at s ws x b.place b.row b.column) (words_are b s ws h)
 
 left_here : (b : AreaBlit) (s : BlitRegs) (ws : List ℕ) → Stands b s ws
-    → left b.start b.words b.pointers.a.at b.pointers.b.at b.pointers.c.at b.pointers.d.at (aptl_now b)
+    → left b.start b.words (lane_a b.pointers).at (lane_b b.pointers).at (lane_c b.pointers).at (lane_d b.pointers).at (aptl_now b)
     ≡ end_at s ws (b.row * width_of s + b.column) b.place b.row b.column
 left_here b s ws h =
     let x = b.pointers in
@@ -143,20 +143,20 @@ left_here b s ws h =
     let held : Words = record { a = held_word s ws A j b.place; b = held_word s ws B j b.place; c = held_word s ws C j b.place } in
     let words : b.words ≡ held = λ i. record { a = h.walks.words.of_a i; b = h.walks.words.of_b i; c = h.walks.words.of_c i } in
     let low : BlitRegs → Addr → ℕ = λ r a. if is_used r A then a.value % 65536 else r.aptl in
-    ap (λ (r : BlitRegs). left r b.words x.a.at x.b.at x.c.at x.d.at (low r x.a.at)) h.walks.start
-    ∙ ap (λ (w : Words). left s w x.a.at x.b.at x.c.at x.d.at (low s x.a.at)) words
-    ∙ ap (λ (a : Addr). left s held a x.b.at x.c.at x.d.at (low s a)) (address_at s A b.row b.column x.a h.walks.pointers.of_a)
-    ∙ ap (λ (a : Addr). left s held (address_of s A b.row b.column) a x.c.at x.d.at (low s (address_of s A b.row b.column)))
-    (address_at s B b.row b.column x.b h.walks.pointers.of_b)
-    ∙ ap (λ (a : Addr). left s held (address_of s A b.row b.column) (address_of s B b.row b.column) a x.d.at (low s (address_of s A b.row b.column)))
-    (address_at s C b.row b.column x.c h.walks.pointers.of_c)
+    ap (λ (r : BlitRegs). left r b.words (lane_a x).at (lane_b x).at (lane_c x).at (lane_d x).at (low r (lane_a x).at)) h.walks.start
+    ∙ ap (λ (w : Words). left s w (lane_a x).at (lane_b x).at (lane_c x).at (lane_d x).at (low s (lane_a x).at)) words
+    ∙ ap (λ (a : Addr). left s held a (lane_b x).at (lane_c x).at (lane_d x).at (low s a)) (address_at s A b.row b.column (lane_a x) h.walks.pointers.of_a)
+    ∙ ap (λ (a : Addr). left s held (address_of s A b.row b.column) a (lane_c x).at (lane_d x).at (low s (address_of s A b.row b.column)))
+    (address_at s B b.row b.column (lane_b x) h.walks.pointers.of_b)
+    ∙ ap (λ (a : Addr). left s held (address_of s A b.row b.column) (address_of s B b.row b.column) a (lane_d x).at (low s (address_of s A b.row b.column)))
+    (address_at s C b.row b.column (lane_c x) h.walks.pointers.of_c)
     ∙ ap (λ (a : Addr).
     left s held (address_of s A b.row b.column) (address_of s B b.row b.column) (address_of s C b.row b.column) a
     (low s (address_of s A b.row b.column)))
-    (address_at s D b.row b.column x.d h.walks.pointers.of_d)
+    (address_at s D b.row b.column (lane_d x) h.walks.pointers.of_d)
 
 pub end_is : (b : AreaBlit) (s : BlitRegs) (ws : List ℕ) → Stands b s ws
-    → left b.start b.words b.pointers.a.at b.pointers.b.at b.pointers.c.at b.pointers.d.at (aptl_now b) ≡ blit_end s ws
+    → left b.start b.words (lane_a b.pointers).at (lane_b b.pointers).at (lane_c b.pointers).at (lane_d b.pointers).at (aptl_now b) ≡ blit_end s ws
 unfolding blit_end
 end_is b s ws h =
     left_here b s ws h

@@ -13,7 +13,7 @@ use Rattle.blitter_area.specs.declared.area.AreaBlit.{AreaBlit}
 use Rattle.blitter_area.specs.declared.data_path.Words.{Words}
 use Rattle.blitter_area.specs.declared.data_path.Past.{Past}
 use Rattle.blitter_area.specs.declared.data_path.Outcome.{Outcome}
-use Rattle.blitter_area.specs.Pointing.{AreAt, AllStepRow}
+use Rattle.blitter_area.specs.Pointing.{AreAt, AllStepRow, lane_a, lane_b, lane_c, lane_d}
 use Rattle.blitter_area.specs.Data.{outcome_of}
 
 -- the data registers when so many asks of word j have answers
@@ -47,10 +47,10 @@ abbrev pub outcome_now : AreaBlit → Outcome
 outcome_now b = outcome_of b.start b.past b.column b.words
 
 abbrev pub shown_ask : AreaBlit → BlitRegs → WordAsk → SlotAsk
-shown_ask b s A = S.Read b.pointers.a.at
-shown_ask b s B = S.Read b.pointers.b.at
-shown_ask b s C = S.Read b.pointers.c.at
-shown_ask b s D = S.Write b.pointers.d.at (outcome_of s b.past b.column b.words).word
+shown_ask b s A = S.Read (lane_a b.pointers).at
+shown_ask b s B = S.Read (lane_b b.pointers).at
+shown_ask b s C = S.Read (lane_c b.pointers).at
+shown_ask b s D = S.Write (lane_d b.pointers).at (outcome_of s b.past b.column b.words).word
 shown_ask b s Rest = S.Rest
 
 abbrev pub shown_by : AreaBlit → BlitRegs → SlotAsk
@@ -61,7 +61,7 @@ unfoldable pub shown : AreaBlit → SlotAsk
 shown b = shown_by b b.start
 
 abbrev pub aptl_now : AreaBlit → ℕ
-aptl_now b = if is_used b.start A then b.pointers.a.at.value % 65536 else b.start.aptl
+aptl_now b = if is_used b.start A then (lane_a b.pointers).at.value % 65536 else b.start.aptl
 
 -- Done comes exactly where each ask of each word has an answer
 abbrev pub IsDoneAfterAll : SlotAsk → BlitRegs → List ℕ → Type 0

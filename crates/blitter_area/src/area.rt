@@ -116,16 +116,16 @@ impl AreaBlit {
     {
         match self.ask {
             WordAsk::A => SlotAsk::Read {
-                at: self.pointers.a.at,
+                at: self.pointers.a(),
             },
             WordAsk::B => SlotAsk::Read {
-                at: self.pointers.b.at,
+                at: self.pointers.b(),
             },
             WordAsk::C => SlotAsk::Read {
-                at: self.pointers.c.at,
+                at: self.pointers.c(),
             },
             WordAsk::D => SlotAsk::Write {
-                at: self.pointers.d.at,
+                at: self.pointers.d(),
                 word: self.ready.word,
             },
             WordAsk::Rest => SlotAsk::Rest,
@@ -201,10 +201,10 @@ impl AreaBlit {
         ensures { ForWhatItStands self.now (λ s ws. result ≡ blit_end s ws) }
     {
         let mut regs = self.start;
-        regs.apt = self.pointers.a.at;
-        regs.bpt = self.pointers.b.at;
-        regs.cpt = self.pointers.c.at;
-        regs.dpt = self.pointers.d.at;
+        regs.apt = self.pointers.a();
+        regs.bpt = self.pointers.b();
+        regs.cpt = self.pointers.c();
+        regs.dpt = self.pointers.d();
         regs.aptl = self.low_pointer();
         regs.adat = self.words.a;
         regs.bdat = self.words.b;
@@ -217,7 +217,7 @@ impl AreaBlit {
         ensures { result ≡ aptl_now self.now }
     {
         if is_set(self.start.con0, 11) {
-            (self.pointers.a.at.raw() % 65536) as u16
+            (self.pointers.a().raw() % 65536) as u16
         } else {
             self.start.aptl
         }

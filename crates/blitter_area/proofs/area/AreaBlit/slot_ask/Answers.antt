@@ -1,10 +1,14 @@
 use Rattle.std.proofs.Common.{ap, sym, ◌∙◌}
+use Rattle.ocs_base.specs.declared.addr.Addr.{Addr}
 use Rattle.blit_words.specs.declared.blit.SlotAsk.TheVariants as S
 use Rattle.blitter_area.specs.Walk.{shown_ask}
+use Rattle.blitter_area.specs.Pointing.{lane_d}
 use Rattle.blitter_area.specs.declared.data_path.Outcome.{Outcome}
 use Rattle.blitter_area.proofs.area.AreaBlit.slot_ask.Goals as goal
 
 pub returns-in-D : goal.returns-in-D
 returns-in-D c =
     let b = c.args.self.now in
-    ap (λ (o : Outcome). S.Write b.pointers.d.at o.word) (b.ready_is c.in-D.is) ∙ ap (shown_ask b b.start) (sym c.in-D.is)
+    ap (λ (x : Addr). S.Write x b.ready.word) c.d.ensures
+    ∙ ap (λ (o : Outcome). S.Write (lane_d b.pointers).at o.word) (b.ready_is c.in-D.is)
+    ∙ ap (shown_ask b b.start) (sym c.in-D.is)
