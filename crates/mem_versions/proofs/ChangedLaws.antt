@@ -155,6 +155,14 @@ AreChanged-kept base words after writes last i count d before within whole which
     by_cases place inside (inl is) (inl here) (inr old) = inl (before.known place inside (here ∙ is))
     by_cases place inside (inr above) (inl here) (inr old) = absurd (omega arith)
 
+-- a write to a page that is none of the memory
+pub AreChanged-above : (base words after : List ℕ) (writes : List Write) (last i count : ℕ) (d : Write) → AreChanged base words after writes last i
+    → i < length writes → length words ≡ 256 * count → count ≤ (get_or writes i d).place / 256
+    → AreChanged base words after writes ((get_or writes i d).place / 256) (i + 1)
+AreChanged-above base words after writes last i count d before within whole above =
+    let kept = AreChanged-kept base words after writes last i count d before within whole (inr above) in
+    record { size = kept.size; known = λ place inside at. absurd (omega (arith, inside, at, above, whole)); each = kept.each }
+
 -- a write whose page is replaced by that of the present words
 pub AreChanged-page : (base words after next part : List ℕ) (writes : List Write) (last i page : ℕ) (d : Write) → AreChanged base words after writes last i
     → i < length writes → (get_or writes i d).place / 256 ≡ page → HasPage after page part next → part ≡ take 256 (drop (256 * page) words)

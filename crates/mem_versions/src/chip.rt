@@ -273,8 +273,10 @@ pub(crate) fn changed_pages(
     let mut last = count;
     for write in writes {
         let page = write.place as usize / PAGE;
-        if page != last && page < count {
-            after.set_page(page, &words[PAGE * page..PAGE * page + PAGE])?;
+        if page != last {
+            if page < count {
+                after.set_page(page, &words[PAGE * page..PAGE * page + PAGE])?;
+            }
             last = page;
         }
     }

@@ -1,10 +1,9 @@
 -- A write's page is replaced, or has the present words already, or is none of the memory.
-use Rattle.std.proofs.Common.{◌≡◌, ◌+◌, ◌-◌, ◌*◌, ◌/◌, ◌≤◌, ℕ, List, length, take, drop, get_or, refl, subst, sym, ap, ◌∙◌, arith, ◌⊎◌, inl, inr}
+use Rattle.std.proofs.Common.{◌≡◌, ◌+◌, ◌-◌, ◌*◌, ◌/◌, ℕ, List, length, take, drop, get_or, refl, subst, sym, ap, ◌∙◌, arith, inl}
 use Rattle.mem_versions.specs.declared.write.Write.{Write}
-use Rattle.mem_versions.proofs.ChangedLaws.{AreChanged, AreChanged-none, AreChanged-kept, AreChanged-page, AreChanged-all}
+use Rattle.mem_versions.proofs.ChangedLaws.{AreChanged, AreChanged-none, AreChanged-kept, AreChanged-above, AreChanged-page, AreChanged-all}
 use Rattle.mem_versions.proofs.chip.changed_pages.Goals as goal
-use Rattle.mem_versions.proofs.chip.changed_pages.Goals.{then-page-last+then-page-count+in_ok-set_page, else-page-last}
-use Rattle.mem_versions.proofs.chip.changed_pages.Goals.{else-page-last-via-then-page-last+else-page-count, else-page-last-via-else-page-last}
+use Rattle.mem_versions.proofs.chip.changed_pages.Goals.{then-page-last+then-page-count+in_ok-set_page, then-page-last+else-page-count, else-page-last}
 
 pub loop-write-init : goal.loop-write-init
 loop-write-init c =
@@ -24,25 +23,21 @@ loop-write-preserved c =
     let page = (get_or writes i d).place / 256 in
     let before = c.loop-write.invariant in
     let whole : length words ≡ 256 * count = c.requires.size ∙ sym (ap length c.in_ok-after.ensures) ∙ c.count-count.ensures.size in
-    let kept : (((get_or writes i d).place / 256 ≡ last) ⊎ (count ≤ (get_or writes i d).place / 256)) → AreChanged base words after writes last (i + 1) =
-    λ which. AreChanged-kept base words after writes last i count d before c.loop-write-test.true whole which
-    in
+    let part = take (256 * page + 256 - 256 * page) (drop (256 * page) words) in
+    let room : 256 * page + 256 - 256 * page ≡ 256 = omega arith in
+    let P : ℕ → List ℕ → Type 0 = λ k ws. AreChanged base words ws writes k (i + 1) in
     elim c.if-page-last.branch [
       | then-page-last+then-page-count+in_ok-set_page w ↦
           let next = w.set_page.new.self in
-          let room : 256 * page + 256 - 256 * page ≡ 256 = omega arith in
-          let P : List ℕ → Type 0 = λ ws. AreChanged base words ws writes c.if-page-last.last (i + 1) in
-          let Q : ℕ → Type 0 = λ k. AreChanged base words next writes k (i + 1) in
-          subst P (sym w.after-is) (subst Q (sym w.last-is)
-          (AreChanged-page base words after next (take (256 * page + 256 - 256 * page) (drop (256 * page) words)) writes last i page d before
+          subst (λ (ws : List ℕ). P c.if-page-last.last ws) (sym w.after-is) (subst (λ (k : ℕ). P k next) (sym w.last-is)
+          (AreChanged-page base words after next part writes last i page d before
           c.loop-write-test.true refl w.in_ok-set_page.ensures.ok (ap (λ (k : ℕ). take k (drop (256 * page) words)) room)))
+      | then-page-last+else-page-count w ↦
+          subst (λ (ws : List ℕ). P c.if-page-last.last ws) (sym w.after-is) (subst (λ (k : ℕ). P k after) (sym w.last-is)
+          (AreChanged-above base words after writes last i count d before c.loop-write-test.true whole w.if-page-count.false))
       | else-page-last w ↦
-          let P : List ℕ → Type 0 = λ ws. AreChanged base words ws writes c.if-page-last.last (i + 1) in
-          let Q : ℕ → Type 0 = λ k. AreChanged base words after writes k (i + 1) in
-          subst P (sym w.after-is) (subst Q (sym w.last-is) (elim w.else-page-last.branch [
-            | else-page-last-via-then-page-last+else-page-count v ↦ kept (inr v.if-page-count.false)
-            | else-page-last-via-else-page-last v ↦ kept (inl v.if-page-last.false)
-          ]))
+          subst (λ (ws : List ℕ). P c.if-page-last.last ws) (sym w.after-is) (subst (λ (k : ℕ). P k after) (sym w.last-is)
+          (AreChanged-kept base words after writes last i count d before c.loop-write-test.true whole (inl w.if-page-last.false)))
     ]
 
 pub returns : goal.returns
