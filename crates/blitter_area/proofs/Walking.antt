@@ -25,6 +25,7 @@ use Rattle.blitter_area.specs.declared.data_path.Outcome.{Outcome}
 use Rattle.blitter_area.specs.declared.channel.Pointers.{Pointers}
 use Rattle.blitter_area.specs.Pointing.{AreAt, lane_a, lane_b, lane_c, lane_d}
 use Rattle.blitter_area.specs.Data.{words_with, outcome_of}
+use Rattle.blitter_area.specs.RowCode.{ask_in_row}
 use Rattle.blitter_area.specs.Walk.{Holds, IsPast, Walks, Stands, shown, IsDoneAfterAll, shown_by, shown_ask, outcome_now, aptl_now}
 use Rattle.blitter_area.proofs.Moves.{address_at}
 use Rattle.blitter_area.proofs.Rows.{place_within, writes_last, some_asks}
@@ -411,6 +412,42 @@ pub shown_going : (b : AreaBlit) → b.row < height_of b.start → shown_ask b b
 unfolding shown
 shown_going b below =
     sym (ap (λ (t : Bool). if t then shown_ask b b.start (word_ask b.start b.place) else S.Done) (lt_true b.row (height_of b.start) below))
+
+-- above its last row's end the present ask is that of its place
+pub asked : (s : BlitRegs) (row place : ℕ) → row < height_of s → ask_in_row s row place ≡ word_ask s place
+asked s row place below = ap (λ (t : Bool). if t then word_ask s place else Rest) (lt_true row (height_of s) below)
+
+pub asked_is : (b : AreaBlit) → b.row < height_of b.start → b.ask ≡ word_ask b.start b.place
+asked_is b below = b.ask_is ∙ asked b.start b.row b.place below
+
+abbrev is_access : WordAsk → Bool
+is_access A = true
+is_access B = true
+is_access C = true
+is_access D = true
+is_access Rest = false
+
+no_access : true ≡ false → ⊥
+no_access h = cc
+
+-- an ask that makes an access is what it shows, as a rest comes behind the last row
+pub shown_now : (b : AreaBlit) (k : WordAsk) → b.ask ≡ k → is_access k ≡ true → shown_ask b b.start k ≡ shown b
+shown_now b k is access = elim (cases_lt b.row (height_of b.start)) [
+  | inl below ↦ ap (shown_ask b b.start) (sym is ∙ asked_is b below) ∙ shown_going b below
+  | inr above ↦
+      let rests : b.ask ≡ Rest =
+      b.ask_is ∙ ap (λ (t : Bool). if t then word_ask b.start b.place else Rest) (lt_false b.row (height_of b.start) above) in
+      absurd (no_access (sym access ∙ ap is_access (sym is ∙ rests)))
+]
+
+-- with no row left an ask becomes a rest, which writes nothing
+pub before_writes : (ask : WordAsk) (more : Bool) → (if more then ask else Rest) ≡ D → ask ≡ D
+before_writes ask true h = h
+before_writes ask false h = cc
+
+pub some_height : (s : BlitRegs) → 0 < height_of s
+unfolding height_of
+some_height s = grind arith
 
 pub answered_all : (b b' : AreaBlit) (s : BlitRegs) (ws : List ℕ) (w : ℕ) → Stands b s ws → HasTaken b b' w → b.place + 1 ≡ asks_per_word b.start
     → Walks b' s (ws ++ w ∷ []) (asks_per_word s)

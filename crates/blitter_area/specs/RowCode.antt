@@ -1,8 +1,9 @@
 -- The row of asks that a blit keeps.
-use Rattle.std.specs.Prelude.{◌≡◌, ℕ, ◌+◌, if◌then◌else◌}
+use Rattle.std.specs.Prelude.{◌≡◌, ℕ, ◌+◌, nat_lt, if◌then◌else◌}
 use Rattle.blit_words.specs.declared.blit.BlitRegs.{BlitRegs}
 use Rattle.blit_words.specs.declared.blit.WordAsk.{WordAsk}
-use Rattle.blit_words.specs.declared.blit.WordAsk.TheVariants.{D}
+use Rattle.blit_words.specs.declared.blit.WordAsk.TheVariants.{D, Rest}
+use Rattle.blit_words.specs.Blit.{height_of}
 use Rattle.blit_words.specs.AreaBlit.{asks_in, code_of, asks_per_word, word_ask, is_used}
 use Rattle.blitter_area.specs.declared.asks.AskRow.{AskRow}
 use Rattle.blitter_area.specs.Rows.{pad_row}
@@ -16,3 +17,7 @@ pub record IsRowOf (r : AskRow) (s : BlitRegs) : Type 0 where
 -- an ask is that at a place of whatever blit the row is of
 abbrev pub AsksAt : AskRow → ℕ → WordAsk → Type 0
 AsksAt r place ask = (s : BlitRegs) → IsRowOf r s → ask ≡ word_ask s place
+
+-- the ask at a place of a word in a row, and a rest where all rows are done
+abbrev pub ask_in_row : BlitRegs → ℕ → ℕ → WordAsk
+ask_in_row s row place = if nat_lt row (height_of s) then word_ask s place else Rest

@@ -1,15 +1,14 @@
 //! An area blit from ask to ask.
 
-ghost use Rattle.std.specs.Prelude.{◌≡◌, ◌≢◌, ◌<◌, ◌≤◌, ℕ, List, [], ◌∷◌, ◌++◌, false};
+ghost use Rattle.std.specs.Prelude.{◌≡◌, ◌≢◌, ◌<◌, ◌≤◌, ℕ, List, [], ◌∷◌, ◌++◌, false, nat_lt, if◌then◌else◌};
 ghost use Rattle.blit_words.specs.declared.blit.BlitRegs.{BlitRegs};
 ghost use Rattle.blit_words.specs.declared.blit.WordAsk.{WordAsk};
-ghost use Rattle.blit_words.specs.declared.blit.WordAsk.TheVariants.{D};
+ghost use Rattle.blit_words.specs.declared.blit.WordAsk.TheVariants.{D, Rest};
 ghost use Rattle.blit_words.specs.Blit.{is_line, height_of, width_of};
-ghost use Rattle.blit_words.specs.AreaBlit.{word_ask};
 ghost use Rattle.blit_words.specs.Blitter.{blit_ask, is_done as done_of, blit_zero, blit_end};
 ghost use Rattle.blitter_area.specs.Data.{outcome_of};
 ghost use Rattle.blitter_area.specs.PathCode.{IsPathOf};
-ghost use Rattle.blitter_area.specs.RowCode.{IsRowOf};
+ghost use Rattle.blitter_area.specs.RowCode.{IsRowOf, ask_in_row};
 
 use crate::asks::AskRow;
 use crate::channel::Pointers;
@@ -19,7 +18,7 @@ use blit_words::{BlitRegs, SlotAsk, WordAsk, height, is_set};
 /// An area blit under way. It stands for its registers at the start and the answers that it was
 /// given: `Stands`.
 ///
-/// It keeps the present ask and its place in the row of asks, the column and the row of the present
+/// It keeps the present ask, a rest once it has ended, and its place in the row of asks, the column and the row of the present
 /// word, the pointers of that word, the data registers, what the word before left, and whether all
 /// results were 0. The row of asks, the height and the data path are made ready at the start. The
 /// outcome of the present word is ready where its write is the present ask.
@@ -39,7 +38,7 @@ pub struct AreaBlit {
     pub(crate) place: u16,
     pub(crate) ready: Outcome,
     ghost asks_are: { IsRowOf asks start },
-    ghost ask_is: { ask ≡ word_ask start place },
+    ghost ask_is: { ask ≡ ask_in_row start row place },
     ghost height_is: { height ≡ height_of start },
     ghost path_is: { IsPathOf path start },
     ghost column_inside: { column < width_of start },
@@ -47,7 +46,7 @@ pub struct AreaBlit {
 }
 
 impl AreaBlit {
-    ghost use Rattle.blitter_area.specs.Walk.{Stands, ForWhatItStands, EndsInputs, EndsWord, BeginsRow, IsDoneAfterAll, shown, shown_ask, outcome_now, aptl_now};
+    ghost use Rattle.blitter_area.specs.Walk.{Stands, ForWhatItStands, EndsInputs, EndsWord, BeginsRow, IsDoneAfterAll, shown, outcome_now, aptl_now};
 
     /// A blit that has had no answer yet, of registers with LINE, bit 0 of BLTCON1, clear.
     pub fn start(r: &BlitRegs) -> AreaBlit
@@ -103,17 +102,6 @@ impl AreaBlit {
     fn slot_now(&self) -> SlotAsk
         ensures { result ≡ shown self.now }
     {
-        if self.row < self.height {
-            self.slot_ask()
-        } else {
-            SlotAsk::Done
-        }
-    }
-
-    /// What the present ask does with its slot.
-    fn slot_ask(&self) -> SlotAsk
-        ensures { result ≡ shown_ask self.now self.now.start self.now.ask }
-    {
         match self.ask {
             WordAsk::A => SlotAsk::Read {
                 at: self.pointers.a(),
@@ -128,7 +116,19 @@ impl AreaBlit {
                 at: self.pointers.d(),
                 word: self.ready.word,
             },
-            WordAsk::Rest => SlotAsk::Rest,
+            WordAsk::Rest => self.rest_or_done(),
+        }
+    }
+
+    /// The same where it makes no access: it takes the slot, or it has ended.
+    fn rest_or_done(&self) -> SlotAsk
+        requires { self.now.ask ≡ Rest }
+        ensures { result ≡ shown self.now }
+    {
+        if self.row < self.height {
+            SlotAsk::Rest
+        } else {
+            SlotAsk::Done
         }
     }
 
@@ -255,11 +255,20 @@ impl AreaBlit {
         ensures begins { BeginsRow self.old self.new }
         ensures done { result ≡ done_of (shown self.new) }
     {
+        let row = self.row + 1;
+        self.ask = ask_before(self.height, row, self.ask);
+        self.row = row;
         self.column = 0;
-        self.row += 1;
         let fci = is_set(self.start.con1, 2);
         self.past.carry = fci;
         self.pointers.step_row();
         self.is_done()
     }
+}
+
+/// An ask in a row, or a rest from the height on, where no row is left.
+fn ask_before(height: u16, row: u16, ask: WordAsk) -> WordAsk
+    ensures { result ≡ (if nat_lt row height then ask else Rest) }
+{
+    if row < height { ask } else { WordAsk::Rest }
 }

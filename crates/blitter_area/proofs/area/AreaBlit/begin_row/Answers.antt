@@ -1,13 +1,29 @@
-use Rattle.std.proofs.Common.{arith, rules, ◌<◌, Bool, ap, refl}
-use Rattle.blitter_area.proofs.Walking.{height_most}
+use Rattle.std.proofs.Common.{arith, rules, ℕ, ◌+◌, ◌<◌, nat_lt, if◌then◌else◌, Bool, sym, ap, refl, ◌∙◌}
+use Rattle.blit_words.specs.declared.blit.WordAsk.{WordAsk}
+use Rattle.blit_words.specs.declared.blit.WordAsk.TheVariants.{Rest}
+use Rattle.blit_words.specs.AreaBlit.{word_ask}
+use Rattle.blitter_area.proofs.Walking.{height_most, asked_is, before_writes}
 use Rattle.blitter_area.proofs.area.AreaBlit.begin_row.Goals as goal
 
-pub overflow_add-self : goal.overflow_add-self
-overflow_add-self c =
+pub overflow_add-row : goal.overflow_add-row
+overflow_add-row c =
     let low : c.args.self.now.start.size < 65536 = search rules in
     let most = height_most c.args.self.now.start low in
     let row = c.requires.row in
     omega (arith, most, row)
+
+pub invariant_of-self-clause-ask_is : goal.invariant_of-self-clause-ask_is
+invariant_of-self-clause-ask_is c =
+    let b = c.args.self.now in
+    let more : ℕ → Bool = λ h. nat_lt (b.row + 1) h in
+    c.ask_before-self.ensures
+    ∙ ap (λ (k : WordAsk). if more b.height then k else Rest) (asked_is b c.requires.row)
+    ∙ ap (λ (h : ℕ). if more h then word_ask b.start b.place else Rest) b.height_is
+
+pub invariant_of-self-clause-ready_is : goal.invariant_of-self-clause-ready_is
+invariant_of-self-clause-ready_is c =
+    let b = c.args.self.now in
+    λ writes. absurd (c.requires.reads (before_writes b.ask (nat_lt (b.row + 1) b.height) (sym c.ask_before-self.ensures ∙ writes)))
 
 pub returns-clause-begins : goal.returns-clause-begins
 returns-clause-begins c =

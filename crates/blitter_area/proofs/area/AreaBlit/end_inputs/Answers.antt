@@ -1,14 +1,15 @@
-use Rattle.std.proofs.Common.{arith, ◌≡◌, ◌+◌, sym, ap, subst, ℕ}
+use Rattle.std.proofs.Common.{arith, ◌≡◌, ◌+◌, sym, ap, subst, ℕ, ◌∙◌}
 use Rattle.blit_words.specs.AreaBlit.{asks_per_word}
 use Rattle.blitter_area.specs.Walk.{Walks}
 use Rattle.blitter_area.proofs.Rows.{input_then}
-use Rattle.blitter_area.proofs.Walking.{goes_on}
+use Rattle.blitter_area.proofs.Walking.{asked, goes_on}
 use Rattle.blitter_area.proofs.area.AreaBlit.end_inputs.Goals as goal
 
 pub invariant_of-self-clause-ask_is : goal.invariant_of-self-clause-ask_is
 invariant_of-self-clause-ask_is c =
     let b = c.args.self.now in
     sym (input_then b.start b.asks b.place b.asks_are c.requires.inputs c.if-self.true)
+    ∙ sym (asked b.start b.row (b.place + 1) c.requires.row)
 
 pub returns-then-self-clause-done : goal.returns-then-self-clause-done
 returns-then-self-clause-done c = goes_on _ c.requires.row

@@ -5,7 +5,7 @@ use Rattle.blit_words.specs.AreaBlit.{asks_per_word, word_ask}
 use Rattle.blit_words.specs.Blitter.{is_done}
 use Rattle.blitter_area.specs.Data.{words_with}
 use Rattle.blitter_area.proofs.Rows.{write_ends}
-use Rattle.blitter_area.proofs.Walking.{going, answered_all, shows}
+use Rattle.blitter_area.proofs.Walking.{going, asked_is, answered_all, shows}
 use Rattle.blitter_area.proofs.area.AreaBlit.give.Goals as goal
 
 pub end_word-requires : goal.end_word-requires
@@ -25,7 +25,7 @@ returns-in-D-clause-ask c = λ s ws h. c.end_word.ensures.done ∙ ap is_done (s
 pub returns-in-D-clause-gives : goal.returns-in-D-clause-gives
 returns-in-D-clause-gives c = λ s ws h.
     let b = c.args.self.now in
-    let writes : word_ask b.start b.place ≡ D = sym b.ask_is ∙ c.in-D.is in
+    let writes : word_ask b.start b.place ≡ D = sym (asked_is b (going b c.requires)) ∙ c.in-D.is in
     let asks = ap asks_per_word h.walks.start in
     let low : b.place < asks_per_word b.start = omega (arith, asks, h.place) in
     c.end_word.ensures.ends s _ (answered_all b _ s ws c.args.word h (record {

@@ -1,19 +1,24 @@
-use Rattle.std.proofs.Common.{arith, ◌<◌, ◌≤◌, ◌∙◌, ap}
-use Rattle.blit_words.specs.Blit.{height_of}
-use Rattle.blitter_area.specs.Walk.{shown_ask}
-use Rattle.blitter_area.proofs.Walking.{shown_going, shown_done}
+use Rattle.std.proofs.Common.{ap, refl, ◌∙◌}
+use Rattle.ocs_base.specs.declared.addr.Addr.{Addr}
+use Rattle.blit_words.specs.declared.blit.SlotAsk.TheVariants as S
+use Rattle.blit_words.specs.declared.blit.WordAsk.TheVariants.{A, B, C, D}
+use Rattle.blitter_area.specs.Pointing.{lane_d}
+use Rattle.blitter_area.specs.declared.data_path.Outcome.{Outcome}
+use Rattle.blitter_area.proofs.Walking.{shown_now}
 use Rattle.blitter_area.proofs.area.AreaBlit.slot_now.Goals as goal
 
-pub returns-then-self : goal.returns-then-self
-returns-then-self c =
-    let b = c.args.self.now in
-    let height = b.height_is in
-    let below : b.row < height_of b.start = omega (arith, height) in
-    c.slot_ask.ensures ∙ ap (shown_ask b b.start) b.ask_is ∙ shown_going b below
+pub returns-in-A : goal.returns-in-A
+returns-in-A c = ap S.Read c.a.ensures ∙ shown_now c.args.self.now A c.in-A.is refl
 
-pub returns-else-self : goal.returns-else-self
-returns-else-self c =
+pub returns-in-B : goal.returns-in-B
+returns-in-B c = ap S.Read c.b.ensures ∙ shown_now c.args.self.now B c.in-B.is refl
+
+pub returns-in-C : goal.returns-in-C
+returns-in-C c = ap S.Read c.c.ensures ∙ shown_now c.args.self.now C c.in-C.is refl
+
+pub returns-in-D : goal.returns-in-D
+returns-in-D c =
     let b = c.args.self.now in
-    let height = b.height_is in
-    let over : height_of b.start ≤ b.row = omega (arith, height) in
-    shown_done b over
+    ap (λ (x : Addr). S.Write x b.ready.word) c.d.ensures
+    ∙ ap (λ (o : Outcome). S.Write (lane_d b.pointers).at o.word) (b.ready_is c.in-D.is)
+    ∙ shown_now b D c.in-D.is refl

@@ -4,11 +4,13 @@ use Rattle.blit_words.specs.AreaBlit.{asks_per_word}
 use Rattle.blitter_area.specs.Data.{words_with}
 use Rattle.blitter_area.proofs.Results.{ready_outcome}
 use Rattle.blitter_area.proofs.Rows.{input_reads, inputs_first}
-use Rattle.blitter_area.proofs.Walking.{answered, goes_on}
+use Rattle.blitter_area.proofs.Walking.{asked, asked_is, answered, goes_on}
 use Rattle.blitter_area.proofs.area.AreaBlit.take.Goals as goal
 
 pub invariant_of-self-clause-ask_is : goal.invariant_of-self-clause-ask_is
-invariant_of-self-clause-ask_is c = let b = c.args.self.now in c.at-self.ensures b.start b.asks_are
+invariant_of-self-clause-ask_is c =
+    let b = c.args.self.now in
+    c.at-self.ensures b.start b.asks_are ∙ sym (asked b.start b.row (b.place + 1) c.requires.row)
 
 pub invariant_of-self-clause-ready_is : goal.invariant_of-self-clause-ready_is
 invariant_of-self-clause-ready_is c =
@@ -40,7 +42,7 @@ returns-then-self-clause-gives c = λ s ws h.
         pointers = refl;
         past = refl;
         zero = refl;
-        words = c.take.ensures ∙ ap (λ (k : WordAsk). words_with k c.args.word b.words) b.ask_is;
+        words = c.take.ensures ∙ ap (λ (k : WordAsk). words_with k c.args.word b.words) (asked_is b c.requires.row);
       });
       place = omega (arith, asks, last, first, more);
     }
@@ -55,6 +57,6 @@ returns-else-self-clause-gives c = λ s ws h.
       pointers = refl;
       past = refl;
       zero = refl;
-      words = c.take.ensures ∙ ap (λ (k : WordAsk). words_with k c.args.word b.words) b.ask_is;
+      words = c.take.ensures ∙ ap (λ (k : WordAsk). words_with k c.args.word b.words) (asked_is b c.requires.row);
     }))
     h.place
