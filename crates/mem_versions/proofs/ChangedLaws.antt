@@ -1,15 +1,17 @@
 -- Laws of pages that are replaced, and of those that no write is to.
-use Rattle.std.proofs.Common.{◌≡◌, ℕ, ◌+◌, ◌*◌, ◌/◌, ◌%◌, ◌<◌, ◌≤◌, ◌≢◌, Bool, true, false, cond, ◌==◌, List, [], ◌∷◌, ◌++◌, length}
-use Rattle.std.proofs.Common.{take, drop, get_or, refl, sym, ap, ◌∙◌, arith, get_or-set_other, length-set, ◌⊎◌, inl, inr}
+use Rattle.std.proofs.Common.{◌≡◌, ℕ, zero, suc, ◌-◌, subst, filter, ◌+◌, ◌*◌, ◌/◌, ◌%◌, ◌<◌, ◌≤◌, ◌≢◌, Bool, true, false, cond, ◌==◌, List, [], ◌∷◌, ◌++◌, length}
+use Rattle.std.proofs.Common.{take, drop, get_or, refl, sym, ap, ◌∙◌, arith, get_or-set_other, length-set, length-take, length-drop, ◌⊎◌, inl, inr}
 use Rattle.std.proofs.Math.ListN.{set}
 use Rattle.std.specs.List.{flat_map}
 use Rattle.std.proofs.lemmas.Bool.Decides.{nat_tests}
 use Rattle.std.proofs.lemmas.Bool.{cases_lt, cases_eq}
 use Rattle.std.proofs.lemmas.Grind.{same_number_lists, get_or-set_at}
 use Rattle.std.proofs.lemmas.List.{take_more, get_or_past, get_or-take, get_or-drop, take_all}
-use Rattle.std.proofs.lemmas.List.Elements.{filter-append, All-set}
+use Rattle.std.proofs.lemmas.List.Elements.{filter-append, filter_passes, All-set}
 use Rattle.mem_versions.specs.declared.write.Write.{Write}
 use Rattle.mem_versions.specs.MemoryAt.{words_after, writes_to}
+use Rattle.mem_versions.specs.declared.history.Part.{Part}
+use Rattle.mem_versions.specs.HistoryCode.{IsPart, AreToOnePage}
 use Rattle.mem_versions.specs.PagesCode.{HasPage}
 use Rattle.mem_versions.proofs.PagesLaws.{ArePages, length-joined, get_or-joined}
 
@@ -155,6 +157,25 @@ AreChanged-kept base words after writes last i count d before within whole which
     by_cases place inside (inl is) (inl here) (inr old) = inl (before.known place inside (here ∙ is))
     by_cases place inside (inr above) (inl here) (inr old) = absurd (omega arith)
 
+-- one write more to a page that has the present words, or to none of the memory
+AreChanged-same : (base words after : List ℕ) (writes : List Write) (page i : ℕ) (d : Write) → AreChanged base words after writes page i
+    → i < length writes → (get_or writes i d).place / 256 ≡ page → AreChanged base words after writes page (i + 1)
+AreChanged-same base words after writes page i d before within is =
+    record {
+      size = before.size;
+      known = before.known;
+      each = λ place inside. by_cases place inside (cases_eq (place / 256) ((get_or writes i d).place / 256)) (before.each place inside);
+    }
+  where
+    by_cases : (place : ℕ) → place < length words → (place / 256 ≡ (get_or writes i d).place / 256) ⊎ (place / 256 ≢ (get_or writes i d).place / 256)
+        → (get_or after place 0 ≡ get_or words place 0) ⊎ ((get_or after place 0 ≡ get_or base place 0) × (writes_to place (take i writes) ≡ []))
+        → (get_or after place 0 ≡ get_or words place 0) ⊎ ((get_or after place 0 ≡ get_or base place 0) × (writes_to place (take (i + 1) writes) ≡ []))
+    by_cases place inside at (inl done) = inl done
+    by_cases place inside (inr apart) (inr (same, none)) =
+        let differs : (get_or writes i d).place ≢ place = λ equal. apart (ap (λ (k : ℕ). k / 256) (sym equal)) in
+        inr (same, more-none place writes i d within differs none)
+    by_cases place inside (inl here) (inr old) = inl (before.known place inside (here ∙ is))
+
 -- a write to a page that is none of the memory
 pub AreChanged-above : (base words after : List ℕ) (writes : List Write) (last i count : ℕ) (d : Write) → AreChanged base words after writes last i
     → i < length writes → length words ≡ 256 * count → count ≤ (get_or writes i d).place / 256
@@ -191,6 +212,54 @@ AreChanged-page base words after next part writes last i page d before within to
     by_cases place inside (inr apart) (inr (same, none)) =
         let differs : (get_or writes i d).place ≢ place = λ equal. apart (ap (λ (k : ℕ). k / 256) (sym equal) ∙ to) in
         inr (has.other place apart ∙ same, more-none place writes i d within differs none)
+
+-- so many writes more to a page that has the present words, or to none of the memory
+pub AreChanged-run : (base words after : List ℕ) (writes : List Write) (page i n : ℕ) (d : Write) → AreChanged base words after writes page i
+    → i + n ≤ length writes → ((k : ℕ) → i ≤ k → k < i + n → (get_or writes k d).place / 256 ≡ page)
+    → AreChanged base words after writes page (i + n)
+AreChanged-run base words after writes page i zero d before within same =
+    subst (λ (k : ℕ). AreChanged base words after writes page k) (omega arith) before
+AreChanged-run base words after writes page i (suc n) d before within same =
+    let most = AreChanged-run base words after writes page i n d before (omega arith) (λ k from below. same k from (omega arith)) in
+    let one = AreChanged-same base words after writes page (i + n) d most (omega arith) (same (i + n) (omega arith) (omega arith)) in
+    subst (λ (k : ℕ). AreChanged base words after writes page k) (omega arith) one
+
+-- which page was the last is no matter any more
+pub AreChanged-forget : (base words after : List ℕ) (writes : List Write) (last i count : ℕ) → AreChanged base words after writes last i
+    → length words ≡ 256 * count → AreChanged base words after writes count i
+AreChanged-forget base words after writes last i count before whole =
+    record { size = before.size; known = λ place inside at. absurd (omega (arith, inside, at, whole)); each = before.each }
+
+-- behind a write to a page the others to it are passed over
+pub AreChanged-next : (base words after : List ℕ) (writes : List Write) (page i end count : ℕ) (d : Write)
+    → AreChanged base words after writes page (i + 1) → i < end → end ≤ length writes → AreToOnePage writes i end
+    → (get_or writes i d).place / 256 ≡ page → length words ≡ 256 * count → AreChanged base words after writes count end
+AreChanged-next base words after writes page i end count d before later within same is whole =
+    let n : ℕ = end - (i + 1) in
+    let at : i + 1 + n ≡ end = omega (arith, later) in
+    let run : AreChanged base words after writes page (i + 1 + n) =
+    AreChanged-run base words after writes page (i + 1) n d before (omega (arith, at, within))
+    (λ k from below. same k d (omega (arith, from)) (omega (arith, below, at)) ∙ is) in
+    AreChanged-forget base words after writes page end count (subst (λ (k : ℕ). AreChanged base words after writes page k) at run) whole
+
+-- the writes of a part are to its page
+pub part_same : (writes : List Write) (page : ℕ) (part : Part) → IsPart writes page part → (k : ℕ) (d : Write) → part.start ≤ k → k < part.end
+    → (get_or writes k d).place / 256 ≡ page
+part_same writes page part is k d from below =
+    let n : ℕ = part.end - part.start in
+    let p : Write → Bool = λ w. w.place / 256 == page in
+    let size : length (filter p writes) ≡ n =
+    sym (ap length is.those) ∙ length-take n (drop part.start writes) ∙ omega (arith, length-drop part.start writes, is.within, is.order) in
+    let inside : k - part.start < length (filter p writes) = omega (arith, size, from, below) in
+    let place : part.start + (k - part.start) ≡ k = omega (arith, from) in
+    let at : get_or (filter p writes) (k - part.start) d ≡ get_or writes k d =
+    ap (λ (ws : List Write). get_or ws (k - part.start) d) (sym is.those)
+    ∙ get_or-take n (drop part.start writes) (k - part.start) d (omega (arith, from, below))
+    ∙ get_or-drop part.start writes (k - part.start) d
+    ∙ ap (λ (j : ℕ). get_or writes j d) place in
+    let passes : p (get_or (filter p writes) (k - part.start) d) ≡ true = filter_passes p writes (k - part.start) d inside in
+    let passes' : p (get_or writes k d) ≡ true = ap p (sym at) ∙ passes in
+    grind (arith, nat_tests, passes')
 
 -- after all writes the words are the present ones
 pub AreChanged-all : (base words after : List ℕ) (writes : List Write) (last upto : ℕ) → AreChanged base words after writes last upto → length writes ≤ upto

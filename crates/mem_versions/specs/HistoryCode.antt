@@ -44,3 +44,8 @@ pub record IsHistory (writes : List Write) (parts : List Part) (pages : ℕ) : T
   pub order : IsInOrder writes
   pub parted : (page : ℕ) (d : Part) → page < length parts → IsPart writes page (slice_index_or parts page d)
   pub none : (page : ℕ) → length parts ≤ page → page < pages → writes ≡ []
+
+-- the writes from a place on up to another are to one page
+abbrev pub AreToOnePage : List Write → ℕ → ℕ → Type 0
+AreToOnePage writes start end = (k : ℕ) (d : Write) → start ≤ k → k < end →
+    (slice_index_or writes k d).place / 256 ≡ (slice_index_or writes start d).place / 256

@@ -248,7 +248,7 @@ fn pages_after(
     ensures { IfOk result (λ after. after ≡ words_after base.now (take count writes.now)) }
 {
     if count == writes.len() {
-        return changed_pages(base, words, history.writes());
+        return changed_pages(base, words, history);
     }
     let mut after = base.share()?;
     for write in &writes[..count] {
@@ -261,24 +261,22 @@ fn pages_after(
 pub(crate) fn changed_pages(
     base: &Pages,
     words: &[u16],
-    writes: &[Write],
+    history: &History,
 ) -> Result<Pages, OutOfMemory>
     requires size { length words.now ≡ length base.now }
-    requires unchanged { (place : ℕ) → writes_to place writes.now ≡ []
+    requires unchanged { (place : ℕ) → writes_to place history.now.writes ≡ []
         → slice_index base.now place ≡ slice_index words.now place }
     ensures { IfOk result (λ pages. pages ≡ words.now) }
 {
     let mut after = base.share()?;
     let count = after.count();
-    let mut last = count;
-    for write in writes {
-        let page = write.place as usize / PAGE;
-        if page != last {
-            if page < count {
-                after.set_page(page, &words[PAGE * page..PAGE * page + PAGE])?;
-            }
-            last = page;
+    let mut next = 0;
+    while next < history.writes().len() {
+        let page = history.writes()[next].place as usize / PAGE;
+        if page < count {
+            after.set_page(page, &words[PAGE * page..PAGE * page + PAGE])?;
         }
+        next = history.next_page(next);
     }
     Ok(after)
 }

@@ -4,7 +4,7 @@ ghost use Rattle.std.specs.Prelude.{◌≡◌, ◌==◌, ◌+◌, ◌-◌, ◌*�
 ghost use Rattle.std.specs.List.Sorted.{IsNonDecreasingBy};
 ghost use Rattle.mem_versions.specs.declared.write.Write.{Write as WriteValue};
 ghost use Rattle.mem_versions.specs.MemoryAt.{writes_to, page_writes};
-ghost use Rattle.mem_versions.specs.HistoryCode.{word_before, IsInOrder, IsHistory, AreParts, IsPageEnd};
+ghost use Rattle.mem_versions.specs.HistoryCode.{word_before, IsInOrder, IsHistory, AreParts, IsPageEnd, AreToOnePage};
 
 use crate::group::PAGE;
 use crate::steps::Steps;
@@ -64,6 +64,20 @@ impl History {
         ensures { result.now ≡ self.now.writes }
     {
         &self.writes
+    }
+
+    /// Behind a write a place up to which all writes are to its page.
+    pub fn next_page(&self, index: usize) -> usize
+        requires { index < length self.now.writes }
+        ensures later { index < result }
+        ensures within { result ≤ length self.now.writes }
+        ensures same { AreToOnePage self.now.writes index result }
+    {
+        let number = self.writes[index].place as usize / PAGE;
+        match self.parts.get(number) {
+            Some(part) if part.start <= index && index < part.end => part.end,
+            _ => index + 1,
+        }
     }
 
     /// The word of the last write to a place of a clock below `clock`, or `word` where there is none. A

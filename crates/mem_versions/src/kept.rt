@@ -3,6 +3,7 @@
 ghost use Rattle.std.specs.Prelude.{◌≡◌, IfOk};
 
 use crate::chip::{Chip, changed_pages};
+use crate::history::History;
 use crate::pages::Pages;
 use ocs_base::OutOfMemory;
 use std::alloc::Global;
@@ -36,7 +37,8 @@ impl Chip {
     pub fn keep(&self) -> Result<Kept, OutOfMemory>
         ensures { IfOk result (λ kept. kept ≡ kept_of self.now) }
     {
-        let words = changed_pages(&self.base, &self.words, &self.writes)?;
+        let history = History::new(self.alloc, &self.writes, self.base.count())?;
+        let words = changed_pages(&self.base, &self.words, &history)?;
         Ok(Kept {
             alloc: self.alloc,
             words,

@@ -32,5 +32,5 @@ changed_pages-requires-clause-unchanged c place none =
     let writes = c.args.writes.now in
     let all : take c.args.count writes ≡ writes = take_all c.args.count writes (omega (arith, c.if-count-writes.true)) in
     let nothing : writes_to place writes ≡ [] =
-    sym (ap (writes_to place) all) ∙ sym (c.requires.same place) ∙ sym (ap (writes_to place) c.writes.ensures) ∙ none in
+    sym (ap (writes_to place) all) ∙ sym (c.requires.same place) ∙ none in
     sym (ap (λ (ws : List ℕ). get_or ws place 0) c.requires.present ∙ untouched place writes c.args.base.now nothing)
