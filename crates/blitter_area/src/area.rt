@@ -233,7 +233,9 @@ impl AreaBlit {
         ensures done { result ≡ done_of (shown self.new) }
     {
         self.zero &= self.ready.word == 0;
-        self.past = self.ready.past;
+        self.past.a = self.ready.past.a;
+        self.past.b = self.ready.past.b;
+        self.past.carry = self.ready.past.carry;
         self.place = 0;
         self.ask = self.asks.at(0);
         self.pointers.step_word();
