@@ -18,10 +18,10 @@ use blit_words::{BlitRegs, SlotAsk, WordAsk, height, is_set};
 /// An area blit under way. It stands for its registers at the start and the answers that it was
 /// given: `Stands`.
 ///
-/// It keeps the present ask, a rest once it has ended, and its place in the row of asks, the column and the row of the present
-/// word, the pointers of that word, the data registers, what the word before left, and whether all
-/// results were 0. The row of asks, the height and the data path are made ready at the start. The
-/// outcome of the present word is ready where its write is the present ask.
+/// It keeps the present ask, a rest once it has ended, and its place in the row of asks, the column and
+/// the row of the present word, the pointers of that word, the data registers, what the word before
+/// left, and whether all results were 0. The row of asks, the height and the data path are made ready at
+/// the start. The outcome of the present word is ready where its write is the present ask.
 #[derive(Clone, Copy)]
 pub struct AreaBlit {
     pub(crate) start: BlitRegs,
@@ -147,8 +147,8 @@ impl AreaBlit {
         }
     }
 
-    /// Takes the word that answers the present ask, which is not the write. With the last of these the outcome
-    /// of the word is made ready. The answer says whether the blit has ended.
+    /// Takes the word that answers the present ask, which is not the write. With the last of these the
+    /// outcome of the word is made ready. The answer says whether the blit has ended.
     #[inline(never)]
     fn take(&mut self, word: u16) -> bool
         requires row { self.old.row < height_of self.old.start }
@@ -168,8 +168,8 @@ impl AreaBlit {
         }
     }
 
-    /// All inputs of the present word have answers, and its outcome is ready: its write comes next, or the next
-    /// word where D is unused. The answer says whether the blit has ended.
+    /// All inputs of the present word have answers, and its outcome is ready: its write comes next, or the
+    /// next word where D is unused. The answer says whether the blit has ended.
     #[inline(always)]
     fn end_inputs(&mut self) -> bool
         requires row { self.old.row < height_of self.old.start }

@@ -85,7 +85,8 @@ impl DataPath {
         }
     }
 
-    /// Puts down the outcome of a word in a column of its row: the result, and what the word leaves for the next.
+    /// Puts down the outcome of a word in a column of its row: the result, and what the word leaves for
+    /// the next.
     #[inline(always)]
     pub(crate) fn mix_into(&self, words: &Words, past: &Past, column: u16, outcome: &mut Outcome)
         ensures { outcome.new ≡ outcome_with self.now past.now column words.now }
