@@ -1,6 +1,6 @@
 -- Inks against the colours of the playfields.
 use Rattle.std.proofs.Common.{◌≡◌, ℕ, zero, ◌+◌, ◌-◌, ◌/◌, ◌%◌, ◌^◌, ◌≤◌, ◌<◌, ◌==◌, Bool, true, false, not, ◌&&◌}
-use Rattle.std.proofs.Common.{nat_le, nat_lt, nat_eq, min, List, [], ◌∷◌, length, slice_index, slice_index_or, slice_set, replicate}
+use Rattle.std.proofs.Common.{nat_le, nat_lt, nat_eq, min, List, [], ◌∷◌, length, slice_index, slice_index_or, slice_set, replicate, ◌++◌}
 use Rattle.std.proofs.Common.{refl, sym, ◌∙◌, ap, arith}
 use Rattle.std.specs.Bool.{if◌then◌else◌}
 use Rattle.std.proofs.Math.Pow.{pow_mono}
@@ -13,7 +13,7 @@ use Rattle.priority_ham.specs.PixelColour.{Mode, DualPlayfield, HoldAndModify, E
 use Rattle.priority_ham.specs.PixelColour.{hides, playfield_value, priority_code}
 use Rattle.priority_ham.specs.PixelColour.{value_of_one, is_two_chosen, half_brite, modified, playfield_colour, red, green, blue, colour_of}
 use Rattle.priority_ham.proofs.Within.{below, at_most_six}
-use Rattle.painter.specs.Inks.{ink, ink_number, counted_bits, first_hidden, is_held, halved, HasTables}
+use Rattle.painter.specs.Inks.{ink, ink_number, counted_bits, first_hidden, is_held, halved, two_pixels, HasTables}
 use Rattle.painter.proofs.Rows.{zeros}
 
 black_by : (n : ℕ) (b : Bool) → (if b then slice_index (replicate 32 0) n else halved (slice_index (replicate 32 0) (n - 32))) ≡ zero
@@ -24,9 +24,11 @@ no_planes : (bits : ℕ) → 0 ≡ bits % 1
 no_planes bits = omega arith
 
 -- the tables at reset
-pub reset_tables : HasTables (replicate 32 0) 0 0 (replicate 64 (0 ∷ 0 ∷ 0 ∷ [])) (replicate 64 0) (replicate 64 4) (replicate 4 (0 ∷ 0 ∷ 0 ∷ []))
+pub reset_tables : HasTables (replicate 32 0) 0 0 (replicate 64 (0 ∷ 0 ∷ 0 ∷ []))
+    (replicate 64 (replicate 8 0)) (replicate 64 0) (replicate 64 4) (replicate 4 (0 ∷ 0 ∷ 0 ∷ []))
 reset_tables = record {
   bytes = λ n h. get_or-replicate 64 n (0 ∷ 0 ∷ 0 ∷ []) [] h ∙ sym (ap colour_bytes (black_by n (nat_lt n 32)));
+  twos = λ n h. get_or-replicate 64 n (replicate 8 0) [] h ∙ sym (ap two_pixels (get_or-replicate 64 n (0 ∷ 0 ∷ 0 ∷ []) [] h));
   numbers = λ bits h. zeros 64 bits ∙ no_planes bits;
   pairs = λ bits h. get_or-replicate 64 bits 4 0 h
       ∙ ap (λ (n : ℕ). if n == 0 then 4 else priority_code 0 0 (counted_bits 0 bits)) (no_planes bits);
@@ -124,6 +126,45 @@ pub colour_put : (palette : List ℕ) (rgb : List (List ℕ)) (n colour k : ℕ)
     slice_index_or (two_put rgb n one two) k [] ≡ colour_bytes (ink (slice_set palette n colour) k)
 colour_put palette rgb n colour k one two long size few room old first second =
     put_by palette rgb n colour k one two (nat_eq k n) (nat_eq k (n + 32)) long size few room old first second refl refl
+
+-- two tables, of which one has what the other's bytes make
+abbrev made_of : (List ℕ → List ℕ) → List (List ℕ) → List (List ℕ) → ℕ → Type 0
+made_of f doubled rgb k = slice_index_or doubled k [] ≡ f (slice_index_or rgb k [])
+
+twos_by : (f : List ℕ → List ℕ) (doubled rgb : List (List ℕ)) (n k : ℕ) (one two first second : List ℕ) (a b : Bool) → length doubled ≡ 64
+    → length rgb ≡ 64 → n < 32 → k < 64 → made_of f doubled rgb k → first ≡ f one → second ≡ f two
+    → nat_eq k n ≡ a → nat_eq k (n + 32) ≡ b → made_of f (two_put doubled n first second) (two_put rgb n one two) k
+twos_by f doubled rgb n k one two first second a true wide size few room old is next other same =
+    let here : k ≡ n + 32 = grind (arith, nat_tests) in
+    ap (λ (m : ℕ). slice_index_or (two_put doubled n first second) m []) here
+    ∙ get_or-set_same (slice_set doubled n first) (n + 32) second [] (omega (arith, length-set doubled n first, wide, few))
+    ∙ next
+    ∙ sym (ap f (ap (λ (m : ℕ). slice_index_or (two_put rgb n one two) m []) here
+    ∙ get_or-set_same (slice_set rgb n one) (n + 32) two [] (omega (arith, length-set rgb n one, size, few))))
+twos_by f doubled rgb n k one two first second true false wide size few room old is next same other =
+    let here : k ≡ n = grind (arith, nat_tests) in
+    let differ : k ≡ n + 32 → ⊥ = λ e. omega (arith, e, here) in
+    get_or-set_other (slice_set doubled n first) (n + 32) k second [] differ
+    ∙ ap (λ (m : ℕ). slice_index_or (slice_set doubled n first) m []) here
+    ∙ get_or-set_same doubled n first [] (omega (arith, wide, few))
+    ∙ is
+    ∙ sym (ap f (get_or-set_other (slice_set rgb n one) (n + 32) k two [] differ
+    ∙ ap (λ (m : ℕ). slice_index_or (slice_set rgb n one) m []) here
+    ∙ get_or-set_same rgb n one [] (omega (arith, size, few))))
+twos_by f doubled rgb n k one two first second false false wide size few room old is next not_one not_two =
+    let one_differs : k ≡ n → ⊥ = λ e. grind (arith, nat_tests) in
+    let two_differs : k ≡ n + 32 → ⊥ = λ e. grind (arith, nat_tests) in
+    get_or-set_other (slice_set doubled n first) (n + 32) k second [] two_differs
+    ∙ get_or-set_other doubled n k first [] one_differs
+    ∙ old
+    ∙ sym (ap f (get_or-set_other (slice_set rgb n one) (n + 32) k two [] two_differs ∙ get_or-set_other rgb n k one [] one_differs))
+
+pub twos_put : (doubled rgb : List (List ℕ)) (n k : ℕ) (one two first second : List ℕ) → length doubled ≡ 64 → length rgb ≡ 64
+    → n < 32 → k < 64 → slice_index_or doubled k [] ≡ two_pixels (slice_index_or rgb k []) → first ≡ two_pixels one → second ≡ two_pixels two
+    → slice_index_or (two_put doubled n first second) k [] ≡ two_pixels (slice_index_or (two_put rgb n one two) k [])
+twos_put doubled rgb n k one two first second wide size few room old is next =
+    twos_by (λ (bytes : List ℕ). two_pixels bytes) doubled rgb n k one two first second (nat_eq k n) (nat_eq k (n + 32)) wide size few room old
+    is next refl refl
 
 -- two playfields have the first sixteen colours
 dual_by : (one two : ℕ) (chosen none : Bool) → one < 8 → two < 8 → (if chosen then (if none then 0 else 8 + two) else one) < 32

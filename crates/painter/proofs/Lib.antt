@@ -14,6 +14,7 @@ pub mod Showing
 pub mod Overlays
 pub mod Covering
 pub mod Fills
+pub mod Wide
 pub mod Registers
 pub mod KeptLoads
 pub mod RunningLaws

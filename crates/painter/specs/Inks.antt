@@ -1,5 +1,5 @@
 -- Inks: the colours that the bits of the planes name.
-use Rattle.std.specs.Prelude.{◌≡◌, ℕ, ◌-◌, ◌/◌, ◌%◌, ◌^◌, ◌<◌, ◌==◌, ◌&&◌, Bool, not, nat_lt, if◌then◌else◌, List, [], slice_index, slice_index_or, replicate}
+use Rattle.std.specs.Prelude.{◌≡◌, ℕ, ◌-◌, ◌/◌, ◌%◌, ◌^◌, ◌<◌, ◌==◌, ◌&&◌, Bool, not, nat_lt, if◌then◌else◌, List, [], ◌∷◌, ◌++◌, slice_index, slice_index_or, replicate}
 use Rattle.serial_model.specs.Picture.{colour_bytes}
 use Rattle.priority_ham.specs.PlaneCount.{planes_of, is_hires, is_hold_and_modify, is_dual_playfield}
 use Rattle.priority_ham.specs.PixelColour.{red, green, blue, colour_of, dual_number, playfield_value, priority_code}
@@ -43,9 +43,14 @@ is_held con0 = is_hold_and_modify con0 && not (is_dual_playfield con0) && not (i
 abbrev pub backdrop : List ℕ → List (List ℕ)
 backdrop palette = replicate 4 (colour_bytes (slice_index palette 0))
 
+-- the bytes of two pixels of a colour, and two more
+abbrev pub two_pixels : List ℕ → List ℕ
+two_pixels bytes = bytes ++ bytes ++ 0 ∷ 0 ∷ []
+
 -- the tables say what the registers do
-pub record HasTables (palette : List ℕ) (con0 con2 : ℕ) (rgb : List (List ℕ)) (names hidden : List ℕ) (pixels : List (List ℕ)) : Type 0 where
+pub record HasTables (palette : List ℕ) (con0 con2 : ℕ) (rgb doubled : List (List ℕ)) (names hidden : List ℕ) (pixels : List (List ℕ)) : Type 0 where
   pub bytes : (n : ℕ) → n < 64 → slice_index_or rgb n [] ≡ colour_bytes (ink palette n)
+  pub twos : (n : ℕ) → n < 64 → slice_index_or doubled n [] ≡ two_pixels (slice_index_or rgb n [])
   pub numbers : (bits : ℕ) → bits < 64 → slice_index names bits ≡ ink_number con0 con2 bits
   pub pairs : (bits : ℕ) → bits < 64 → slice_index hidden bits ≡ first_hidden con0 con2 bits
   pub backdrop : pixels ≡ replicate 4 (slice_index_or rgb 0 [])

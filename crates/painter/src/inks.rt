@@ -3,6 +3,7 @@
 ghost use Rattle.std.specs.Prelude.{◌≡◌, ◌≤◌, ◌<◌, ◌%◌, ◌/◌, ℕ, slice_set};
 ghost use Rattle.serial_model.specs.Picture.{colour_bytes};
 ghost use Rattle.painter.specs.Inks.{ink, ink_number, counted_bits, halved, is_held, backdrop};
+ghost use Rattle.painter.specs.Inks.{two_pixels};
 ghost use Rattle.priority_ham.specs.PixelColour.{hides};
 
 use crate::names::{hidden_by, names_by};
@@ -17,6 +18,8 @@ pub struct Inks {
     con0: u16,
     con2: u16,
     rgb: [[u8; 3]; 64],
+    /// The bytes of two pixels of each ink, and two more, so that they are put as one word.
+    doubled: [[u8; 8]; 64],
     names: [u8; 64],
     /// By the bits of the planes: the first pair of sprites that they hide, 4 for none.
     hidden: [u8; 64],
@@ -31,7 +34,8 @@ impl Model for Inks {
 
     ghost view = { λ s. record { palette = s.palette; con0 = s.con0; con2 = s.con2 } };
 
-    ghost invariant = { λ s. HasTables s.palette s.con0 s.con2 s.rgb s.names s.hidden s.backdrop };
+    ghost invariant = { λ s. HasTables s.palette s.con0 s.con2 s.rgb s.doubled s.names s.hidden
+        s.backdrop };
 }
 
 impl Inks {
@@ -46,6 +50,7 @@ impl Inks {
             con0: 0,
             con2: 0,
             rgb: [[0; 3]; 64],
+            doubled: [[0; 8]; 64],
             names: [0; 64],
             hidden: [4; 64],
             backdrop: [[0; 3]; 4],
@@ -82,8 +87,12 @@ impl Inks {
         } }
     {
         self.palette[number] = colour;
-        self.rgb[number] = bytes_of(colour);
-        self.rgb[number + 32] = bytes_of(half_of(colour));
+        let bytes = bytes_of(colour);
+        let half = bytes_of(half_of(colour));
+        self.rgb[number] = bytes;
+        self.rgb[number + 32] = half;
+        self.doubled[number] = twice(&bytes);
+        self.doubled[number + 32] = twice(&half);
         if number > 0 {
             return;
         }
@@ -171,6 +180,15 @@ impl Inks {
         &self.backdrop
     }
 
+    /// The bytes of two pixels of an ink, and two more.
+    #[inline(always)]
+    pub fn two_pixels(&self, number: u8) -> [u8; 8]
+        requires { number < 64 }
+        ensures { result ≡ two_pixels (colour_bytes (ink self.now.palette number)) }
+    {
+        self.doubled[number as usize]
+    }
+
     /// The bytes of an ink.
     pub fn bytes(&self, number: u8) -> &[u8; 3]
         requires { number < 64 }
@@ -189,6 +207,15 @@ pub fn bytes_of(colour: u16) -> [u8; 3]
         (colour / 16 % 16) as u8 * 17,
         (colour % 16) as u8 * 17,
     ]
+}
+
+/// The bytes of two pixels that have these, and two more.
+#[inline(always)]
+fn twice(bytes: &[u8; 3]) -> [u8; 8]
+    ensures { result ≡ two_pixels bytes.now }
+{
+    let [red, green, blue] = *bytes;
+    [red, green, blue, red, green, blue, 0, 0]
 }
 
 /// The colour that has these bytes.

@@ -53,7 +53,8 @@ pub struct Painter {
 
 impl Painter {
     ghost use Rattle.serial_model.specs.declared.picture.Denise.{Denise as DeniseValue};
-    ghost use Rattle.serial_model.specs.Picture.{reset_picture, set_picture, set_sprite as set_sprite_of, add_load, clear_line as cleared, step_of, after_step};
+    ghost use Rattle.serial_model.specs.Picture.{reset_picture, set_picture, set_sprite as set_sprite_of, add_load, plane_latch};
+    ghost use Rattle.serial_model.specs.Picture.{clear_line as cleared, step_of, after_step};
     ghost use Rattle.painter.specs.Painter.{IsPainterOf, first_colour, second_colour, with_held, clock_bytes};
     ghost use Rattle.painter.specs.Painter.{is_known_gathered, is_known_blank, is_known_backdrop};
 
@@ -169,6 +170,17 @@ impl Painter {
             return;
         }
         self.set_register(h, offset, word);
+    }
+
+    /// A word that is fetched for a bitplane, 2 to 6, at any clock of the line.
+    #[inline(always)]
+    pub fn latch(&mut self, plane: u8, word: u16)
+        requires least { 2 ≤ plane }
+        requires most { plane ≤ 6 }
+        ensures { (h : ℕ) (p : DeniseValue) → IsPainterOf self.old p
+            → IsPainterOf self.new (set_picture h (plane_latch plane) word p) }
+    {
+        self.latches[(plane - 1) as usize] = word;
     }
 
     /// The same to any register.

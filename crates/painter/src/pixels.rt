@@ -1,8 +1,9 @@
 //! Two pixels of one low-resolution column.
 
-ghost use Rattle.std.specs.Prelude.{◌≡◌, ◌≤◌, ◌+◌, ◌*◌, ◌++◌, ℕ, true, length, slice_index, slice_set, take};
+ghost use Rattle.std.specs.Prelude.{◌≡◌, ◌≤◌, ◌+◌, ◌*◌, ◌++◌, ℕ, true, flat_map, length, slice_index, slice_set, take};
 ghost use Rattle.serial_model.specs.Picture.{colour_bytes};
 ghost use Rattle.painter.specs.HeldCode.{IsHeld};
+ghost use Rattle.painter.specs.Inks.{two_pixels};
 ghost use Rattle.painter.specs.Pixels.{ink_at, modified_at, modified_along, modified_pixels, all_modified};
 ghost use Rattle.painter.specs.Line.{row_bits, ArePaired};
 ghost use Rattle.painter.specs.SpanCode.{bytes_of_clocks, ink_pixels};
@@ -12,7 +13,7 @@ use crate::held::Held;
 use crate::inks::Inks;
 use crate::line::Line;
 use crate::painter::Painter;
-use crate::span::put;
+use crate::span::{put, put_eight};
 
 /// Two pixels outside the display window: COLOR00.
 #[inline(always)]
@@ -169,19 +170,103 @@ fn ink_clock(inks: &Inks, line: &Line, paired: bool, x: usize) -> [[u8; 3]; 4]
     ]
 }
 
-/// Puts so many clocks of such pixels into a room, from a position on.
+/// Two pixels of the ink that the bits of a position name, and two bytes more.
+#[inline(always)]
+fn two_inks(inks: &Inks, line: &Line, x: usize) -> [u8; 8]
+    requires { x ≤ 1023 }
+    ensures { result ≡ two_pixels (colour_bytes (ink_at inks.now line.now x)) }
+{
+    inks.two_pixels(inks.name(line.bits(x)))
+}
+
+/// Puts the four such pixels from a position on, which are paired, into a room with one clock more.
+#[inline(always)]
+fn put_pairs(room: &mut [u8], at: usize, inks: &Inks, line: &Line, x: usize)
+    requires room { at + 24 ≤ length room.old }
+    requires place { x ≤ 1020 }
+    requires pairs { ArePaired line.now x }
+    ensures bytes { take (at + 12) room.new
+        ≡ take at room.old ++ flat_map (λ x. x) (ink_pixels inks.now line.now x) }
+    ensures size { length room.new ≡ length room.old }
+{
+    put_eight(room, at, &two_inks(inks, line, x));
+    put_eight(room, at + 6, &two_inks(inks, line, x + 2));
+}
+
+/// Puts any four such pixels from a position on into a room with one clock more.
+#[inline(always)]
+fn put_singles(room: &mut [u8], at: usize, inks: &Inks, line: &Line, x: usize)
+    requires room { at + 24 ≤ length room.old }
+    requires place { x ≤ 1020 }
+    ensures bytes { take (at + 12) room.new
+        ≡ take at room.old ++ flat_map (λ x. x) (ink_pixels inks.now line.now x) }
+    ensures size { length room.new ≡ length room.old }
+{
+    put_eight(room, at, &two_inks(inks, line, x));
+    put_eight(room, at + 3, &two_inks(inks, line, x + 1));
+    put_eight(room, at + 6, &two_inks(inks, line, x + 2));
+    put_eight(room, at + 9, &two_inks(inks, line, x + 3));
+}
+
+/// Puts four such pixels, which may be known to be paired, into a room with one clock more.
+#[inline(always)]
+fn put_clock(room: &mut [u8], at: usize, inks: &Inks, line: &Line, paired: bool, x: usize)
+    requires room { at + 24 ≤ length room.old }
+    requires place { x ≤ 1020 }
+    requires pairs { paired ≡ true → ArePaired line.now x }
+    ensures bytes { take (at + 12) room.new
+        ≡ take at room.old ++ flat_map (λ x. x) (ink_pixels inks.now line.now x) }
+    ensures size { length room.new ≡ length room.old }
+{
+    if paired {
+        put_pairs(room, at, inks, line, x);
+    } else {
+        put_singles(room, at, inks, line, x);
+    }
+}
+
+/// The same of so many clocks.
+#[inline(always)]
+fn put_clocks(
+    room: &mut [u8],
+    at: usize,
+    inks: &Inks,
+    line: &Line,
+    paired: bool,
+    x: usize,
+    count: u16,
+)
+    requires room { at + 12 * count + 12 ≤ length room.old }
+    requires place { x + 4 * count ≤ 1024 }
+    requires pairs { paired ≡ true → ArePaired line.now x }
+    ensures bytes { take (at + 12 * count) room.new ≡ take at room.old
+        ++ bytes_of_clocks (λ k. ink_pixels inks.now line.now (x + 4 * k)) count }
+    ensures size { length room.new ≡ length room.old }
+{
+    for clock in 0..count {
+        let place = at + 12 * clock as usize;
+        put_clock(room, place, inks, line, paired, x + 4 * clock as usize);
+    }
+}
+
+/// Puts so many clocks of such pixels into a room, from a position on. Behind the last nothing is put.
 pub fn put_inks(room: &mut [u8], at: usize, inks: &Inks, line: &Line, x: usize, count: u16)
+    requires some { 1 ≤ count }
     requires room { at + 12 * count ≤ length room.old }
     requires place { x + 4 * count ≤ 1024 }
     ensures bytes { take (at + 12 * count) room.new ≡ take at room.old
         ++ bytes_of_clocks (λ k. ink_pixels inks.now line.now (x + 4 * k)) count }
     ensures size { length room.new ≡ length room.old }
 {
+    let before = count - 1;
     let paired = line.is_paired_from(x);
-    for clock in 0..count {
-        let pixels = ink_clock(inks, line, paired, x + 4 * clock as usize);
-        put(room, at + 12 * clock as usize, &pixels);
+    if paired {
+        put_clocks(room, at, inks, line, true, x, before);
+    } else {
+        put_clocks(room, at, inks, line, false, x, before);
     }
+    let last = ink_clock(inks, line, paired, x + 4 * before as usize);
+    put(room, at + 12 * before as usize, &last);
 }
 
 /// The four pixels from a position on, inside the display window, in hold-and-modify; the last is held.

@@ -13,7 +13,28 @@ pub fn put(room: &mut [u8], at: usize, pixels: &[[u8; 3]; 4])
     room[at..at + 12].copy_from_slice(pixels.as_flattened());
 }
 
-/// The same so many times, one behind the other: four at once, and those that are left.
+/// Puts eight bytes into a room from a place on, of which the first three or six are pixels' and those
+/// behind them are to be put over.
+#[inline(always)]
+pub fn put_eight(room: &mut [u8], at: usize, bytes: &[u8; 8])
+    requires { at + 8 ≤ length room.old }
+    ensures three { take (at + 3) room.new ≡ take at room.old ++ take 3 bytes.now }
+    ensures six { take (at + 6) room.new ≡ take at room.old ++ take 6 bytes.now }
+    ensures size { length room.new ≡ length room.old }
+{
+    let [a, b, c, d, e, f, g, h] = *bytes;
+    room[at] = a;
+    room[at + 1] = b;
+    room[at + 2] = c;
+    room[at + 3] = d;
+    room[at + 4] = e;
+    room[at + 5] = f;
+    room[at + 6] = g;
+    room[at + 7] = h;
+}
+
+/// Puts the bytes of four pixels so many times, one behind the other: four at once, and those that are
+/// left.
 pub fn fill(room: &mut [u8], at: usize, count: u16, pixels: &[[u8; 3]; 4])
     requires { at + 12 * count ≤ length room.old }
     ensures bytes { take (at + 12 * count) room.new

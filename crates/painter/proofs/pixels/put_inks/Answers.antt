@@ -1,34 +1,24 @@
-use Rattle.std.proofs.Common.{◌≡◌, ◌∙◌, ◌+◌, ◌*◌, ◌++◌, ℕ, take, subst, refl, arith}
+use Rattle.std.proofs.Common.{◌≡◌, ◌∙◌, ◌+◌, ◌-◌, ◌*◌, ◌++◌, ℕ, List, take, subst, refl, ap, arith}
 use Rattle.painter.specs.SpanCode.{bytes_of_clocks, ink_pixels}
-use Rattle.painter.proofs.Clocks.{none_put, one_put}
+use Rattle.painter.proofs.Clocks.{one_put}
 use Rattle.painter.proofs.Pairs.{later_pairs}
 use Rattle.painter.proofs.pixels.put_inks.Goals as goal
+use Rattle.painter.proofs.pixels.put_inks.Goals.{then-paired, else-paired}
 
-pub loop-clock-init : goal.loop-clock-init
-loop-clock-init c = record {
-  bytes = none_put c.args.at (λ (k : ℕ). ink_pixels c.args.inks.now c.args.line.now (c.args.x + 4 * k)) c.args.room.now;
-  size = refl;
-}
-
-pub ink_clock-pixels-requires-clause-pairs : goal.ink_clock-pixels-requires-clause-pairs
-ink_clock-pixels-requires-clause-pairs c paired =
-    later_pairs c.args.line.now c.args.x c.loop-clock.clock (c.is_paired_from-paired.ensures paired)
-
-pub put-requires : goal.put-requires
-put-requires c = omega (arith, c.requires.room, c.loop-clock.invariant.size, c.loop-clock-test.true)
-
-pub loop-clock-preserved : goal.loop-clock-preserved
-loop-clock-preserved c = record {
-  bytes = one_put c.args.at c.loop-clock.clock (c.args.at + 12 * c.loop-clock.clock)
-      (λ (k : ℕ). ink_pixels c.args.inks.now c.args.line.now (c.args.x + 4 * k))
-      (take c.args.at c.args.room.now) c.loop-clock.room c.put.new.room c.ink_clock-pixels.result refl
-      c.loop-clock.invariant.bytes c.put.ensures.bytes c.ink_clock-pixels.ensures;
-  size = c.put.ensures.size ∙ c.loop-clock.invariant.size;
-}
+pub ink_clock-last-requires-clause-pairs : goal.ink_clock-last-requires-clause-pairs
+ink_clock-last-requires-clause-pairs c paired =
+    later_pairs c.args.line.now c.args.x (c.args.count - 1) (c.is_paired_from-paired.ensures paired)
 
 pub returns-clause-bytes : goal.returns-clause-bytes
 returns-clause-bytes c =
-    let last : c.loop-clock.clock ≡ c.args.count = omega (arith, c.loop-clock-test.false, c.loop-clock.auto.clock-end) in
-    subst (λ (n : ℕ). take (c.args.at + 12 * n) c.loop-clock.room
-    ≡ take c.args.at c.args.room.now ++ bytes_of_clocks (λ (k : ℕ). ink_pixels c.args.inks.now c.args.line.now (c.args.x + 4 * k)) n)
-    last c.loop-clock.invariant.bytes
+    let shown : ℕ → List (List ℕ) = λ k. ink_pixels c.args.inks.now c.args.line.now (c.args.x + 4 * k) in
+    let before : ℕ = c.args.count - 1 in
+    let all : before + 1 ≡ c.args.count = omega (arith, c.requires.some) in
+    let put : take (c.args.at + 12 * before) c.if-paired.room ≡ take c.args.at c.args.room.now ++ bytes_of_clocks shown before =
+    elim c.if-paired.branch [
+      | then-paired w ↦ ap (λ (l : List ℕ). take (c.args.at + 12 * before) l) w.room-is ∙ w.put_clocks.ensures.bytes
+      | else-paired w ↦ ap (λ (l : List ℕ). take (c.args.at + 12 * before) l) w.room-is ∙ w.put_clocks-else-paired.ensures.bytes
+    ] in
+    subst (λ (n : ℕ). take (c.args.at + 12 * n) c.put.new.room ≡ take c.args.at c.args.room.now ++ bytes_of_clocks shown n) all
+    (one_put c.args.at before (c.args.at + 12 * before) shown (take c.args.at c.args.room.now) c.if-paired.room c.put.new.room
+    c.ink_clock-last.result refl put c.put.ensures.bytes c.ink_clock-last.ensures)
