@@ -42,12 +42,15 @@ impl Progress {
             ≤ last_clock run.now.script.system self.old.beam.v }
     {
         let end = self.clock + self.most_clocks(run.script().system());
+        let mut next = self.next;
         let mut reached = self.clock;
-        while let Some(fetch) = fetch_before(events, self.next, end) {
+        while let Some(fetch) = fetch_before(events, next, end) {
             self.fetch(&fetch, view);
+            next += 1;
             reached = fetch.at.0 + 1;
         }
-        untouched_until(events, self.next, reached, end)
+        self.next = next;
+        untouched_until(events, next, reached, end)
     }
 
     /// How many clocks come before the last of the line and of the band.
@@ -60,28 +63,27 @@ impl Progress {
         (of_line as u64).min(self.to - 1 - self.clock)
     }
 
-    /// Makes a fetch of this clock of the line or a later one.
+    /// Makes a fetch of this clock of the line or a later one. That of plane 1 is a load.
+    #[inline(always)]
     fn fetch(&mut self, fetch: &Fetch, view: &MemView)
         requires order { self.old.clock ≤ fetch.now.at.0 }
         requires place { self.old.beam.h + (fetch.now.at.0 - self.old.clock) ≤ 227 }
         requires covered { Covers view.now fetch.now.at.0 }
         requires few { fetch.now.plane ≤ 6 }
-        requires next { self.old.next + 1 < 2 ^ 64 }
         ensures paints { let h = self.old.beam.h + (fetch.now.at.0 - self.old.clock) in
             Paints (4 * h) (set_picture h (plane_latch fetch.now.plane)
             (word_then view.now fetch.now.at.0 fetch.now.addr))
             self.old.painter self.new.painter }
         ensures keeps { self.new.painter.keeps ≡ self.old.painter.keeps }
-        ensures next { self.new.next ≡ self.old.next + 1 }
-        ensures same { self.new ≡ record self.old {
-          painter = self.new.painter;
-          next = self.new.next;
-        } }
+        ensures same { self.new ≡ record self.old { painter = self.new.painter } }
     {
-        let h = self.beam.h + (fetch.at.0 - self.clock) as u16;
         let word = view.at(fetch.at, fetch.addr);
+        if fetch.plane >= 2 {
+            self.painter.latch(fetch.plane, word);
+            return;
+        }
+        let h = self.beam.h + (fetch.at.0 - self.clock) as u16;
         self.painter.set(h, LATCHES + 2 * fetch.plane as u16, word);
-        self.next += 1;
     }
 }
 

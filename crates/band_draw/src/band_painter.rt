@@ -4,7 +4,8 @@ ghost use Rattle.std.specs.Prelude.{◌≡◌, ◌≤◌, ◌+◌, ◌*◌, ℕ,
 ghost use Rattle.serial_model.specs.declared.picture.Denise.{Denise as DeniseValue};
 ghost use Rattle.ocs_base.specs.Systems.{is_visible};
 ghost use Rattle.serial_model.specs.Beam.{is_line_start};
-ghost use Rattle.serial_model.specs.Picture.{set_picture, clear_line as cleared, pixels, step_of, after_step};
+ghost use Rattle.serial_model.specs.Picture.{set_picture, plane_latch, clear_line as cleared, pixels, step_of};
+ghost use Rattle.serial_model.specs.Picture.{after_step};
 ghost use Rattle.serial_model.specs.StandsFor.{StandsFor};
 
 use ocs_base::{Beam, System};
@@ -71,6 +72,18 @@ impl BandPainter {
         if offset == 0x110 {
             self.keep_load(h);
         }
+    }
+
+    /// A word that is fetched for a bitplane, 2 to 6, at any clock of the line.
+    #[inline(always)]
+    pub fn latch(&mut self, plane: u8, word: u16)
+        requires least { 2 ≤ plane }
+        requires most { plane ≤ 6 }
+        ensures paints { (h : ℕ) → Paints (4 * h) (set_picture h (plane_latch plane) word)
+            self.old self.new }
+        ensures keeps { self.new.keeps ≡ self.old.keeps }
+    {
+        self.painter.latch(plane, word);
     }
 
     /// Keeps the load of a write to BPL1DAT at clock `h` of the line that has just been made.

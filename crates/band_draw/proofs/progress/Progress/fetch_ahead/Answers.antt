@@ -1,4 +1,4 @@
-use Rattle.std.proofs.Common.{◌≡◌, ◌≤◌, ◌<◌, ◌+◌, ℕ, slice_get, Some, IfSome, arith, subst, ap, ◌∙◌}
+use Rattle.std.proofs.Common.{◌≡◌, ◌≤◌, ◌<◌, ◌+◌, ℕ, slice_get, Some, IfSome, arith, subst, refl, ap, ◌∙◌}
 use Rattle.ocs_base.specs.Script.{ScriptValue}
 use Rattle.ocs_base.specs.Systems.{last_clock}
 use Rattle.serial_bands.specs.Run.{run_over}
@@ -19,15 +19,16 @@ fetch-requires-clause-order g c =
     let run = run_over g.S.Side.seen c.args.run.now in
     let so = c.loop-fetch.invariant.fetched in
     let f : Fetch = c.in-Some.fetch in
-    let there : slice_get c.args.events.now c.loop-fetch.self.next ≡ Some (E.Plane f.at f.plane f.addr) =
-    subst (λ r. IfSome r (λ (k : Fetch). slice_get c.args.events.now c.loop-fetch.self.next ≡ Some (E.Plane k.at k.plane k.addr))) c.in-Some.is
+    let now : Progress = record c.loop-fetch.self { next = c.loop-fetch.next } in
+    let there : slice_get c.args.events.now c.loop-fetch.next ≡ Some (E.Plane f.at f.plane f.addr) =
+    subst (λ r. IfSome r (λ (k : Fetch). slice_get c.args.events.now c.loop-fetch.next ≡ Some (E.Plane k.at k.plane k.addr))) c.in-Some.is
     c.fetch_before.ensures.found in
     let before : f.at.0 < c.args.self.now.clock + c.most_clocks.result =
     subst (λ r. IfSome r (λ (k : Fetch). k.at.0 < c.args.self.now.clock + c.most_clocks.result)) c.in-Some.is c.fetch_before.ensures.before in
     omega (
       arith,
       ap (λ (p : Progress). p.clock) so.same,
-      fetch_order run c.args.events.now c.args.self.now c.loop-fetch.self c.loop-fetch.reached f.at f.plane f.addr so there
+      fetch_order run c.args.events.now c.args.self.now now c.loop-fetch.reached f.at f.plane f.addr so there
           (omega (arith, before, c.most_clocks.ensures.band)),
     )
 
@@ -36,23 +37,25 @@ fetch-requires-clause-covered g c =
     let run = run_over g.S.Side.seen c.args.run.now in
     let so = c.loop-fetch.invariant.fetched in
     let f : Fetch = c.in-Some.fetch in
-    let there : slice_get c.args.events.now c.loop-fetch.self.next ≡ Some (E.Plane f.at f.plane f.addr) =
-    subst (λ r. IfSome r (λ (k : Fetch). slice_get c.args.events.now c.loop-fetch.self.next ≡ Some (E.Plane k.at k.plane k.addr))) c.in-Some.is
+    let now : Progress = record c.loop-fetch.self { next = c.loop-fetch.next } in
+    let there : slice_get c.args.events.now c.loop-fetch.next ≡ Some (E.Plane f.at f.plane f.addr) =
+    subst (λ r. IfSome r (λ (k : Fetch). slice_get c.args.events.now c.loop-fetch.next ≡ Some (E.Plane k.at k.plane k.addr))) c.in-Some.is
     c.fetch_before.ensures.found in
     let before : f.at.0 < c.args.self.now.clock + c.most_clocks.result =
     subst (λ r. IfSome r (λ (k : Fetch). k.at.0 < c.args.self.now.clock + c.most_clocks.result)) c.in-Some.is c.fetch_before.ensures.before in
     let order =
-    fetch_order run c.args.events.now c.args.self.now c.loop-fetch.self c.loop-fetch.reached f.at f.plane f.addr so there
+    fetch_order run c.args.events.now c.args.self.now now c.loop-fetch.reached f.at f.plane f.addr so there
     (omega (arith, before, c.most_clocks.ensures.band)) in
     c.requires.source.covered f.at.0 (omega (arith, order, c.requires.placed.least)) (omega (arith, before, c.most_clocks.ensures.band))
 
 pub loop-fetch-smaller : goal.loop-fetch-smaller
 loop-fetch-smaller g c =
     let f : Fetch = c.in-Some.fetch in
-    let there : slice_get c.args.events.now c.loop-fetch.self.next ≡ Some (E.Plane f.at f.plane f.addr) =
-    subst (λ r. IfSome r (λ (k : Fetch). slice_get c.args.events.now c.loop-fetch.self.next ≡ Some (E.Plane k.at k.plane k.addr))) c.in-Some.is
+    let now : Progress = record c.loop-fetch.self { next = c.loop-fetch.next } in
+    let there : slice_get c.args.events.now c.loop-fetch.next ≡ Some (E.Plane f.at f.plane f.addr) =
+    subst (λ r. IfSome r (λ (k : Fetch). slice_get c.args.events.now c.loop-fetch.next ≡ Some (E.Plane k.at k.plane k.addr))) c.in-Some.is
     c.fetch_before.ensures.found in
-    next_left c.args.events.now c.loop-fetch.self.next c.fetch.new.self.next (E.Plane f.at f.plane f.addr) there c.fetch.ensures.next
+    next_left c.args.events.now c.loop-fetch.next (c.loop-fetch.next + 1) (E.Plane f.at f.plane f.addr) there refl
 
 pub loop-fetch-preserved : goal.loop-fetch-preserved
 loop-fetch-preserved g c =
@@ -60,8 +63,9 @@ loop-fetch-preserved g c =
     let old : Progress = c.args.self.now in
     let count : ℕ = c.most_clocks.result in
     let f : Fetch = c.in-Some.fetch in
-    let there : slice_get c.args.events.now c.loop-fetch.self.next ≡ Some (E.Plane f.at f.plane f.addr) =
-    subst (λ r. IfSome r (λ (k : Fetch). slice_get c.args.events.now c.loop-fetch.self.next ≡ Some (E.Plane k.at k.plane k.addr))) c.in-Some.is
+    let now : Progress = record c.loop-fetch.self { next = c.loop-fetch.next } in
+    let there : slice_get c.args.events.now c.loop-fetch.next ≡ Some (E.Plane f.at f.plane f.addr) =
+    subst (λ r. IfSome r (λ (k : Fetch). slice_get c.args.events.now c.loop-fetch.next ≡ Some (E.Plane k.at k.plane k.addr))) c.in-Some.is
     c.fetch_before.ensures.found in
     let before : f.at.0 < old.clock + count =
     subst (λ r. IfSome r (λ (k : Fetch). k.at.0 < old.clock + count)) c.in-Some.is c.fetch_before.ensures.before in
@@ -72,15 +76,16 @@ loop-fetch-preserved g c =
     subst (λ s. 0 < count → old.beam.h + count ≤ last_clock s old.beam.v) system c.most_clocks.ensures.line in
     record {
       fetched =
-          one_fetched run c.args.view.now c.args.events.now old c.loop-fetch.self c.fetch.new.self c.loop-fetch.reached f.at f.plane f.addr
+          one_fetched run c.args.view.now c.args.events.now old now (record c.fetch.new.self { next = c.loop-fetch.next + 1 }) c.loop-fetch.reached f.at f.plane f.addr
           c.requires.source c.requires.placed c.loop-fetch.invariant.fetched there (omega (arith, before, c.most_clocks.ensures.band))
-          (λ some. omega (arith, before, line (omega (arith, before, some)))) few c.fetch.ensures.paints c.fetch.ensures.keeps c.fetch.ensures.next
-          c.fetch.ensures.same;
+          (λ some. omega (arith, before, line (omega (arith, before, some)))) few c.fetch.ensures.paints c.fetch.ensures.keeps refl
+          (ap (λ (p : Progress). record p { next = c.loop-fetch.next + 1 }) c.fetch.ensures.same);
       most = omega (arith, before);
     }
 
 pub returns-clause-fetched : goal.returns-clause-fetched
 returns-clause-fetched g c =
-    fetched_until (run_over g.S.Side.seen c.args.run.now) c.args.events.now c.args.self.now c.loop-fetch.self c.loop-fetch.reached
+    fetched_until (run_over g.S.Side.seen c.args.run.now) c.args.events.now c.args.self.now
+    (record c.loop-fetch.self { next = c.loop-fetch.next }) c.loop-fetch.reached
     c.untouched_until.result c.loop-fetch.invariant.fetched c.untouched_until.ensures.least
     (omega (arith, c.untouched_until.ensures.most, c.most_clocks.ensures.band)) c.untouched_until.ensures.behind

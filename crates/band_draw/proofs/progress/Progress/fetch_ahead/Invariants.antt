@@ -6,9 +6,9 @@ use Rattle.band_draw.proofs.progress.Progress.fetch_ahead.Given as goal
 
 abbrev pub invariant-loop-fetch : goal.invariant-loop-fetch
 invariant-loop-fetch g l = record {
-  fetched : IsFetched (run_over g.S.Side.seen l.run) l.events l.initial.self l.self l.reached;
+  fetched : IsFetched (run_over g.S.Side.seen l.run) l.events l.initial.self (record l.self { next = l.next }) l.reached;
   most : l.reached ≤ l.end;
 }
 
 abbrev pub decreases-loop-fetch : goal.decreases-loop-fetch
-decreases-loop-fetch g l = length l.events - l.self.next
+decreases-loop-fetch g l = length l.events - l.next
