@@ -40,9 +40,16 @@ fn vectors(rt: HostRuntime) {
         (Trap::Number { v: 0 }, 32),
         (Trap::Number { v: 15 }, 47),
     ];
-    for (kind, want) in kinds {
-        assert_eq!(rt; vector(&kind), want);
+    let mut right = true;
+    for (kind, want) in &kinds {
+        right &= vector(kind) == *want;
     }
+    assert!(rt; right);
+}
+
+/// Whether an exception has this frame, with this SR.
+fn has_frame(kind: &Trap, sr: u16, words: &[u16]) -> bool {
+    frame(kind, &registers(sr)).as_slice() == words
 }
 
 #[test]
@@ -59,11 +66,11 @@ fn short_frames(rt: HostRuntime) {
         Trap::Interrupt { level: 4 },
         Trap::Number { v: 2 },
     ];
-    for kind in kinds {
-        assert!(rt;
-            frame(&kind, &registers(0x8704)).as_slice() == [0x3456, 0x0012, 0x8704].as_slice()
-        );
+    let mut right = true;
+    for kind in &kinds {
+        right &= has_frame(kind, 0x8704, &[0x3456, 0x0012, 0x8704]);
     }
+    assert!(rt; right);
 }
 
 #[test]
@@ -75,8 +82,10 @@ fn frames_of_address_errors(rt: HostRuntime) {
         (address_error(true, true, false), 0x2000, 0x1e),
         (address_error(false, false, false), 0x2000, 0xd),
     ];
-    for (kind, sr, access) in cases {
-        let words = [0x3456, 0x0012, sr, 0x4e75, 0xcdef, 0x00ab, access];
-        assert!(rt; frame(&kind, &registers(sr)).as_slice() == words.as_slice());
+    let mut right = true;
+    for (kind, sr, access) in &cases {
+        let words = [0x3456, 0x0012, *sr, 0x4e75, 0xcdef, 0x00ab, *access];
+        right &= has_frame(kind, *sr, &words);
     }
+    assert!(rt; right);
 }

@@ -166,97 +166,138 @@ static ILLEGAL: [u16; 102] = [
     0xe8d0, 0xe0c0, 0xe0c8, 0xe0fa, 0xe0fc, 0xefd0,
 ];
 
-#[test]
-fn opcodes_of_each_row(rt: HostRuntime) {
-    for (name, opcodes) in &ROWS {
-        for opcode in *opcodes {
-            assert!(rt; row(&decode(*opcode)) == *name, "{opcode:04x}");
+/// Whether all these opcodes are of a row.
+fn are_of_row(name: &str, opcodes: &[u16]) -> bool {
+    for opcode in opcodes {
+        if row(&decode(*opcode)) != name {
+            return false;
         }
     }
+    true
+}
+
+/// Whether all opcodes of each row are of that row.
+fn are_of_rows(rows: &[(&str, &[u16])]) -> bool {
+    for (name, opcodes) in rows {
+        if !are_of_row(name, opcodes) {
+            return false;
+        }
+    }
+    true
+}
+
+#[test]
+fn opcodes_of_each_row(rt: HostRuntime) {
+    assert!(rt; are_of_rows(&ROWS));
 }
 
 #[test]
 fn opcodes_outside_every_row(rt: HostRuntime) {
-    for opcode in &ILLEGAL {
-        assert!(rt; row(&decode(*opcode)) == "illegal", "{opcode:04x}");
-    }
+    assert!(rt; are_of_row("illegal", &ILLEGAL));
+}
+
+/// Whether an opcode is EORI.L #,D0.
+fn is_eori_long(opcode: u16) -> bool {
+    matches!(
+        decode(opcode),
+        Instr::Immediate {
+            which: 4,
+            o: 5,
+            size: Size::Long,
+            mode: Mode::Dn { reg: 0 }
+        }
+    )
+}
+
+/// Whether an opcode is BSET D7,(A3).
+fn is_bset_by_d7(opcode: u16) -> bool {
+    matches!(
+        decode(opcode),
+        Instr::BitDynamic {
+            which: 3,
+            r: 7,
+            t: 3,
+            mode: Mode::Ind { reg: 3 }
+        }
+    )
+}
+
+/// Whether an opcode is MOVE.B D1,(xxx).L.
+fn is_move_byte_of_d1(opcode: u16) -> bool {
+    matches!(
+        decode(opcode),
+        Instr::Move {
+            size: Size::Byte,
+            dest: Mode::Long,
+            mode: Mode::Dn { reg: 1 }
+        }
+    )
 }
 
 #[test]
 fn fields_of_operands(rt: HostRuntime) {
-    // EORI.L, BSET D7,(A3), MOVE.B D1,(xxx).L.
-    assert!(rt;
-        matches!(
-            decode(0x0a80),
-            Instr::Immediate {
-                which: 4,
-                o: 5,
-                size: Size::Long,
-                mode: Mode::Dn { reg: 0 }
-            }
-        )
-    );
-    assert!(rt;
-        matches!(
-            decode(0x0fd3),
-            Instr::BitDynamic {
-                which: 3,
-                r: 7,
-                t: 3,
-                mode: Mode::Ind { reg: 3 }
-            }
-        )
-    );
-    assert!(rt;
-        matches!(
-            decode(0x13c1),
-            Instr::Move {
-                size: Size::Byte,
-                dest: Mode::Long,
-                mode: Mode::Dn { reg: 1 }
-            }
-        )
-    );
+    let found = [
+        is_eori_long(0x0a80),
+        is_bset_by_d7(0x0fd3),
+        is_move_byte_of_d1(0x13c1),
+    ];
+    assert!(rt; found == [true; 3]);
+}
+
+/// Whether an opcode is SUBQ.W #8,A2.
+fn is_subq_of_a2(opcode: u16) -> bool {
+    matches!(
+        decode(opcode),
+        Instr::Quick {
+            which: 1,
+            q: 0,
+            size: Size::Word,
+            mode: Mode::An { reg: 2 }
+        }
+    )
+}
+
+/// Whether an opcode is BNE with the displacement FC.
+fn is_bne(opcode: u16) -> bool {
+    matches!(
+        decode(opcode),
+        Instr::Branch {
+            which: 2,
+            c: 6,
+            d8: 0xfc
+        }
+    )
+}
+
+/// Whether an opcode is ROXR.L D3,D5.
+fn is_roxr_by_d3(opcode: u16) -> bool {
+    matches!(
+        decode(opcode),
+        Instr::ShiftRegister {
+            c: 3,
+            d: 0,
+            size: Size::Long,
+            i: 1,
+            t: 2,
+            r: 5
+        }
+    )
+}
+
+/// Whether an opcode is EXG D1,A2.
+fn is_exg_of_d1(opcode: u16) -> bool {
+    matches!(decode(opcode), Instr::Exg { x: 1, o: 17, y: 2 })
 }
 
 #[test]
 fn fields_of_counts_and_conditions(rt: HostRuntime) {
-    // SUBQ.W #8,A2, BNE, ROXR.L D3,D5, EXG D1,A2.
-    assert!(rt;
-        matches!(
-            decode(0x514a),
-            Instr::Quick {
-                which: 1,
-                q: 0,
-                size: Size::Word,
-                mode: Mode::An { reg: 2 }
-            }
-        )
-    );
-    assert!(rt;
-        matches!(
-            decode(0x66fc),
-            Instr::Branch {
-                which: 2,
-                c: 6,
-                d8: 0xfc
-            }
-        )
-    );
-    assert!(rt;
-        matches!(
-            decode(0xe6b5),
-            Instr::ShiftRegister {
-                c: 3,
-                d: 0,
-                size: Size::Long,
-                i: 1,
-                t: 2,
-                r: 5
-            }
-        )
-    );
-    assert!(rt; matches!(decode(0xc38a), Instr::Exg { x: 1, o: 17, y: 2 }));
+    let found = [
+        is_subq_of_a2(0x514a),
+        is_bne(0x66fc),
+        is_roxr_by_d3(0xe6b5),
+        is_exg_of_d1(0xc38a),
+    ];
+    assert!(rt; found == [true; 4]);
 }
 
 /// Opcodes, what is counted or came out, and the clocks: one number at least for each row and each
@@ -446,11 +487,8 @@ static CLOCKS: [(u16, u8, u32); 179] = [
 #[test]
 fn clocks_of_opcodes(rt: HostRuntime) {
     for (opcode, extra, want) in &CLOCKS {
-        assert_eq!(rt;
-            clocks(&decode(*opcode), u32::from(*extra & 63)),
-            *want,
-            "{opcode:04x}"
-        );
+        let found = clocks(&decode(*opcode), u32::from(*extra & 63));
+        assert!(rt; found == *want, "{opcode}");
     }
 }
 
@@ -470,8 +508,10 @@ fn clocks_of_modes(rt: HostRuntime) {
         (Mode::PcIndex, 10, 14),
         (Mode::Imm, 4, 8),
     ];
+    let mut right = true;
     for (mode, short, long) in &modes {
-        assert!(rt; ea(mode, Size::Byte) == *short && ea(mode, Size::Word) == *short);
-        assert!(rt; ea(mode, Size::Long) == *long);
+        right &= ea(mode, Size::Byte) == *short && ea(mode, Size::Word) == *short;
+        right &= ea(mode, Size::Long) == *long;
     }
+    assert!(rt; right);
 }

@@ -4,7 +4,6 @@ mod logic_and_sums;
 mod shifts_and_products;
 
 use m68k_decode::{Flags, Outcome};
-use std::process::Abort;
 
 /// Flags from five bits, X first.
 fn flags(xnzvc: u8) -> Flags {
@@ -17,8 +16,7 @@ fn flags(xnzvc: u8) -> Flags {
     }
 }
 
-/// Compares an outcome with a value and flags.
-fn expect(rt: &impl Abort, got: Outcome, value: u32, xnzvc: u8) {
-    assert_eq!(rt; got.value, value);
-    assert_eq!(rt; got.flags, flags(xnzvc));
+/// Whether an outcome has this value and these flags.
+fn gives(got: Outcome, value: u32, xnzvc: u8) -> bool {
+    got.value == value && got.flags == flags(xnzvc)
 }

@@ -15,8 +15,9 @@ fn registers(rt: HostRuntime) {
     regs.set_data(1, 21);
     regs.set_address(6, 26);
     regs.set_address(7, 28);
-    assert!(rt; regs.is_supervisor());
-    assert!(rt; regs.data(1) == 21 && regs.address(6) == 26 && regs.address(7) == 28);
+    let is_supervisor = regs.is_supervisor();
+    let found = [regs.data(1), regs.address(6), regs.address(7)];
     regs.sr = 0;
-    assert!(rt; regs.address(7) == 17 && regs.address(0) == 10);
+    let as_user = [regs.address(7), regs.address(0)];
+    assert!(rt; is_supervisor && found == [21, 26, 28] && as_user == [17, 10]);
 }

@@ -411,25 +411,25 @@ static DECIMAL: [Case; 4] = [
 
 #[test]
 fn immediates(rt: HostRuntime) {
-    assert_eq!(rt; first_fault(&IMMEDIATE, 0), None);
+    assert!(rt; first_fault(&IMMEDIATE, 0).is_none());
 }
 
 #[test]
 fn sums_and_differences(rt: HostRuntime) {
-    assert_eq!(rt; first_fault(&SUMS, 0), None);
+    assert!(rt; first_fault(&SUMS, 0).is_none());
 }
 
 #[test]
 fn comparisons(rt: HostRuntime) {
-    assert_eq!(rt; first_fault(&COMPARISONS, 0), None);
+    assert!(rt; first_fault(&COMPARISONS, 0).is_none());
 }
 
 #[test]
 fn products_and_quotients(rt: HostRuntime) {
-    assert_eq!(rt; first_fault(&PRODUCTS, 0), None);
+    assert!(rt; first_fault(&PRODUCTS, 0).is_none());
 }
 
 #[test]
 fn decimal_operations(rt: HostRuntime) {
-    assert_eq!(rt; first_fault(&DECIMAL, 0), None);
+    assert!(rt; first_fault(&DECIMAL, 0).is_none());
 }
