@@ -71,20 +71,23 @@ fn traces(shelf: &mut Shelf, alloc: Global, line: TraceLine, text: &str) -> bool
         && shelf.file("frames") == Some([].as_slice())
 }
 
+/// The same with files of its own.
+fn is_traced(alloc: Global, line: TraceLine, text: &str) -> bool {
+    traces(&mut Shelf::new(alloc), alloc, line, text)
+}
+
 #[test]
 fn each_line_of_the_trace(rt: HostRuntime) {
-    for (line, text) in [
-        (taken(3), "12 0 226 I 3\n"),
-        (wrote(0x180, 0xf00, Source::Copper), "0 48 9 W 180 0f00 C\n"),
-        (wrote(0x9a, 0xc0de, Source::Script), "0 48 9 W 09a c0de S\n"),
-        (
-            peeked(0xe, 1, Source::Processor),
-            "1000 311 0 R 00e 0001 M\n",
-        ),
-    ] {
-        let mut shelf = Shelf::new(rt.alloc());
-        assert!(rt; traces(&mut shelf, rt.alloc(), line, text), "{text}");
-    }
+    let copper = wrote(0x180, 0xf00, Source::Copper);
+    let script = wrote(0x9a, 0xc0de, Source::Script);
+    let processor = peeked(0xe, 1, Source::Processor);
+    let found = [
+        is_traced(rt.alloc(), taken(3), "12 0 226 I 3\n"),
+        is_traced(rt.alloc(), copper, "0 48 9 W 180 0f00 C\n"),
+        is_traced(rt.alloc(), script, "0 48 9 W 09a c0de S\n"),
+        is_traced(rt.alloc(), processor, "1000 311 0 R 00e 0001 M\n"),
+    ];
+    assert!(rt; found == [true; 4]);
 }
 
 /// So many pixel bytes.
@@ -106,10 +109,10 @@ fn is_framed(shelf: &Shelf, name: &str, size: usize, start: &[u8], end: &[u8]) -
 fn a_heading_before_each_frame(rt: HostRuntime) -> Result<(), Fail> {
     let bytes = nines(rt.alloc(), 617_761)?;
     let mut shelf = Shelf::new(rt.alloc());
-    assert!(rt; flushed(&mut shelf, rt.alloc(), &bytes, taken(1)).is_ok());
+    let is_flushed = flushed(&mut shelf, rt.alloc(), &bytes, taken(1)).is_ok();
     let start = b"P6\n720 286\n255\n\x09";
     let end = b"\x09P6\n720 286\n255\n\x09";
-    assert!(rt; is_framed(&shelf, "frames", 617_791, start, end));
+    assert!(rt; is_flushed && is_framed(&shelf, "frames", 617_791, start, end));
     Ok(())
 }
 
@@ -127,20 +130,33 @@ fn size_of(shelf: &Shelf, name: &str) -> Option<usize> {
     }
 }
 
+/// How many bytes the frames and the trace have where a call fails with a fault of this file.
+fn sizes_left(alloc: Global, call: u64, file: OutFile) -> Option<[Option<usize>; 2]> {
+    let mut shelf = Shelf::new(alloc);
+    if is_refused(&mut shelf, alloc, call, file) {
+        Some([size_of(&shelf, "frames"), size_of(&shelf, "trace")])
+    } else {
+        None
+    }
+}
+
 #[test]
 fn a_create_or_append_is_refused(rt: HostRuntime) {
-    for (call, file, frames, trace) in [
-        (0, OutFile::Frames, None, None),
-        (1, OutFile::Trace, Some(0), None),
-        (2, OutFile::Memory, Some(0), Some(0)),
-        (3, OutFile::Frames, Some(9), Some(0)),
-        (4, OutFile::Trace, Some(18), Some(6)),
-    ] {
-        let mut shelf = Shelf::new(rt.alloc());
-        assert!(rt; is_refused(&mut shelf, rt.alloc(), call, file), "at {call}");
-        let sizes = [size_of(&shelf, "frames"), size_of(&shelf, "trace")];
-        assert!(rt; sizes == [frames, trace], "at {call}");
-    }
+    let found = [
+        sizes_left(rt.alloc(), 0, OutFile::Frames),
+        sizes_left(rt.alloc(), 1, OutFile::Trace),
+        sizes_left(rt.alloc(), 2, OutFile::Memory),
+        sizes_left(rt.alloc(), 3, OutFile::Frames),
+        sizes_left(rt.alloc(), 4, OutFile::Trace),
+    ];
+    let want = [
+        Some([None, None]),
+        Some([Some(0), None]),
+        Some([Some(0), Some(0)]),
+        Some([Some(9), Some(0)]),
+        Some([Some(18), Some(6)]),
+    ];
+    assert!(rt; found == want);
 }
 
 /// Creates the files and appends a memory.
@@ -155,9 +171,9 @@ fn stored(shelf: &mut Shelf, alloc: Global, image: &[u8; 8]) -> Result<(), Write
 fn the_memory_file(rt: HostRuntime) {
     let mut shelf = Shelf::new(rt.alloc());
     let image = [0x12, 0x34, 0x56, 0x78, 0, 0, 0, 1];
-    assert!(rt; stored(&mut shelf, rt.alloc(), &image).is_ok());
+    let is_stored = stored(&mut shelf, rt.alloc(), &image).is_ok();
     let start = [0x12, 0x34, 0x56, 0x78, 0, 0, 0, 1, 0];
-    assert!(rt; is_framed(&shelf, "memory", 524_288, &start, &[]));
+    assert!(rt; is_stored && is_framed(&shelf, "memory", 524_288, &start, &[]));
 }
 
 /// Files of the same names of an NTSC machine.
@@ -176,16 +192,20 @@ fn flushed_ntsc(shelf: &mut Shelf, alloc: Global, pixels: &[u8]) -> Result<(), W
     out.flush(shelf)
 }
 
+/// Whether so many pixel bytes of an NTSC machine make a file of this size and end.
+fn is_framed_ntsc(alloc: Global, given: usize, size: usize, end: &[u8]) -> Result<bool, Fail> {
+    let bytes = nines(alloc, given)?;
+    let mut shelf = Shelf::new(alloc);
+    let is_flushed = flushed_ntsc(&mut shelf, alloc, &bytes).is_ok();
+    let start = b"P6\n720 242\n255\n\x09";
+    Ok(is_flushed && is_framed(&shelf, "frames", size, start, end))
+}
+
 #[test]
 fn a_heading_before_each_frame_of_ntsc(rt: HostRuntime) -> Result<(), Fail> {
-    for (given, size, end) in [
-        (522_720, 522_735, b"\x09\x09".as_slice()),
-        (522_721, 522_751, b"\x09P6\n720 242\n255\n\x09".as_slice()),
-    ] {
-        let bytes = nines(rt.alloc(), given)?;
-        let mut shelf = Shelf::new(rt.alloc());
-        assert!(rt; flushed_ntsc(&mut shelf, rt.alloc(), &bytes).is_ok());
-        assert!(rt; is_framed(&shelf, "frames", size, b"P6\n720 242\n255\n\x09", end));
-    }
+    let one = is_framed_ntsc(rt.alloc(), 522_720, 522_735, b"\x09\x09")?;
+    let end = b"\x09P6\n720 242\n255\n\x09";
+    let two = is_framed_ntsc(rt.alloc(), 522_721, 522_751, end)?;
+    assert!(rt; one && two);
     Ok(())
 }

@@ -15,35 +15,53 @@ use std::{fs, io, process};
 
 const GREATEST: &[u8] = b"18446744073709551615";
 
+/// Texts that are no decimal numbers.
+static NO_DECIMALS: [&[u8]; 8] = [
+    b"",
+    b"01",
+    b"00",
+    b"+1",
+    b"-1",
+    b" 1",
+    b"1a",
+    b"18446744073709551616",
+];
+
+/// Whether each text is refused as a decimal number.
+fn are_no_decimals(texts: &[&[u8]]) -> bool {
+    for text in texts {
+        if dec(text).is_some() {
+            return false;
+        }
+    }
+    true
+}
+
 #[test]
 fn decimal_texts(rt: HostRuntime) {
-    assert_eq!(rt; dec(b"0"), Some(0));
-    assert_eq!(rt; dec(b"313"), Some(313));
-    assert_eq!(rt; dec(GREATEST), Some(u64::MAX));
-    let refused: [&[u8]; 8] = [
-        b"",
-        b"01",
-        b"00",
-        b"+1",
-        b"-1",
-        b" 1",
-        b"1a",
-        b"18446744073709551616",
-    ];
-    for text in refused {
-        assert_eq!(rt; dec(text), None);
+    let found = [dec(b"0"), dec(b"313"), dec(GREATEST)];
+    let is_read = found == [Some(0), Some(313), Some(u64::MAX)];
+    assert!(rt; is_read && are_no_decimals(&NO_DECIMALS));
+}
+
+/// Texts that are no hexadecimal numbers of at most four digits.
+static NO_HEXADECIMALS: [&[u8]; 5] = [b"", b"00000", b"FF", b"1g", b"0x1"];
+
+/// Whether each text is refused as a hexadecimal number.
+fn are_no_hexadecimals(texts: &[&[u8]]) -> bool {
+    for text in texts {
+        if hex(text).is_some() {
+            return false;
+        }
     }
+    true
 }
 
 #[test]
 fn hexadecimal_texts(rt: HostRuntime) {
-    assert_eq!(rt; hex(b"f"), Some(15));
-    assert_eq!(rt; hex(b"0180"), Some(0x180));
-    assert_eq!(rt; hex(b"ffff"), Some(0xffff));
-    let refused: [&[u8]; 5] = [b"", b"00000", b"FF", b"1g", b"0x1"];
-    for text in refused {
-        assert_eq!(rt; hex(text), None);
-    }
+    let found = [hex(b"f"), hex(b"0180"), hex(b"ffff")];
+    let is_read = found == [Some(15), Some(0x180), Some(0xffff)];
+    assert!(rt; is_read && are_no_hexadecimals(&NO_HEXADECIMALS));
 }
 
 /// Appends numbers of both kinds.
@@ -59,11 +77,8 @@ fn put_numbers(text: &mut Vec<u8>) -> bool {
 #[test]
 fn numbers_are_written(rt: HostRuntime) -> Result<(), Fail> {
     let mut text = Vec::from_slice(rt.alloc(), b"n=")?;
-    assert!(rt; put_numbers(&mut text));
-    assert_eq!(rt;
-        text.as_slice(),
-        b"n=0184467440737095516151fe0f000a00f".as_slice()
-    );
+    let want = b"n=0184467440737095516151fe0f000a00f".as_slice();
+    assert!(rt; put_numbers(&mut text) && text.as_slice() == want);
     Ok(())
 }
 
@@ -186,10 +201,11 @@ fn a_folder_on_a_real_file(rt: HostRuntime) -> Result<(), Fail> {
     let name = format!(in rt.alloc(); "/tmp/ocs_io_test_{}", process::id(rt.process()))?;
     let mut folder = Folder::new(&rt);
     let mut into = Vec::new(rt.alloc());
-    assert!(rt; grows_a_file(&mut folder, &name, &mut into));
+    let is_grown = grows_a_file(&mut folder, &name, &mut into);
     let mut empty = Vec::new(rt.alloc());
-    assert!(rt; empties_a_file(&mut folder, &name, &mut empty));
+    let is_emptied = empties_a_file(&mut folder, &name, &mut empty);
     fs::remove_file(&rt, &name)?;
+    assert!(rt; is_grown && is_emptied);
     Ok(())
 }
 
@@ -245,36 +261,36 @@ fn reads_whole(alloc: Global, cap: usize, want: Result<(), ReadRefusal>) -> Resu
 
 #[test]
 fn short_reads_are_read_on(rt: HostRuntime) -> Result<(), Fail> {
-    for (cap, want) in [
-        (5, Ok(())),
-        (9, Ok(())),
-        (4, Err(ReadRefusal::TooLong)),
-        (0, Err(ReadRefusal::TooLong)),
-    ] {
-        assert!(rt; reads_whole(rt.alloc(), cap, want)?, "{cap}");
-    }
+    let found = [
+        reads_whole(rt.alloc(), 5, Ok(()))?,
+        reads_whole(rt.alloc(), 9, Ok(()))?,
+        reads_whole(rt.alloc(), 4, Err(ReadRefusal::TooLong))?,
+        reads_whole(rt.alloc(), 0, Err(ReadRefusal::TooLong))?,
+    ];
+    assert!(rt; found == [true; 4]);
     Ok(())
 }
 
-/// The bytes `abcde` are written to a stream, with this answer, and it holds these.
-fn writes_whole(stream: &mut Trickle, want: Result<(), Refused>, held: &[u8]) -> bool {
-    write_whole(stream, b"abcde") == want && stream.bytes.as_slice() == held
+/// Whether the bytes `abcde` are written to a stream of this room and step with success, or else are
+/// refused, and it holds these.
+fn writes_whole(alloc: Global, room: usize, step: usize, succeeds: bool, held: &[u8]) -> bool {
+    let mut stream = Trickle {
+        bytes: Vec::new(alloc),
+        at: 0,
+        step,
+        room,
+    };
+    let want = if succeeds { Ok(()) } else { Err(Refused) };
+    write_whole(&mut stream, b"abcde") == want && stream.bytes.as_slice() == held
 }
 
 #[test]
 fn short_writes_are_written_on(rt: HostRuntime) {
-    for (room, step, want, held) in [
-        (9, 2, Ok(()), b"abcde".as_slice()),
-        (5, 9, Ok(()), b"abcde".as_slice()),
-        (4, 2, Err(Refused), b"abcd".as_slice()),
-        (9, 0, Err(Refused), b"".as_slice()),
-    ] {
-        let mut stream = Trickle {
-            bytes: Vec::new(rt.alloc()),
-            at: 0,
-            step,
-            room,
-        };
-        assert!(rt; writes_whole(&mut stream, want, held), "{room} {step}");
-    }
+    let found = [
+        writes_whole(rt.alloc(), 9, 2, true, b"abcde"),
+        writes_whole(rt.alloc(), 5, 9, true, b"abcde"),
+        writes_whole(rt.alloc(), 4, 2, false, b"abcd"),
+        writes_whole(rt.alloc(), 9, 0, false, b""),
+    ];
+    assert!(rt; found == [true; 4]);
 }
