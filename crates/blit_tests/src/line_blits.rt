@@ -1,11 +1,10 @@
 //! Line blits worked by hand.
 
-ghost use Rattle.std.specs.Prelude.{◌≡◌};
+ghost use Rattle.std.specs.Prelude.{◌≡◌, ◌%◌};
 
 use crate::first_registers::one_word;
 use blitter_line::{BlitRegs, LineBlit, SlotAsk};
 use ocs_base::Addr;
-use std::process::Abort;
 
 /// A line of four points from bit 15 of word 40: two to the right in its row and two in the next,
 /// whose distances are 3 and 1.
@@ -72,79 +71,104 @@ fn word_at(memory: &[u16], at: usize) -> u16 {
     memory.get(at / 2).copied().unwrap_or(0)
 }
 
+/// BZERO before a line and behind it, and the slots that it takes.
+fn zeros_and_slots(blit: &mut LineBlit, memory: &mut [u16]) -> ([bool; 2], u32) {
+    let before = blit.zero();
+    let slots = slots(blit, memory);
+    ([before, blit.zero()], slots)
+}
+
 #[test]
 fn line_of_four_points(rt: HostRuntime) {
     let mut memory = [0; 64];
     let mut blit = LineBlit::start(&four_points());
-    assert!(rt; blit.zero());
-    assert_eq!(rt; slots(&mut blit, &mut memory), 16);
-    assert_eq!(rt; word_at(&memory, 0x40), 0xc000);
-    assert_eq!(rt; word_at(&memory, 0x42), 0x3000);
-    assert!(rt; !blit.zero());
-    check_left(&rt, &blit.regs());
+    let found = zeros_and_slots(&mut blit, &mut memory);
+    let words = [word_at(&memory, 0x40), word_at(&memory, 0x42)];
+    let is_left = is_left_by_four_points(&blit.regs());
+    assert!(rt; found == ([true, false], 16) && words == [0xc000, 0x3000] && is_left);
 }
 
-/// These are the registers that the line of four points leaves.
-fn check_left(rt: &impl Abort, end: &BlitRegs) {
-    assert_eq!(rt;
-        [end.cpt.raw(), end.dpt.raw(), end.apt.raw()],
-        [0x42, 0x42, 0]
-    );
-    assert_eq!(rt; [end.aptl, end.cdat, end.adat], [2, 0x2000, 0x8000]);
+/// Whether these are the registers that the line of four points leaves.
+fn is_left_by_four_points(end: &BlitRegs) -> bool {
+    let pointers = [end.cpt.raw(), end.dpt.raw(), end.apt.raw()];
+    let words = [end.aptl, end.cdat, end.adat];
+    pointers == [0x42, 0x42, 0] && words == [2, 0x2000, 0x8000]
+}
+
+/// The slots of a line of two points, and the word at an address behind it.
+fn slots_and_word(con1: u16, at: usize) -> (u32, u16)
+    requires { con1 % 2 ≡ 1 }
+{
+    let mut memory = [0; 64];
+    let slots = slots(&mut LineBlit::start(&two_points(con1)), &mut memory);
+    (slots, word_at(&memory, at))
 }
 
 #[test]
 fn second_point_along_y(rt: HostRuntime) {
-    for (con1, at, word) in [
-        (0x01, 0x44, 0x4000),
-        (0x05, 0x3c, 0x4000),
-        (0x09, 0x42, 0x0001),
-        (0x0d, 0x3a, 0x0001),
-        (0x41, 0x44, 0x8000),
-        (0x45, 0x3c, 0x8000),
-    ] {
-        let mut memory = [0; 64];
-        let mut blit = LineBlit::start(&two_points(con1));
-        assert_eq!(rt; slots(&mut blit, &mut memory), 8, "{con1}");
-        assert_eq!(rt; word_at(&memory, at), word, "{con1}");
-    }
+    let found = [
+        slots_and_word(0x01, 0x44),
+        slots_and_word(0x05, 0x3c),
+        slots_and_word(0x09, 0x42),
+        slots_and_word(0x0d, 0x3a),
+        slots_and_word(0x41, 0x44),
+        slots_and_word(0x45, 0x3c),
+    ];
+    let want = [
+        (8, 0x4000),
+        (8, 0x4000),
+        (8, 0x0001),
+        (8, 0x0001),
+        (8, 0x8000),
+        (8, 0x8000),
+    ];
+    assert!(rt; found == want);
 }
 
 #[test]
 fn second_point_along_x(rt: HostRuntime) {
-    for (con1, at, word) in [
-        (0x11, 0x44, 0x4000),
-        (0x15, 0x42, 0x0001),
-        (0x19, 0x3c, 0x4000),
-        (0x1d, 0x3a, 0x0001),
-        (0x51, 0x40, 0xc000),
-        (0x55, 0x3e, 0x0001),
-    ] {
-        let mut memory = [0; 64];
-        let mut blit = LineBlit::start(&two_points(con1));
-        assert_eq!(rt; slots(&mut blit, &mut memory), 8, "{con1}");
-        assert_eq!(rt; word_at(&memory, at), word, "{con1}");
-    }
+    let found = [
+        slots_and_word(0x11, 0x44),
+        slots_and_word(0x15, 0x42),
+        slots_and_word(0x19, 0x3c),
+        slots_and_word(0x1d, 0x3a),
+        slots_and_word(0x51, 0x40),
+        slots_and_word(0x55, 0x3e),
+    ];
+    let want = [
+        (8, 0x4000),
+        (8, 0x0001),
+        (8, 0x4000),
+        (8, 0x0001),
+        (8, 0xc000),
+        (8, 0x0001),
+    ];
+    assert!(rt; found == want);
+}
+
+/// The word at 40 behind a line of four points without A, by BLTCON1 and the texture.
+fn first_word(con1: u16, bdat: u16) -> u16
+    requires { con1 % 2 ≡ 1 }
+{
+    let mut regs = four_points();
+    regs.con0 = 0x03ca;
+    regs.con1 = con1;
+    regs.bdat = bdat;
+    let mut memory = [0; 64];
+    slots(&mut LineBlit::start(&regs), &mut memory);
+    word_at(&memory, 0x40)
 }
 
 #[test]
 fn one_dot_a_row_and_texture(rt: HostRuntime) {
-    for (con1, bdat, word) in [
-        (0x0051, 0xffff, 0xf000),
-        (0x0053, 0xffff, 0x8000),
-        (0xf051, 0xa000, 0xa000),
-        (0x0051, 0x0001, 0x8000),
-        (0x0051, 0xc000, 0x6000),
-    ] {
-        let mut regs = four_points();
-        regs.con0 = 0x03ca;
-        regs.con1 = con1;
-        regs.bdat = bdat;
-        let mut memory = [0; 64];
-        let mut blit = LineBlit::start(&regs);
-        slots(&mut blit, &mut memory);
-        assert_eq!(rt; word_at(&memory, 0x40), word, "{con1} {bdat}");
-    }
+    let found = [
+        first_word(0x0051, 0xffff),
+        first_word(0x0053, 0xffff),
+        first_word(0xf051, 0xa000),
+        first_word(0x0051, 0x0001),
+        first_word(0x0051, 0xc000),
+    ];
+    assert!(rt; found == [0xf000, 0x8000, 0xa000, 0x8000, 0x6000]);
 }
 
 #[test]
@@ -154,8 +178,7 @@ fn unused_channels_rest(rt: HostRuntime) {
     regs.cdat = 0x1234;
     let mut memory = [0; 64];
     let mut blit = LineBlit::start(&regs);
-    assert_eq!(rt; slots(&mut blit, &mut memory), 16);
-    assert_eq!(rt; word_at(&memory, 0x40), 0);
-    assert_eq!(rt; blit.regs().cdat, 0x1234);
-    assert!(rt; !blit.zero());
+    let (zeros, slots) = zeros_and_slots(&mut blit, &mut memory);
+    let words = [word_at(&memory, 0x40), blit.regs().cdat];
+    assert!(rt; slots == 16 && words == [0, 0x1234] && !zeros[1]);
 }
