@@ -3,76 +3,139 @@
 use ocs_base::*;
 use std::alloc::AllocError;
 
+/// The address that a number stands for.
+fn kept(raw: u32) -> u32 {
+    Addr::at(raw).raw()
+}
+
 #[test]
 fn addresses(rt: HostRuntime) {
-    for (raw, want) in [(0, 0), (3, 2), (0x8_0001, 0), (0xf7_ffff, 0x7_fffe)] {
-        assert_eq!(rt; Addr::at(raw).raw(), want, "at {raw}");
-    }
-    assert_eq!(rt; Addr::at(0).step(-2).raw(), 0x7_fffe);
-    assert_eq!(rt; Addr::at(0x7_fffe).step(4).raw(), 2);
-    assert_eq!(rt; Addr::at(8).span(), 524_288);
+    let found = [
+        kept(0),
+        kept(3),
+        kept(0x8_0001),
+        kept(0xf7_ffff),
+        Addr::at(0).step(-2).raw(),
+        Addr::at(0x7_fffe).step(4).raw(),
+        Addr::at(8).span(),
+    ];
+    assert!(rt; found == [0, 2, 0, 0x7_fffe, 0x7_fffe, 2, 524_288]);
+}
+
+/// The address that a number stands for in one mebibyte, and in a chip memory of that size.
+fn kept_wide(raw: u32) -> [u32; 2] {
+    [
+        Addr::wide(raw).raw(),
+        Addr::sized(ChipSize::Mib1, raw).raw(),
+    ]
 }
 
 #[test]
 fn addresses_of_one_mebibyte(rt: HostRuntime) {
-    for (raw, want) in [
-        (0, 0),
-        (3, 2),
-        (0x8_0001, 0x8_0000),
-        (0x10_0003, 2),
-        (0xff_ffff, 0xf_fffe),
-    ] {
-        assert_eq!(rt; Addr::wide(raw).raw(), want, "at {raw}");
-        assert_eq!(rt; Addr::sized(ChipSize::Mib1, raw).raw(), want, "at {raw}");
-    }
-    assert_eq!(rt; Addr::wide(0).step(-2).raw(), 0xf_fffe);
-    assert_eq!(rt; Addr::wide(0x7_fffe).step(2).raw(), 0x8_0000);
-    assert_eq!(rt; Addr::wide(0xf_fffe).step(4).raw(), 2);
-    assert_eq!(rt; Addr::wide(0).step(2).step(-4).raw(), 0xf_fffe);
-    assert_eq!(rt; Addr::wide(8).span(), 1_048_576);
-    assert_eq!(rt; Addr::sized(ChipSize::Kib512, 0x8_0011).raw(), 0x10);
-    assert_eq!(rt; Addr::sized(ChipSize::Kib512, 0x8_0011).span(), 524_288);
+    let found = [
+        kept_wide(0),
+        kept_wide(3),
+        kept_wide(0x8_0001),
+        kept_wide(0x10_0003),
+        kept_wide(0xff_ffff),
+    ];
+    let want = [[0; 2], [2; 2], [0x8_0000; 2], [2; 2], [0xf_fffe; 2]];
+    assert!(rt; found == want);
+}
+
+#[test]
+fn steps_in_one_mebibyte(rt: HostRuntime) {
+    let found = [
+        Addr::wide(0).step(-2).raw(),
+        Addr::wide(0x7_fffe).step(2).raw(),
+        Addr::wide(0xf_fffe).step(4).raw(),
+        Addr::wide(0).step(2).step(-4).raw(),
+    ];
+    assert!(rt; found == [0xf_fffe, 0x8_0000, 2, 0xf_fffe]);
+}
+
+#[test]
+fn spans_by_size(rt: HostRuntime) {
+    let small = Addr::sized(ChipSize::Kib512, 0x8_0011);
+    let found = [Addr::wide(8).span(), small.raw(), small.span()];
+    assert!(rt; found == [1_048_576, 0x10, 524_288]);
 }
 
 #[test]
 fn sizes_of_chip_memory(rt: HostRuntime) {
-    assert!(rt; ChipSize::of_bytes(524_288) == ChipSize::Kib512);
-    assert!(rt; ChipSize::of_bytes(1_048_576) == ChipSize::Mib1);
-    assert_eq!(rt; ChipSize::Kib512.bytes(), 524_288);
-    assert_eq!(rt; ChipSize::Mib1.bytes(), 1_048_576);
+    let is_small = ChipSize::of_bytes(524_288) == ChipSize::Kib512;
+    let is_great = ChipSize::of_bytes(1_048_576) == ChipSize::Mib1;
+    let bytes = [ChipSize::Kib512.bytes(), ChipSize::Mib1.bytes()];
+    assert!(rt; is_small && is_great && bytes == [524_288, 1_048_576]);
 }
 
 #[test]
 fn registers(rt: HostRuntime) {
-    for (raw, there) in [(0, true), (0x1fe, true), (0x200, false), (0x181, false)] {
-        assert_eq!(rt; Reg::new(raw).is_some(), there, "at {raw}");
-    }
-    assert_eq!(rt; Reg::masked(0xff81).raw(), 0x180);
+    let found = [
+        Reg::new(0).is_some(),
+        Reg::new(0x1fe).is_some(),
+        Reg::new(0x200).is_some(),
+        Reg::new(0x181).is_some(),
+    ];
+    assert!(rt; found == [true, true, false, false] && Reg::masked(0xff81).raw() == 0x180);
+}
+
+/// A key at the last clock of a long field of frame 2.
+const LATE_KEY: At = At {
+    frame: 2,
+    v: 311,
+    h: 226,
+    act: Act::Key { code: 0x45 },
+};
+
+/// Whether a script of three frames with a processor is that with this one event.
+fn is_of_one_event(script: &Script) -> bool {
+    let events = script.events();
+    events.len() == 1
+        && events[0] == LATE_KEY
+        && script.cpu()
+        && script.frames() == 3
+        && script.chip() == 524_288
+        && script.system() == System::Pal
 }
 
 #[test]
 fn a_script_of_one_event(rt: HostRuntime) -> Result<(), OutOfMemory> {
     let mut script = Script::new(rt.alloc(), true, 3);
-    let at = At {
-        frame: 2,
-        v: 311,
-        h: 226,
-        act: Act::Key { code: 0x45 },
-    };
-    script.push(at)?;
-    assert_eq!(rt; script.events().len(), 1);
-    assert!(rt; script.events()[0] == at);
-    assert!(rt; script.cpu() && script.frames() == 3);
-    assert!(rt; script.chip() == 524_288 && script.system() == System::Pal);
+    script.push(LATE_KEY)?;
+    assert!(rt; is_of_one_event(&script));
+    Ok(())
+}
+
+/// Whether a script without events has this system, size of chip memory and processor.
+fn is_empty_script(script: &Script, system: System, chip: ChipSize, cpu: bool) -> bool {
+    script.system() == system
+        && script.chip() == chip.bytes()
+        && script.chip_size() == chip
+        && script.cpu() == cpu
+        && script.events().is_empty()
+}
+
+#[test]
+fn a_script_of_ntsc(rt: HostRuntime) {
     let ntsc = Script::made(rt.alloc(), false, 1, 1_048_576, System::Ntsc);
-    assert!(rt; ntsc.system() == System::Ntsc && !ntsc.cpu() && ntsc.events().is_empty());
-    assert!(rt; ntsc.chip() == 1_048_576 && ntsc.chip_size() == ChipSize::Mib1);
-    let pal = Script::sized(rt.alloc(), true, 2, 1_048_576);
-    assert!(rt; pal.system() == System::Pal && pal.cpu() && pal.frames() == 2);
-    assert!(rt; pal.chip() == 1_048_576 && pal.events().is_empty());
+    assert!(rt; is_empty_script(&ntsc, System::Ntsc, ChipSize::Mib1, false));
+}
+
+#[test]
+fn a_script_with_a_size(rt: HostRuntime) {
+    let great = Script::sized(rt.alloc(), true, 2, 1_048_576);
+    assert!(rt; is_empty_script(&great, System::Pal, ChipSize::Mib1, true) && great.frames() == 2);
+}
+
+#[test]
+fn a_script_with_the_smaller_size(rt: HostRuntime) {
     let small = Script::sized(rt.alloc(), true, 2, 524_288);
-    assert!(rt; small.chip() == 524_288 && small.chip_size() == ChipSize::Kib512);
+    assert!(rt; is_empty_script(&small, System::Pal, ChipSize::Kib512, true));
+}
+
+#[test]
+fn a_refusal_for_want_of_memory(rt: HostRuntime) {
     let refused: Result<(), OutOfMemory> = Err(OutOfMemory::from(AllocError));
     assert!(rt; refused.is_err());
-    Ok(())
 }

@@ -7,106 +7,144 @@ fn place(frame: u32, v: u16, h: u16, lof: bool) -> Beam {
     Beam { frame, v, h, lof }
 }
 
+/// Whether the beam goes from a place to the next one, both given by frame, line, clock and LOF.
+fn goes(lace: bool, system: System, before: Place, after: Place) -> bool {
+    let mut beam = place(before.0, before.1, before.2, before.3);
+    if 9 <= beam.frame {
+        return false;
+    }
+    match system {
+        System::Pal => advance(&mut beam, lace),
+        System::Ntsc => advance_in(&mut beam, lace, system),
+    }
+    beam == place(after.0, after.1, after.2, after.3)
+}
+
+/// Frame, line, clock and LOF.
+type Place = (u32, u16, u16, bool);
+
+/// LACE, a place and the next one.
+static NEXT_PLACES: [(bool, Place, Place); 10] = [
+    (true, (0, 0, 0, true), (0, 0, 1, true)),
+    (true, (0, 17, 225, false), (0, 17, 226, false)),
+    (true, (2, 17, 226, false), (2, 18, 0, false)),
+    (true, (2, 311, 226, true), (2, 312, 0, true)),
+    (true, (2, 312, 226, true), (3, 0, 0, false)),
+    (false, (2, 312, 226, true), (3, 0, 0, true)),
+    (true, (2, 311, 226, false), (3, 0, 0, true)),
+    (false, (2, 311, 226, false), (3, 0, 0, false)),
+    (false, (4, 312, 100, false), (4, 312, 101, false)),
+    (false, (4, 312, 226, false), (5, 0, 0, false)),
+];
+
 #[test]
 fn next_places(rt: HostRuntime) {
-    for (lace, before, after) in [
-        (true, place(0, 0, 0, true), place(0, 0, 1, true)),
-        (true, place(0, 17, 225, false), place(0, 17, 226, false)),
-        (true, place(2, 17, 226, false), place(2, 18, 0, false)),
-        (true, place(2, 311, 226, true), place(2, 312, 0, true)),
-        (true, place(2, 312, 226, true), place(3, 0, 0, false)),
-        (false, place(2, 312, 226, true), place(3, 0, 0, true)),
-        (true, place(2, 311, 226, false), place(3, 0, 0, true)),
-        (false, place(2, 311, 226, false), place(3, 0, 0, false)),
-        (false, place(4, 312, 100, false), place(4, 312, 101, false)),
-        (false, place(4, 312, 226, false), place(5, 0, 0, false)),
-    ] {
-        let mut beam = before;
-        assert!(rt; beam.frame < 9);
-        advance(&mut beam, lace);
-        assert_eq!(rt; beam, after, "{before:?}");
+    for (lace, before, after) in &NEXT_PLACES {
+        assert!(rt; goes(*lace, System::Pal, *before, *after), "{before:?}");
     }
 }
 
+/// LACE, a place of NTSC and the next one.
+static NEXT_PLACES_OF_NTSC: [(bool, Place, Place); 10] = [
+    (true, (0, 0, 225, true), (0, 0, 226, true)),
+    (true, (0, 0, 226, true), (0, 1, 0, true)),
+    (true, (0, 1, 226, true), (0, 1, 227, true)),
+    (true, (0, 1, 227, true), (0, 2, 0, true)),
+    (true, (2, 261, 227, true), (2, 262, 0, true)),
+    (true, (2, 262, 226, true), (3, 0, 0, false)),
+    (false, (2, 262, 226, true), (3, 0, 0, true)),
+    (true, (2, 261, 226, false), (2, 261, 227, false)),
+    (true, (2, 261, 227, false), (3, 0, 0, true)),
+    (false, (2, 261, 227, false), (3, 0, 0, false)),
+];
+
 #[test]
 fn next_places_of_ntsc(rt: HostRuntime) {
-    for (lace, before, after) in [
-        (true, place(0, 0, 225, true), place(0, 0, 226, true)),
-        (true, place(0, 0, 226, true), place(0, 1, 0, true)),
-        (true, place(0, 1, 226, true), place(0, 1, 227, true)),
-        (true, place(0, 1, 227, true), place(0, 2, 0, true)),
-        (true, place(2, 261, 227, true), place(2, 262, 0, true)),
-        (true, place(2, 262, 226, true), place(3, 0, 0, false)),
-        (false, place(2, 262, 226, true), place(3, 0, 0, true)),
-        (true, place(2, 261, 226, false), place(2, 261, 227, false)),
-        (true, place(2, 261, 227, false), place(3, 0, 0, true)),
-        (false, place(2, 261, 227, false), place(3, 0, 0, false)),
-    ] {
-        let mut beam = before;
-        assert!(rt; beam.frame < 9);
-        advance_in(&mut beam, lace, System::Ntsc);
-        assert_eq!(rt; beam, after, "{before:?}");
+    for (lace, before, after) in &NEXT_PLACES_OF_NTSC {
+        assert!(rt; goes(*lace, System::Ntsc, *before, *after), "{before:?}");
     }
+}
+
+/// Whether a field with LACE begins after so many clocks, and is long or short.
+fn comes_to_field(beam: &mut Beam, system: System, clocks: u32, lof: bool) -> bool {
+    for _ in 0..clocks {
+        if 9 <= beam.frame {
+            return false;
+        }
+        match system {
+            System::Pal => advance(beam, true),
+            System::Ntsc => advance_in(beam, true, system),
+        }
+    }
+    at_field_start(beam) && beam.lof == lof
 }
 
 /// A long field of NTSC has 132 lines of 227 clocks and 131 of 228; a short one lacks the last of 227.
 #[test]
 fn fields_of_ntsc(rt: HostRuntime) {
     let mut beam = start();
-    for (clocks, lof) in [(59_832, false), (59_605, true), (59_832, false)] {
-        for _ in 0..clocks {
-            assert!(rt; beam.frame < 9);
-            advance_in(&mut beam, true, System::Ntsc);
+    let found = [
+        comes_to_field(&mut beam, System::Ntsc, 59_832, false),
+        comes_to_field(&mut beam, System::Ntsc, 59_605, true),
+        comes_to_field(&mut beam, System::Ntsc, 59_832, false),
+    ];
+    assert!(rt; found == [true; 3] && beam.frame == 3);
+}
+
+/// Lines and clocks, of which those of the picture are told by their line.
+static SHOWN: [(u16, u16); 7] = [
+    (19, 47),
+    (20, 47),
+    (25, 47),
+    (26, 47),
+    (261, 226),
+    (262, 226),
+    (311, 226),
+];
+
+/// Whether a picture shows these lines, from clock 47 to clock 226.
+fn shows_lines(system: System, first: u16, end: u16) -> bool {
+    for (v, h) in &SHOWN {
+        if system.shows(*v, *h) != (first <= *v && *v < end) {
+            return false;
         }
-        assert!(rt; at_field_start(&beam) && beam.lof == lof, "{clocks}");
     }
-    assert_eq!(rt; beam.frame, 3);
+    !system.shows(100, 46)
+        && system.shows(100, 47)
+        && system.shows(101, 226)
+        && !system.shows(101, 227)
 }
 
 #[test]
 fn what_a_picture_shows(rt: HostRuntime) {
-    for (system, lines) in [(System::Pal, 26..312), (System::Ntsc, 20..262)] {
-        for (v, h) in [
-            (19, 47),
-            (20, 47),
-            (25, 47),
-            (26, 47),
-            (261, 226),
-            (262, 226),
-            (311, 226),
-        ] {
-            assert_eq!(rt; system.shows(v, h), lines.contains(&v), "{v} {h}");
-        }
-        assert!(rt; !system.shows(100, 46) && system.shows(100, 47));
-        assert!(rt; system.shows(101, 226) && !system.shows(101, 227));
-    }
-    assert_eq!(rt; System::Pal.frame_bytes(), 617_760);
-    assert_eq!(rt; System::Ntsc.frame_bytes(), 522_720);
+    let lines = [
+        shows_lines(System::Pal, 26, 312),
+        shows_lines(System::Ntsc, 20, 262),
+    ];
+    let bytes = [System::Pal.frame_bytes(), System::Ntsc.frame_bytes()];
+    assert!(rt; lines == [true; 2] && bytes == [617_760, 522_720]);
 }
 
 #[test]
 fn a_long_field_and_a_short_one(rt: HostRuntime) {
     let mut beam = start();
-    for (clocks, lof) in [(71_051, false), (70_824, true), (71_051, false)] {
-        for _ in 0..clocks {
-            assert!(rt; beam.frame < 9);
-            advance(&mut beam, true);
-        }
-        assert!(rt; at_field_start(&beam) && beam.lof == lof, "{clocks}");
-    }
-    assert_eq!(rt; beam.frame, 3);
+    let found = [
+        comes_to_field(&mut beam, System::Pal, 71_051, false),
+        comes_to_field(&mut beam, System::Pal, 70_824, true),
+        comes_to_field(&mut beam, System::Pal, 71_051, false),
+    ];
+    assert!(rt; found == [true; 3] && beam.frame == 3);
+}
+
+/// Whether a line begins at this place, and whether a field does.
+fn starts(v: u16, h: u16) -> (bool, bool) {
+    let beam = place(7, v, h, true);
+    (at_line_start(&beam), at_field_start(&beam))
 }
 
 #[test]
 fn starts_of_lines_and_fields(rt: HostRuntime) {
-    for (v, h, line, field) in [
-        (0, 0, true, true),
-        (0, 1, false, false),
-        (1, 0, true, false),
-        (312, 226, false, false),
-    ] {
-        let beam = place(7, v, h, true);
-        assert_eq!(rt; at_line_start(&beam), line, "{v} {h}");
-        assert_eq!(rt; at_field_start(&beam), field, "{v} {h}");
-    }
+    let found = [starts(0, 0), starts(0, 1), starts(1, 0), starts(312, 226)];
+    let want = [(true, true), (false, false), (true, false), (false, false)];
+    assert!(rt; found == want);
 }

@@ -37,43 +37,53 @@ fn line(v: u16, regs: &mut Regs, writes: &[(u16, u16, u16)]) -> (u16, (u16, u8),
     (count, first, last)
 }
 
+/// How many fetches there are on a line, and the clock and the plane of the first and of the last.
+type Fetches = (u16, (u16, u8), (u16, u8));
+
+/// No fetches.
+const NONE: Fetches = (0, (0, 0), (0, 0));
+
+/// A line, DDFSTRT, DDFSTOP, the bits of DMACON, BPLCON0, and the fetches.
+static FETCHES: [(u16, u16, u16, u16, u16, Fetches); 15] = [
+    // One plane and six in low resolution, four in high.
+    (0x2c, 0x38, 0xd0, 0x300, 0x1000, (20, (63, 1), (215, 1))),
+    (0x2c, 0x38, 0xd0, 0x300, 0x6000, (120, (57, 4), (215, 1))),
+    (0x2c, 0x3c, 0xd4, 0x300, 0xc000, (160, (60, 4), (219, 1))),
+    // Seven planes are six, and in high resolution five are four.
+    (0x2c, 0x38, 0xd0, 0x300, 0x7000, (120, (57, 4), (215, 1))),
+    (0x2c, 0x3c, 0xd4, 0x300, 0xd000, (160, (60, 4), (219, 1))),
+    // Lines at the ends of the window, and missing DMA.
+    (0x2b, 0x38, 0xd0, 0x300, 0x1000, NONE),
+    (0xf3, 0x38, 0xd0, 0x300, 0x1000, (20, (63, 1), (215, 1))),
+    (0xf4, 0x38, 0xd0, 0x300, 0x1000, NONE),
+    (0x2c, 0x38, 0xd0, 0x100, 0x1000, NONE),
+    (0x2c, 0x38, 0xd0, 0x200, 0x1000, NONE),
+    // The bounds $18 and $D8, and words above them.
+    (0x2c, 0x00, 0x00, 0x300, 0x1000, (1, (31, 1), (31, 1))),
+    (0x2c, 0x3a, 0xffff, 0x300, 0x1000, (21, (63, 1), (223, 1))),
+    (0x2c, 0x3c, 0xd8, 0x300, 0x1000, (20, (67, 1), (219, 1))),
+    (0x2c, 0xd8, 0xd8, 0x300, 0x1000, (1, (223, 1), (223, 1))),
+    (0x2c, 0xdc, 0xd8, 0x300, 0x1000, NONE),
+];
+
+/// The fetches of a line whose window has lines 2C to F3.
+fn fetches(v: u16, start: u16, stop: u16, dma: u16, con0: u16) -> Fetches {
+    let mut regs = registers(&[
+        (0x08e, 0x2c81),
+        (0x090, 0xf4c1),
+        (0x092, start),
+        (0x094, stop),
+        (0x096, 0x8000 | dma),
+        (0x100, con0),
+    ]);
+    line(v, &mut regs, &[])
+}
+
 #[test]
 fn fetches_of_a_line(rt: HostRuntime) {
-    let none = (0, (0, 0), (0, 0));
-    for (v, start, stop, dma, con0, want) in [
-        // One plane and six in low resolution, four in high.
-        (0x2c, 0x38, 0xd0, 0x300, 0x1000, (20, (63, 1), (215, 1))),
-        (0x2c, 0x38, 0xd0, 0x300, 0x6000, (120, (57, 4), (215, 1))),
-        (0x2c, 0x3c, 0xd4, 0x300, 0xc000, (160, (60, 4), (219, 1))),
-        // Seven planes are six, and in high resolution five are four.
-        (0x2c, 0x38, 0xd0, 0x300, 0x7000, (120, (57, 4), (215, 1))),
-        (0x2c, 0x3c, 0xd4, 0x300, 0xd000, (160, (60, 4), (219, 1))),
-        // Lines at the ends of the window, and missing DMA.
-        (0x2b, 0x38, 0xd0, 0x300, 0x1000, none),
-        (0xf3, 0x38, 0xd0, 0x300, 0x1000, (20, (63, 1), (215, 1))),
-        (0xf4, 0x38, 0xd0, 0x300, 0x1000, none),
-        (0x2c, 0x38, 0xd0, 0x100, 0x1000, none),
-        (0x2c, 0x38, 0xd0, 0x200, 0x1000, none),
-        // The bounds $18 and $D8, and words above them.
-        (0x2c, 0x00, 0x00, 0x300, 0x1000, (1, (31, 1), (31, 1))),
-        (0x2c, 0x3a, 0xffff, 0x300, 0x1000, (21, (63, 1), (223, 1))),
-        (0x2c, 0x3c, 0xd8, 0x300, 0x1000, (20, (67, 1), (219, 1))),
-        (0x2c, 0xd8, 0xd8, 0x300, 0x1000, (1, (223, 1), (223, 1))),
-        (0x2c, 0xdc, 0xd8, 0x300, 0x1000, none),
-    ] {
-        let mut regs = registers(&[
-            (0x08e, 0x2c81),
-            (0x090, 0xf4c1),
-            (0x092, start),
-            (0x094, stop),
-            (0x096, 0x8000 | dma),
-            (0x100, con0),
-        ]);
-        assert_eq!(rt;
-            line(v, &mut regs, &[]),
-            want,
-            "{v} {start} {stop} {dma} {con0}"
-        );
+    for (v, start, stop, dma, con0, want) in &FETCHES {
+        let found = fetches(*v, *start, *stop, *dma, *con0);
+        assert!(rt; found == *want, "{v} {start} {stop} {dma} {con0}");
     }
 }
 
@@ -92,8 +102,8 @@ fn registers_of_the_moment(rt: HostRuntime) {
         (0x108, 0x100),
     ]);
     let writes = [(70, 0x094, 0x38), (80, 0x092, 0x80)];
-    assert_eq!(rt; line(0x12c, &mut regs, &writes), (3, (63, 1), (135, 1)));
-    assert_eq!(rt; regs.word(Reg::masked(0x0e2)), 0x1206);
+    let found = line(0x12c, &mut regs, &writes);
+    assert!(rt; found == (3, (63, 1), (135, 1)) && regs.word(Reg::masked(0x0e2)) == 0x1206);
 }
 
 /// Each plane's pointer moves by its words and once by its modulo, and wraps.
@@ -112,16 +122,15 @@ fn pointers_after_a_line(rt: HostRuntime) {
         (0x108, 0xfffd),
         (0x10a, 0x0007),
     ]);
-    assert_eq!(rt; line(0x2c, &mut regs, &[]), (80, (61, 2), (219, 1)));
-    for (offset, want) in [
-        (0x0e0, 1),
-        (0x0e2, 0x004c),
-        (0x0e4, 0),
-        (0x0e6, 0x0054),
-        (0x0ea, 0),
-    ] {
-        assert_eq!(rt; regs.word(Reg::masked(offset)), want, "{offset}");
-    }
+    let found = line(0x2c, &mut regs, &[]);
+    let words = [
+        regs.word(Reg::masked(0x0e0)),
+        regs.word(Reg::masked(0x0e2)),
+        regs.word(Reg::masked(0x0e4)),
+        regs.word(Reg::masked(0x0e6)),
+        regs.word(Reg::masked(0x0ea)),
+    ];
+    assert!(rt; found == (80, (61, 2), (219, 1)) && words == [1, 0x004c, 0, 0x0054, 0]);
 }
 
 /// A place of line 2C.
@@ -181,7 +190,7 @@ fn clocks_without_a_fetch(rt: HostRuntime) {
         quiet(0x6000, 57, 100),
         quiet(0x6000, 60, 100),
     ];
-    assert_eq!(rt; found, [200, 16, 7, 5, 0, 7, 10, 1, 0, 1]);
+    assert!(rt; found == [200, 16, 7, 5, 0, 7, 10, 1, 0, 1]);
 }
 
 /// The clock of the first fetch behind clocks that were passed over from clock 1 on; 0 where there is none.
@@ -210,7 +219,7 @@ fn units_begin_among_clocks_passed_over(rt: HostRuntime) {
         fetch_behind(211),
         fetch_behind(215),
     ];
-    assert_eq!(rt; found, [63, 63, 63, 103, 215, 0]);
+    assert!(rt; found == [63, 63, 63, 103, 215, 0]);
 }
 
 /// How many clocks there are from clock `h` to the end of the last unit, at most 100.
@@ -231,7 +240,7 @@ fn clocks_before_the_last_fetch(rt: HostRuntime) {
         before_last_fetch(215),
         before_last_fetch(216),
     ];
-    assert_eq!(rt; found, [0, 100, 66, 1, 0]);
+    assert!(rt; found == [0, 100, 66, 1, 0]);
 }
 
 /// The low word of plane 1's pointer behind a line, from 1000 (hexadecimal) on, where each clock goes by what
@@ -259,5 +268,5 @@ fn a_line_by_its_rules(rt: HostRuntime) {
         pointer_by_rules(0x9000),
         pointer_by_rules(0xc000),
     ];
-    assert_eq!(rt; found, [0x1000, 0x102e, 0x102e, 0x1056, 0x1056]);
+    assert!(rt; found == [0x1000, 0x102e, 0x102e, 0x1056, 0x1056]);
 }

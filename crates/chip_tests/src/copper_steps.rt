@@ -37,87 +37,119 @@ fn written(act: CopperAct) -> Option<(u16, u16)> {
     }
 }
 
+/// What the Copper writes in a step at which it may be given a word, and the address that it asks for next.
+fn stepped(copper: &mut Copper, fetched: Option<u16>) -> (Option<(u16, u16)>, Option<u32>) {
+    let act = copper.step(fetched, &beam(0, 0), false, false);
+    (written(act), wanted(copper))
+}
+
 #[test]
 fn a_move_waits_for_its_slots(rt: HostRuntime) {
     let mut copper = Copper::start(Addr::at(0x100));
-    for (fetched, write, next) in [
-        (None, None, 0x100),
-        (Some(0x0180), None, 0x102),
-        (None, None, 0x102),
-        (Some(0x0f00), Some((0x180, 0x0f00)), 0x104),
-        (Some(0xff82), None, 0x106),
-        (Some(0x0001), Some((0x182, 0x0001)), 0x108),
-    ] {
-        let act = copper.step(fetched, &beam(0, 0), false, false);
-        assert_eq!(rt; written(act), write, "{next}");
-        assert_eq!(rt; wanted(&copper), Some(next), "{next}");
-    }
+    let found = [
+        stepped(&mut copper, None),
+        stepped(&mut copper, Some(0x0180)),
+        stepped(&mut copper, None),
+        stepped(&mut copper, Some(0x0f00)),
+        stepped(&mut copper, Some(0xff82)),
+        stepped(&mut copper, Some(0x0001)),
+    ];
+    let want = [
+        (None, Some(0x100)),
+        (None, Some(0x102)),
+        (None, Some(0x102)),
+        (Some((0x180, 0x0f00)), Some(0x104)),
+        (None, Some(0x106)),
+        (Some((0x182, 0x0001)), Some(0x108)),
+    ];
+    assert!(rt; found == want);
+}
+
+/// Whether a MOVE with this first word writes where it is allowed, and else stops the Copper until a jump.
+fn is_allowed(first: u16, danger: bool, allowed: bool) -> bool {
+    let mut copper = Copper::start(Addr::at(0));
+    copper.step(Some(first), &beam(0, 0), false, danger);
+    let act = copper.step(Some(7), &beam(0, 0), false, danger);
+    let moves = written(act).is_some() == allowed
+        && copper.stopped() != allowed
+        && wanted(&copper).is_some() == allowed;
+    copper.step(Some(0x0180), &beam(0, 0), false, danger);
+    let stays = copper.stopped() != allowed;
+    copper.jump(Addr::at(0x200));
+    moves && stays && wanted(&copper) == Some(0x200) && !copper.stopped()
 }
 
 #[test]
 fn forbidden_moves_stop_it(rt: HostRuntime) {
-    for (first, danger, allowed) in [
-        (0x003e, false, false),
-        (0x003e, true, false),
-        (0x0040, false, false),
-        (0x0040, true, true),
-        (0x007e, false, false),
-        (0x007e, true, true),
-        (0x0080, false, true),
-    ] {
-        let mut copper = Copper::start(Addr::at(0));
-        copper.step(Some(first), &beam(0, 0), false, danger);
-        let act = copper.step(Some(7), &beam(0, 0), false, danger);
-        assert_eq!(rt; written(act).is_some(), allowed, "{first} {danger}");
-        assert_eq!(rt; copper.stopped(), !allowed, "{first} {danger}");
-        assert_eq!(rt; wanted(&copper).is_some(), allowed, "{first} {danger}");
-        copper.step(Some(0x0180), &beam(0, 0), false, danger);
-        assert_eq!(rt; copper.stopped(), !allowed, "{first} {danger}");
-        copper.jump(Addr::at(0x200));
-        assert_eq!(rt; wanted(&copper), Some(0x200), "{first} {danger}");
-        assert!(rt; !copper.stopped(), "{first} {danger}");
-    }
+    let found = [
+        is_allowed(0x003e, false, false),
+        is_allowed(0x003e, true, false),
+        is_allowed(0x0040, false, false),
+        is_allowed(0x0040, true, true),
+        is_allowed(0x007e, false, false),
+        is_allowed(0x007e, true, true),
+        is_allowed(0x0080, false, true),
+    ];
+    assert!(rt; found == [true; 7]);
+}
+
+/// The words of a WAIT, whether the blitter is busy, a line and a clock, and whether the WAIT ends there.
+static WAITS: [(u16, u16, bool, u16, u16, bool); 14] = [
+    (0x3041, 0xfffe, false, 47, 226, false),
+    (0x3041, 0xfffe, false, 48, 63, false),
+    (0x3041, 0xfffe, false, 48, 64, true),
+    (0x3041, 0xfffe, false, 49, 0, true),
+    (0x3041, 0xfffe, false, 256, 0, false),
+    (0x8001, 0x0000, false, 127, 226, false),
+    (0x8001, 0x0000, false, 128, 0, true),
+    (0x8001, 0x7ffe, false, 127, 226, false),
+    (0x8001, 0x7ffe, false, 128, 0, true),
+    (0xff41, 0x80fe, false, 128, 62, false),
+    (0xff41, 0x80fe, false, 128, 64, true),
+    (0x0001, 0x7ffe, true, 9, 0, false),
+    (0x0001, 0x7ffe, false, 9, 0, true),
+    (0x0001, 0xfffe, true, 9, 0, true),
+];
+
+/// What a Copper in a WAIT asks for, before it sees this place of the beam and behind that; 0 where it is
+/// stopped then.
+fn asked_around(first: u16, second: u16, busy: bool, v: u16, h: u16) -> [Option<u32>; 2] {
+    let mut copper = after(8, first, second, &beam(312, 226), busy);
+    let before = wanted(&copper);
+    copper.step(None, &beam(v, h), busy, false);
+    let behind = if copper.stopped() {
+        Some(0)
+    } else {
+        wanted(&copper)
+    };
+    [before, behind]
 }
 
 #[test]
 fn waits_end_from_their_place_on(rt: HostRuntime) {
-    for (first, second, busy, v, h, holds) in [
-        (0x3041, 0xfffe, false, 47, 226, false),
-        (0x3041, 0xfffe, false, 48, 63, false),
-        (0x3041, 0xfffe, false, 48, 64, true),
-        (0x3041, 0xfffe, false, 49, 0, true),
-        (0x3041, 0xfffe, false, 256, 0, false),
-        (0x8001, 0x0000, false, 127, 226, false),
-        (0x8001, 0x0000, false, 128, 0, true),
-        (0x8001, 0x7ffe, false, 127, 226, false),
-        (0x8001, 0x7ffe, false, 128, 0, true),
-        (0xff41, 0x80fe, false, 128, 62, false),
-        (0xff41, 0x80fe, false, 128, 64, true),
-        (0x0001, 0x7ffe, true, 9, 0, false),
-        (0x0001, 0x7ffe, false, 9, 0, true),
-        (0x0001, 0xfffe, true, 9, 0, true),
-    ] {
-        let mut copper = after(8, first, second, &beam(312, 226), busy);
-        assert_eq!(rt; wanted(&copper), None, "{first} {v} {h}");
-        copper.step(None, &beam(v, h), busy, false);
-        let next = if holds { Some(12) } else { None };
-        assert_eq!(rt; wanted(&copper), next, "{first} {v} {h}");
-        assert!(rt; !copper.stopped(), "{first} {v} {h}");
+    for (first, second, busy, v, h, holds) in &WAITS {
+        let next = if *holds { Some(12) } else { None };
+        let found = asked_around(*first, *second, *busy, *v, *h);
+        assert!(rt; found == [None, next], "{first} {v} {h}");
     }
+}
+
+/// The address that is asked for behind a SKIP at an address.
+fn asked_behind(at: u32, first: u16, second: u16, busy: bool, v: u16) -> Option<u32> {
+    wanted(&after(at, first, second, &beam(v, 0), busy))
 }
 
 #[test]
 fn skips_pass_over_two_words(rt: HostRuntime) {
-    for (at, first, second, busy, v, next) in [
-        (0x100, 0x0001, 0xffff, true, 0, 0x108),
-        (0x100, 0x6401, 0xffff, false, 0, 0x104),
-        (0x100, 0x6401, 0xffff, false, 100, 0x108),
-        (0x100, 0x0001, 0x7fff, true, 0, 0x104),
-        (0x7_fffc, 0x0001, 0xffff, false, 0, 4),
-    ] {
-        let copper = after(at, first, second, &beam(v, 0), busy);
-        assert_eq!(rt; wanted(&copper), Some(next), "{first} {second} {v}");
-    }
+    let found = [
+        asked_behind(0x100, 0x0001, 0xffff, true, 0),
+        asked_behind(0x100, 0x6401, 0xffff, false, 0),
+        asked_behind(0x100, 0x6401, 0xffff, false, 100),
+        asked_behind(0x100, 0x0001, 0x7fff, true, 0),
+        asked_behind(0x7_fffc, 0x0001, 0xffff, false, 0),
+    ];
+    let want = [Some(0x108), Some(0x104), Some(0x108), Some(0x104), Some(4)];
+    assert!(rt; found == want);
 }
 
 #[test]
@@ -125,12 +157,17 @@ fn a_jump_drops_the_first_word(rt: HostRuntime) {
     let mut copper = Copper::start(Addr::at(0x100));
     copper.step(Some(0x0182), &beam(0, 0), false, false);
     copper.jump(Addr::at(0x40));
-    assert_eq!(rt; wanted(&copper), Some(0x40));
-    let first = copper.step(Some(0x0180), &beam(0, 0), false, false);
-    assert_eq!(rt; written(first), None);
-    let second = copper.step(Some(0x0123), &beam(0, 0), false, false);
-    assert_eq!(rt; written(second), Some((0x180, 0x0123)));
-    assert_eq!(rt; wanted(&copper), Some(0x44));
+    let found = [
+        (None, wanted(&copper)),
+        stepped(&mut copper, Some(0x0180)),
+        stepped(&mut copper, Some(0x0123)),
+    ];
+    let want = [
+        (None, Some(0x40)),
+        (None, Some(0x42)),
+        (Some((0x180, 0x0123)), Some(0x44)),
+    ];
+    assert!(rt; found == want);
 }
 
 /// For how many clocks from clock `h` of line `v` on, at most 100, a Copper that has read these two words
@@ -163,5 +200,5 @@ fn clocks_at_which_it_does_nothing(rt: HostRuntime) {
         quiet(0x0180, 0x0f00, false, 49, 11),
         quiet(0x003e, 0x0007, false, 49, 10),
     ];
-    assert_eq!(rt; found, [100, 54, 53, 0, 1, 0, 100, 0, 1, 100]);
+    assert!(rt; found == [100, 54, 53, 0, 1, 0, 100, 0, 1, 100]);
 }

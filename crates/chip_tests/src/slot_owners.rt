@@ -18,9 +18,9 @@ fn quiet() -> SlotState {
     }
 }
 
-#[test]
-fn each_before_the_next(rt: HostRuntime) {
-    let mut slot = SlotState {
+/// A slot that each asks for.
+fn wanted_by_all() -> SlotState {
+    SlotState {
         h: 5,
         disk: true,
         audio: Some(2),
@@ -31,61 +31,99 @@ fn each_before_the_next(rt: HostRuntime) {
         processor: true,
         missed: 2,
         nasty: false,
-    };
-    assert_eq!(rt; slot_owner(&slot), Owner::Refresh);
+    }
+}
+
+#[test]
+fn each_before_the_next(rt: HostRuntime) {
+    let mut slot = wanted_by_all();
+    let refresh = slot_owner(&slot);
     slot.h = 7;
-    assert_eq!(rt; slot_owner(&slot), Owner::Disk);
+    let disk = slot_owner(&slot);
     slot.disk = false;
-    assert_eq!(rt; slot_owner(&slot), Owner::Audio { channel: 2 });
+    let audio = slot_owner(&slot);
     slot.audio = None;
-    assert_eq!(rt; slot_owner(&slot), Owner::Plane { plane: 6 });
+    let plane = slot_owner(&slot);
     slot.plane = None;
-    assert_eq!(rt; slot_owner(&slot), Owner::Sprite { sprite: 7 });
+    let owners = [refresh, disk, audio, plane];
+    let want = [
+        Owner::Refresh,
+        Owner::Disk,
+        Owner::Audio { channel: 2 },
+        Owner::Plane { plane: 6 },
+    ];
+    assert!(rt; owners == want && last_owners(&mut slot) == LAST_OWNERS);
+}
+
+/// Who has a slot that a sprite and those behind it ask for.
+static LAST_OWNERS: [Owner; 5] = [
+    Owner::Sprite { sprite: 7 },
+    Owner::Copper,
+    Owner::Blitter,
+    Owner::Processor,
+    Owner::Free,
+];
+
+/// Who has the slot, where a sprite and then one after another asks for it no more.
+fn last_owners(slot: &mut SlotState) -> [Owner; 5] {
+    let sprite = slot_owner(slot);
     slot.sprite = None;
-    assert_eq!(rt; slot_owner(&slot), Owner::Copper);
+    let copper = slot_owner(slot);
     slot.copper = false;
-    assert_eq!(rt; slot_owner(&slot), Owner::Blitter);
+    let blitter = slot_owner(slot);
     slot.blitter = false;
-    assert_eq!(rt; slot_owner(&slot), Owner::Processor);
+    let processor = slot_owner(slot);
     slot.processor = false;
-    assert_eq!(rt; slot_owner(&slot), Owner::Free);
+    [sprite, copper, blitter, processor, slot_owner(slot)]
+}
+
+/// Who has a slot that nobody asks for, at this clock.
+fn owner_at(h: u16) -> Owner {
+    slot_owner(&SlotState { h, ..quiet() })
 }
 
 #[test]
 fn refresh_by_the_clock_alone(rt: HostRuntime) {
-    for (h, owner) in [
-        (0, Owner::Free),
-        (1, Owner::Refresh),
-        (2, Owner::Free),
-        (3, Owner::Refresh),
-        (4, Owner::Free),
-        (5, Owner::Refresh),
-        (7, Owner::Free),
-        (224, Owner::Free),
-        (225, Owner::Refresh),
-        (226, Owner::Free),
-    ] {
-        assert_eq!(rt; slot_owner(&SlotState { h, ..quiet() }), owner, "{h}");
-    }
+    let refresh = [owner_at(1), owner_at(3), owner_at(5), owner_at(225)];
+    let free = [
+        owner_at(0),
+        owner_at(2),
+        owner_at(4),
+        owner_at(7),
+        owner_at(224),
+        owner_at(226),
+    ];
+    assert!(rt; refresh == [Owner::Refresh; 4] && free == [Owner::Free; 6]);
+}
+
+/// Who has a slot that the blitter or the processor asks for.
+fn owner_of(blitter: bool, processor: bool, missed: u8, nasty: bool) -> Owner {
+    slot_owner(&SlotState {
+        blitter,
+        processor,
+        missed,
+        nasty,
+        ..quiet()
+    })
 }
 
 #[test]
 fn processor_and_blitter_change_places(rt: HostRuntime) {
-    for (blitter, processor, missed, nasty, owner) in [
-        (true, true, 2, false, Owner::Blitter),
-        (true, true, 3, false, Owner::Processor),
-        (true, true, 4, false, Owner::Processor),
-        (true, true, 3, true, Owner::Blitter),
-        (true, false, 3, false, Owner::Blitter),
-        (false, true, 0, true, Owner::Processor),
-    ] {
-        let slot = SlotState {
-            blitter,
-            processor,
-            missed,
-            nasty,
-            ..quiet()
-        };
-        assert_eq!(rt; slot_owner(&slot), owner, "{missed} {nasty}");
-    }
+    let found = [
+        owner_of(true, true, 2, false),
+        owner_of(true, true, 3, false),
+        owner_of(true, true, 4, false),
+        owner_of(true, true, 3, true),
+        owner_of(true, false, 3, false),
+        owner_of(false, true, 0, true),
+    ];
+    let want = [
+        Owner::Blitter,
+        Owner::Processor,
+        Owner::Processor,
+        Owner::Blitter,
+        Owner::Blitter,
+        Owner::Processor,
+    ];
+    assert!(rt; found == want);
 }

@@ -38,30 +38,45 @@ fn run(
     (controls, words, last)
 }
 
-/// What sprite 2 reads, by its start and stop; the other sprites stop at line 0 and read only on line 25.
+/// A line, SPR2POS, SPR2CTL, and how many control words and words of images are read on it: those of sprite 2
+/// by its start and stop, as the other sprites stop at line 0 and read only on line 25.
+static LINES: [(u16, u16, u16, u16, u16); 14] = [
+    (24, 0x0040, 0x1800, 0, 0),
+    (24, 0x0040, 0xff00, 0, 0),
+    (25, 0x0040, 0xff00, 16, 0),
+    (26, 0x1a40, 0x1c00, 0, 2),
+    (27, 0x1a40, 0x1c00, 0, 2),
+    (28, 0x1a40, 0x1c00, 2, 0),
+    (29, 0x1a40, 0x1c00, 0, 0),
+    (44, 0x2d40, 0x2e00, 0, 0),
+    (44, 0x2c40, 0x2c00, 2, 0),
+    (44, 0x2c40, 0x2b00, 0, 0),
+    (44, 0x2c40, 0x2e06, 0, 0),
+    (300, 0x2c40, 0x2e06, 0, 2),
+    (300, 0x2c40, 0x2e04, 0, 0),
+    (302, 0x2c40, 0x2e02, 2, 0),
+];
+
+/// How many control words and words of images are read on a line.
+fn read_on(v: u16, pos: u16, ctl: u16) -> (u16, u16) {
+    let mut regs = registers(&[(0x096, 0x8220), (0x150, pos), (0x152, ctl)]);
+    let (controls, words, _last) = run(&mut SpriteDma::new(), v, 0, 227, 0, &mut regs);
+    (controls, words)
+}
+
 #[test]
 fn lines_of_a_sprite(rt: HostRuntime) {
-    for (v, pos, ctl, controls, words) in [
-        (24, 0x0040, 0x1800, 0, 0),
-        (24, 0x0040, 0xff00, 0, 0),
-        (25, 0x0040, 0xff00, 16, 0),
-        (26, 0x1a40, 0x1c00, 0, 2),
-        (27, 0x1a40, 0x1c00, 0, 2),
-        (28, 0x1a40, 0x1c00, 2, 0),
-        (29, 0x1a40, 0x1c00, 0, 0),
-        (44, 0x2d40, 0x2e00, 0, 0),
-        (44, 0x2c40, 0x2c00, 2, 0),
-        (44, 0x2c40, 0x2b00, 0, 0),
-        (44, 0x2c40, 0x2e06, 0, 0),
-        (300, 0x2c40, 0x2e06, 0, 2),
-        (300, 0x2c40, 0x2e04, 0, 0),
-        (302, 0x2c40, 0x2e02, 2, 0),
-    ] {
-        let mut regs = registers(&[(0x096, 0x8220), (0x150, pos), (0x152, ctl)]);
-        let mut sprites = SpriteDma::new();
-        let (found, read, _last) = run(&mut sprites, v, 0, 227, 0, &mut regs);
-        assert_eq!(rt; (found, read), (controls, words), "{v} {pos} {ctl}");
+    for (v, pos, ctl, controls, words) in &LINES {
+        assert!(rt;
+            read_on(*v, *pos, *ctl) == (*controls, *words),
+            "{v} {pos} {ctl}"
+        );
     }
+}
+
+/// Whether a sprite asks for a control word there.
+fn is_control(ask: Option<SpriteAsk>, sprite: u8, second: bool, at: Addr) -> bool {
+    ask == Some(SpriteAsk::Control { sprite, second, at })
 }
 
 /// The slots of sprites 0 and 7, and a pointer that wraps.
@@ -75,29 +90,12 @@ fn slots_and_pointers(rt: HostRuntime) {
     ]);
     let mut sprites = SpriteDma::new();
     let (none, _, _) = run(&mut sprites, 25, 0, 0x15, 0, &mut regs);
-    assert_eq!(rt; none, 0);
     let (one, _, first) = run(&mut sprites, 25, 0x15, 0x16, 0, &mut regs);
-    assert_eq!(rt; one, 1);
-    assert_eq!(rt;
-        first,
-        Some(SpriteAsk::Control {
-            sprite: 0,
-            second: false,
-            at: Addr::at(0x1000)
-        })
-    );
     let (rest, _, last) = run(&mut sprites, 25, 0x16, 0x34, 0, &mut regs);
-    assert_eq!(rt; rest, 15);
-    assert_eq!(rt;
-        last,
-        Some(SpriteAsk::Control {
-            sprite: 7,
-            second: true,
-            at: Addr::at(0)
-        })
-    );
-    assert_eq!(rt; regs.word(Reg::masked(0x122)), 0x1004);
-    assert_eq!(rt; regs.word(Reg::masked(0x13e)), 0x0002);
+    let pointers = [regs.word(Reg::masked(0x122)), regs.word(Reg::masked(0x13e))];
+    let is_first = is_control(first, 0, false, Addr::at(0x1000));
+    let is_last = is_control(last, 7, true, Addr::at(0));
+    assert!(rt; [none, one, rest] == [0, 1, 15] && is_first && is_last && pointers == [0x1004, 2]);
 }
 
 /// A bitplane takes the first slot: the kind is decided there, and the second slot reads the pair's
@@ -112,29 +110,30 @@ fn a_slot_that_a_bitplane_takes(rt: HostRuntime) {
     ]);
     let mut sprites = SpriteDma::new();
     let (_, words, last) = run(&mut sprites, 0x30, 0, 227, 0x19, &mut regs);
-    assert_eq!(rt; words, 1);
-    assert_eq!(rt;
-        last,
-        Some(SpriteAsk::Words {
-            sprite: 1,
-            second: true,
-            at: Addr::at(0x2000)
-        })
-    );
-    assert_eq!(rt; regs.word(Reg::masked(0x126)), 0x2002);
+    let want = SpriteAsk::Words {
+        sprite: 1,
+        second: true,
+        at: Addr::at(0x2000),
+    };
+    assert!(rt; words == 1 && last == Some(want) && regs.word(Reg::masked(0x126)) == 0x2002);
+}
+
+/// How many control words are read on line 25, by words written to DMACON before sprite 0's first slot and
+/// behind it.
+fn controls_by(before: u16, after: u16) -> u16 {
+    let mut regs = registers(&[(0x096, 0x8200), (0x096, before)]);
+    let mut sprites = SpriteDma::new();
+    let (first, _, _) = run(&mut sprites, 25, 0, 0x16, 0, &mut regs);
+    let _effect = regs.poke(Reg::masked(0x096), after, false);
+    let (rest, _, _) = run(&mut sprites, 25, 0x16, 227, 0, &mut regs);
+    first.saturating_add(rest)
 }
 
 /// DMA is on at the first slot alone, and at the second slot alone.
 #[test]
 fn dma_changes_between_the_slots(rt: HostRuntime) {
-    for (before, after, want) in [(0x8220, 0x0020, 1), (0x0200, 0x8220, 14)] {
-        let mut regs = registers(&[(0x096, 0x8200), (0x096, before)]);
-        let mut sprites = SpriteDma::new();
-        let (first, _, _) = run(&mut sprites, 25, 0, 0x16, 0, &mut regs);
-        let _effect = regs.poke(Reg::masked(0x096), after, false);
-        let (rest, _, _) = run(&mut sprites, 25, 0x16, 227, 0, &mut regs);
-        assert_eq!(rt; first.saturating_add(rest), want, "{before}");
-    }
+    let found = [controls_by(0x8220, 0x0020), controls_by(0x0200, 0x8220)];
+    assert!(rt; found == [1, 14]);
 }
 
 /// For how many clocks from clock `h` of line `v` on, at most 200, no sprite needs a slot, with this word
@@ -169,5 +168,5 @@ fn clocks_without_a_read(rt: HostRuntime) {
         quiet(0x8220, 26, 32),
         quiet(0x8220, 29, 1),
     ];
-    assert_eq!(rt; found, [20, 0, 1, 200, 200, 28, 1, 200, 200]);
+    assert!(rt; found == [20, 0, 1, 200, 200, 28, 1, 200, 200]);
 }
