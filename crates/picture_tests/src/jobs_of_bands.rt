@@ -6,103 +6,108 @@ use band_log::{Denise, Drawn, Event, Events, Job, Picture, Room, Run};
 use mem_versions::{Chip, MemView};
 use ocs_base::{Addr, Beam, Clock, OutOfMemory, Script};
 use planes::plane_bits;
-use serial_model::NoSide;
+use serial_model::{NoSide, Side};
 use small_runs::{Steady, small_run};
 use std::alloc::Global;
 use std::sync::Arc;
+
+/// Whether a run is of eight bytes 7, so many frames, with or without a processor, and bands of this height.
+fn is_made_of<S: Side>(run: &Run<S>, frames: u32, cpu: bool, height: u16) -> bool {
+    let script = run.script();
+    run.image() == [7; 8].as_slice()
+        && script.frames() == frames
+        && script.cpu() == cpu
+        && run.height() == height
+}
 
 #[test]
 fn a_run_has_what_it_is_made_of(rt: HostRuntime) -> Result<(), OutOfMemory> {
     let alloc = rt.alloc();
     let image = Vec::from_slice(alloc, &[7; 8])?;
     let run = Run::new(image, Script::new(alloc, true, 2), 20);
-    assert_eq!(rt; run.image(), [7; 8].as_slice());
-    assert_eq!(rt; run.script().frames(), 2);
-    assert!(rt; run.script().cpu());
-    assert_eq!(rt; run.height(), 20);
     is_shared(&run);
+    assert!(rt; is_made_of(&run, 2, true, 20));
     Ok(())
 }
 
 #[test]
 fn a_run_over_a_side_has_what_it_is_made_of(rt: HostRuntime) -> Result<(), OutOfMemory> {
     let alloc = rt.alloc();
-    let mut image = Vec::new(alloc);
-    image.resize(8, 7)?;
+    let image = Vec::from_slice(alloc, &[7; 8])?;
     let run = Run::over(
         image,
         Script::new(alloc, false, 3),
         313,
         Steady { bits: 0x0080 },
     );
-    assert_eq!(rt; run.image(), [7; 8].as_slice());
-    assert_eq!(rt; run.script().frames(), 3);
-    assert!(rt; !run.script().cpu());
-    assert_eq!(rt; run.height(), 313);
     is_shared(&run);
+    assert!(rt; is_made_of(&run, 3, false, 313));
     Ok(())
+}
+
+/// Pushes three fetches, at clocks 3 to 5.
+fn push_fetches(events: &mut Events) -> Result<(), OutOfMemory> {
+    for at in 3..6 {
+        events.push(fetch(at))?;
+    }
+    Ok(())
+}
+
+/// The clock of an event of a list that fetches plane 6; nothing for any other.
+fn clock_of(list: &[Event], place: usize) -> Option<u64> {
+    match list.get(place) {
+        Some(Event::Plane { at, plane: 6, .. }) => Some(at.0),
+        _ => None,
+    }
 }
 
 #[test]
 fn events_keep_their_order(rt: HostRuntime) -> Result<(), OutOfMemory> {
     let mut events = Events::new(rt.alloc());
-    assert_eq!(rt; events.list().len(), 0);
-    for at in 3..6 {
-        events.push(fetch(at))?;
-    }
+    let before = events.list().len();
+    push_fetches(&mut events)?;
     let list = events.list();
-    assert_eq!(rt; list.len(), 3);
-    assert!(rt;
-        matches!(
-            &list[0],
-            Event::Plane {
-                at: Clock(3),
-                plane: 6,
-                ..
-            }
-        )
-    );
-    assert!(rt;
-        matches!(
-            &list[2],
-            Event::Plane {
-                at: Clock(5),
-                plane: 6,
-                ..
-            }
-        )
-    );
+    let clocks = [clock_of(list, 0), clock_of(list, 2)];
+    assert!(rt; [before, list.len()] == [0, 3] && clocks == [Some(3), Some(5)]);
     Ok(())
+}
+
+/// Whether six bytes are 0 at first, and then those that are written.
+fn keeps_bytes(room: &mut Room) -> bool {
+    let is_empty = room.pixels() == [0; 6].as_slice();
+    if room.pixels().len() != 6 {
+        return false;
+    }
+    fill(room, &[17, 34, 51, 68, 85, 102]);
+    is_empty && room.pixels() == [17, 34, 51, 68, 85, 102].as_slice()
 }
 
 #[test]
 fn a_room_has_what_is_written(rt: HostRuntime) -> Result<(), OutOfMemory> {
     let mut room = Room::new(rt.alloc(), 6)?;
-    assert_eq!(rt; room.pixels(), [0; 6].as_slice());
-    fill(&mut room, &[17, 34, 51, 68, 85, 102]);
-    assert_eq!(rt; room.pixels(), [17, 34, 51, 68, 85, 102].as_slice());
+    assert!(rt; keeps_bytes(&mut room));
     Ok(())
 }
 
 #[test]
 fn the_picture_state_at_reset(rt: HostRuntime) {
     let denise = Denise::reset();
-    assert_eq!(rt; denise.palette, [0; 32]);
-    assert_eq!(rt; denise.armed, 0);
-    assert_eq!(rt; plane_bits(&denise.loads, 0, 6), 0);
+    let bits = plane_bits(&denise.loads, 0, 6);
+    assert!(rt; denise.palette == [0; 32] && denise.armed == 0 && bits == 0);
+}
+
+/// Whether what is drawn is of a run with bands of 20 lines, one event, and a room of 12 bytes.
+fn is_small(drawn: &Drawn<NoSide>) -> bool {
+    let job = &drawn.job;
+    is_shared(job);
+    is_shared(drawn);
+    job.run.height() == 20 && job.events.list().len() == 1 && job.room.pixels().len() == 12
 }
 
 #[test]
 fn a_job_and_what_is_drawn_of_it(rt: HostRuntime) -> Result<(), OutOfMemory> {
-    let drawn = Drawn {
-        job: small_job(rt.alloc())?,
-        clx: 1,
-    };
-    is_shared(&drawn.job);
-    is_shared(&drawn);
-    assert_eq!(rt; drawn.job.run.height(), 20);
-    assert_eq!(rt; drawn.job.events.list().len(), 1);
-    assert_eq!(rt; drawn.job.room.pixels().len(), 12);
+    let job = small_job(rt.alloc())?;
+    assert!(rt; is_small(&Drawn { job, clx: 1 }));
     Ok(())
 }
 

@@ -1,6 +1,6 @@
 //! Pixels of single clocks; the values are worked by hand.
 
-ghost use Rattle.std.specs.Prelude.{◌≡◌, ◌≤◌, ◌<◌, length};
+ghost use Rattle.std.specs.Prelude.{◌≡◌, ◌≤◌, ◌<◌, ◌%◌, length};
 
 use ocs_base::{Beam, Colour, Reg, System};
 use painter::Painter;
@@ -53,11 +53,12 @@ fn pixels_of(painter: &mut Painter, h: u16) -> [[u8; 3]; 4]
 fn a_load_is_shown_on_its_line_alone(rt: HostRuntime) {
     let mut painter = painter_with(0x1000, 0);
     painter.set(71, Reg { offset: 0x110 }, 0x8000);
-    assert_eq!(rt; pixels_of(&mut painter, 72), [BLACK, BLACK, RED, RED]);
+    let loaded = pixels_of(&mut painter, 72);
     painter.clear_line(&beam_at(1));
-    assert_eq!(rt; pixels_of(&mut painter, 72), [BLACK, BLACK, RED, RED]);
+    let still = pixels_of(&mut painter, 72);
     painter.clear_line(&beam_at(0));
-    assert_eq!(rt; pixels_of(&mut painter, 72), [BLACK; 4]);
+    let half = [BLACK, BLACK, RED, RED];
+    assert!(rt; [loaded, still, pixels_of(&mut painter, 72)] == [half, half, [BLACK; 4]]);
 }
 
 /// A picture state of one plane whose COLOR01 is red, as `painter_with` has it.
@@ -92,34 +93,41 @@ fn a_picture_state_is_opened_and_closed(rt: HostRuntime) {
     loads.load(71, &[0x8000, 0, 0, 0, 0, 0], 0, false);
     let picture = picture_with(loads);
     let mut painter = Painter::open(&picture);
-    assert_eq!(rt; pixels_of(&mut painter, 72), [BLACK, BLACK, RED, RED]);
-    let mut line = Painter::open_line(&picture);
-    assert_eq!(rt; pixels_of(&mut line, 72), [BLACK; 4]);
+    let opened = pixels_of(&mut painter, 72);
+    let line = pixels_of(&mut Painter::open_line(&picture), 72);
     let closing = painter.close(Loads::new());
-    assert_eq!(rt; closing.held, Colour(0x0f00));
-    assert_eq!(rt; closing.diwstop, 0xf4c1);
+    let is_shown = [opened, line] == [[BLACK, BLACK, RED, RED], [BLACK; 4]];
+    assert!(rt; is_shown && closing.held == Colour(0x0f00) && closing.diwstop == 0xf4c1);
 }
 
 #[test]
 fn the_left_edge_of_the_window(rt: HostRuntime) {
     let mut painter = painter_with(0x1000, 0);
     painter.set(60, Reg { offset: 0x110 }, 0xffff);
-    assert_eq!(rt; pixels_of(&mut painter, 63), [BLACK; 4]);
-    assert_eq!(rt; pixels_of(&mut painter, 64), [BLACK, BLACK, RED, RED]);
-    assert_eq!(rt; pixels_of(&mut painter, 65), [RED; 4]);
+    let found = [
+        pixels_of(&mut painter, 63),
+        pixels_of(&mut painter, 64),
+        pixels_of(&mut painter, 65),
+    ];
+    assert!(rt; found == [[BLACK; 4], [BLACK, BLACK, RED, RED], [RED; 4]]);
+}
+
+/// Whether a clock of the line is shown.
+fn is_visible(painter: &mut Painter, h: u16) -> bool
+    requires { h ≤ 226 }
+{
+    painter.show(System::Pal, &beam_at(h), &mut [BLACK; 4], &mut 0)
 }
 
 #[test]
 fn visible_clocks(rt: HostRuntime) {
     let mut painter = painter_with(0x1000, 0);
-    let mut pixels = [BLACK; 4];
-    for (h, want) in [(46, false), (47, true), (226, true)] {
-        assert_eq!(rt;
-            painter.show(System::Pal, &beam_at(h), &mut pixels, &mut 0),
-            want,
-            "{h}"
-        );
-    }
+    let found = [
+        is_visible(&mut painter, 46),
+        is_visible(&mut painter, 47),
+        is_visible(&mut painter, 226),
+    ];
+    assert!(rt; found == [false, true, true]);
 }
 
 #[test]
@@ -129,10 +137,8 @@ fn hold_and_modify(rt: HostRuntime) {
     painter.clear_line(&beam_at(0));
     painter.set(71, Reg { offset: 0x118 }, 0x8000);
     painter.set(71, Reg { offset: 0x110 }, 0x8000);
-    assert_eq!(rt;
-        pixels_of(&mut painter, 72),
-        [RED, RED, [255, 0, 17], [255, 0, 17]]
-    );
+    let found = pixels_of(&mut painter, 72);
+    assert!(rt; found == [RED, RED, [255, 0, 17], [255, 0, 17]]);
 }
 
 #[test]
@@ -141,18 +147,22 @@ fn half_brite(rt: HostRuntime) {
     painter.set(71, Reg { offset: 0x11a }, 0x8000);
     painter.set(71, Reg { offset: 0x110 }, 0x8000);
     let half = [7 * 17, 0, 0];
-    assert_eq!(rt; pixels_of(&mut painter, 72), [BLACK, BLACK, half, half]);
+    assert!(rt; pixels_of(&mut painter, 72) == [BLACK, BLACK, half, half]);
+}
+
+/// The pixels where a bit of each of two playfields is shown, by BPLCON2.
+fn playfields_by(con2: u16) -> [[u8; 3]; 4] {
+    let mut painter = painter_with(0x2400, con2);
+    painter.set(0, Reg { offset: 0x192 }, 0x00f0);
+    painter.set(71, Reg { offset: 0x112 }, 0x8000);
+    painter.set(71, Reg { offset: 0x110 }, 0x8000);
+    pixels_of(&mut painter, 72)
 }
 
 #[test]
 fn two_playfields(rt: HostRuntime) {
-    for (con2, want) in [(0x00, RED), (0x40, GREEN)] {
-        let mut painter = painter_with(0x2400, con2);
-        painter.set(0, Reg { offset: 0x192 }, 0x00f0);
-        painter.set(71, Reg { offset: 0x112 }, 0x8000);
-        painter.set(71, Reg { offset: 0x110 }, 0x8000);
-        assert_eq!(rt; pixels_of(&mut painter, 72), [BLACK, BLACK, want, want]);
-    }
+    let found = [playfields_by(0x00), playfields_by(0x40)];
+    assert!(rt; found == [[BLACK, BLACK, RED, RED], [BLACK, BLACK, GREEN, GREEN]]);
 }
 
 #[test]
@@ -160,7 +170,7 @@ fn high_resolution_and_scroll(rt: HostRuntime) {
     let mut painter = painter_with(0x9000, 0);
     painter.set(70, Reg { offset: 0x102 }, 0x000a);
     painter.set(70, Reg { offset: 0x110 }, 0x9000);
-    assert_eq!(rt; pixels_of(&mut painter, 72), [BLACK, BLACK, RED, BLACK]);
+    assert!(rt; pixels_of(&mut painter, 72) == [BLACK, BLACK, RED, BLACK]);
 }
 
 /// A painter of one plane whose COLOR17 is green and COLOR21 blue.
@@ -193,23 +203,44 @@ fn collisions_of(painter: &mut Painter, from: u16, end: u16) -> u16
     clx
 }
 
+/// Whether the pixels of clocks 71 to 80 are black, but for those of 72 to 79, which are green.
+fn is_green_for_eight_clocks(painter: &mut Painter) -> bool {
+    let mut right = true;
+    for h in 71..81 {
+        let want = if 72 <= h && h < 80 { GREEN } else { BLACK };
+        right &= pixels_of(painter, h) == [want; 4];
+    }
+    right
+}
+
 #[test]
 fn a_sprite_shows_sixteen_columns(rt: HostRuntime) {
     let mut painter = painter_of_sprites(0);
     set_sprite(&mut painter, 0);
-    for h in 71..81 {
-        let mut pixels = [BLACK; 4];
-        painter.show(System::Pal, &beam_at(h), &mut pixels, &mut 0);
-        let want = if 72 <= h && h < 80 { GREEN } else { BLACK };
-        assert_eq!(rt; pixels, [want; 4], "{h}");
-    }
+    assert!(rt; is_green_for_eight_clocks(&mut painter));
+}
+
+/// The pixels behind a write to a register at the start of the line.
+fn pixels_behind(painter: &mut Painter, offset: u16, word: u16) -> [[u8; 3]; 4]
+    requires room { offset < 512 }
+    requires even { offset % 2 ≡ 0 }
+{
+    painter.set(0, Reg { offset }, word);
+    pixels_of(painter, 72)
+}
+
+/// A write of SPR0CTL disarms sprite 0, and one of SPR0DATA arms it.
+#[test]
+fn a_sprite_is_armed_by_its_words(rt: HostRuntime) {
+    let mut painter = painter_of_sprites(0);
+    set_sprite(&mut painter, 0);
+    let before = pixels_of(&mut painter, 72);
     painter.clear_line(&beam_at(0));
-    painter.set(0, Reg { offset: 0x142 }, 1);
-    assert_eq!(rt; pixels_of(&mut painter, 72), [BLACK; 4]);
-    painter.set(0, Reg { offset: 0x144 }, 0x4000);
-    assert_eq!(rt; pixels_of(&mut painter, 72), [BLACK; 4]);
-    painter.set(0, Reg { offset: 0x144 }, 0x8000);
-    assert_eq!(rt; pixels_of(&mut painter, 72), [BLACK, BLACK, GREEN, GREEN]);
+    let disarmed = pixels_behind(&mut painter, 0x142, 1);
+    let one = pixels_behind(&mut painter, 0x144, 0x4000);
+    let armed = pixels_behind(&mut painter, 0x144, 0x8000);
+    let green_half = [BLACK, BLACK, GREEN, GREEN];
+    assert!(rt; [before, disarmed, one, armed] == [[GREEN; 4], [BLACK; 4], [BLACK; 4], green_half]);
 }
 
 #[test]
@@ -218,38 +249,54 @@ fn a_clock_is_shown_again(rt: HostRuntime) {
     set_sprite(&mut painter, 0);
     set_sprite(&mut painter, 1);
     painter.set(0, Reg { offset: 0x14c }, 0x8000);
-    assert_eq!(rt; pixels_of(&mut painter, 72), [GREEN; 4]);
+    let first = pixels_of(&mut painter, 72);
     painter.set(0, Reg { offset: 0x144 }, 0);
-    for h in [72, 60, 72] {
-        pixels_of(&mut painter, h);
-    }
+    pixels_of(&mut painter, 72);
+    pixels_of(&mut painter, 60);
+    pixels_of(&mut painter, 72);
     painter.set(0, Reg { offset: 0x140 }, 0x003c);
-    assert_eq!(rt; pixels_of(&mut painter, 60), [BLACK; 4]);
-    assert_eq!(rt; pixels_of(&mut painter, 72), [GREEN, GREEN, BLACK, BLACK]);
+    let found = [
+        first,
+        pixels_of(&mut painter, 60),
+        pixels_of(&mut painter, 72),
+    ];
+    assert!(rt; found == [[GREEN; 4], [BLACK; 4], [GREEN, GREEN, BLACK, BLACK]]);
+}
+
+/// The pixels where sprite 0 meets a bit of plane 1, by BPLCON2.
+fn sprite_over_plane(con2: u16) -> [[u8; 3]; 4] {
+    let mut painter = painter_of_sprites(con2);
+    painter.set(71, Reg { offset: 0x110 }, 0x8000);
+    set_sprite(&mut painter, 0);
+    pixels_of(&mut painter, 72)
 }
 
 #[test]
 fn priorities_of_sprites(rt: HostRuntime) {
-    for (con2, want) in [(0x00, RED), (0x08, GREEN), (0x20, GREEN)] {
-        let mut painter = painter_of_sprites(con2);
-        painter.set(71, Reg { offset: 0x110 }, 0x8000);
-        set_sprite(&mut painter, 0);
-        assert_eq!(rt; pixels_of(&mut painter, 72), [GREEN, GREEN, want, want]);
-    }
+    let found = [
+        sprite_over_plane(0x00),
+        sprite_over_plane(0x08),
+        sprite_over_plane(0x20),
+    ];
+    assert!(rt; found == [[GREEN, GREEN, RED, RED], [GREEN; 4], [GREEN; 4]]);
+}
+
+/// The pixels where sprites 0 and 1 meet, by SPR0CTL and SPR1CTL.
+fn pair_by(even: u16, odd: u16) -> [[u8; 3]; 4] {
+    let mut painter = painter_of_sprites(0);
+    set_sprite(&mut painter, 0);
+    set_sprite(&mut painter, 1);
+    painter.set(0, Reg { offset: 0x142 }, even);
+    painter.set(0, Reg { offset: 0x14a }, odd);
+    painter.set(0, Reg { offset: 0x144 }, 0xffff);
+    painter.set(0, Reg { offset: 0x14c }, 0xffff);
+    pixels_of(&mut painter, 72)
 }
 
 #[test]
 fn an_attached_pair(rt: HostRuntime) {
-    for (even, odd, want) in [(0, 0x80, BLUE), (0x80, 0, GREEN)] {
-        let mut painter = painter_of_sprites(0);
-        set_sprite(&mut painter, 0);
-        set_sprite(&mut painter, 1);
-        painter.set(0, Reg { offset: 0x142 }, even);
-        painter.set(0, Reg { offset: 0x14a }, odd);
-        painter.set(0, Reg { offset: 0x144 }, 0xffff);
-        painter.set(0, Reg { offset: 0x14c }, 0xffff);
-        assert_eq!(rt; pixels_of(&mut painter, 72), [want; 4], "{odd}");
-    }
+    let found = [pair_by(0, 0x80), pair_by(0x80, 0)];
+    assert!(rt; found == [[BLUE; 4], [GREEN; 4]]);
 }
 
 #[test]
@@ -257,24 +304,30 @@ fn no_sprite_outside_the_window(rt: HostRuntime) {
     let mut painter = painter_of_sprites(0);
     painter.set(0, Reg { offset: 0x08e }, 0x2c91);
     set_sprite(&mut painter, 0);
-    assert_eq!(rt; pixels_of(&mut painter, 72), [BLACK, BLACK, GREEN, GREEN]);
+    assert!(rt; pixels_of(&mut painter, 72) == [BLACK, BLACK, GREEN, GREEN]);
+}
+
+/// The collisions of a clock in which sprite 0, another one and a bit of plane 1 meet, by CLXCON.
+fn collisions_by(clxcon: u16, second: u16) -> u16
+    requires { second < 8 }
+{
+    let mut painter = painter_of_sprites(0);
+    painter.set(0, Reg { offset: 0x098 }, clxcon);
+    painter.set(71, Reg { offset: 0x110 }, 0x8000);
+    set_sprite(&mut painter, 0);
+    set_sprite(&mut painter, second);
+    collisions_of(&mut painter, 72, 73)
 }
 
 #[test]
 fn collisions_by_clxcon(rt: HostRuntime) {
-    for (clxcon, second, want) in [
-        (0x0000, 2, 0x0267),
-        (0x00c3, 2, 0x0206),
-        (0x00c3, 3, 0x0002),
-        (0x20c3, 3, 0x0206),
-    ] {
-        let mut painter = painter_of_sprites(0);
-        painter.set(0, Reg { offset: 0x098 }, clxcon);
-        painter.set(71, Reg { offset: 0x110 }, 0x8000);
-        set_sprite(&mut painter, 0);
-        set_sprite(&mut painter, second);
-        assert_eq!(rt; collisions_of(&mut painter, 72, 73), want, "{clxcon}");
-    }
+    let found = [
+        collisions_by(0x0000, 2),
+        collisions_by(0x00c3, 2),
+        collisions_by(0x00c3, 3),
+        collisions_by(0x20c3, 3),
+    ];
+    assert!(rt; found == [0x0267, 0x0206, 0x0002, 0x0206]);
 }
 
 #[test]
@@ -286,6 +339,9 @@ fn collisions_where_nothing_is_visible(rt: HostRuntime) {
     set_sprite(&mut painter, 2);
     painter.set(0, Reg { offset: 0x140 }, 0x0014);
     painter.set(0, Reg { offset: 0x150 }, 0x0016);
-    assert_eq!(rt; collisions_of(&mut painter, 20, 22), 0);
-    assert_eq!(rt; collisions_of(&mut painter, 22, 23), 0x0200);
+    let found = [
+        collisions_of(&mut painter, 20, 22),
+        collisions_of(&mut painter, 22, 23),
+    ];
+    assert!(rt; found == [0, 0x0200]);
 }

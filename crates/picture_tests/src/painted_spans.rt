@@ -29,29 +29,56 @@ fn show(painter: &mut Painter, h: u16, count: u16, room: &mut [u8; 240], clx: &m
     painter.show_span(from, count, room, 12, clx)
 }
 
+/// Whether the bytes of a colour, 0 to 2, of the pixels from place 12 of the room on are 0, but for those
+/// from one pixel to another, which are this byte.
+fn has_run(room: &[u8; 240], colour: usize, from: usize, end: usize, byte: u8) -> bool
+    requires { colour ≤ 2 }
+{
+    let mut right = true;
+    for pixel in 0..48 {
+        let want = if from <= pixel && pixel < end {
+            byte
+        } else {
+            0
+        };
+        right &= room[12 + colour + 3 * pixel] == want;
+    }
+    right
+}
+
 #[test]
 fn a_load_is_shown_within_a_span(rt: HostRuntime) {
     let mut painter = painter_with(0x1000);
     painter.set(71, Reg { offset: 0x110 }, 0xffff);
     let mut room = [1; 240];
-    assert_eq!(rt; show(&mut painter, 70, 12, &mut room, &mut 0), 156);
-    for pixel in 0..48 {
-        let red = if 10 <= pixel && pixel < 42 { 255 } else { 0 };
-        assert_eq!(rt; room[12 + 3 * pixel], red, "{pixel}");
-        assert_eq!(rt; room[13 + 3 * pixel], 0, "{pixel}");
-    }
-    assert_eq!(rt; room[11], 1);
-    assert_eq!(rt; room[156], 1);
+    let end = show(&mut painter, 70, 12, &mut room, &mut 0);
+    let is_shown = has_run(&room, 0, 10, 42, 255) && has_run(&room, 1, 0, 0, 0);
+    assert!(rt; end == 156 && is_shown && [room[11], room[156]] == [1, 1]);
+}
+
+/// The colour that is held behind a span of so many clocks, of which pixel 18 is the last that is red.
+fn held_behind(count: u16) -> Colour
+    requires { count ≤ 19 }
+{
+    let mut painter = painter_with(0x1000);
+    painter.set(71, Reg { offset: 0x110 }, 0xfffe);
+    show(&mut painter, 71, count, &mut [0; 240], &mut 0);
+    painter.close(Loads::new()).held
 }
 
 #[test]
 fn the_last_pixel_of_a_span_is_held(rt: HostRuntime) {
-    for (count, held) in [(6, 0x0f00), (9, 0x0f00), (10, 0)] {
-        let mut painter = painter_with(0x1000);
-        painter.set(71, Reg { offset: 0x110 }, 0xfffe);
-        show(&mut painter, 71, count, &mut [0; 240], &mut 0);
-        assert_eq!(rt; painter.close(Loads::new()).held, Colour(held), "{count}");
+    let found = [held_behind(6), held_behind(9), held_behind(10)];
+    assert!(rt; found == [Colour(0x0f00), Colour(0x0f00), Colour(0)]);
+}
+
+/// Whether the first twelve pixels of the room, from place 12 on, have no red, and all green.
+fn is_green(room: &[u8; 240]) -> bool {
+    let mut right = true;
+    for pixel in 0..12 {
+        right &= [room[12 + 3 * pixel], room[13 + 3 * pixel]] == [0, 255];
     }
+    right
 }
 
 #[test]
@@ -59,25 +86,42 @@ fn the_visible_clocks_of_a_border(rt: HostRuntime) {
     let mut painter = painter_with(0);
     painter.set(0, Reg { offset: 0x180 }, 0x00f0);
     let mut room = [1; 240];
-    assert_eq!(rt; show(&mut painter, 40, 10, &mut room, &mut 0), 48);
-    for pixel in 0..12 {
-        assert_eq!(rt; room[12 + 3 * pixel], 0, "{pixel}");
-        assert_eq!(rt; room[13 + 3 * pixel], 255, "{pixel}");
-    }
-    assert_eq!(rt; room[48], 1);
+    let end = show(&mut painter, 40, 10, &mut room, &mut 0);
+    assert!(rt; end == 48 && is_green(&room) && room[48] == 1);
+}
+
+/// The collisions of a span of so many clocks.
+fn collisions_within(count: u16) -> u16
+    requires { count ≤ 19 }
+{
+    let mut painter = painter_with(0x2000);
+    painter.set(0, Reg { offset: 0x098 }, 0x00c3);
+    painter.set(71, Reg { offset: 0x112 }, 0x0100);
+    painter.set(71, Reg { offset: 0x110 }, 0x0100);
+    let mut clx = 0;
+    show(&mut painter, 72, count, &mut [0; 240], &mut clx);
+    clx
 }
 
 #[test]
 fn playfields_meet_late_in_a_span(rt: HostRuntime) {
-    for (count, want) in [(4, 0), (5, 1), (8, 1)] {
-        let mut painter = painter_with(0x2000);
-        painter.set(0, Reg { offset: 0x098 }, 0x00c3);
-        painter.set(71, Reg { offset: 0x112 }, 0x0100);
-        painter.set(71, Reg { offset: 0x110 }, 0x0100);
-        let mut clx = 0;
-        show(&mut painter, 72, count, &mut [0; 240], &mut clx);
-        assert_eq!(rt; clx, want, "{count}");
+    let found = [
+        collisions_within(4),
+        collisions_within(5),
+        collisions_within(8),
+    ];
+    assert!(rt; found == [0, 1, 1]);
+}
+
+/// Whether the first sixteen pixels of the room, from place 12 on, are red, and pixels 10 and 11 have some
+/// blue.
+fn is_red_with_blue(room: &[u8; 240]) -> bool {
+    let mut right = true;
+    for pixel in 0..16 {
+        let blue = if pixel == 10 || pixel == 11 { 17 } else { 0 };
+        right &= [room[12 + 3 * pixel], room[14 + 3 * pixel]] == [255, blue];
     }
+    right
 }
 
 #[test]
@@ -93,12 +137,8 @@ fn a_span_in_hold_and_modify(rt: HostRuntime) {
     painter.set(71, Reg { offset: 0x118 }, 0x8000);
     painter.set(71, Reg { offset: 0x110 }, 0x8000);
     let mut room = [1; 240];
-    assert_eq!(rt; show(&mut painter, 70, 4, &mut room, &mut 0), 60);
-    for pixel in 0..16 {
-        let blue = if pixel == 10 || pixel == 11 { 17 } else { 0 };
-        assert_eq!(rt; room[12 + 3 * pixel], 255, "{pixel}");
-        assert_eq!(rt; room[14 + 3 * pixel], blue, "{pixel}");
-    }
+    let end = show(&mut painter, 70, 4, &mut room, &mut 0);
+    assert!(rt; end == 60 && is_red_with_blue(&room));
 }
 
 #[test]
@@ -110,10 +150,6 @@ fn a_sprite_within_a_span(rt: HostRuntime) {
     painter.set(0, Reg { offset: 0x146 }, 0);
     painter.set(0, Reg { offset: 0x144 }, 0xffff);
     let mut room = [1; 240];
-    assert_eq!(rt; show(&mut painter, 70, 12, &mut room, &mut 0), 156);
-    for pixel in 0..48 {
-        let green = if 8 <= pixel && pixel < 40 { 255 } else { 0 };
-        assert_eq!(rt; room[12 + 3 * pixel], 0, "{pixel}");
-        assert_eq!(rt; room[13 + 3 * pixel], green, "{pixel}");
-    }
+    let end = show(&mut painter, 70, 12, &mut room, &mut 0);
+    assert!(rt; end == 156 && has_run(&room, 0, 0, 0, 0) && has_run(&room, 1, 8, 40, 255));
 }

@@ -1,18 +1,34 @@
 //! Pixels, presence and collisions, worked by hand.
 
+ghost use Rattle.std.specs.Prelude.{◌≤◌};
+
 use sprite_rows::{SpriteRows, collisions, playfield_worth};
 use sprites::SpritePixel;
+
+/// The colour of the sprite in front at a position, 0 where there is none.
+fn colour_at(rows: &SpriteRows, x: u16, attached: u8) -> u8
+    requires { x ≤ 511 }
+{
+    match rows.front(x, attached) {
+        Some(shown) => shown.colour,
+        None => 0,
+    }
+}
 
 #[test]
 fn words_run_for_sixteen_positions(rt: HostRuntime) {
     let mut rows = SpriteRows::new();
     rows.start(2, 100, 0x8001, 0x0001);
-    for (x, colour) in [(99, 0), (100, 21), (101, 0), (114, 0), (115, 23), (116, 0)] {
-        let shown = rows.front(x, 0).map_or(0, |s| s.colour);
-        assert_eq!(rt; shown, colour, "{x}");
-    }
+    let found = [
+        colour_at(&rows, 99, 0),
+        colour_at(&rows, 100, 0),
+        colour_at(&rows, 101, 0),
+        colour_at(&rows, 114, 0),
+        colour_at(&rows, 115, 0),
+        colour_at(&rows, 116, 0),
+    ];
     rows.clear();
-    assert_eq!(rt; rows.front(100, 0), None);
+    assert!(rt; found == [0, 21, 0, 0, 23, 0] && rows.front(100, 0).is_none());
 }
 
 #[test]
@@ -21,10 +37,14 @@ fn words_begin_again_before_their_end(rt: HostRuntime) {
     rows.start(0, 100, 0xffff, 0x0000);
     rows.start(1, 100, 0x0000, 0xffff);
     rows.start(0, 104, 0x0000, 0x8000);
-    for (x, colour) in [(103, 25), (104, 26), (105, 24), (115, 24), (116, 0)] {
-        let shown = rows.front(x, 1).map_or(0, |s| s.colour);
-        assert_eq!(rt; shown, colour, "{x}");
-    }
+    let found = [
+        colour_at(&rows, 103, 1),
+        colour_at(&rows, 104, 1),
+        colour_at(&rows, 105, 1),
+        colour_at(&rows, 115, 1),
+        colour_at(&rows, 116, 1),
+    ];
+    assert!(rt; found == [25, 26, 24, 24, 0]);
 }
 
 #[test]
@@ -36,6 +56,7 @@ fn the_sprite_in_front(rt: HostRuntime) {
     rows.start(5, 455, 0x8000, 0x8000);
     rows.start(2, 456, 0x8000, 0x8000);
     rows.start(3, 456, 0x0000, 0x8000);
+    let mut right = rows.front(452, 0x0f).is_none();
     for (x, attached, pair, colour) in [
         (453, 0x00, 3, 31),
         (453, 0x08, 3, 28),
@@ -47,13 +68,9 @@ fn the_sprite_in_front(rt: HostRuntime) {
         (456, 0x02, 1, 27),
         (456, 0xfd, 1, 23),
     ] {
-        assert_eq!(rt;
-            rows.front(x, attached),
-            Some(SpritePixel { pair, colour }),
-            "{x} {attached}"
-        );
+        right &= rows.front(x, attached) == Some(SpritePixel { pair, colour });
     }
-    assert_eq!(rt; rows.front(452, 0x0f), None);
+    assert!(rt; right);
 }
 
 #[test]
@@ -64,6 +81,7 @@ fn pairs_that_are_present(rt: HostRuntime) {
     rows.start(6, 41, 0x8000, 0x8000);
     rows.start(7, 41, 0x8000, 0x8000);
     rows.start(5, 41, 0x8000, 0x8000);
+    let mut right = true;
     for (x, clxcon, present) in [
         (40, 0x0000, 0b0001),
         (40, 0x2000, 0b0011),
@@ -72,12 +90,14 @@ fn pairs_that_are_present(rt: HostRuntime) {
         (41, 0x4000, 0b1100),
         (56, 0xf000, 0b0000),
     ] {
-        assert_eq!(rt; rows.present(x, clxcon), present, "{x} {clxcon}");
+        right &= rows.present(x, clxcon) == present;
     }
+    assert!(rt; right);
 }
 
 #[test]
 fn collisions_of_pairs(rt: HostRuntime) {
+    let mut right = true;
     for (quiet, worth, present, want) in [
         (1, 34, 0b0000, 0x0001),
         (1, 34, 0b0001, 0x0023),
@@ -87,13 +107,12 @@ fn collisions_of_pairs(rt: HostRuntime) {
         (1, 34, 0b0101, 0x04ab),
         (1, 34, 0b1111, 0x7fff),
     ] {
-        assert_eq!(rt;
-            collisions(quiet, worth, present),
-            want,
-            "{worth} {present}"
-        );
+        right &= collisions(quiet, worth, present) == want;
     }
-    assert_eq!(rt; playfield_worth(0, 0), 34);
-    assert_eq!(rt; playfield_worth(0x0041, 0b00_0000), 32);
-    assert_eq!(rt; playfield_worth(0x0082, 0b00_0000), 2);
+    let worths = [
+        playfield_worth(0, 0),
+        playfield_worth(0x0041, 0b00_0000),
+        playfield_worth(0x0082, 0b00_0000),
+    ];
+    assert!(rt; right && worths == [34, 32, 2]);
 }
