@@ -38,7 +38,6 @@ impl<S: Side> Fore<S> {
             (Q.seen raster.old) (Q.seen raster.new) out.old out.new result }
     {
         match ask {
-            Some(Ask::Plane { ask }) => self.make_access(&Ask::Plane { ask }, out),
             Some(ask) => self.access_by(&ask, raster, out),
             None => self.access_late(raster, out),
         }
@@ -131,10 +130,8 @@ impl<S: Side> Fore<S> {
             (over S.seen self.old) (over S.seen self.new)
             (Q.seen raster.old) (Q.seen raster.new) out.old out.new result }
     {
-        match self.machine.chips.blit_ask() {
-            Ask::Blit { ask } => self.make_access(&Ask::Blit { ask }, out),
-            other => self.access_by(&other, raster, out),
-        }
+        let ask = self.machine.chips.blit_ask();
+        self.access_by(&ask, raster, out)
     }
 
     /// The processor's.
@@ -154,13 +151,7 @@ impl<S: Side> Fore<S> {
             (Q.seen raster.old) (Q.seen raster.new) out.old out.new result }
     {
         match self.machine.chips.processor_wish() {
-            Some(ask) => {
-                let ask = Ask::Processor { ask };
-                if is_clx_ask(&ask) {
-                    return self.access_clxdat(&ask, raster, out);
-                }
-                self.make_access(&ask, out)
-            }
+            Some(ask) => self.access_by(&Ask::Processor { ask }, raster, out),
             None => self.access_by(&Ask::Free, raster, out),
         }
     }
@@ -182,15 +173,7 @@ impl<S: Side> Fore<S> {
         if is_clx_ask(ask) {
             return self.access_clxdat(ask, raster, out);
         }
-        match *ask {
-            Ask::Free => self.make_access(&Ask::Free, out),
-            Ask::Plane { ask } => self.make_access(&Ask::Plane { ask }, out),
-            Ask::Sprite { ask } => self.make_access(&Ask::Sprite { ask }, out),
-            Ask::Copper { at } => self.make_access(&Ask::Copper { at }, out),
-            Ask::Blit { ask } => self.make_access(&Ask::Blit { ask }, out),
-            Ask::Processor { ask } => self.make_access(&Ask::Processor { ask }, out),
-            other => self.make_access(&other, out),
-        }
+        self.make_access(ask, out)
     }
 
     /// The access of one owner.
