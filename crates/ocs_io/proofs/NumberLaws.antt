@@ -1,8 +1,10 @@
 -- Reading a text of digits from the left, and what is read of a text that was written.
 use Rattle.std.proofs.Common.{◌≡◌, ℕ, zero, suc, ◌+◌, ◌-◌, ◌*◌, ◌/◌, ◌%◌, ◌^◌, ◌<◌, ◌≤◌, Bool, true, ◌&&◌, List, []}
-use Rattle.std.proofs.Common.{◌∷◌, length, get_or, take, drop, ap, ◌∙◌, arith, nat_lt, Some, None, if◌then◌else◌}
+use Rattle.std.proofs.Common.{sym, ◌++◌, ◌∷◌, length, get_or, take, drop, ap, ◌∙◌, arith, nat_lt, Some, None, if◌then◌else◌}
 use Rattle.std.proofs.lemmas.List.{drop_all, drop_more}
 use Rattle.std.proofs.lemmas.Bool.Decides.{nat_tests}
+use Rattle.std.proofs.lemmas.Fmt.{decimal_digit, decimal_step}
+use Rattle.std.specs.Fmt.{decimal}
 use Rattle.std.specs.Str.Parse.{digits_value, digits_value_after}
 use Rattle.std.specs.Char.{digit_value}
 use Rattle.ocs_io.specs.Numbers.{all_bytes, is_digit, hex_digit, hex_text}
@@ -76,3 +78,32 @@ hex_room (suc zero) value digit n below few small low = omega arith
 hex_room (suc (suc zero)) value digit n below few small low = omega arith
 hex_room (suc (suc (suc zero))) value digit n below few small low = omega arith
 hex_room (suc (suc (suc (suc i)))) value digit n below few small low = absurd (omega arith)
+
+-- numbers of one to three decimal digits
+one_digit : (n : ℕ) → n < 10 → decimal n ≡ (48 + n) ∷ []
+one_digit n few = decimal_digit n few
+
+two_digits : (n : ℕ) → 10 ≤ n → n < 100 → decimal n ≡ (48 + n / 10) ∷ (48 + n % 10) ∷ []
+two_digits n some few =
+    decimal_step n some (omega (arith, few)) ∙ ap (λ (text : List ℕ). text ++ (48 + n % 10) ∷ []) (decimal_digit (n / 10) (omega (arith, few)))
+
+three_digits : (n : ℕ) → 100 ≤ n → n < 1000 → decimal n ≡ (48 + n / 100) ∷ (48 + n / 10 % 10) ∷ (48 + n % 10) ∷ []
+three_digits n some few =
+    let high : n / 10 / 10 ≡ n / 100 = omega arith in
+    decimal_step n (omega (arith, some)) (omega (arith, few))
+    ∙ ap (λ (text : List ℕ). text ++ (48 + n % 10) ∷ []) (two_digits (n / 10) (omega (arith, some)) (omega (arith, few)))
+    ∙ ap (λ (d : ℕ). (48 + d) ∷ (48 + n / 10 % 10) ∷ (48 + n % 10) ∷ []) high
+
+pub written_one : (n a : ℕ) → n < 10 → a ≡ 48 + n % 10 → decimal n ≡ a ∷ []
+written_one n a few is = one_digit n few ∙ ap (λ d. d ∷ []) (omega (arith, few, is))
+
+pub written_two : (n a b : ℕ) → 10 ≤ n → n < 100 → a ≡ 48 + n / 10 % 10 → b ≡ 48 + n % 10 → decimal n ≡ a ∷ b ∷ []
+written_two n a b some few first last =
+    let high : 48 + n / 10 ≡ a = omega (arith, few, first) in
+    two_digits n some few ∙ (λ i. high i ∷ sym last i ∷ [])
+
+pub written_three : (n a b c : ℕ) → 100 ≤ n → n < 1000 → a ≡ 48 + n / 100 → b ≡ 48 + n / 10 % 10 → c ≡ 48 + n % 10 → decimal n ≡ a ∷ b ∷ c ∷ []
+written_three n a b c some few first second third =
+    three_digits n some few ∙ (λ i. sym first i ∷ sym second i ∷ sym third i ∷ [])
+
+pub ruleset short_decimals = (written_one, written_two, written_three)

@@ -101,14 +101,57 @@ fn hex_value(byte: u8) -> Option<u16>
     }
 }
 
-/// Appends a number in decimal. After a refusal `into` is as before.
+/// Appends a number in decimal. After a refusal `into` is as before. Those of up to three digits go a short way.
+#[inline]
 pub fn put_dec(n: u64, into: &mut Vec<u8>) -> Result<(), OutOfMemory>
+    ensures ok { OnOk result (into.new.items ≡ into.old.items ++ decimal n) }
+    ensures refused { OnErr result (into.new.items ≡ into.old.items) }
+{
+    if n < 1000 {
+        put_short(n as u16, into)
+    } else {
+        put_long(n, into)
+    }
+}
+
+/// The same of a number of up to three digits.
+#[tactic(auto, using(crate::proofs::NumberLaws::short_decimals))]
+fn put_short(n: u16, into: &mut Vec<u8>) -> Result<(), OutOfMemory>
+    requires { n < 1000 }
+    ensures ok { OnOk result (into.new.items ≡ into.old.items ++ decimal n) }
+    ensures refused { OnErr result (into.new.items ≡ into.old.items) }
+{
+    let last = decimal_digit(n % 10);
+    if n < 10 {
+        into.push(last)?;
+        return Ok(());
+    }
+    let middle = decimal_digit(n / 10 % 10);
+    if n < 100 {
+        into.extend_from_slice(&[middle, last])?;
+        return Ok(());
+    }
+    into.extend_from_slice(&[decimal_digit(n / 100), middle, last])?;
+    Ok(())
+}
+
+/// The same of any number.
+#[inline(never)]
+fn put_long(n: u64, into: &mut Vec<u8>) -> Result<(), OutOfMemory>
     ensures ok { OnOk result (into.new.items ≡ into.old.items ++ decimal n) }
     ensures refused { OnErr result (into.new.items ≡ into.old.items) }
 {
     let mut buffer = Buffer::new();
     into.extend_from_slice(buffer.format(n).as_bytes())?;
     Ok(())
+}
+
+/// The character of a decimal digit.
+fn decimal_digit(value: u16) -> u8
+    requires { value < 10 }
+    ensures { result ≡ 48 + value }
+{
+    b'0' + value as u8
 }
 
 /// Appends a number in so many hexadecimal digits. After a refusal `into` is as before.
