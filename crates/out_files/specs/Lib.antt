@@ -3,3 +3,4 @@ pub mod Answers
 pub mod PiecesCode
 pub mod Together
 pub mod Places
+pub mod LinesCode

@@ -5,6 +5,7 @@ ghost use Rattle.serial_model.specs.MemoryText.{memory_text};
 ghost use Rattle.mem_versions.specs.Chip.{after_reads};
 
 use crate::fault::{OutFile, WriteFault};
+use crate::line_start::LineStart;
 use crate::lines::put_line;
 use crate::pieces::{give, make};
 use crate::pixels::put_pixels;
@@ -28,8 +29,8 @@ pub struct OutFiles {
     system: System,
     frames: Vec<u8>,
     trace: Vec<u8>,
-    // the line that is being made
-    line: Vec<u8>,
+    // what the trace's lines begin with
+    line_start: LineStart,
     // how many pixel bytes of the present frame were given
     given: usize,
 }
@@ -120,7 +121,7 @@ impl OutFiles {
             system,
             frames: Vec::new(alloc),
             trace: Vec::new(alloc),
-            line: Vec::new(alloc),
+            line_start: LineStart::new(alloc),
             given: 0,
         }
     }
@@ -170,10 +171,14 @@ impl OutFiles {
         ensures together { OnOk result (AddsLine self.old self.new line) }
         ensures refused { OnErr result (self.new ≡ self.old) }
     {
-        self.line.clear();
-        put_line(&mut self.line, line)?;
-        self.trace.extend_from_slice(&self.line)?;
-        Ok(())
+        let before = self.trace.len();
+        match put_line(&mut self.trace, &mut self.line_start, line) {
+            Ok(()) => Ok(()),
+            Err(refused) => {
+                self.trace.truncate(before);
+                Err(refused)
+            }
+        }
     }
 
     /// Appends what is pending, first to the frames file and then to the trace, in one piece each.

@@ -3,6 +3,7 @@
 
 pub mod fault;
 pub mod files;
+mod line_start;
 mod lines;
 mod pieces;
 mod pixels;
