@@ -178,7 +178,7 @@ fn complete(
 )
     ensures { state.new ≡ complete_instruction beam.now busy instruction.now word state.old }
 {
-    let bytes = length(instruction, holds(beam, busy, state.first, word));
+    let bytes = length(instruction, state.first, word, beam, busy);
     state.at = bytes_on(state.at, bytes);
     state.phase = phase_after(instruction);
     state.second = word;
@@ -195,14 +195,15 @@ fn phase_after(instruction: &CopperInstruction) -> CopperPhase
     }
 }
 
-/// How many bytes the Copper's address moves at an instruction's second word: past the next two words where a
-/// SKIP's comparison holds.
-fn length(instruction: &CopperInstruction, holds: bool) -> u32
-    ensures length { result ≡ length_of holds instruction.now }
+/// How many bytes the Copper's address moves at the second word of an instruction, of which these are the words:
+/// past the next two where a SKIP's comparison holds. No other instruction compares here.
+fn length(instruction: &CopperInstruction, first: u16, second: u16, beam: &Beam, busy: bool) -> u32
+    ensures length { result
+        ≡ length_of (comparison_holds beam.now busy first second) instruction.now }
     ensures few { result < 8 }
 {
     match instruction {
-        CopperInstruction::Skip => if holds { 6 } else { 2 },
+        CopperInstruction::Skip if holds(beam, busy, first, second) => 6,
         _ => 2,
     }
 }
