@@ -36,7 +36,8 @@ reading_found n =
 
 abbrev pub writing_found : ℕ → Writing
 writing_found n =
-    if is_pointer_word n then pointer_writing n
+    if is_within 0x180 0x1be n then W.Picture
+    else (if is_pointer_word n then pointer_writing n
     else (if n == 0x02a then W.Field
     else (if n == 0x058 then W.Blit
     else (if n == 0x088 then W.Jump 1
@@ -46,7 +47,7 @@ writing_found n =
     else (if n == 0x02e || is_within 0x040 0x046 n || is_within 0x060 0x066 n || is_within 0x070 0x074 n then W.Plain
     else (if is_within 0x092 0x094 n || n == 0x108 || n == 0x10a then W.Plain
     else (if is_within 0x08e 0x090 n || n == 0x098 || is_within 0x100 0x104 n || is_within 0x110 0x11a n then W.Picture
-    else (if is_within 0x140 0x17e n || is_within 0x180 0x1be n then W.Picture else W.Ignored))))))))))
+    else (if is_within 0x140 0x17e n then W.Picture else W.Ignored)))))))))))
 
 -- of a pointer's high word or low word
 abbrev pub pointer_bits : ℕ → ℕ
@@ -54,10 +55,10 @@ pointer_bits n = if n % 4 == 0 then 0 else 65534
 
 abbrev pub bits_found : ℕ → ℕ
 bits_found n =
-    if is_within 0x048 0x050 n || is_within 0x054 0x056 n || is_within 0x080 0x086 n then pointer_bits n
+    if is_within 0x180 0x1be n then 0x0fff
+    else (if is_within 0x048 0x050 n || is_within 0x054 0x056 n || is_within 0x080 0x086 n then pointer_bits n
     else (if is_within 0x0e0 0x0f6 n || is_within 0x120 0x13e n then pointer_bits n
-    else (if n == 0x096 then 0x07ff
-    else (if is_within 0x180 0x1be n then 0x0fff else whole_word_in (writing_at n))))
+    else (if n == 0x096 then 0x07ff else whole_word_in (writing_at n))))
 
 pub readings_agree : at_all reading_at ≡ at_all reading_found
 unfolding row_at rows

@@ -2,7 +2,7 @@
 
 ghost use Rattle.std.specs.Prelude.{◌≡◌, ◌==◌, ◌%◌, unwrap_or, if◌then◌else◌};
 ghost use Rattle.serial_model.specs.RegisterTable.{reading_at, writing_at, kept_bits_at};
-ghost use Rattle.reg_file.specs.TableCode.{is_pointer_word, pointer_writing as pointer_writing_of, whole_word_in};
+ghost use Rattle.reg_file.specs.TableCode.{is_within, is_pointer_word, pointer_writing as pointer_writing_of, whole_word_in};
 
 use ocs_base::Reg;
 use serial_model::{Reading, Writing};
@@ -28,6 +28,9 @@ pub fn reading(reg: Reg) -> Reading
 pub fn writing(reg: Reg) -> Writing
     ensures { result ≡ writing_at reg.offset }
 {
+    if is_colour(reg) {
+        return Writing::Picture;
+    }
     if is_pointer(reg) {
         return pointer_writing(reg);
     }
@@ -41,9 +44,16 @@ pub fn writing(reg: Reg) -> Writing
         0x02e | 0x040..=0x046 | 0x060..=0x066 | 0x070..=0x074 => Writing::Plain,
         0x092..=0x094 | 0x108 | 0x10a => Writing::Plain,
         0x08e..=0x090 | 0x098 | 0x100..=0x104 | 0x110..=0x11a => Writing::Picture,
-        0x140..=0x17e | 0x180..=0x1be => Writing::Picture,
+        0x140..=0x17e => Writing::Picture,
         _ => Writing::Ignored,
     }
+}
+
+/// Whether this is a colour register. They come first, since most writes of the Copper are to them.
+fn is_colour(reg: Reg) -> bool
+    ensures { result ≡ is_within 0x180 0x1be reg.offset }
+{
+    matches!(reg.offset, 0x180..=0x1be)
 }
 
 /// Whether this is one word of a pointer: of the blitter, the Copper, a bitplane or a sprite.
@@ -80,11 +90,13 @@ pub fn kept_bits(reg: Reg) -> u16
 fn some_bits(reg: Reg) -> Option<u16>
     ensures { kept_bits_at reg.offset ≡ unwrap_or result (whole_word_in (writing_at reg.offset)) }
 {
+    if is_colour(reg) {
+        return Some(0x0fff);
+    }
     match reg.offset {
         0x048..=0x050 | 0x054..=0x056 | 0x080..=0x086 => Some(pointer_bits(reg)),
         0x0e0..=0x0f6 | 0x120..=0x13e => Some(pointer_bits(reg)),
         0x096 => Some(0x07ff),
-        0x180..=0x1be => Some(0x0fff),
         _ => None,
     }
 }
