@@ -1,5 +1,5 @@
 -- Clocks that refresh, sprites and the Copper leave to the planes, the blitter and the processor.
-use Rattle.std.proofs.Common.{◌≡◌, ◌⊎◌, inl, inr, ◌<◌, ◌≤◌, ℕ, ◌-◌, Bool, true, false, not, ◌&&◌, if◌then◌else◌, true≢false}
+use Rattle.std.proofs.Common.{◌≡◌, ◌⊎◌, inl, inr, ◌<◌, ◌≤◌, ℕ, suc, ◌+◌, ◌-◌, ◌%◌, ◌==◌, bit_or, Bool, true, false, not, ◌&&◌, if◌then◌else◌, true≢false}
 use Rattle.std.proofs.Common.{List, [], ◌∷◌, Option, Some, None, is_some, arith, refl, ap, subst, ◌∙◌, sym}
 use Rattle.std.proofs.lemmas.Bool.{false≢true}
 use Rattle.std.proofs.lemmas.Bool.Decides.{nat_tests}
@@ -29,7 +29,7 @@ use Rattle.sprite_dma.specs.Quiet.{ReadsNothing}
 use Rattle.serial_model.specs.Owner.{is_refresh, owner_of}
 use Rattle.serial_model.specs.PlaneFetch.{last_unit_at, begins_unit, is_running, fetched_plane, fetches_plane, slot_plane, high_resolution, last_unit, units_at}
 use Rattle.serial_model.specs.PlaneFetch.{ask_for_plane, move_planes, move_if_fetched, IsLastUnit}
-use Rattle.serial_model.specs.Registers.{Registers, copper_dma, is_danger}
+use Rattle.serial_model.specs.Registers.{Registers, copper_dma, is_danger, dmacon_of, blitter_dma}
 use Rattle.serial_model.specs.SpriteFetch.{kinds_at, sprite_ask, move_if_asked}
 use Rattle.serial_model.specs.State.{Chips}
 use Rattle.serial_model.specs.Side.{IsInTime}
@@ -38,7 +38,13 @@ use Rattle.quiet_clocks.specs.QuietClock.{CopperIsStill}
 use Rattle.quiet_clocks.proofs.Owners.{asked_in, late_wishes}
 use Rattle.quiet_clocks.proofs.QuietClock.{still_copper, still_steps, if_either}
 use Rattle.cpu_bus.specs.Bus.{wish_shown}
-use Rattle.chip_set.specs.BusCode.{LeavesToPlanes, LeavesBus, LeavesBeside, KeepsBus, KeepsToPlanes, KeepsBeside}
+use Rattle.chip_set.specs.BusCode.{LeavesToPlanes, LeavesBus, LeavesBeside, KeepsBus, KeepsToPlanes, KeepsBeside, KeepsCias, CiasRest, IsClaim}
+use Rattle.chip_set.specs.declared.bus.BlitterClaim.{BlitterClaim}
+use Rattle.blitter.specs.StandsFor.{slot_shown}
+use Rattle.irq_cia.specs.Icr.{is_active}
+use Rattle.irq_cia.specs.Interrupts.{Interrupts, after_request}
+use Rattle.irq_cia.specs.declared.cia.CiaState.{CiaState}
+use Rattle.quiet_clocks.specs.PlainClock.{AsksNothingNew}
 use Rattle.chip_set.specs.BusCode.{ask_beside_planes, is_bus_ask, is_bus_made, reaches_memory}
 use Rattle.chip_set.specs.Chips.{WorkingChips, IsChipsOf, HasAsked, HasAccessed, CanAsk, IsBlitAsk, some_blit, plain_chips, kept_wish, late_ask}
 use Rattle.chip_set.specs.Chips.{wishes_with, ask_with, answering, act_at, made_with, IsAnswer, AnswersOwner}
@@ -362,12 +368,16 @@ fetch_keeps b now begun =
         copper = copper_behind at (is_some now.blit) now.copper (fetched b now).registers now.registers same leaves.copper;
       };
       rules = λ v. rules_kept v b.h (fetched b now).last now.registers behind;
+      dma = same.kept 0x96 (inl (omega arith));
+      busy = refl;
     }
 
 bus_kept : (old new : WorkingChips) → KeepsBus old new → KeepsToPlanes old new
 bus_kept old new kept = record {
   leaves = λ b leaves. leaves_to_planes_kept b old new kept leaves;
   rules = λ v. ap (λ (r : Registers). rules_of v r) kept.registers;
+  dma = ap (λ (r : Registers). dmacon_of r) kept.registers;
+  busy = kept.busy;
 }
 
 pub beside_kept : (rules : Option FetchRules) (old new : WorkingChips) → KeepsBus old new → KeepsBeside rules old new
@@ -380,6 +390,8 @@ beside_then None old mid new one two = kept_then old mid new one two
 beside_then (Some rules) old mid new one two = record {
   leaves = λ b leaves. two.leaves b (one.leaves b leaves);
   rules = λ v. two.rules v ∙ one.rules v;
+  dma = two.dma ∙ one.dma;
+  busy = two.busy ∙ one.busy;
 }
 
 pub leaves_beside_kept : (rules : Option FetchRules) (b : Beam) (old new : WorkingChips) → KeepsBeside rules old new → LeavesBeside rules b old
@@ -404,3 +416,66 @@ fetched_beside rules b old new plane leaves asks is =
 -- refresh has its slots at a line's ends
 pub no_refresh : (h : ℕ) → 6 ≤ h → h < 225 → is_refresh h ≡ false
 no_refresh h late before = grind (arith, nat_tests, late, before)
+
+-- ---- the blitter's claim, and the CIAs
+
+asks_with : (on : Bool) (blit : Option Blit) → is_some (if on then option_map slot_shown blit else None) ≡ (on && is_some blit)
+asks_with true None = refl
+asks_with true (Some blit) = refl
+asks_with false blit = refl
+
+claim_by : (claim : BlitterClaim) (old new : WorkingChips) → dmacon_of new.registers ≡ dmacon_of old.registers → is_some new.blit ≡ is_some old.blit
+    → IsClaim claim old → IsClaim claim new
+claim_by claim old new dma busy is = record {
+  asks = is.asks ∙ asks_with (blitter_dma old.registers) old.blit ∙ ap (λ word. has_bits word 576 && is_some old.blit) (sym dma)
+      ∙ ap (λ b. blitter_dma new.registers && b) (sym busy) ∙ sym (asks_with (blitter_dma new.registers) new.blit);
+  yields = is.yields ∙ ap (λ word. not (has_bits word 1024)) (sym dma);
+}
+
+pub claim_kept : (claim : BlitterClaim) (rules : Option FetchRules) (old new : WorkingChips) → KeepsBeside rules old new → IsClaim claim old
+    → IsClaim claim new
+claim_kept claim None old new kept is = claim_by claim old new (ap (λ (r : Registers). dmacon_of r) kept.registers) kept.busy is
+claim_kept claim (Some rules) old new kept is = claim_by claim old new kept.dma kept.busy is
+
+on_if_asks : (on : Bool) (wish : Option SlotAsk) → is_some (if on then wish else None) ≡ true → on ≡ true
+on_if_asks true wish asks = refl
+on_if_asks false wish asks = absurd (false≢true asks)
+
+pub asked_of : (now : WorkingChips) → is_some (kept_wish now) ≡ true → kept_wish now ≡ option_map slot_shown now.blit
+asked_of now asks = ap (λ on. if on then option_map slot_shown now.blit else None) (on_if_asks (blitter_dma now.registers) (option_map slot_shown now.blit) asks)
+
+pub cias_beside : (b : Beam) (old new : WorkingChips) → new ≡ with_fetching (fetching_after b (fetching_in old)) old → KeepsCias old new
+cias_beside b old new is = record {
+  irq = ap (λ (w : WorkingChips). w.irq) is;
+  cia_a = ap (λ (w : WorkingChips). w.cia_a) is;
+  cia_b = ap (λ (w : WorkingChips). w.cia_b) is;
+}
+
+pub cias_then : (old mid new : WorkingChips) → KeepsCias old mid → KeepsCias mid new → KeepsCias old new
+cias_then old mid new one two = record { irq = two.irq ∙ one.irq; cia_a = two.cia_a ∙ one.cia_a; cia_b = two.cia_b ∙ one.cia_b }
+
+-- what stands for the same chips is the same to them
+pub cias_of_same : (old new : WorkingChips) (c : Chips) → IsChipsOf old c → IsChipsOf new c → KeepsCias old new
+cias_of_same old new c before after = record {
+  irq = sym after.irq ∙ before.irq;
+  cia_a = sym after.cia_a ∙ before.cia_a;
+  cia_b = sym after.cia_b ∙ before.cia_b;
+}
+
+abbrev Requested : Interrupts → CiaState → CiaState → Type 0
+Requested irq a b = after_request (bit_or 0 ((if is_active a.icr then 8 else 0) + (if is_active b.icr then 0x2000 else 0))) irq ≡ irq
+
+requested_kept : (old new : WorkingChips) → KeepsCias old new → AsksNothingNew 0 (plain_chips old) → AsksNothingNew 0 (plain_chips new)
+requested_kept old new kept asks =
+    let a : Requested old.irq new.cia_a old.cia_b = subst (λ (cia : CiaState). Requested old.irq cia old.cia_b) (sym kept.cia_a) asks in
+    let b : Requested old.irq new.cia_a new.cia_b = subst (λ (cia : CiaState). Requested old.irq new.cia_a cia) (sym kept.cia_b) a in
+    subst (λ (irq : Interrupts). Requested irq new.cia_a new.cia_b) (sym kept.irq) b
+
+pub rest_kept : (t n : ℕ) (old new : WorkingChips) → KeepsCias old new → CiasRest t n old → CiasRest t n new
+rest_kept t n old new kept rest k below = ((rest k below).0, requested_kept old new kept (rest k below).1)
+
+pub rest_next : (t n : ℕ) (now : WorkingChips) → CiasRest t n now → CiasRest (t + 1) (n - 1) now
+rest_next t n now rest k below =
+    let e : t + suc k ≡ t + 1 + k = omega arith in
+    let there = rest (suc k) (omega (arith, below)) in
+    (subst (λ at. (at % 5 == 0) ≡ false) e there.0, there.1)

@@ -1,8 +1,9 @@
 -- Clocks that refresh, sprites and the Copper leave to the planes, the blitter and the processor.
-use Rattle.std.specs.Prelude.{◌≡◌, ◌<◌, ℕ, Bool, true, false, Option, Some, None, is_some}
+use Rattle.std.specs.Prelude.{◌≡◌, ◌<◌, ℕ, ◌+◌, ◌%◌, ◌==◌, Bool, true, false, not, Option, Some, None, is_some}
 use Rattle.bitplane_dma.specs.RulesCode.{rules_of}
 use Rattle.bitplane_dma.specs.declared.rules.FetchRules.{FetchRules}
 use Rattle.ocs_base.specs.declared.beam.Beam.{Beam}
+use Rattle.quiet_clocks.specs.PlainClock.{AsksNothingNew}
 use Rattle.quiet_clocks.specs.QuietClocks.{later_beam}
 use Rattle.serial_model.specs.Owner.{is_refresh}
 use Rattle.serial_model.specs.PlaneFetch.{begins_unit, is_running, IsLastUnit}
@@ -13,8 +14,10 @@ use Rattle.serial_model.specs.declared.bus.Made.TheVariants as M
 use Rattle.serial_model.specs.declared.fetch.PlaneAsk.{PlaneAsk}
 use Rattle.serial_model.specs.declared.bus.ProcessorAsk.{ProcessorAsk}
 use Rattle.serial_model.specs.declared.bus.ProcessorAsk.TheVariants as P
+use Rattle.serial_model.specs.Registers.{dmacon_of, blitter_first}
 use Rattle.sprite_dma.specs.Quiet.{ReadsNothing}
-use Rattle.chip_set.specs.Chips.{WorkingChips, late_ask}
+use Rattle.chip_set.specs.declared.bus.BlitterClaim.{BlitterClaim}
+use Rattle.chip_set.specs.Chips.{WorkingChips, late_ask, kept_wish, plain_chips}
 use Rattle.chip_set.specs.Quiet.{IsCopperIdle}
 
 -- what the working chips tell of a clock, with the beam there, by which none of refresh, sprites and the Copper needs its slot
@@ -52,10 +55,31 @@ pub record KeepsBus (old new : WorkingChips) : Type 0 where
 pub record KeepsToPlanes (old new : WorkingChips) : Type 0 where
   pub leaves : (b : Beam) → LeavesToPlanes b old → LeavesToPlanes b new
   pub rules : (v : ℕ) → rules_of v new.registers ≡ rules_of v old.registers
+  pub dma : dmacon_of new.registers ≡ dmacon_of old.registers
+  pub busy : is_some new.blit ≡ is_some old.blit
 
 abbrev pub KeepsBeside : Option FetchRules → WorkingChips → WorkingChips → Type 0
 KeepsBeside None old new = KeepsBus old new
 KeepsBeside (Some rules) old new = KeepsToPlanes old new
+
+-- the CIAs and what is requested stay
+pub record KeepsCias (old new : WorkingChips) : Type 0 where
+  pub irq : new.irq ≡ old.irq
+  pub cia_a : new.cia_a ≡ old.cia_a
+  pub cia_b : new.cia_b ≡ old.cia_b
+
+-- all of it stays
+abbrev pub KeepsOnBus : WorkingChips → WorkingChips → Type 0
+KeepsOnBus old new = KeepsBus old new × KeepsCias old new
+
+-- in n clocks from clock t on the timers do not tick, and the CIAs request no interrupt that is not requested yet
+abbrev pub CiasRest : ℕ → ℕ → WorkingChips → Type 0
+CiasRest t n now = (k : ℕ) → k < n → (((t + k) % 5 == 0) ≡ false) × AsksNothingNew 0 (plain_chips now)
+
+-- whether the blitter asks, and whether it gives way to a processor that has missed three clocks
+pub record IsClaim (claim : BlitterClaim) (now : WorkingChips) : Type 0 where
+  pub asks : claim.asks ≡ is_some (kept_wish now)
+  pub yields : claim.yields ≡ not (blitter_first now.registers)
 
 -- the ask of such a clock, where this plane has its slot, or none
 abbrev pub ask_beside_planes : Option PlaneAsk → Beam → WorkingChips → Ask

@@ -13,15 +13,24 @@ ghost use Rattle.serial_model.specs.declared.bus.SideAsk.{SideAsk};
 ghost use Rattle.cpu_bus.specs.Bus.{wish_shown};
 ghost use Rattle.chip_set.specs.Chips.{IsChipsOf, HasAsked, HasAccessed, CanAsk, CanDo, WorkingChips, plain_chips, IsAnswer, IsBlitAsk, kept_wish, late_ask as asked_late};
 ghost use Rattle.chip_set.specs.Chips.{reads_by_chips, read_by};
-ghost use Rattle.chip_set.specs.BusCode.{LeavesToPlanes, LeavesBeside, LeaveBus, KeepsBus, KeepsBeside};
+ghost use Rattle.chip_set.specs.BusCode.{LeavesToPlanes, LeavesBeside, LeaveBus, KeepsOnBus, KeepsBeside, KeepsCias};
+ghost use Rattle.chip_set.specs.BusCode.{IsClaim};
 ghost use Rattle.chip_set.specs.BusCode.{ask_beside_planes, is_bus_ask, is_bus_made};
 
-use crate::asks::made_by;
+use crate::asks::{made_by, slot_ask};
 use crate::chips::{Chips, read_for_blit};
 use bitplane_dma::{FetchRules, PlaneAsk};
 use mem_versions::Chip;
 use ocs_base::Beam;
 use serial_model::{Ask, CopperAct, Made, ProcessorAsk};
+
+/// Whether the blitter asks for the slots of such clocks, and whether it gives way to a processor that has
+/// missed three clocks. Both stay as long as such clocks go on.
+#[derive(Clone, Copy)]
+pub struct BlitterClaim {
+    asks: bool,
+    yields: bool,
+}
 
 impl Chips {
     /// For how many clocks of this line, from this one on and at most so many, neither refresh nor sprites
@@ -79,6 +88,7 @@ impl Chips {
             (kept_wish self.new) }
         ensures leaves { LeavesToPlanes beam.now self.new }
         ensures kept { KeepsBeside rules.now self.old self.new }
+        ensures cias { KeepsCias self.old self.new }
     {
         match rules {
             Some(rules) => self.fetch_plane(rules, beam),
@@ -94,25 +104,50 @@ impl Chips {
         self.blit.is_some()
     }
 
-    /// Whether the blitter has the slot of such a clock, where no plane has it; else the processor has it if
-    /// it asks.
+    /// How the blitter asks for the slots of such clocks.
+    pub fn blitter_claim(&self) -> BlitterClaim
+        ensures { IsClaim result self.now }
+    {
+        BlitterClaim {
+            asks: self.has_blitter_wish(),
+            yields: !self.is_nasty(),
+        }
+    }
+
+    /// Whether the blitter, which asks so, has the slot of such a clock, where no plane has it; else the
+    /// processor has it if it asks.
     #[inline(always)]
-    pub fn has_blitter_turn(&self) -> bool
+    pub fn has_blitter_turn(&self, claim: &BlitterClaim) -> bool
+        requires { IsClaim claim.now self.now }
+        ensures asks { result ≡ true → is_some (kept_wish self.now) ≡ true }
         ensures blitter { result ≡ true → (b : BeamOf) → LeavesToPlanes b self.now
             → asked_late b self.now ≡ blit_owner_ask (kept_wish self.now) }
         ensures processor { result ≡ false → (b : BeamOf) → LeavesToPlanes b self.now
             → asked_late b self.now ≡ processor_ask_of (wish_shown self.now.processor) }
     {
-        self.has_blitter_wish() && !self.is_processor_first()
+        claim.asks && !self.is_processor_first(claim)
     }
 
-    /// Whether the processor comes before the blitter.
+    /// Whether the processor comes before the blitter, which asks so.
     #[inline(always)]
-    fn is_processor_first(&self) -> bool
+    fn is_processor_first(&self, claim: &BlitterClaim) -> bool
+        requires { IsClaim claim.now self.now }
         ensures { result ≡ (comes_first (plain_chips self.now)
             && is_some (wish_shown self.now.processor)) }
     {
-        !self.is_nasty() && self.missed >= 3 && self.processor.wish().is_some()
+        claim.yields && self.missed >= 3 && self.processor.wish().is_some()
+    }
+
+    /// What the blitter asks for, where it asks.
+    #[inline(always)]
+    pub fn blit_ask_in_turn(&self) -> Ask
+        requires { is_some (kept_wish self.now) ≡ true }
+        ensures { result ≡ blit_owner_ask (kept_wish self.now) }
+    {
+        match &self.blit {
+            Some(blit) => slot_ask(blit.next()),
+            None => Ask::Free,
+        }
     }
 
     /// As `answer`, at such a clock, where the owner of the slot is a plane, the blitter, the processor with
@@ -129,7 +164,8 @@ impl Chips {
         ensures able { CanDo result }
         ensures made { is_bus_made result ≡ true }
         ensures reads { chip.new ≡ read_by (reads_by_chips ask.now) chip.old }
-        ensures kept { is_some self.new.blit ≡ is_some self.old.blit → KeepsBus self.old self.new }
+        ensures kept { is_some self.new.blit ≡ is_some self.old.blit
+            → KeepsOnBus self.old self.new }
     {
         let word = read_on_bus(ask, chip);
         self.count_missed(ask);

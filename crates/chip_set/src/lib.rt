@@ -12,5 +12,6 @@ mod turn;
 
 pub use asks::is_clx_ask;
 pub use bitplane_dma::FetchRules;
+pub use bus::BlitterClaim;
 pub use chips::Chips;
 pub use late::LateOwner;

@@ -166,7 +166,7 @@ impl Chips {
     }
 
     /// Whether the CIAs request no interrupt that is not requested already.
-    fn asks_nothing_new(&self) -> bool
+    pub(crate) fn asks_nothing_new(&self) -> bool
         ensures { result ≡ true → AsksNothingNew 0 (plain_chips self.now) }
     {
         let ports = if self.cia_a.line() { PORTS } else { 0 };

@@ -1,13 +1,14 @@
 //! The chips in the third and sixth step of a clock: the CIAs' time and interrupts, and the
 //! processor's part that needs no slot.
 
-ghost use Rattle.std.specs.Prelude.{◌≡◌, ◌==◌, not, Some, None};
+ghost use Rattle.std.specs.Prelude.{◌≡◌, ◌<◌, ◌+◌, ◌^◌, ◌==◌, true, not, Some, None};
 ghost use Rattle.serial_model.specs.State.{Chips as ChipsOf};
 ghost use Rattle.serial_model.specs.Cias.{answer_of_cia, access_cia as access_of_cia, pins_at, fire_pins as fire_pins_of};
 ghost use Rattle.serial_model.specs.Cias.{tick_timers as ticked, line_bits as line_bits_of, time_chips};
 ghost use Rattle.serial_model.specs.Turns.{go_on_with, begins_with, run_chips, interrupt_of};
 ghost use Rattle.serial_model.specs.Processor.{turn_of};
 ghost use Rattle.serial_model.specs.declared.processor.Turn.TheVariants.{Goes};
+ghost use Rattle.chip_set.specs.BusCode.{CiasRest, KeepsCias};
 ghost use Rattle.chip_set.specs.Chips.{IsChipsOf};
 
 use crate::chips::Chips;
@@ -45,6 +46,40 @@ impl Chips {
         }
     }
 
+    /// As `count_timers` without a side, where in so many clocks from this one on nothing is to be done for
+    /// the CIAs. The answer is in how many from the next one on.
+    #[inline(always)]
+    pub fn count_or_rest(&mut self, t: u64, rest: u16) -> u16
+        requires rest { CiasRest t rest self.old }
+        requires room { t + 1 < 2 ^ 64 }
+        ensures chips { (c : ChipsOf) → IsChipsOf self.old c
+            → IsChipsOf self.new (time_chips 0 t c) }
+        ensures rest { CiasRest (t + 1) result self.new }
+        ensures kept { self.new ≡ record self.old {
+          irq = self.new.irq;
+          cia_a = self.new.cia_a;
+          cia_b = self.new.cia_b;
+        } }
+    {
+        if rest > 0 {
+            return rest - 1;
+        }
+        self.count_timers(t, 0);
+        self.clocks_before_tick(t + 1)
+    }
+
+    /// In how many clocks from clock `t` on nothing is to be done for the CIAs: those before the next tick of
+    /// their timers, and none where they request an interrupt that is not requested yet.
+    #[inline(always)]
+    fn clocks_before_tick(&self, t: u64) -> u16
+        ensures { CiasRest t result self.now }
+    {
+        if !self.asks_nothing_new() {
+            return 0;
+        }
+        ((5 - t % 5) % 5) as u16
+    }
+
     /// The timers tick at each fifth clock.
     #[inline(always)]
     fn tick_timers(&mut self, t: u64)
@@ -75,7 +110,6 @@ impl Chips {
     /// The processor takes its turn: a clock passes of what it waits for, or it goes on. The answer
     /// is the level of an interrupt that begins with it.
     #[inline(always)]
-    #[tactic(auto, unfolding(serial_model::specs::Turns::run_chips, serial_model::specs::Turns::interrupt_of))]
     pub fn process(&mut self) -> Option<u8>
         ensures chips { (c : ChipsOf) → IsChipsOf self.old c → IsChipsOf self.new (run_chips c) }
         ensures interrupt { (c : ChipsOf) → IsChipsOf self.old c → result ≡ interrupt_of c }
@@ -85,16 +119,32 @@ impl Chips {
           cia_b = self.new.cia_b;
         } }
     {
+        self.process_beside_cias().0
+    }
+
+    /// The same, and whether the CIAs stay, as they do but for its access to one of them.
+    #[inline(always)]
+    #[tactic(auto, unfolding(serial_model::specs::Turns::run_chips, serial_model::specs::Turns::interrupt_of))]
+    pub fn process_beside_cias(&mut self) -> (Option<u8>, bool)
+        ensures chips { (c : ChipsOf) → IsChipsOf self.old c → IsChipsOf self.new (run_chips c) }
+        ensures interrupt { (c : ChipsOf) → IsChipsOf self.old c → result.0 ≡ interrupt_of c }
+        ensures kept { self.new ≡ record self.old {
+          processor = self.new.processor;
+          cia_a = self.new.cia_a;
+          cia_b = self.new.cia_b;
+        } }
+        ensures cias { result.1 ≡ true → KeepsCias self.old self.new }
+    {
         match self.processor.turn() {
-            Turn::Rests => None,
+            Turn::Rests => (None, true),
             Turn::Waits { spent } => {
                 self.processor.wait(spent);
-                None
+                (None, true)
             }
-            Turn::Goes { word } => self.go_on_or_rest(word),
+            Turn::Goes { word } => (self.go_on_or_rest(word), true),
             Turn::Cia { cia, reg, byte } => {
                 let word = self.access_cia(cia, reg, byte);
-                self.go_on(word)
+                (self.go_on(word), false)
             }
         }
     }

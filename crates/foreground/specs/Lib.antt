@@ -6,6 +6,7 @@ pub mod Fore
 pub mod CutsCode
 pub mod Steps
 pub mod AccessCode
+pub mod BusRun
 pub mod RunTo
 pub mod Checkpoint
 pub mod Save

@@ -1,8 +1,9 @@
 //! Clocks of a line that refresh, sprites and the Copper leave to the planes, the blitter and the processor,
 //! made one behind the other.
 
-ghost use Rattle.std.specs.Prelude.{◌≡◌, ◌≤◌, ◌<◌, ◌+◌, ◌-◌, ◌^◌, max, ℕ, true, false, [], IfOk, OnOk, OnErr};
+ghost use Rattle.std.specs.Prelude.{◌≡◌, ◌≤◌, ◌<◌, ◌+◌, ◌-◌, ◌^◌, max, ℕ, Bool, true, false, [], is_some, IfOk, OnOk, OnErr};
 ghost use Rattle.serial_model.specs.Events.{due_events};
+ghost use Rattle.serial_model.specs.Beam.{next_place};
 ghost use Rattle.serial_model.specs.Side.{no_side};
 ghost use Rattle.serial_model.specs.Bus.{blit_owner_ask};
 ghost use Rattle.serial_model.specs.declared.bus.Ask.TheVariants as A;
@@ -10,21 +11,22 @@ ghost use Rattle.serial_bands.specs.BusReads.{bus_reads, reads_of_ask};
 ghost use Rattle.quiet_clocks.specs.QuietClocks.{later_beam};
 ghost use Rattle.band_log.specs.Raster.{RasterValue};
 ghost use Rattle.chip_set.specs.BusCode.{LeavesToPlanes, LeavesBeside, LeaveBus, KeepsBus, KeepsBeside};
-ghost use Rattle.chip_set.specs.BusCode.{ask_beside_planes, is_bus_ask};
+ghost use Rattle.chip_set.specs.BusCode.{KeepsCias, CiasRest, IsClaim, ask_beside_planes, is_bus_ask};
 ghost use Rattle.chip_set.specs.Chips.{CanAsk, IsBlitAsk, kept_wish, late_ask};
 ghost use Rattle.foreground.specs.AccessCode.{CanAccess, MakesAccessWith};
+ghost use Rattle.foreground.specs.BusRun.{IsOpenForBus, StaysOnBus, GoesOnBus};
 ghost use Rattle.foreground.specs.Clock.{Rises};
 ghost use Rattle.machine.specs.Machine.{IsSamePlace};
 ghost use Rattle.machine.specs.MachineStepsCode.{AsksInTime};
 ghost use Rattle.foreground.specs.Fore.{over, CanGo, IsUnderway, Advances, GivesPart, is_done, looked_up};
 ghost use Rattle.foreground.specs.LineCode.{AreInLine};
 ghost use Rattle.foreground.specs.RunTo.{RunsOn, RisesIn, RisesInSome};
-ghost use Rattle.foreground.specs.Steps.{MakesAskedAccess, AccessesPart, KeepsClock, reads_more};
+ghost use Rattle.foreground.specs.Steps.{MakesAskedAccess, AccessesPart, EndsClock, KeepsClock, reads_more};
 
 use crate::fore::Fore;
 use crate::lookout::{WORTH, is_beside_refresh};
 use band_log::Raster;
-use chip_set::FetchRules;
+use chip_set::{BlitterClaim, FetchRules};
 use machine::touch_of;
 use ocs_base::OutOfMemory;
 use out_files::OutFiles;
@@ -65,9 +67,11 @@ impl<S: Side> Fore<S> {
             self.old.machine.chip.reads self.new.machine.chip.reads) }
     {
         let (clocks, rules) = self.bus_clocks(limit);
+        let claim = self.machine.chips.blitter_claim();
+        let mut rest = 0;
         let mut left = clocks;
-        while left > 0 && self.log.band.from < self.machine.t && self.machine.side.is_nothing() {
-            match self.clock_on_bus(&rules, raster, out) {
+        while left > 0 {
+            match self.clock_on_bus(&rules, &claim, &mut rest, raster, out) {
                 Ok(on) => left = if on { left - 1 } else { 0 },
                 Err(refused) => {
                     self.spent = true;
@@ -87,10 +91,11 @@ impl<S: Side> Fore<S> {
         ensures line { 0 < result.0 → AreInLine limit result.0 (over S.seen self.old) }
         ensures leave { 0 < result.0 → LeaveBus result.1 self.old.machine.beam result.0
             self.old.machine.chips }
+        ensures ready { 0 < result.0 → IsOpenForBus (over S.seen self.old) }
         ensures same { self.new ≡ self.old }
     {
         let now = self.machine.t;
-        if !self.lookout.is_due(now) || !self.machine.chips.is_busy() {
+        if !self.lookout.is_due(now) || !self.machine.chips.is_busy() || !self.is_open_for_bus() {
             return (0, None);
         }
         let h = self.machine.beam.h;
@@ -107,12 +112,25 @@ impl<S: Side> Fore<S> {
         (clocks, rules)
     }
 
+    /// Whether they may begin with this clock: no write waits, its band has begun, and there is no side.
+    #[inline(always)]
+    fn is_open_for_bus(&self) -> bool
+        ensures { result ≡ true → IsOpenForBus (over S.seen self.now) }
+    {
+        self.log.waiting.is_none()
+            && self.log.band.from < self.machine.t
+            && self.machine.side.is_nothing()
+    }
+
     /// One of them. The answer says whether the bus is known to be left in further clocks. That memory was
-    /// wanted is the caller's to note.
+    /// wanted is the caller's to note. In `rest` clocks from this one on nothing is to be done for the CIAs,
+    /// and then in how many from the next one on.
     #[inline(always)]
     fn clock_on_bus<Q: Raster<S>>(
         &mut self,
         rules: &Option<FetchRules>,
+        claim: &BlitterClaim,
+        rest: &mut u16,
         raster: &mut Q,
         out: &mut OutFiles,
     ) -> Result<bool, OutOfMemory>
@@ -122,9 +140,10 @@ impl<S: Side> Fore<S> {
         requires inner { 0 < self.old.machine.beam.h }
         requires last { self.old.machine.beam.h < 226 }
         requires due { due_events self.old.machine.beam self.old.run.script.events ≡ [] }
-        requires before { self.old.log.band.from < self.old.machine.t }
-        requires side { S.seen self.old.machine.side ≡ no_side }
+        requires ready { IsOpenForBus (over S.seen self.old) }
         requires leaves { LeavesBeside rules.now self.old.machine.beam self.old.machine.chips }
+        requires claim { IsClaim claim.now self.old.machine.chips }
+        requires rest { CiasRest self.old.machine.t rest.old self.old.machine.chips }
         ensures clock { OnOk result (Advances (over S.seen self.old) (over S.seen self.new)
             (Q.seen raster.old) (Q.seen raster.new) out.old out.new) }
         ensures place { OnOk result (IsSamePlace (later_beam 1 self.old.machine.beam)
@@ -143,20 +162,21 @@ impl<S: Side> Fore<S> {
             (over S.seen self.old))
             self.old.machine.chip.reads self.new.machine.chip.reads) }
         ensures bus { IfOk result (λ on. on ≡ true
-            → KeepsBeside rules.now self.old.machine.chips self.new.machine.chips) }
+            → GoesOnBus rules.now rest.new (over S.seen self.old) (over S.seen self.new)) }
     {
-        self.go_on()?;
-        let plane = self.ask_on_bus(rules);
-        let on = self.access_on_bus(plane, raster, out)?;
-        self.end_clock(out)?;
+        let plane = self.ask_on_bus(rules, rest);
+        let on = self.access_on_bus(plane, claim, raster, out)?;
+        self.end_on_bus(rest, out)?;
         Ok(on)
     }
 
     /// The third and the fourth step of it, and the plane that has the slot, if one has.
     #[inline(always)]
-    fn ask_on_bus(&mut self, rules: &Option<FetchRules>) -> Option<PlaneAsk>
+    fn ask_on_bus(&mut self, rules: &Option<FetchRules>, rest: &mut u16) -> Option<PlaneAsk>
         requires side { S.seen self.old.machine.side ≡ no_side }
         requires leaves { LeavesBeside rules.now self.old.machine.beam self.old.machine.chips }
+        requires rest { CiasRest self.old.machine.t rest.old self.old.machine.chips }
+        requires room { self.old.machine.t + 1 < 2 ^ 64 }
         ensures asks { AsksInTime
             (ask_beside_planes result self.new.machine.beam self.new.machine.chips)
             (over S.seen self.old).machine (over S.seen self.new).machine }
@@ -167,11 +187,38 @@ impl<S: Side> Fore<S> {
             (kept_wish self.new.machine.chips) }
         ensures leaves { LeavesToPlanes self.new.machine.beam self.new.machine.chips }
         ensures bus { KeepsBeside rules.now self.old.machine.chips self.new.machine.chips }
+        ensures rest { CiasRest (self.new.machine.t + 1) rest.new self.new.machine.chips }
         ensures beam { self.new.machine.beam ≡ self.old.machine.beam }
+        ensures side { self.new.machine.side ≡ self.old.machine.side }
         ensures same { self.new ≡ record self.old { machine = self.new.machine } }
         ensures chip { self.new.machine.chip ≡ self.old.machine.chip }
     {
-        self.machine.ask_on_bus(rules)
+        self.machine.ask_on_bus(rules, rest)
+    }
+
+    /// The last two steps of it.
+    #[inline(always)]
+    fn end_on_bus(&mut self, rest: &mut u16, out: &mut OutFiles) -> Result<(), OutOfMemory>
+        requires line { self.old.machine.beam.h < 226 }
+        requires count { self.old.machine.t + 1 < 2 ^ 64 }
+        ensures ends { OnOk result (EndsClock (over S.seen self.old) (over S.seen self.new) out.old
+            out.new) }
+        ensures place { OnOk result ((lace : Bool)
+            × (self.new.machine.beam ≡ next_place (over S.seen self.old).run.script.system lace
+            self.old.machine.beam)) }
+        ensures run { (over S.seen self.new).run ≡ (over S.seen self.old).run }
+        ensures chip { self.new.machine.chip ≡ self.old.machine.chip }
+        ensures side { self.new.machine.side ≡ self.old.machine.side }
+        ensures bus { KeepsBus self.old.machine.chips self.new.machine.chips }
+        ensures rest { OnOk result
+            (CiasRest (self.old.machine.t + 1) rest.old self.old.machine.chips
+            → CiasRest self.new.machine.t rest.new self.new.machine.chips) }
+        ensures refused { OnErr result (out.new ≡ out.old) }
+    {
+        let alone = self.machine.process_beside_cias(out)?;
+        *rest = rest_beside(alone, *rest);
+        self.machine.advance_in_line();
+        Ok(())
     }
 
     /// The fifth, where this plane has the slot, or none. The answer says whether the bus is known to be left
@@ -180,6 +227,7 @@ impl<S: Side> Fore<S> {
     fn access_on_bus<Q: Raster<S>>(
         &mut self,
         plane: Option<PlaneAsk>,
+        claim: &BlitterClaim,
         raster: &mut Q,
         out: &mut OutFiles,
     ) -> Result<bool, OutOfMemory>
@@ -188,16 +236,17 @@ impl<S: Side> Fore<S> {
             (over S.seen self.old) (Q.seen raster.old) }
         requires room { self.old.machine.t + 1 < 2 ^ 64 }
         requires leaves { LeavesToPlanes self.old.machine.beam self.old.machine.chips }
+        requires claim { IsClaim claim.now self.old.machine.chips }
         ensures access { MakesAccessWith
             (ask_beside_planes plane self.old.machine.beam self.old.machine.chips)
             (over S.seen self.old) (over S.seen self.new)
             (Q.seen raster.old) (Q.seen raster.new) out.old out.new result }
         ensures bus { IfOk result (λ on. on ≡ true
-            → KeepsBus self.old.machine.chips self.new.machine.chips) }
+            → StaysOnBus (over S.seen self.old) (over S.seen self.new)) }
     {
         match plane {
             Some(ask) => self.serve_on_bus(&Ask::Plane { ask }, out),
-            None => self.access_without_plane(raster, out),
+            None => self.access_without_plane(claim, raster, out),
         }
     }
 
@@ -205,6 +254,7 @@ impl<S: Side> Fore<S> {
     #[inline(always)]
     fn access_without_plane<Q: Raster<S>>(
         &mut self,
+        claim: &BlitterClaim,
         raster: &mut Q,
         out: &mut OutFiles,
     ) -> Result<bool, OutOfMemory>
@@ -212,13 +262,14 @@ impl<S: Side> Fore<S> {
             (over S.seen self.old) (Q.seen raster.old) }
         requires room { self.old.machine.t + 1 < 2 ^ 64 }
         requires leaves { LeavesToPlanes self.old.machine.beam self.old.machine.chips }
+        requires claim { IsClaim claim.now self.old.machine.chips }
         ensures access { MakesAccessWith (late_ask self.old.machine.beam self.old.machine.chips)
             (over S.seen self.old) (over S.seen self.new)
             (Q.seen raster.old) (Q.seen raster.new) out.old out.new result }
         ensures bus { IfOk result (λ on. on ≡ true
-            → KeepsBus self.old.machine.chips self.new.machine.chips) }
+            → StaysOnBus (over S.seen self.old) (over S.seen self.new)) }
     {
-        if self.machine.chips.has_blitter_turn() {
+        if self.machine.chips.has_blitter_turn(claim) {
             return self.blit_on_bus(raster, out);
         }
         match self.machine.chips.processor_wish() {
@@ -238,13 +289,14 @@ impl<S: Side> Fore<S> {
             (over S.seen self.old) (Q.seen raster.old) }
         requires room { self.old.machine.t + 1 < 2 ^ 64 }
         requires leaves { LeavesToPlanes self.old.machine.beam self.old.machine.chips }
+        requires asks { is_some (kept_wish self.old.machine.chips) ≡ true }
         ensures access { MakesAccessWith (blit_owner_ask (kept_wish self.old.machine.chips))
             (over S.seen self.old) (over S.seen self.new)
             (Q.seen raster.old) (Q.seen raster.new) out.old out.new result }
         ensures bus { IfOk result (λ on. on ≡ true
-            → KeepsBus self.old.machine.chips self.new.machine.chips) }
+            → StaysOnBus (over S.seen self.old) (over S.seen self.new)) }
     {
-        match self.machine.chips.blit_ask() {
+        match self.machine.chips.blit_ask_in_turn() {
             Ask::Blit { ask } => self.serve_on_bus(&Ask::Blit { ask }, out),
             other => {
                 self.access_by(&other, raster, out)?;
@@ -268,7 +320,7 @@ impl<S: Side> Fore<S> {
             (over S.seen self.old) (over S.seen self.new)
             (Q.seen raster.old) (Q.seen raster.new) out.old out.new result }
         ensures bus { IfOk result (λ on. on ≡ true
-            → KeepsBus self.old.machine.chips self.new.machine.chips) }
+            → StaysOnBus (over S.seen self.old) (over S.seen self.new)) }
     {
         match ask {
             ProcessorAsk::Read { at } => self.serve_on_bus(
@@ -305,7 +357,7 @@ impl<S: Side> Fore<S> {
         ensures reads { self.new.machine.chip.reads ≡ reads_more
             (reads_of_ask ask.now) self.old.machine.chip.reads }
         ensures bus { IfOk result (λ on. on ≡ true
-            → KeepsBus self.old.machine.chips self.new.machine.chips) }
+            → StaysOnBus (over S.seen self.old) (over S.seen self.new)) }
     {
         let busy = self.machine.chips.is_blitting();
         let made = self.machine.answer_on_bus(ask, out)?;
@@ -313,4 +365,14 @@ impl<S: Side> Fore<S> {
         self.log.note_access(t, &touch_of(&made))?;
         Ok(self.machine.chips.is_blitting() == busy)
     }
+}
+
+/// In how many clocks nothing is to be done for the CIAs, where that was known of so many, and the processor
+/// left them alone or not.
+#[inline(always)]
+fn rest_beside(alone: bool, rest: u16) -> u16
+    ensures alone { alone ≡ true → result ≡ rest }
+    ensures accessed { alone ≡ false → result ≡ 0 }
+{
+    if alone { rest } else { 0 }
 }

@@ -1,29 +1,36 @@
 //! Clocks of a line that refresh, planes, sprites and the Copper leave to the blitter and the processor.
 
-ghost use Rattle.std.specs.Prelude.{◌≡◌, ◌≤◌, ◌<◌, ◌-◌, true, is_some, IfOk, OnOk, OnErr};
+ghost use Rattle.std.specs.Prelude.{◌≡◌, ◌≤◌, ◌<◌, ◌+◌, ◌-◌, ◌^◌, true, is_some, Option, Bool, IfOk, OnOk, OnErr};
+ghost use Rattle.ocs_base.specs.declared.system.System.{System};
+ghost use Rattle.serial_model.specs.Beam.{IsOnScreen, next_place};
+ghost use Rattle.serial_model.specs.Registers.{is_interlaced};
 ghost use Rattle.serial_model.specs.Side.{no_side};
 ghost use Rattle.serial_model.specs.State.{State};
-ghost use Rattle.serial_model.specs.Tick.{ask_of};
-ghost use Rattle.chip_set.specs.BusCode.{LeavesToPlanes, LeavesBeside, KeepsBus, KeepsBeside};
-ghost use Rattle.chip_set.specs.BusCode.{ask_beside_planes, is_bus_ask};
+ghost use Rattle.serial_model.specs.Tick.{ask_of, run_processor, advance_beam};
+ghost use Rattle.chip_set.specs.BusCode.{LeavesToPlanes, LeavesBeside, KeepsBus, KeepsBeside, KeepsCias, KeepsOnBus, CiasRest};
+ghost use Rattle.chip_set.specs.BusCode.{ask_beside_planes, is_bus_ask, is_bus_made};
 ghost use Rattle.chip_set.specs.Chips.{CanAsk, CanDo, IsBlitAsk, kept_wish};
-ghost use Rattle.machine.specs.Machine.{machine_over, MakesAccess, HasAskedOf, StoresMade, StaysInPlace, reads_after};
+ghost use Rattle.machine.specs.Machine.{machine_over, Makes, MakesQuietly};
+ghost use Rattle.machine.specs.Machine.{MakesAccess, HasAskedOf, StoresMade, StaysInPlace, reads_after};
 ghost use Rattle.machine.specs.MachineStepsCode.{AsksInTime};
 
 use crate::machine::Machine;
 use chip_set::FetchRules;
 use ocs_base::OutOfMemory;
 use out_files::OutFiles;
-use serial_model::{Ask, Made, PlaneAsk, Side};
+use serial_model::{Ask, Made, PlaneAsk, Side, TraceLine};
 
 impl<S: Side> Machine<S> {
     /// Third step of such a clock, without a side: the timers tick; and the planes' part of it: the plane
     /// that has the slot, if one has. Else `has_blitter_turn` tells who has it. `answer_on_bus` is to be
-    /// called next.
+    /// called next. In `rest` clocks from this one on nothing is to be done for the CIAs, and then in how many
+    /// from the next one on.
     #[inline(always)]
-    pub fn ask_on_bus(&mut self, rules: &Option<FetchRules>) -> Option<PlaneAsk>
+    pub fn ask_on_bus(&mut self, rules: &Option<FetchRules>, rest: &mut u16) -> Option<PlaneAsk>
         requires side { S.seen self.old.side ≡ no_side }
         requires leaves { LeavesBeside rules.now self.old.beam self.old.chips }
+        requires rest { CiasRest self.old.t rest.old self.old.chips }
+        requires room { self.old.t + 1 < 2 ^ 64 }
         ensures asks { AsksInTime (ask_beside_planes result self.new.beam self.new.chips)
             (machine_over S.seen self.old) (machine_over S.seen self.new) }
         ensures able { CanAsk (ask_beside_planes result self.new.beam self.new.chips) }
@@ -31,10 +38,50 @@ impl<S: Side> Machine<S> {
             (kept_wish self.new.chips) }
         ensures leaves { LeavesToPlanes self.new.beam self.new.chips }
         ensures kept { KeepsBeside rules.now self.old.chips self.new.chips }
+        ensures rest { CiasRest (self.new.t + 1) rest.new self.new.chips }
         ensures same { self.new ≡ record self.old { chips = self.new.chips } }
     {
-        self.chips.count_timers(self.t, 0);
+        *rest = self.chips.count_or_rest(self.t, *rest);
         self.chips.ask_on_bus(rules, &self.beam)
+    }
+
+    /// Sixth step, as `process`. The answer says whether the processor left the CIAs alone.
+    #[inline(always)]
+    pub fn process_beside_cias(&mut self, out: &mut OutFiles) -> Result<bool, OutOfMemory>
+        ensures step { OnOk result (Makes run_processor (machine_over S.seen self.old) out.old
+            (machine_over S.seen self.new) out.new) }
+        ensures same { self.new ≡ record self.old { chips = self.new.chips } }
+        ensures bus { KeepsBus self.old.chips self.new.chips }
+        ensures cias { IfOk result (λ alone. alone ≡ true
+            → KeepsCias self.old.chips self.new.chips) }
+        ensures refused { OnErr result (out.new ≡ out.old) }
+    {
+        let (begins, alone) = self.chips.process_beside_cias();
+        if let Some(level) = begins {
+            out.line(TraceLine::Taken {
+                beam: self.beam,
+                level,
+            })?;
+        }
+        Ok(alone)
+    }
+
+    /// Seventh step, as `advance`, at a clock behind which its line goes on.
+    #[inline(always)]
+    pub fn advance_in_line(&mut self)
+        requires line { self.old.beam.h < 226 }
+        requires count { self.old.t + 1 < 2 ^ 64 }
+        ensures step { (system : System) → MakesQuietly (advance_beam system)
+            (machine_over S.seen self.old) (machine_over S.seen self.new) }
+        ensures beam { (system : System) → self.new.beam
+            ≡ next_place system (is_interlaced self.old.chips.registers) self.old.beam }
+        ensures count { self.new.t ≡ self.old.t + 1 }
+        ensures chip { self.new.chip ≡ self.old.chip }
+        ensures chips { self.new.chips ≡ self.old.chips }
+        ensures side { self.new.side ≡ self.old.side }
+    {
+        self.beam.h += 1;
+        self.t += 1;
     }
 
     /// As `answer`, at such a clock, where the owner of the slot is a plane, the blitter, the processor with
@@ -57,8 +104,10 @@ impl<S: Side> Machine<S> {
         ensures reads { self.new.chip.reads ≡ reads_after ask.now self.old.chip.reads }
         ensures place { StaysInPlace (machine_over S.seen self.old) (machine_over S.seen self.new) }
         ensures refused { OnErr result (out.new ≡ out.old) }
+        ensures made { IfOk result (λ made. is_bus_made made ≡ true) }
+        ensures side { OnOk result (S.seen self.new.side ≡ S.seen self.old.side) }
         ensures bus { OnOk result (is_some self.new.chips.blit ≡ is_some self.old.chips.blit
-            → KeepsBus self.old.chips self.new.chips) }
+            → KeepsOnBus self.old.chips self.new.chips) }
     {
         self.give_side(ask);
         let made = self.chips.answer_on_bus(ask, &self.beam, &mut self.chip);

@@ -1,6 +1,6 @@
 use Rattle.std.proofs.Common.{Some, None, subst, sym}
 use Rattle.chip_set.specs.BusCode.{LeavesBeside}
-use Rattle.chip_set.proofs.BusLaws.{HasFetchedBeside, HasAskedOnBus, fetched_beside, asked_without_planes}
+use Rattle.chip_set.proofs.BusLaws.{cias_beside, HasFetchedBeside, HasAskedOnBus, fetched_beside, asked_without_planes}
 use Rattle.chip_set.proofs.chips.Chips.ask_on_bus.Goals as goal
 
 fetches : (c : goal.After-fetch_plane) → HasFetchedBeside c.args.rules.now c.args.beam.now c.args.self.now c.fetch_plane.new.self c.fetch_plane.result
@@ -28,6 +28,9 @@ returns-in-Some-clause-leaves c = (fetches c).leaves
 
 pub returns-in-Some-clause-kept : goal.returns-in-Some-clause-kept
 returns-in-Some-clause-kept c = (fetches c).keeps
+
+pub returns-in-Some-clause-cias : goal.returns-in-Some-clause-cias
+returns-in-Some-clause-cias c = cias_beside c.args.beam.now c.args.self.now c.fetch_plane.new.self c.fetch_plane.ensures.moved
 
 alone : (c : goal.In-None) → HasAskedOnBus c.args.beam.now c.args.self.now c.args.self.now None
 alone c = asked_without_planes c.args.beam.now c.args.self.now (subst (λ r. LeavesBeside r c.args.beam.now c.args.self.now) c.in-None.is c.requires.leaves)

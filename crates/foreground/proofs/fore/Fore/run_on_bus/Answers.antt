@@ -1,11 +1,13 @@
 use Rattle.std.proofs.Common.{◌≡◌, ◌<◌, false, arith, refl, ◌∙◌, ap, subst, sym}
-use Rattle.chip_set.specs.BusCode.{LeaveBus}
+use Rattle.chip_set.specs.BusCode.{LeaveBus, IsClaim}
 use Rattle.foreground.specs.Fore.{ForeOf, over, CanGo}
 use Rattle.foreground.specs.LineCode.{AreInLine}
 use Rattle.foreground.specs.RunTo.{RisesInSome}
 use Rattle.foreground.proofs.RunToLaws.{runs_none, runs_then, part_behind, can_go_on, no_reads, reads_then, few_behind}
-use Rattle.foreground.proofs.BusLaws.{first_leaves, leave_next, alone_view, part_alike, few_alike}
-use Rattle.foreground.proofs.LineLaws.{in_line_next, first_due, open_view}
+use Rattle.chip_set.proofs.BusLaws.{claim_kept}
+use Rattle.foreground.specs.BusRun.{IsOpenForBus}
+use Rattle.foreground.proofs.BusLaws.{first_leaves, leave_next, no_rest, part_alike, few_alike}
+use Rattle.foreground.proofs.LineLaws.{in_line_next, first_due}
 use Rattle.foreground.proofs.fore.Fore.run_on_bus.Goals as goal
 use Rattle.foreground.proofs.fore.Fore.run_on_bus.Goals.{then-on, else-on}
 
@@ -25,6 +27,9 @@ loop-left-init g c =
       line = λ some. subst (λ f. AreInLine c.args.limit c.bus_clocks-clocks.result.0 (of f)) same (c.bus_clocks-clocks.ensures.line some);
       leave = λ some. subst (λ (f : ForeOf _). LeaveBus c.bus_clocks-clocks.result.1 f.machine.beam c.bus_clocks-clocks.result.0 f.machine.chips) same
           (c.bus_clocks-clocks.ensures.leave some);
+      claim = λ some. subst (λ (f : ForeOf _). IsClaim c.blitter_claim-claim.result f.machine.chips) c.self.view_is c.blitter_claim-claim.ensures;
+      ready = λ some. subst (λ (f : ForeOf _). IsOpenForBus (of f)) same (c.bus_clocks-clocks.ensures.ready some);
+      rest = λ some. no_rest c.bus_clocks-clocks.new.self.machine.t c.bus_clocks-clocks.new.self.machine.chips;
     }
 
 pub clock_on_bus-requires : goal.clock_on_bus-requires
@@ -38,9 +43,10 @@ clock_on_bus-requires g c =
       inner = are.inner;
       last = omega (arith, are.line, some);
       due = first_due c.args.limit c.loop-left.left f some are;
-      before = open_view _ c.loop-left.self c.self.view_is c.if-self.true;
-      side = alone_view g.S.Side.seen _ c.loop-left.self c.self.view_is (c.is_nothing.ensures c.if-is_nothing.true);
+      ready = c.loop-left.invariant.ready some;
       leaves = first_leaves c.bus_clocks-clocks.result.1 c.loop-left.left f.machine.beam f.machine.chips some (c.loop-left.invariant.leave some);
+      claim = c.loop-left.invariant.claim some;
+      rest = c.loop-left.invariant.rest some;
     }
 
 pub loop-left-preserved : goal.loop-left-preserved
@@ -71,7 +77,19 @@ loop-left-preserved g c =
       leave = λ more. elim c.if-on.branch [
         | then-on w ↦ subst (λ n. LeaveBus rules next.machine.beam n next.machine.chips) (sym w.left-is)
             (leave_next rules c.loop-left.left f.machine.beam next.machine.beam f.machine.chips next.machine.chips some
-            (c.loop-left.invariant.leave some) one.place (one.bus w.if-on.true))
+            (c.loop-left.invariant.leave some) one.place (one.bus w.if-on.true).chips)
+        | else-on w ↦ absurd (omega (arith, more, w.left-is))
+      ];
+      claim = λ more. elim c.if-on.branch [
+        | then-on w ↦ claim_kept _ rules f.machine.chips next.machine.chips (one.bus w.if-on.true).chips (c.loop-left.invariant.claim some)
+        | else-on w ↦ absurd (omega (arith, more, w.left-is))
+      ];
+      ready = λ more. elim c.if-on.branch [
+        | then-on w ↦ (one.bus w.if-on.true).ready
+        | else-on w ↦ absurd (omega (arith, more, w.left-is))
+      ];
+      rest = λ more. elim c.if-on.branch [
+        | then-on w ↦ (one.bus w.if-on.true).rests
         | else-on w ↦ absurd (omega (arith, more, w.left-is))
       ];
     }

@@ -1,5 +1,6 @@
 use Rattle.std.proofs.Common.{◌≡◌, ◌≤◌, ◌<◌, ◌-◌, max, false}
-use Rattle.chip_set.specs.BusCode.{LeaveBus}
+use Rattle.chip_set.specs.BusCode.{LeaveBus, CiasRest, IsClaim}
+use Rattle.foreground.specs.BusRun.{IsOpenForBus}
 use Rattle.foreground.specs.Fore.{over, CanGo}
 use Rattle.foreground.specs.LineCode.{AreInLine}
 use Rattle.foreground.specs.RunTo.{RunsOn, RisesIn}
@@ -21,6 +22,9 @@ invariant-loop-left g l =
       still : l.self.machine.t ≡ l.initial.self.machine.t → l.self ≡ l.initial.self;
       line : 0 < l.left → AreInLine l.limit l.left (of l.self);
       leave : 0 < l.left → LeaveBus l.rules l.self.machine.beam l.left l.self.machine.chips;
+      claim : 0 < l.left → IsClaim l.claim l.self.machine.chips;
+      ready : 0 < l.left → IsOpenForBus (of l.self);
+      rest : 0 < l.left → CiasRest l.self.machine.t l.rest l.self.machine.chips;
     }
 
 abbrev pub decreases-loop-left : goal.decreases-loop-left

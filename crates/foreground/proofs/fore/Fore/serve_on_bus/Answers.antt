@@ -1,7 +1,8 @@
-use Rattle.std.proofs.Common.{ap}
+use Rattle.std.proofs.Common.{ap, ◌∙◌}
 use Rattle.foreground.specs.Fore.{over}
 use Rattle.machine.proofs.BusLaws.{no_clx}
-use Rattle.foreground.proofs.BusLaws.{blits_on, kept_view}
+use Rattle.picture_log.specs.declared.log.Log.{Log}
+use Rattle.foreground.proofs.BusLaws.{blits_on, stays_view, none_waits}
 use Rattle.foreground.proofs.ScriptLaws.{lines_same}
 use Rattle.foreground.proofs.MadeLaws.{some_state_asked, lines_of_access, makes_quietly_of, quiet_part, on_err}
 use Rattle.foreground.proofs.fore.Fore.serve_on_bus.Goals as goal
@@ -27,5 +28,11 @@ returns-clause-makes g c seen =
 
 pub returns-clause-bus : goal.returns-clause-bus
 returns-clause-bus g c same =
-    kept_view _ c.args.self.now _ c.self.view_is
-    (c.in_ok-made.ensures.bus (blits_on _ _ c.is_blitting-busy.result c.is_blitting.result c.is_blitting-busy.ensures c.is_blitting.ensures same))
+    stays_view g.S.Side.seen _ c.args.self.now _ c.self.view_is (record {
+      chips = c.in_ok-made.ensures.bus
+          (blits_on _ _ c.is_blitting-busy.result c.is_blitting.result c.is_blitting-busy.ensures c.is_blitting.ensures same);
+      waits = ap (λ (l : Log). l.waiting) c.in_ok-note_access.ensures
+          ∙ none_waits _ _ _ c.touch_of.ensures.touch c.in_ok-made.ensures.made;
+      from = ap (λ (l : Log). l.band.from) c.in_ok-note_access.ensures;
+      side = c.in_ok-made.ensures.side;
+    })

@@ -1,9 +1,9 @@
 use Rattle.std.proofs.Common.{◌≡◌, ◌≤◌, is_some, ap, sym, subst}
-use Rattle.chip_set.specs.BusCode.{KeepsBus}
+use Rattle.chip_set.specs.BusCode.{KeepsOnBus}
 use Rattle.chip_set.specs.Chips.{WorkingChips}
 use Rattle.machine.specs.Machine.{MachineValue, machine_over}
 use Rattle.machine.proofs.AccessLaws.{MakesAccess-by, time_left, StoresMade-by, StaysInPlace-does, reads_done, reads_of_both, answers_given, does_given}
-use Rattle.machine.proofs.BusLaws.{access_keeps}
+use Rattle.machine.proofs.BusLaws.{access_keeps, side_untold}
 use Rattle.machine.proofs.machine.Machine.answer_on_bus.Goals as goal
 
 pub returns-clause-access : goal.returns-clause-access
@@ -66,5 +66,14 @@ returns-clause-bus g c =
     (does_given c.args.ask.now 0 c.answer_on_bus-made.result old mid _ c.answer_on_bus-made.new.chip c.answer_on_bus-made.new.self c.args.out.now _
     c.give_side.ensures.gives c.in_ok-carry_out.ensures.does)
     c.requires.asked.0 c.requires.asked.1 c.requires.asked.2
-    (subst (λ (now : WorkingChips). is_some c.answer_on_bus-made.new.self.blit ≡ is_some now.blit → KeepsBus now c.answer_on_bus-made.new.self)
+    (subst (λ (now : WorkingChips). is_some c.answer_on_bus-made.new.self.blit ≡ is_some now.blit → KeepsOnBus now c.answer_on_bus-made.new.self)
     (ap (λ (m : MachineValue). m.chips) c.give_side.ensures.gives.same) c.answer_on_bus-made.ensures.kept)
+
+pub returns-clause-side : goal.returns-clause-side
+returns-clause-side g c =
+    let old = machine_over g.S.Side.seen c.args.self.now in
+    let mid = machine_over g.S.Side.seen c.give_side.new.self in
+    side_untold c.args.ask.now c.answer_on_bus-made.result _ old.side mid.side _ c.requires.bus c.answer_on_bus-made.ensures.made
+    c.give_side.ensures.gives.side
+    (does_given c.args.ask.now 0 c.answer_on_bus-made.result old mid _ c.answer_on_bus-made.new.chip c.answer_on_bus-made.new.self c.args.out.now _
+    c.give_side.ensures.gives c.in_ok-carry_out.ensures.does).side
