@@ -39,3 +39,12 @@ eight_bytes a b c =
 pub regrouped : (a a' b b' c c' : ℕ) →
     a + 4294967296 * a' + 4 * (b + 4294967296 * b') + 16 * (c + 4294967296 * c') ≡ a + 4 * b + 16 * c + 4294967296 * (a' + 4 * b' + 16 * c')
 regrouped a a' b b' c c' = omega arith
+
+-- the bytes of two pixels whose components are these
+pub pixel_bytes : (red green blue : ℕ) → red < 16 → green < 16 → blue < 16 →
+    to_le_bytes w64 ((red + green * 256 + blue * 65536) * 17 * 16777217)
+    ≡ 17 * red ∷ 17 * green ∷ 17 * blue ∷ 17 * red ∷ 17 * green ∷ 17 * blue ∷ 0 ∷ 0 ∷ []
+pixel_bytes red green blue r g b =
+    eight_digits ((red + green * 256 + blue * 65536) * 17 * 16777217) (17 * red) (17 * green) (17 * blue) (17 * red) (17 * green) (17 * blue) 0 0
+    (omega (arith, r)) (omega (arith, g)) (omega (arith, b)) (omega (arith, r)) (omega (arith, g)) (omega (arith, b))
+    (omega arith) (omega arith) (omega arith)

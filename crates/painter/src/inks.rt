@@ -1,6 +1,6 @@
 //! Inks: the colours that the bits of the planes name, as bytes.
 
-ghost use Rattle.std.specs.Prelude.{◌≡◌, ◌≤◌, ◌<◌, ◌%◌, ◌/◌, ℕ, slice_set};
+ghost use Rattle.std.specs.Prelude.{◌≡◌, ◌≤◌, ◌<◌, ◌%◌, ◌/◌, ℕ, List, length, slice_set};
 ghost use Rattle.serial_model.specs.Picture.{colour_bytes};
 ghost use Rattle.painter.specs.Inks.{ink, ink_number, counted_bits, halved, is_held, backdrop};
 ghost use Rattle.painter.specs.Inks.{two_pixels};
@@ -87,12 +87,12 @@ impl Inks {
         } }
     {
         self.palette[number] = colour;
-        let bytes = bytes_of(colour);
-        let half = bytes_of(half_of(colour));
-        self.rgb[number] = bytes;
-        self.rgb[number + 32] = half;
-        self.doubled[number] = twice(&bytes);
-        self.doubled[number + 32] = twice(&half);
+        let two = twice(colour);
+        let half = twice(half_of(colour));
+        self.rgb[number] = one_of(&two);
+        self.rgb[number + 32] = one_of(&half);
+        self.doubled[number] = two;
+        self.doubled[number + 32] = half;
         if number > 0 {
             return;
         }
@@ -209,13 +209,23 @@ pub fn bytes_of(colour: u16) -> [u8; 3]
     ]
 }
 
-/// The bytes of two pixels that have these, and two more.
+/// The bytes of two pixels of a colour, and two more.
 #[inline(always)]
-fn twice(bytes: &[u8; 3]) -> [u8; 8]
-    ensures { result ≡ two_pixels bytes.now }
+fn twice(colour: u16) -> [u8; 8]
+    ensures { result ≡ two_pixels (colour_bytes colour) }
 {
-    let [red, green, blue] = *bytes;
-    [red, green, blue, red, green, blue, 0, 0]
+    let colour = colour as u64;
+    let components = colour / 256 % 16 + colour / 16 % 16 * 0x100 + colour % 16 * 0x1_0000;
+    (components * 17 * 0x100_0001).to_le_bytes()
+}
+
+/// The bytes of the first of two pixels.
+#[inline(always)]
+fn one_of(two: &[u8; 8]) -> [u8; 3]
+    ensures { (bytes : List ℕ) → length bytes ≡ 3 → two.now ≡ two_pixels bytes → result ≡ bytes }
+{
+    let [red, green, blue, _, _, _, _, _] = *two;
+    [red, green, blue]
 }
 
 /// The colour that has these bytes.
