@@ -180,7 +180,7 @@ impl Painter {
         ensures { (h : ℕ) (p : DeniseValue) → IsPainterOf self.old p
             → IsPainterOf self.new (set_picture h (plane_latch plane) word p) }
     {
-        self.latches[(plane - 1) as usize] = word;
+        self.latches[plane as usize - 1] = word;
     }
 
     /// The same to any register.
