@@ -183,7 +183,7 @@ impl Painter {
         self.latches[plane as usize - 1] = word;
     }
 
-    /// The same to any register.
+    /// The same to any register. The colours are tried first, which the Copper writes most often.
     #[inline(never)]
     #[tactic(auto, unfolding(serial_model::specs::Picture::set_picture))]
     fn set_register(&mut self, h: u16, offset: u16, word: u16)
@@ -191,6 +191,12 @@ impl Painter {
         ensures { (p : DeniseValue) → IsPainterOf self.old p
             → IsPainterOf self.new (set_picture h offset word p) }
     {
+        if 0x180 <= offset {
+            if offset <= 0x1be {
+                self.inks.set_colour((offset - 0x180) as usize / 2, word);
+            }
+            return;
+        }
         match offset {
             0x08e => self.window.set_start(word),
             0x090 => self.window.set_stop(word),
@@ -201,7 +207,6 @@ impl Painter {
             0x110 => self.load(h, word),
             0x112..=0x11a => self.latches[(offset - 0x110) as usize / 2] = word,
             0x140..=0x17e => self.set_sprite(offset - 0x140, word),
-            0x180..=0x1be => self.inks.set_colour((offset - 0x180) as usize / 2, word),
             _ => {}
         }
     }

@@ -33,18 +33,18 @@ returns-then-offset-lt274 c p is =
 pub returns-then-offset-lt320 : goal.returns-then-offset-lt320
 returns-then-offset-lt320 c p is = rw (none_set c.args.h c.args.offset c.args.word p (omega arith) (omega arith)) is
 
-pub returns-then-offset-lt384 : goal.returns-then-offset-lt384
-returns-then-offset-lt384 c p is = rw (none_between c.args.h c.args.offset c.args.word p (omega arith) (omega arith)) is
+pub returns-else-offset-lt383 : goal.returns-else-offset-lt383
+returns-else-offset-lt383 c p is = rw (none_between c.args.h c.args.offset c.args.word p (omega arith) (omega arith)) is
 
-pub returns-else-offset-lt447 : goal.returns-else-offset-lt447
-returns-else-offset-lt447 c p is = rw (none_after c.args.h c.args.offset c.args.word p (omega arith)) is
+pub returns-else-offset-le446 : goal.returns-else-offset-le446
+returns-else-offset-le446 c p is = rw (none_after c.args.h c.args.offset c.args.word p (omega arith)) is
 
 pub returns-in-320-to-382 : goal.returns-in-320-to-382
 returns-in-320-to-382 c p is =
     rw (sprite_set c.args.h c.args.offset c.args.word p (omega arith) (omega arith)) (c.set_sprite.ensures p is)
 
-pub returns-in-384-to-446 : goal.returns-in-384-to-446
-returns-in-384-to-446 c p is =
+pub returns-then-offset-le446 : goal.returns-then-offset-le446
+returns-then-offset-le446 c p is =
     rw (colour_set c.args.h c.args.offset c.args.word p (omega arith) (omega arith))
     (record {
       palette = ap (λ l. slice_set l ((c.args.offset - 384) / 2) (c.args.word % 4096)) is.palette
