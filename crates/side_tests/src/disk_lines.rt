@@ -42,8 +42,7 @@ fn three_lines(alloc: Global) -> Result<Lines, OutOfMemory> {
 fn words_behind_the_sync_word_are_stored(rt: HostRuntime) -> Result<(), Fail> {
     let lines = three_lines(rt.alloc())?;
     let requests: &[(u32, u16)] = &[(120, 0x1000), (462, 0x0002), (574, 0x1000)];
-    assert!(rt; lines.requests.as_slice() == requests);
     let asks: &[(u32, u32, u16)] = &[(234, 0x100, 0x2222), (461, 0x102, 0x3333)];
-    assert!(rt; lines.asks.as_slice() == asks);
+    assert!(rt; lines.requests.as_slice() == requests && lines.asks.as_slice() == asks);
     Ok(())
 }

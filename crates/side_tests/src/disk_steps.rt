@@ -31,7 +31,7 @@ fn answers(alloc: Global, size: ChipSize, steps: &[Step]) -> Result<bool, OutOfM
 #[test]
 fn the_second_write_starts(rt: HostRuntime) -> Result<(), Fail> {
     let one = [poke(LEN, 0x8001), tick(6, DISK, 0), ask_nothing(7, DISK)];
-    assert!(rt; answers(rt.alloc(), ChipSize::Kib512, &one)?);
+    let arms = answers(rt.alloc(), ChipSize::Kib512, &one)?;
     let two = [
         poke(LEN, 0x8000),
         poke(LEN, 0x8001),
@@ -40,7 +40,8 @@ fn the_second_write_starts(rt: HostRuntime) -> Result<(), Fail> {
         give(0),
         tick(8, DISK, 2),
     ];
-    assert!(rt; answers(rt.alloc(), ChipSize::Kib512, &two)?);
+    let starts = answers(rt.alloc(), ChipSize::Kib512, &two)?;
+    assert!(rt; arms && starts);
     Ok(())
 }
 
@@ -63,24 +64,33 @@ fn three_clocks_are_the_disks(rt: HostRuntime) -> Result<(), Fail> {
     Ok(())
 }
 
+/// Whether a write of this word to DSKLEN ends a transfer.
+fn is_ended_by(alloc: Global, word: u16) -> Result<bool, OutOfMemory> {
+    let steps = [
+        poke(LEN, 0x8003),
+        poke(LEN, 0x8003),
+        tick(6, DISK, 0),
+        poke(LEN, word),
+        ask_nothing(7, DISK),
+        tick(120, DISK, 0),
+        ask_nothing(7, DISK),
+        poke(LEN, 0x8001),
+        tick(6, DISK, 0),
+        ask_nothing(7, DISK),
+    ];
+    answers(alloc, ChipSize::Kib512, &steps)
+}
+
 /// A write with bit 15 clear, or with bit 14 set, ends a transfer and what waits of it.
 #[test]
 fn a_write_ends_a_transfer(rt: HostRuntime) -> Result<(), Fail> {
-    for word in [0x0000, 0x4001, 0x7fff, 0xc001] {
-        let steps = [
-            poke(LEN, 0x8003),
-            poke(LEN, 0x8003),
-            tick(6, DISK, 0),
-            poke(LEN, word),
-            ask_nothing(7, DISK),
-            tick(120, DISK, 0),
-            ask_nothing(7, DISK),
-            poke(LEN, 0x8001),
-            tick(6, DISK, 0),
-            ask_nothing(7, DISK),
-        ];
-        assert!(rt; answers(rt.alloc(), ChipSize::Kib512, &steps)?, "{word}");
-    }
+    let found = [
+        is_ended_by(rt.alloc(), 0x0000)?,
+        is_ended_by(rt.alloc(), 0x4001)?,
+        is_ended_by(rt.alloc(), 0x7fff)?,
+        is_ended_by(rt.alloc(), 0xc001)?,
+    ];
+    assert!(rt; found == [true; 4]);
     Ok(())
 }
 
@@ -141,16 +151,14 @@ fn a_lost_word_is_still_wanted(rt: HostRuntime) -> Result<(), Fail> {
     Ok(())
 }
 
-/// With WORDSYNC the word of DSKSYNC itself does not join; without it every word does. DSKSYN is requested
-/// at each match, whatever DMACON and DSKLEN say.
+/// With WORDSYNC the word of DSKSYNC itself does not join, and requests DSKSYN.
 #[test]
 fn the_sync_word_opens_the_way(rt: HostRuntime) -> Result<(), Fail> {
-    let start = [poke(SYNC, 0x4489), poke(LEN, 0x8001), poke(LEN, 0x8001)];
     let closed = [
         poke(ADK, 0x8400),
-        start[0],
-        start[1],
-        start[2],
+        poke(SYNC, 0x4489),
+        poke(LEN, 0x8001),
+        poke(LEN, 0x8001),
         tick(6, DISK, 0),
         ask_nothing(7, DISK),
         tick(120, DISK, 0x1000),
@@ -159,18 +167,29 @@ fn the_sync_word_opens_the_way(rt: HostRuntime) -> Result<(), Fail> {
         ask(7, DISK, 0),
     ];
     assert!(rt; answers(rt.alloc(), ChipSize::Kib512, &closed)?);
+    Ok(())
+}
+
+#[test]
+fn without_wordsync_every_word_joins(rt: HostRuntime) -> Result<(), Fail> {
     let open = [
         poke(ADK, 0x8400),
         poke(ADK, 0x0400),
-        start[0],
-        start[1],
-        start[2],
+        poke(SYNC, 0x4489),
+        poke(LEN, 0x8001),
+        poke(LEN, 0x8001),
         tick(6, DISK, 0),
         ask(7, DISK, 0),
     ];
     assert!(rt; answers(rt.alloc(), ChipSize::Kib512, &open)?);
+    Ok(())
+}
+
+/// DSKSYN is requested at each match, whatever DMACON and DSKLEN say.
+#[test]
+fn each_match_is_requested(rt: HostRuntime) -> Result<(), Fail> {
     let idle = [
-        start[0],
+        poke(SYNC, 0x4489),
         tick(6, 0, 0),
         tick(120, 0, 0x1000),
         tick(120, 0, 0),
@@ -195,28 +214,30 @@ fn a_start_waits_for_the_sync_word(rt: HostRuntime) -> Result<(), Fail> {
     Ok(())
 }
 
+/// Whether the pointer goes from 7FFFE to one address, and behind a write of its high half to another.
+fn goes_to(alloc: Global, size: ChipSize, second: u32, third: u32) -> Result<bool, OutOfMemory> {
+    let steps = [
+        poke(PTH, 0x0007),
+        poke(PTL, 0xffff),
+        poke(LEN, 0x8002),
+        poke(LEN, 0x8002),
+        tick(6, DISK, 0),
+        ask(7, DISK, 0x7_fffe),
+        give(0),
+        tick(120, DISK, 0),
+        ask(7, DISK, second),
+        poke(PTH, 0x000d),
+        ask(7, DISK, third),
+    ];
+    answers(alloc, size, &steps)
+}
+
 /// The pointer wraps at the size of chip memory, and a write of a half of it leaves the other half as it is
 /// by then.
 #[test]
 fn pointers_wrap_at_the_memory(rt: HostRuntime) -> Result<(), Fail> {
-    for (size, second, third) in [
-        (ChipSize::Kib512, 0, 0x5_0000),
-        (ChipSize::Mib1, 0x8_0000, 0xd_0000),
-    ] {
-        let steps = [
-            poke(PTH, 0x0007),
-            poke(PTL, 0xffff),
-            poke(LEN, 0x8002),
-            poke(LEN, 0x8002),
-            tick(6, DISK, 0),
-            ask(7, DISK, 0x7_fffe),
-            give(0),
-            tick(120, DISK, 0),
-            ask(7, DISK, second),
-            poke(PTH, 0x000d),
-            ask(7, DISK, third),
-        ];
-        assert!(rt; answers(rt.alloc(), size, &steps)?);
-    }
+    let small = goes_to(rt.alloc(), ChipSize::Kib512, 0, 0x5_0000)?;
+    let great = goes_to(rt.alloc(), ChipSize::Mib1, 0x8_0000, 0xd_0000)?;
+    assert!(rt; small && great);
     Ok(())
 }
