@@ -1,160 +1,195 @@
 //! The three versions of the text. The texts, lines and kinds are worked by hand from the grammar.
 
-use crate::texts::{good, is_bad, prints};
-use ocs_base::{Act, System};
+use crate::texts::{are_bad, good, is_bad, prints};
+use ocs_base::{Act, Script, System};
 use script_read::BadKind;
+use std::alloc::Global;
 use std::test::Fail;
+
+/// Texts of later versions, and the line that is bad and its kind.
+static HEADS: [(&[u8], u32, BadKind); 18] = [
+    (b"ocs 4\ncpu on\n", 1, BadKind::Header),
+    (b"ocs 0\ncpu on\n", 1, BadKind::Header),
+    (b"ocs 2", 2, BadKind::Missing),
+    (b"ocs 3\ncpu on\n", 3, BadKind::Missing),
+    (b"ocs 3\ncpu up\n", 2, BadKind::Cpu),
+    (b"ocs 2\ncpu on\nframes 0\n", 3, BadKind::Frames),
+    (b"ocs 2\ncpu off\nframes 1\n", 4, BadKind::Missing),
+    (b"ocs 2\ncpu off\nframes 1\nend\n", 4, BadKind::Chip),
+    (
+        b"ocs 2\ncpu off\nframes 1\nchip 2048\nend\n",
+        4,
+        BadKind::Chip,
+    ),
+    (
+        b"ocs 3\ncpu off\nframes 1\nchip 0512\nend\n",
+        4,
+        BadKind::Chip,
+    ),
+    (b"ocs 2\ncpu off\nframes 1\nchip 512\n", 5, BadKind::Missing),
+    (b"ocs 3\ncpu off\nframes 1\nchip 512\n", 5, BadKind::Missing),
+    (
+        b"ocs 3\ncpu off\nframes 1\nchip 512\nsystem x\nend\n",
+        5,
+        BadKind::System,
+    ),
+    (
+        b"ocs 3\ncpu off\nframes 1\nchip 512\nend\n",
+        5,
+        BadKind::System,
+    ),
+    (
+        b"ocs 3\ncpu off\nframes 1\nchip 512\nsystem pal\n",
+        6,
+        BadKind::Missing,
+    ),
+    (
+        b"ocs 2\ncpu off\nframes 1\nchip 512\nsystem pal\nend\n",
+        5,
+        BadKind::Event,
+    ),
+    (
+        b"ocs 1\ncpu off\nframes 1\nchip 512\nend\n",
+        4,
+        BadKind::Event,
+    ),
+    (
+        b"ocs 3\ncpu off\nframes 1\nchip 512\nsystem ntsc\nend\n\n",
+        7,
+        BadKind::Extra,
+    ),
+];
 
 #[test]
 fn heads_of_later_versions_that_are_bad(rt: HostRuntime) {
-    let cases: [(&[u8], u32, BadKind); 18] = [
-        (b"ocs 4\ncpu on\n", 1, BadKind::Header),
-        (b"ocs 0\ncpu on\n", 1, BadKind::Header),
-        (b"ocs 2", 2, BadKind::Missing),
-        (b"ocs 3\ncpu on\n", 3, BadKind::Missing),
-        (b"ocs 3\ncpu up\n", 2, BadKind::Cpu),
-        (b"ocs 2\ncpu on\nframes 0\n", 3, BadKind::Frames),
-        (b"ocs 2\ncpu off\nframes 1\n", 4, BadKind::Missing),
-        (b"ocs 2\ncpu off\nframes 1\nend\n", 4, BadKind::Chip),
-        (
-            b"ocs 2\ncpu off\nframes 1\nchip 2048\nend\n",
-            4,
-            BadKind::Chip,
-        ),
-        (
-            b"ocs 3\ncpu off\nframes 1\nchip 0512\nend\n",
-            4,
-            BadKind::Chip,
-        ),
-        (b"ocs 2\ncpu off\nframes 1\nchip 512\n", 5, BadKind::Missing),
-        (b"ocs 3\ncpu off\nframes 1\nchip 512\n", 5, BadKind::Missing),
-        (
-            b"ocs 3\ncpu off\nframes 1\nchip 512\nsystem x\nend\n",
-            5,
-            BadKind::System,
-        ),
-        (
-            b"ocs 3\ncpu off\nframes 1\nchip 512\nend\n",
-            5,
-            BadKind::System,
-        ),
-        (
-            b"ocs 3\ncpu off\nframes 1\nchip 512\nsystem pal\n",
-            6,
-            BadKind::Missing,
-        ),
-        (
-            b"ocs 2\ncpu off\nframes 1\nchip 512\nsystem pal\nend\n",
-            5,
-            BadKind::Event,
-        ),
-        (
-            b"ocs 1\ncpu off\nframes 1\nchip 512\nend\n",
-            4,
-            BadKind::Event,
-        ),
-        (
-            b"ocs 3\ncpu off\nframes 1\nchip 512\nsystem ntsc\nend\n\n",
-            7,
-            BadKind::Extra,
-        ),
-    ];
-    for (text, line, kind) in cases {
-        assert!(rt; is_bad(rt.alloc(), text, line, kind));
-    }
+    assert!(rt; are_bad(rt.alloc(), &HEADS));
 }
+
+/// Texts whose chip memory is told wrongly or late, and the line that is bad and its kind.
+static LINES_OF_CHIP_MEMORY: [(&[u8], u32, BadKind); 9] = [
+    (b"ocs 2\ncpu on\nframes 2\nchip 2048\n", 4, BadKind::Chip),
+    (b"ocs 3\ncpu on\nframes 2\nchip 2048\n", 4, BadKind::Chip),
+    (b"ocs 2\ncpu on\nframes 2\nchip 1024 \n", 4, BadKind::Chip),
+    (b"ocs 2\ncpu on\nframes 2\nchip 1048576\n", 4, BadKind::Chip),
+    (
+        b"ocs 2\ncpu on\nframes 2\nat 0 5 6 peek 002\nend\n",
+        4,
+        BadKind::Chip,
+    ),
+    (b"ocs 2\ncpu on\nframes 2\nchip 1024\n", 5, BadKind::Missing),
+    (
+        b"ocs 2\ncpu on\nframes 2\nchip 1024\nat 0 5 6 peek 003\nend\n",
+        5,
+        BadKind::Event,
+    ),
+    (
+        b"ocs 3\ncpu on\nframes 2\nchip 1024\nend\n",
+        5,
+        BadKind::System,
+    ),
+    (
+        b"ocs 1\ncpu on\nframes 2\nchip 1024\nend\n",
+        4,
+        BadKind::Event,
+    ),
+];
 
 /// The kind is also what is said of the line, as `line 4: chip`.
 #[test]
 fn lines_of_chip_memory_that_are_bad(rt: HostRuntime) {
-    let cases: [(&[u8], u32, BadKind); 9] = [
-        (b"ocs 2\ncpu on\nframes 2\nchip 2048\n", 4, BadKind::Chip),
-        (b"ocs 3\ncpu on\nframes 2\nchip 2048\n", 4, BadKind::Chip),
-        (b"ocs 2\ncpu on\nframes 2\nchip 1024 \n", 4, BadKind::Chip),
-        (b"ocs 2\ncpu on\nframes 2\nchip 1048576\n", 4, BadKind::Chip),
-        (
-            b"ocs 2\ncpu on\nframes 2\nat 0 5 6 peek 002\nend\n",
-            4,
-            BadKind::Chip,
-        ),
-        (b"ocs 2\ncpu on\nframes 2\nchip 1024\n", 5, BadKind::Missing),
-        (
-            b"ocs 2\ncpu on\nframes 2\nchip 1024\nat 0 5 6 peek 003\nend\n",
-            5,
-            BadKind::Event,
-        ),
-        (
-            b"ocs 3\ncpu on\nframes 2\nchip 1024\nend\n",
-            5,
-            BadKind::System,
-        ),
-        (
-            b"ocs 1\ncpu on\nframes 2\nchip 1024\nend\n",
-            4,
-            BadKind::Event,
-        ),
-    ];
-    for (text, line, kind) in cases {
-        assert!(rt; is_bad(rt.alloc(), text, line, kind));
+    assert!(rt; are_bad(rt.alloc(), &LINES_OF_CHIP_MEMORY));
+}
+
+/// Texts, and the bytes of their chip memory.
+static CHIP_MEMORIES: [(&[u8], u32); 7] = [
+    (b"ocs 1\ncpu off\nframes 1\nend\n", 524_288),
+    (b"ocs 2\ncpu off\nframes 1\nchip 512\nend\n", 524_288),
+    (b"ocs 2\ncpu off\nframes 1\nchip 1024\nend\n", 1_048_576),
+    (
+        b"ocs 3\ncpu off\nframes 1\nchip 512\nsystem pal\nend\n",
+        524_288,
+    ),
+    (
+        b"ocs 3\ncpu off\nframes 1\nchip 512\nsystem ntsc\nend\n",
+        524_288,
+    ),
+    (
+        b"ocs 3\ncpu off\nframes 1\nchip 1024\nsystem pal\nend\n",
+        1_048_576,
+    ),
+    (
+        b"ocs 3\ncpu off\nframes 1\nchip 1024\nsystem ntsc\nend\n",
+        1_048_576,
+    ),
+];
+
+/// Whether each text is good, and has this chip memory.
+fn have_memories(alloc: Global, cases: &[(&[u8], u32)]) -> Result<bool, Fail> {
+    let mut right = true;
+    for (text, bytes) in cases {
+        right &= good(alloc, text)?.chip() == *bytes;
     }
+    Ok(right)
 }
 
 #[test]
 fn chip_memory_by_text(rt: HostRuntime) -> Result<(), Fail> {
-    let cases: [(&[u8], u32); 7] = [
-        (b"ocs 1\ncpu off\nframes 1\nend\n", 524_288),
-        (b"ocs 2\ncpu off\nframes 1\nchip 512\nend\n", 524_288),
-        (b"ocs 2\ncpu off\nframes 1\nchip 1024\nend\n", 1_048_576),
-        (
-            b"ocs 3\ncpu off\nframes 1\nchip 512\nsystem pal\nend\n",
-            524_288,
-        ),
-        (
-            b"ocs 3\ncpu off\nframes 1\nchip 512\nsystem ntsc\nend\n",
-            524_288,
-        ),
-        (
-            b"ocs 3\ncpu off\nframes 1\nchip 1024\nsystem pal\nend\n",
-            1_048_576,
-        ),
-        (
-            b"ocs 3\ncpu off\nframes 1\nchip 1024\nsystem ntsc\nend\n",
-            1_048_576,
-        ),
-    ];
-    for (text, bytes) in cases {
-        assert_eq!(rt; good(rt.alloc(), text)?.chip(), bytes);
-    }
+    assert!(rt; have_memories(rt.alloc(), &CHIP_MEMORIES)?);
     Ok(())
+}
+
+/// Whether a script is one of this system with so many frames, and with a processor or not.
+fn has_head(script: &Script, system: System, frames: u32, cpu: bool) -> bool {
+    script.system() == system && script.frames() == frames && script.cpu() == cpu
+}
+
+/// Whether a script of version 2 is read whole.
+fn has_both_events(script: &Script) -> bool {
+    let events = script.events();
+    has_head(script, System::Pal, 2, true)
+        && events.len() == 2
+        && events[0].act == Act::Key { code: 0x45 }
 }
 
 /// The first event of version 2 stands on line 5.
 #[test]
 fn events_of_version_2(rt: HostRuntime) -> Result<(), Fail> {
     let text = b"ocs 2\ncpu on\nframes 2\nchip 1024\nat 0 5 6 key 45\nat 1 311 226 peek 002\nend\n";
-    let script = good(rt.alloc(), text)?;
-    assert!(rt; script.system() == System::Pal && script.frames() == 2 && script.cpu());
-    assert!(rt; script.events().len() == 2 && script.events()[0].act == Act::Key { code: 0x45 });
     let early = b"ocs 2\ncpu on\nframes 2\nchip 1024\nat 0 5 6 key 45\nat 0 5 5 key 45\nend\n";
-    assert!(rt; is_bad(rt.alloc(), early, 6, BadKind::Order));
+    let is_read = has_both_events(&good(rt.alloc(), text)?);
+    assert!(rt; is_read && is_bad(rt.alloc(), early, 6, BadKind::Order));
+    Ok(())
+}
+
+/// Whether the one event of a script is on this line.
+fn has_one_event(script: &Script, v: u16) -> bool {
+    let events = script.events();
+    events.len() == 1 && events[0].v == v
+}
+
+#[test]
+fn events_of_ntsc(rt: HostRuntime) -> Result<(), Fail> {
+    let late = b"ocs 3\ncpu off\nframes 1\nchip 512\nsystem ntsc\nat 0 262 0 poke 180 0f00\nend\n";
+    let last =
+        b"ocs 3\ncpu off\nframes 1\nchip 512\nsystem ntsc\nat 0 261 226 poke 180 0f00\nend\n";
+    let script = good(rt.alloc(), last)?;
+    let is_read = has_head(&script, System::Ntsc, 1, false) && has_one_event(&script, 261);
+    assert!(rt; is_read && is_bad(rt.alloc(), late, 6, BadKind::Event));
     Ok(())
 }
 
 #[test]
-fn events_by_system(rt: HostRuntime) -> Result<(), Fail> {
-    let late = b"ocs 3\ncpu off\nframes 1\nchip 512\nsystem ntsc\nat 0 262 0 poke 180 0f00\nend\n";
-    assert!(rt; is_bad(rt.alloc(), late, 6, BadKind::Event));
-    let last =
-        b"ocs 3\ncpu off\nframes 1\nchip 512\nsystem ntsc\nat 0 261 226 poke 180 0f00\nend\n";
-    let script = good(rt.alloc(), last)?;
-    assert!(rt; script.system() == System::Ntsc && script.frames() == 1 && !script.cpu());
-    assert!(rt; script.events().len() == 1 && script.events()[0].v == 261);
-    let pal = b"ocs 3\ncpu on\nframes 2\nchip 512\nsystem pal\nat 1 311 226 peek 002\nend\n";
-    let script = good(rt.alloc(), pal)?;
-    assert!(rt; script.system() == System::Pal && script.frames() == 2 && script.cpu());
-    assert!(rt; script.events().len() == 1 && script.events()[0].v == 311);
+fn events_of_pal(rt: HostRuntime) -> Result<(), Fail> {
+    let last = b"ocs 3\ncpu on\nframes 2\nchip 512\nsystem pal\nat 1 311 226 peek 002\nend\n";
     let below = b"ocs 3\ncpu on\nframes 2\nchip 512\nsystem pal\nat 1 312 0 peek 002\nend\n";
-    assert!(rt; is_bad(rt.alloc(), below, 6, BadKind::Event));
+    let script = good(rt.alloc(), last)?;
+    let is_read = has_head(&script, System::Pal, 2, true) && has_one_event(&script, 311);
+    assert!(rt; is_read && is_bad(rt.alloc(), below, 6, BadKind::Event));
+    Ok(())
+}
+
+#[test]
+fn version_2_is_of_pal(rt: HostRuntime) -> Result<(), Fail> {
     let second = b"ocs 2\ncpu on\nframes 2\nchip 512\nat 1 311 226 peek 002\nend\n";
     assert!(rt; good(rt.alloc(), second)?.system() == System::Pal);
     Ok(())
@@ -164,16 +199,22 @@ fn events_by_system(rt: HostRuntime) -> Result<(), Fail> {
 fn the_lowest_version_is_printed(rt: HostRuntime) -> Result<(), Fail> {
     let ntsc =
         b"ocs 3\ncpu on\nframes 10\nchip 512\nsystem ntsc\nat 0 100 100 poke 180 0f00\nend\n";
-    assert!(rt; prints(rt.alloc(), ntsc, ntsc)?);
     let third = b"ocs 3\ncpu off\nframes 1\nchip 512\nsystem pal\nend\n";
     let second = b"ocs 2\ncpu off\nframes 1\nchip 512\nend\n";
     let first = b"ocs 1\ncpu off\nframes 1\nend\n";
-    assert!(rt; prints(rt.alloc(), third, first)?);
-    assert!(rt; prints(rt.alloc(), second, first)?);
-    assert!(rt; prints(rt.alloc(), first, first)?);
-    assert_eq!(rt; BadKind::Chip.name(), "chip");
-    assert_eq!(rt; BadKind::System.name(), "system");
+    let found = [
+        prints(rt.alloc(), ntsc, ntsc)?,
+        prints(rt.alloc(), third, first)?,
+        prints(rt.alloc(), second, first)?,
+        prints(rt.alloc(), first, first)?,
+    ];
+    assert!(rt; found == [true; 4]);
     Ok(())
+}
+
+#[test]
+fn names_of_kinds(rt: HostRuntime) {
+    assert!(rt; BadKind::Chip.name() == "chip" && BadKind::System.name() == "system");
 }
 
 /// 1 MiB of chip memory is said from version 2 on.
@@ -182,8 +223,11 @@ fn one_mib_is_printed(rt: HostRuntime) -> Result<(), Fail> {
     let second = b"ocs 2\ncpu on\nframes 2\nchip 1024\nat 1 311 226 peek 002\nend\n";
     let pal = b"ocs 3\ncpu on\nframes 2\nchip 1024\nsystem pal\nat 1 311 226 peek 002\nend\n";
     let ntsc = b"ocs 3\ncpu off\nframes 10\nchip 1024\nsystem ntsc\nat 9 261 226 key 0a\nend\n";
-    assert!(rt; prints(rt.alloc(), second, second)?);
-    assert!(rt; prints(rt.alloc(), pal, second)?);
-    assert!(rt; prints(rt.alloc(), ntsc, ntsc)?);
+    let found = [
+        prints(rt.alloc(), second, second)?,
+        prints(rt.alloc(), pal, second)?,
+        prints(rt.alloc(), ntsc, ntsc)?,
+    ];
+    assert!(rt; found == [true; 3]);
     Ok(())
 }

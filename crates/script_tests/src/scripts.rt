@@ -1,7 +1,7 @@
 //! Each public call once with ample memory. The texts, lines and kinds are worked by hand from the grammar.
 
-use crate::texts::{good, is_bad, prints};
-use ocs_base::Act;
+use crate::texts::{are_bad, good, is_bad, prints};
+use ocs_base::{Act, Script};
 use script_read::{BadKind, read_script};
 use std::alloc::Global;
 use std::test::Fail;
@@ -18,82 +18,103 @@ fn is_bad_event(alloc: Global, event: &[u8], kind: BadKind) -> Result<bool, Fail
 }
 
 #[test]
-fn scripts_are_read(rt: HostRuntime) -> Result<(), Fail> {
+fn a_script_without_events_is_read(rt: HostRuntime) -> Result<(), Fail> {
     let short = good(rt.alloc(), SHORT)?;
     assert!(rt; !short.cpu() && short.frames() == 1 && short.events().is_empty());
-    let text =
-        b"ocs 1\ncpu on\nframes 1000\nat 999 311 226 poke 1fe ffff\nat 999 311 226 fire 1 1\nend";
-    let script = good(rt.alloc(), text)?;
-    assert!(rt; script.cpu() && script.frames() == 1000);
-    assert_eq!(rt; script.events().len(), 2);
-    assert!(rt;
-        script.events()[1].act
-            == Act::Fire {
-                port: 1,
-                down: true
-            }
-    );
     Ok(())
 }
 
+/// Whether a script has a processor, 1000 frames and two events, of which the second is button 1 down.
+fn is_of_1000_frames(script: &Script) -> bool {
+    let events = script.events();
+    let down = Act::Fire {
+        port: 1,
+        down: true,
+    };
+    script.cpu() && script.frames() == 1000 && events.len() == 2 && events[1].act == down
+}
+
+#[test]
+fn scripts_are_read(rt: HostRuntime) -> Result<(), Fail> {
+    let text =
+        b"ocs 1\ncpu on\nframes 1000\nat 999 311 226 poke 1fe ffff\nat 999 311 226 fire 1 1\nend";
+    assert!(rt; is_of_1000_frames(&good(rt.alloc(), text)?));
+    Ok(())
+}
+
+/// Texts, and the line that is bad and its kind.
+static HEADS: [(&[u8], u32, BadKind); 14] = [
+    (b"", 1, BadKind::Missing),
+    (b"ocs 4\n", 1, BadKind::Header),
+    (b"ocs  1\n", 1, BadKind::Header),
+    (b"ocs 1\r\n", 1, BadKind::Header),
+    (b"\nocs 1\n", 1, BadKind::Header),
+    (b"ocs 1\n", 2, BadKind::Missing),
+    (b"ocs 1\ncpu\n", 2, BadKind::Cpu),
+    (b"ocs 1\ncpu On\n", 2, BadKind::Cpu),
+    (b"ocs 1\ncpu on", 3, BadKind::Missing),
+    (b"ocs 1\ncpu on\nframes 0\nend\n", 3, BadKind::Frames),
+    (b"ocs 1\ncpu on\nframes 1001\n", 3, BadKind::Frames),
+    (b"ocs 1\ncpu on\nframes 01\n", 3, BadKind::Frames),
+    (b"ocs 1\ncpu off\nframes 1\n", 4, BadKind::Missing),
+    (b"ocs 1\ncpu off\nframes 1\nend\n\n", 5, BadKind::Extra),
+];
+
 #[test]
 fn heads_that_are_bad(rt: HostRuntime) {
-    let cases: [(&[u8], u32, BadKind); 14] = [
-        (b"", 1, BadKind::Missing),
-        (b"ocs 4\n", 1, BadKind::Header),
-        (b"ocs  1\n", 1, BadKind::Header),
-        (b"ocs 1\r\n", 1, BadKind::Header),
-        (b"\nocs 1\n", 1, BadKind::Header),
-        (b"ocs 1\n", 2, BadKind::Missing),
-        (b"ocs 1\ncpu\n", 2, BadKind::Cpu),
-        (b"ocs 1\ncpu On\n", 2, BadKind::Cpu),
-        (b"ocs 1\ncpu on", 3, BadKind::Missing),
-        (b"ocs 1\ncpu on\nframes 0\nend\n", 3, BadKind::Frames),
-        (b"ocs 1\ncpu on\nframes 1001\n", 3, BadKind::Frames),
-        (b"ocs 1\ncpu on\nframes 01\n", 3, BadKind::Frames),
-        (b"ocs 1\ncpu off\nframes 1\n", 4, BadKind::Missing),
-        (b"ocs 1\ncpu off\nframes 1\nend\n\n", 5, BadKind::Extra),
-    ];
-    for (text, line, kind) in cases {
-        assert!(rt; is_bad(rt.alloc(), text, line, kind));
+    assert!(rt; are_bad(rt.alloc(), &HEADS));
+}
+
+/// Lines that are no events.
+static EVENTS: [&[u8]; 26] = [
+    b"",
+    b"End",
+    b"end ",
+    b"at 00 5 6 peek 002",
+    b"at 2 5 6 peek 002",
+    b"at 0 312 6 peek 002",
+    b"at 0 5 227 peek 002",
+    b"at 0 5  6 peek 002",
+    b"at\t0 5 6 peek 002",
+    b" at 0 5 6 peek 002",
+    b"at 0 5 6 peek 002 ",
+    b"at 0 5 6 peek 002\r",
+    b"at 0 5 6 peek 003",
+    b"at 0 5 6 peek 200",
+    b"at 0 5 6 peek 02",
+    b"at 0 5 6 peek 0002",
+    b"at 0 5 6 peek 00E",
+    b"at 0 5 6 poke 180",
+    b"at 0 5 6 poke 180 fff",
+    b"at 0 5 6 poke 180 0FFF",
+    b"at 0 5 6 poke 180 0fff 1",
+    b"at 0 5 6 joy 2 0000",
+    b"at 0 5 6 fire 0 2",
+    b"at 0 5 6 key 1",
+    b"at 0 5 6 press 45",
+    b"at 0 5",
+];
+
+/// Whether each line is bad, and no event.
+fn are_bad_events(alloc: Global, events: &[&[u8]]) -> Result<bool, Fail> {
+    let mut right = true;
+    for event in events {
+        right &= is_bad_event(alloc, event, BadKind::Event)?;
     }
+    Ok(right)
 }
 
 #[test]
 fn events_that_are_bad(rt: HostRuntime) -> Result<(), Fail> {
-    let cases: [&[u8]; 26] = [
-        b"",
-        b"End",
-        b"end ",
-        b"at 00 5 6 peek 002",
-        b"at 2 5 6 peek 002",
-        b"at 0 312 6 peek 002",
-        b"at 0 5 227 peek 002",
-        b"at 0 5  6 peek 002",
-        b"at\t0 5 6 peek 002",
-        b" at 0 5 6 peek 002",
-        b"at 0 5 6 peek 002 ",
-        b"at 0 5 6 peek 002\r",
-        b"at 0 5 6 peek 003",
-        b"at 0 5 6 peek 200",
-        b"at 0 5 6 peek 02",
-        b"at 0 5 6 peek 0002",
-        b"at 0 5 6 peek 00E",
-        b"at 0 5 6 poke 180",
-        b"at 0 5 6 poke 180 fff",
-        b"at 0 5 6 poke 180 0FFF",
-        b"at 0 5 6 poke 180 0fff 1",
-        b"at 0 5 6 joy 2 0000",
-        b"at 0 5 6 fire 0 2",
-        b"at 0 5 6 key 1",
-        b"at 0 5 6 press 45",
-        b"at 0 5",
-    ];
-    for event in cases {
-        assert!(rt; is_bad_event(rt.alloc(), event, BadKind::Event)?);
-    }
-    assert!(rt; is_bad_event(rt.alloc(), b"at 0 5 5 peek 002", BadKind::Order)?);
-    assert!(rt; is_bad_event(rt.alloc(), b"at 0 4 226 key 45", BadKind::Order)?);
+    assert!(rt; are_bad_events(rt.alloc(), &EVENTS)?);
+    Ok(())
+}
+
+#[test]
+fn events_out_of_order(rt: HostRuntime) -> Result<(), Fail> {
+    let clock = is_bad_event(rt.alloc(), b"at 0 5 5 peek 002", BadKind::Order)?;
+    let line = is_bad_event(rt.alloc(), b"at 0 4 226 key 45", BadKind::Order)?;
+    assert!(rt; clock && line);
     Ok(())
 }
 
@@ -106,22 +127,48 @@ fn long_text(alloc: Global, events: u32) -> Result<Vec<u8>, Fail> {
     Ok(text)
 }
 
+/// Whether a text of 99,999 lines is good with its end, and has too many lines with another.
+fn ends_once(alloc: Global, text: &mut Vec<u8>) -> Result<bool, Fail> {
+    text.extend_from_slice(b"end\n")?;
+    let is_good = read_script(alloc, text.as_slice()).is_ok();
+    text.extend_from_slice(b"end\n")?;
+    Ok(is_good && is_bad(alloc, text.as_slice(), 100_001, BadKind::Lines))
+}
+
+/// Whether a text of 100,000 lines lacks its end, and has too many lines with it.
+fn ends_never(alloc: Global, text: &mut Vec<u8>) -> Result<bool, Fail> {
+    let lacks_end = is_bad(alloc, text.as_slice(), 100_001, BadKind::Missing);
+    text.extend_from_slice(b"end\n")?;
+    Ok(lacks_end && is_bad(alloc, text.as_slice(), 100_001, BadKind::Lines))
+}
+
+#[test]
+fn texts_of_many_lines(rt: HostRuntime) -> Result<(), Fail> {
+    let mut most = long_text(rt.alloc(), 99_996)?;
+    assert!(rt; ends_once(rt.alloc(), &mut most)?);
+    Ok(())
+}
+
+#[test]
+fn texts_of_too_many_lines(rt: HostRuntime) -> Result<(), Fail> {
+    let mut more = long_text(rt.alloc(), 99_997)?;
+    assert!(rt; ends_never(rt.alloc(), &mut more)?);
+    Ok(())
+}
+
+/// Whether a script without events is bad behind its end where its text has the greatest size, and too long
+/// with one byte more.
+fn grows_too_long(alloc: Global, bytes: &mut Vec<u8>) -> Result<bool, Fail> {
+    bytes.resize(4_194_304, b'\n')?;
+    let is_extra = is_bad(alloc, bytes.as_slice(), 5, BadKind::Extra);
+    bytes.push(b'\n')?;
+    Ok(is_extra && is_bad(alloc, bytes.as_slice(), 0, BadKind::Long))
+}
+
 #[test]
 fn texts_that_are_long(rt: HostRuntime) -> Result<(), Fail> {
-    let mut text = long_text(rt.alloc(), 99_996)?;
-    text.extend_from_slice(b"end\n")?;
-    assert!(rt; read_script(rt.alloc(), text.as_slice()).is_ok());
-    text.extend_from_slice(b"end\n")?;
-    assert!(rt; is_bad(rt.alloc(), text.as_slice(), 100_001, BadKind::Lines));
-    let mut text = long_text(rt.alloc(), 99_997)?;
-    assert!(rt; is_bad(rt.alloc(), text.as_slice(), 100_001, BadKind::Missing));
-    text.extend_from_slice(b"end\n")?;
-    assert!(rt; is_bad(rt.alloc(), text.as_slice(), 100_001, BadKind::Lines));
     let mut bytes = Vec::from_slice(rt.alloc(), SHORT)?;
-    bytes.resize(4_194_304, b'\n')?;
-    assert!(rt; is_bad(rt.alloc(), bytes.as_slice(), 5, BadKind::Extra));
-    bytes.push(b'\n')?;
-    assert!(rt; is_bad(rt.alloc(), bytes.as_slice(), 0, BadKind::Long));
+    assert!(rt; grows_too_long(rt.alloc(), &mut bytes)?);
     Ok(())
 }
 
@@ -129,9 +176,8 @@ fn texts_that_are_long(rt: HostRuntime) -> Result<(), Fail> {
 fn scripts_are_printed(rt: HostRuntime) -> Result<(), Fail> {
     let lines =
         b"ocs 1\ncpu on\nframes 2\nat 0 0 0 poke 00e 00ff\nat 0 0 1 peek 1fe\nat 0 1 0 joy 1 0203\nat 1 0 0 fire 0 1\nat 1 0 0 key 0a\nend\n";
-    assert!(rt; prints(rt.alloc(), lines, lines)?);
-    assert_eq!(rt; SHORT.len(), 27);
-    assert!(rt; prints(rt.alloc(), SHORT, SHORT)?);
-    assert_eq!(rt; BadKind::Missing.name(), "missing");
+    let long = prints(rt.alloc(), lines, lines)?;
+    let short = prints(rt.alloc(), SHORT, SHORT)?;
+    assert!(rt; long && short && SHORT.len() == 27 && BadKind::Missing.name() == "missing");
     Ok(())
 }

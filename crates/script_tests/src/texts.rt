@@ -13,6 +13,16 @@ pub fn is_bad(alloc: Global, text: &[u8], line: u32, kind: BadKind) -> bool {
     }
 }
 
+/// Whether each text is bad at its line, and of its kind.
+pub fn are_bad(alloc: Global, cases: &[(&[u8], u32, BadKind)]) -> bool {
+    for (text, line, kind) in cases {
+        if !is_bad(alloc, text, *line, *kind) {
+            return false;
+        }
+    }
+    true
+}
+
 /// The script of a text that is good.
 pub fn good(alloc: Global, text: &[u8]) -> Result<Script, Fail> {
     Ok(read_script(alloc, text).ok().ok_or("it is good")?)
