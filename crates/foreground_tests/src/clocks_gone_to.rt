@@ -63,46 +63,65 @@ fn words_of(told: &[Arrived], place: usize) -> (u16, u64) {
     }
 }
 
-/// Of frames 0, 1 and 2 the last two checkpoints are left, at 71,051 and 142,102: below them the run begins
-/// anew, and from 22,800 to 22,801 it goes on.
-#[test]
-fn from_checkpoints_and_from_reset(rt: HostRuntime) -> Result<(), Fail> {
-    let told = told_of(rt.alloc(), &[150_000, 80_000, 22_800, 22_801])?;
-    let clocks = [0, 1, 2, 3].map(|place| clocks_of(&told, place));
+/// Whether this is told of the clocks 150,000, 80,000, 22,800 and 22,801.
+fn is_told_of_four(told: &[Arrived]) -> bool {
+    let clocks = [
+        clocks_of(told, 0),
+        clocks_of(told, 1),
+        clocks_of(told, 2),
+        clocks_of(told, 3),
+    ];
+    let beams = [beam_of(told, 0), beam_of(told, 1), beam_of(told, 2)];
+    let words = [words_of(told, 2), words_of(told, 3)];
     let wanted = [
         (150_000, 0),
         (80_000, 71_051),
         (22_800, 0),
         (22_801, 22_800),
     ];
-    assert_eq!(rt; clocks, wanted);
-    let beams = [0, 1, 2].map(|place| beam_of(&told, place));
-    assert_eq!(rt; beams, [(2, 34, 180), (1, 39, 96), (0, 100, 100)]);
-    let words = [2, 3].map(|place| words_of(&told, place));
-    assert_eq!(rt; words, [(0, 4661), (0x0f00, 4661)]);
+    clocks == wanted
+        && beams == [(2, 34, 180), (1, 39, 96), (0, 100, 100)]
+        && words == [(0, 4661), (0x0f00, 4661)]
+}
+
+/// Of frames 0, 1 and 2 the last two checkpoints are left, at 71,051 and 142,102: below them the run begins
+/// anew, and from 22,800 to 22,801 it goes on.
+#[test]
+fn from_checkpoints_and_from_reset(rt: HostRuntime) -> Result<(), Fail> {
+    let told = told_of(rt.alloc(), &[150_000, 80_000, 22_800, 22_801])?;
+    assert!(rt; is_told_of_four(&told));
     Ok(())
+}
+
+/// Whether this is told of the clocks 80,000, 75,000 and 80,000 again.
+fn is_told_of_three(told: &[Arrived]) -> bool {
+    let clocks = [clocks_of(told, 1), clocks_of(told, 2)];
+    let words = [words_of(told, 0), words_of(told, 1), words_of(told, 2)];
+    let beams = [beam_of(told, 0), beam_of(told, 2)];
+    clocks == [(75_000, 71_051), (80_000, 75_000)]
+        && words == [(0x00f0, 4661), (0x0f00, 4661), (0x00f0, 4661)]
+        && beams == [(1, 39, 96); 2]
 }
 
 /// A run that goes on from a checkpoint comes to the states of the one that was never left.
 #[test]
 fn a_loaded_run_goes_on(rt: HostRuntime) -> Result<(), Fail> {
     let told = told_of(rt.alloc(), &[80_000, 75_000, 80_000])?;
-    let clocks = [1, 2].map(|place| clocks_of(&told, place));
-    assert_eq!(rt; clocks, [(75_000, 71_051), (80_000, 75_000)]);
-    let words = [0, 1, 2].map(|place| words_of(&told, place));
-    assert_eq!(rt; words, [(0x00f0, 4661), (0x0f00, 4661), (0x00f0, 4661)]);
-    let beams = [0, 2].map(|place| beam_of(&told, place));
-    assert_eq!(rt; beams, [(1, 39, 96); 2]);
+    assert!(rt; is_told_of_three(&told));
     Ok(())
+}
+
+/// Whether this is told of a clock behind the end of the run, and of the last one.
+fn is_told_of_the_end(told: &[Arrived]) -> bool {
+    let clocks = [clocks_of(told, 0), clocks_of(told, 1)];
+    let beams = [beam_of(told, 0), beam_of(told, 1)];
+    clocks == [(213_153, 0), (213_152, 142_102)] && beams == [(3, 0, 0), (2, 312, 226)]
 }
 
 /// Behind the run's end there is its last state, from wherever it was reached.
 #[test]
 fn the_end_of_the_run(rt: HostRuntime) -> Result<(), Fail> {
     let told = told_of(rt.alloc(), &[1_000_000, 213_152])?;
-    let clocks = [0, 1].map(|place| clocks_of(&told, place));
-    assert_eq!(rt; clocks, [(213_153, 0), (213_152, 142_102)]);
-    let beams = [0, 1].map(|place| beam_of(&told, place));
-    assert_eq!(rt; beams, [(3, 0, 0), (2, 312, 226)]);
+    assert!(rt; is_told_of_the_end(&told));
     Ok(())
 }

@@ -188,11 +188,9 @@ fn full_and_reads(alloc: Global, height: u16) -> Result<(u32, u64), Fail>
 /// 4,000 words of a plane are shown, and none is read but for what a band opens with.
 #[test]
 fn words_of_planes_are_not_read(rt: HostRuntime) -> Result<(), Fail> {
-    for (height, most) in [(313, 1), (100, 3)] {
-        let (full, reads) = full_and_reads(rt.alloc(), height)?;
-        assert!(rt; reads <= most, "{reads} at {height}");
-        assert_eq!(rt; full, 200 * 2 * 3, "at {height}");
-    }
+    let (one_full, one_reads) = full_and_reads(rt.alloc(), 313)?;
+    let (full, reads) = full_and_reads(rt.alloc(), 100)?;
+    assert!(rt; [one_full, full] == [200 * 2 * 3; 2] && one_reads <= 1 && reads <= 3);
     Ok(())
 }
 
@@ -215,6 +213,6 @@ fn jobs_of_reads(alloc: Global) -> Result<(usize, [(u64, u64); 3]), Fail> {
 #[test]
 fn bands_begin_with_reads(rt: HostRuntime) -> Result<(), Fail> {
     let clocks = [(0, 11_411), (11_411, 11_412), (11_412, 71_051)];
-    assert_eq!(rt; jobs_of_reads(rt.alloc())?, (3, clocks));
+    assert!(rt; jobs_of_reads(rt.alloc())? == (3, clocks));
     Ok(())
 }

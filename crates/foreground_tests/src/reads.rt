@@ -68,13 +68,12 @@ fn bits_read(alloc: Global, read: &str) -> Result<Option<u16>, Fail> {
 /// A read sees the pixels of the clocks before its own, and the bits of every band that is drawn.
 #[test]
 fn a_read_sees_the_clocks_before_it(rt: HostRuntime) -> Result<(), Fail> {
-    for (read, bits) in [
-        ("", None),
-        ("at 0 50 61 peek 00e\n", Some(0)),
-        ("at 0 50 62 peek 00e\n", Some(1)),
-        ("at 0 300 0 peek 00e\n", Some(1)),
-    ] {
-        assert_eq!(rt; bits_read(rt.alloc(), read)?, bits, "{read}");
-    }
+    let found = [
+        bits_read(rt.alloc(), "")?,
+        bits_read(rt.alloc(), "at 0 50 61 peek 00e\n")?,
+        bits_read(rt.alloc(), "at 0 50 62 peek 00e\n")?,
+        bits_read(rt.alloc(), "at 0 300 0 peek 00e\n")?,
+    ];
+    assert!(rt; found == [None, Some(0), Some(1), Some(1)]);
     Ok(())
 }

@@ -108,18 +108,26 @@ fn files_of(alloc: Global, fore: Fore<Recorder>, out: OutFiles) -> Result<Shelf,
     Ok(shelf)
 }
 
+/// Whether the side was told and given 0102, and each line read one word.
+fn is_played(fore: &Fore<Recorder>) -> bool {
+    fore.side().written == 0x0102 && fore.side().given == 0x0102 && fore.reads() == 313
+}
+
+/// Whether the trace and the memory of a run are those of the side.
+fn has_its_words(shelf: &Shelf) -> bool {
+    let trace: &[u8] = b"0 0 0 W 180 0102 S\n0 0 19 R 01e 0020 S\n0 0 21 R 01e 0122 S\n";
+    let memory = shelf.file("memory").unwrap_or(&[]);
+    shelf.file("trace") == Some(trace) && memory.get(64..67) == Some([1, 2, 0].as_slice())
+}
+
 /// In line 0 the word 0102 is written to a register before clock 7, at which it is stored; at clock
 /// 13 it is read and given to the side; at clock 20 its bits are requested, beside that of vertical
 /// blanking. Each of the 313 lines reads one word, which counts.
 #[test]
 fn a_side_takes_part_in_the_run(rt: HostRuntime) -> Result<(), Fail> {
     let (fore, out) = run_whole_over_a_side(rt.alloc())?;
-    assert!(rt; fore.side().written == 0x0102 && fore.side().given == 0x0102);
-    assert_eq!(rt; fore.reads(), 313);
+    let is_played = is_played(&fore);
     let shelf = files_of(rt.alloc(), fore, out)?;
-    let trace: &[u8] = b"0 0 0 W 180 0102 S\n0 0 19 R 01e 0020 S\n0 0 21 R 01e 0122 S\n";
-    assert!(rt; shelf.file("trace") == Some(trace));
-    let memory = shelf.file("memory").unwrap_or(&[]);
-    assert!(rt; memory.get(64..67) == Some([1, 2, 0].as_slice()));
+    assert!(rt; is_played && has_its_words(&shelf));
     Ok(())
 }
