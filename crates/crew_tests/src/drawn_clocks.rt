@@ -16,21 +16,17 @@ fn a_colour_shows_from_its_clock_on(rt: HostRuntime) {
     let mut clx = 0;
     let here = place(100, 99);
     let mut before = fresh(&here);
-    let filled = show_clock(&mut before, System::Pal, &here, &mut room, 0, &mut clx);
-    assert_eq!(rt; filled, 12);
+    let first = show_clock(&mut before, System::Pal, &here, &mut room, 0, &mut clx);
     let here = place(100, 100);
     let mut after = fresh(&here);
     after.set(100, 0x180, 0x0f00);
-    let filled = show_clock(&mut after, System::Pal, &here, &mut room, 12, &mut clx);
-    assert_eq!(rt; filled, 24);
-    assert_eq!(rt; after.close().palette[0], 0x0f00);
-    assert_eq!(rt;
-        room,
-        [
-            0, 0, 0, 0, 0, 0, 0, 0, 0, 0, 0, 0, 255, 0, 0, 255, 0, 0, 255, 0, 0, 255, 0, 0, 7, 7,
-            7, 7, 7, 7,
-        ]
-    );
+    let second = show_clock(&mut after, System::Pal, &here, &mut room, 12, &mut clx);
+    let want = [
+        0, 0, 0, 0, 0, 0, 0, 0, 0, 0, 0, 0, 255, 0, 0, 255, 0, 0, 255, 0, 0, 255, 0, 0, 7, 7, 7, 7,
+        7, 7,
+    ];
+    let is_closed = after.close().palette[0] == 0x0f00;
+    assert!(rt; [first, second] == [12, 24] && is_closed && room == want);
 }
 
 /// A fetch belongs to its own clock, and a write to the access where the script's follow behind it.
@@ -41,24 +37,27 @@ fn the_event_of_an_access(rt: HostRuntime) {
         reg: Reg::masked(0x180),
         word: 1,
     };
-    assert_eq!(rt; bus_count(5, 0, &[write]), 1);
-    assert_eq!(rt; bus_count(5, 1, &[write]), 0);
-    assert_eq!(rt; bus_count(5, 1, &[write, write]), 1);
-    assert_eq!(rt; bus_count(6, 0, &[write]), 0);
-    assert_eq!(rt; bus_count(5, 0, &[]), 0);
+    let found = [
+        bus_count(5, 0, &[write]),
+        bus_count(5, 1, &[write]),
+        bus_count(5, 1, &[write, write]),
+        bus_count(6, 0, &[write]),
+        bus_count(5, 0, &[]),
+    ];
+    assert!(rt; found == [1, 0, 1, 0, 0]);
 }
 
 #[test]
 fn a_raster_without_bands(rt: HostRuntime) -> Result<(), OutOfMemory> {
     let raster = Direct::<NoSide>::new(rt.alloc())?;
-    assert_eq!(rt; raster.outstanding(), 0);
+    assert!(rt; raster.outstanding() == 0);
     Ok(())
 }
 
 #[test]
 fn a_raster_over_a_side_without_bands(rt: HostRuntime) -> Result<(), OutOfMemory> {
     let raster = Direct::<Steady>::new(rt.alloc())?;
-    assert_eq!(rt; raster.outstanding(), 0);
+    assert!(rt; raster.outstanding() == 0);
     Ok(())
 }
 

@@ -6,7 +6,6 @@ use ocs_base::OutOfMemory;
 use ocs_io::Shelf;
 use ocs_run::ocs_main;
 use std::alloc::Global;
-use std::sync::atomic::Ordering;
 use std::sync::{Arc, Wait};
 use std::thread::Threads;
 
@@ -33,49 +32,60 @@ fn shelf_of_bars(alloc: Global) -> Result<Shelf, OutOfMemory> {
     Ok(shelf)
 }
 
-/// Band 0 is held until another is begun, by the other worker or the caller.
-#[test]
-fn a_band_is_drawn_beside_another(rt: HostRuntime) -> Result<(), OutOfMemory> {
-    let alloc = rt.alloc();
+/// The status of a command, how often its gate was waited for in vain, how often it was told of band 0 and
+/// of a band behind those that it holds, and whether it shows the bars.
+type Answer = (u8, [u64; 3], bool);
+
+/// That of the bars in bands of 20 lines with two workers, while a gate holds the bands before one.
+fn answer_of_bars<R: Threads + Wait + Clone + Drop + Send + Sync + 'static>(
+    rt: &R,
+    alloc: Global,
+    to: u64,
+) -> Result<Answer, OutOfMemory> {
     let told = Arc::new(alloc, Told::new())?;
     let mut shelf = shelf_of_bars(alloc)?;
     let words = "run image script frames trace memory 20 2";
-    let gate = Watch::over(&told, 0, 1)?;
-    assert_eq!(rt; status(&rt, alloc, words, gate, &mut shelf)?, 0);
-    assert_eq!(rt; told.in_vain.load(Ordering::SeqCst), 0);
-    assert_eq!(rt; told.first.load(Ordering::SeqCst), 1);
-    assert_eq!(rt; told.later.load(Ordering::SeqCst), BANDS - 1);
-    assert!(rt; shows_bars(alloc, &shelf)?);
+    let status = status(rt, alloc, words, Watch::over(&told, 0, to)?, &mut shelf)?;
+    Ok((status, told.counts(), shows_bars(alloc, &shelf)?))
+}
+
+/// Band 0 is held until another is begun, by the other worker or the caller.
+#[test]
+fn a_band_is_drawn_beside_another(rt: HostRuntime) -> Result<(), OutOfMemory> {
+    assert!(rt; answer_of_bars(&rt, rt.alloc(), 1)? == (0, [0, 1, BANDS - 1], true));
     Ok(())
 }
 
 /// Bands 0 and 1 are held until a third is begun: two workers and the caller draw at once.
 #[test]
 fn two_workers_draw_beside_the_caller(rt: HostRuntime) -> Result<(), OutOfMemory> {
-    let alloc = rt.alloc();
-    let told = Arc::new(alloc, Told::new())?;
-    let mut shelf = shelf_of_bars(alloc)?;
-    let words = "run image script frames trace memory 20 2";
-    let gate = Watch::over(&told, 0, 2)?;
-    assert_eq!(rt; status(&rt, alloc, words, gate, &mut shelf)?, 0);
-    assert_eq!(rt; told.in_vain.load(Ordering::SeqCst), 0);
-    assert_eq!(rt; told.later.load(Ordering::SeqCst), BANDS - 2);
-    assert!(rt; shows_bars(alloc, &shelf)?);
+    assert!(rt; answer_of_bars(&rt, rt.alloc(), 2)? == (0, [0, 1, BANDS - 2], true));
     Ok(())
+}
+
+/// The same of scene 0, and whether it says what a scene does.
+fn answer_of_scene<R: Threads + Wait + Clone + Drop + Send + Sync + 'static>(
+    rt: &R,
+    alloc: Global,
+) -> Result<Answer, OutOfMemory> {
+    let told = Arc::new(alloc, Told::new())?;
+    let mut shelf = Shelf::new(alloc);
+    let status = status(
+        rt,
+        alloc,
+        "gen 0 20 2",
+        Watch::over(&told, 1, 3)?,
+        &mut shelf,
+    )?;
+    let says = shelf.said().starts_with(b"frames 10\npicture ");
+    Ok((status, told.counts(), says))
 }
 
 /// So it is where a scene is run. Its band 0 ends where the processor reads CLXDAT, which waits for it; then
 /// the bands 1 and 2 are held.
 #[test]
 fn workers_draw_a_scene(rt: HostRuntime) -> Result<(), OutOfMemory> {
-    let alloc = rt.alloc();
-    let told = Arc::new(alloc, Told::new())?;
-    let mut shelf = Shelf::new(alloc);
-    let words = "gen 0 20 2";
-    let gate = Watch::over(&told, 1, 3)?;
-    assert_eq!(rt; status(&rt, alloc, words, gate, &mut shelf)?, 0);
-    assert_eq!(rt; told.in_vain.load(Ordering::SeqCst), 0);
-    assert_eq!(rt; told.first.load(Ordering::SeqCst), 1);
-    assert!(rt; shelf.said().starts_with(b"frames 10\npicture "));
+    let (status, [in_vain, first, _later], says) = answer_of_scene(&rt, rt.alloc())?;
+    assert!(rt; status == 0 && [in_vain, first] == [0, 1] && says);
     Ok(())
 }

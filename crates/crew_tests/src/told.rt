@@ -28,6 +28,15 @@ impl Told {
         }
     }
 
+    /// How often someone waited in vain, and how often a gate was told of band 0 and of a later one.
+    pub fn counts(&self) -> [u64; 3] {
+        [
+            self.in_vain.load(Ordering::SeqCst),
+            self.first.load(Ordering::SeqCst),
+            self.later.load(Ordering::SeqCst),
+        ]
+    }
+
     /// Looks until a count is not 0, or so many times.
     pub fn wait_for(&self, count: &AtomicU64) {
         for _ in 0..LOOKS {
