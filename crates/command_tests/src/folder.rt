@@ -8,22 +8,19 @@ use ocs_run::{NoGate, ocs_main};
 use std::test::Fail;
 use std::{fs, process};
 
-/// The names of the five files, which stand in `/tmp` and have the number of this process in them.
-fn names(rt: &HostRuntime) -> Result<Vec<String>, Fail> {
-    let mut names = Vec::new(rt.alloc());
-    for name in ["image", "script", "frames", "trace", "memory"] {
-        let number = process::id(rt.process());
-        names.push(format!(in rt.alloc(); "/tmp/ocs_run_{number}_{name}")?)?;
-    }
-    Ok(names)
+/// The name of a file, which stands in `/tmp` and has the number of this process in it.
+fn name(rt: &HostRuntime, file: &str) -> Result<String, Fail> {
+    let number = process::id(rt.process());
+    let name = format!(in rt.alloc(); "/tmp/ocs_run_{number}_{file}")?;
+    Ok(name)
 }
 
-/// The words of a run of files of these names.
-fn words(rt: &HostRuntime, names: &[String]) -> Result<Vec<String>, Fail> {
+/// The words of a run of the five files in bands of 20 lines with two workers.
+fn words(rt: &HostRuntime) -> Result<Vec<String>, Fail> {
     let mut words = Vec::new(rt.alloc());
     words.push(String::from_str(rt.alloc(), "run")?)?;
-    for name in names {
-        words.push(String::from_str(rt.alloc(), name.as_str())?)?;
+    for file in &["image", "script", "frames", "trace", "memory"] {
+        words.push(name(rt, file)?)?;
     }
     words.push(String::from_str(rt.alloc(), "20")?)?;
     words.push(String::from_str(rt.alloc(), "2")?)?;
@@ -31,59 +28,54 @@ fn words(rt: &HostRuntime, names: &[String]) -> Result<Vec<String>, Fail> {
 }
 
 /// Writes a file.
-fn write(rt: &HostRuntime, name: &str, bytes: &[u8]) -> Result<(), Fail> {
+fn write(rt: &HostRuntime, file: &str, bytes: &[u8]) -> Result<(), Fail> {
+    let name = name(rt, file)?;
     let mut folder = Folder::new(rt);
-    folder.create(name)?;
-    folder.append(name, bytes)?;
+    folder.create(&name)?;
+    folder.append(&name, bytes)?;
     Ok(())
 }
 
 /// The bytes of a file, which is then removed.
-fn take(rt: &HostRuntime, name: &str) -> Result<Vec<u8>, Fail> {
-    let bytes = fs::read(rt, name)?;
-    fs::remove_file(rt, name)?;
+fn take(rt: &HostRuntime, file: &str) -> Result<Vec<u8>, Fail> {
+    let name = name(rt, file)?;
+    let bytes = fs::read(rt, &name)?;
+    fs::remove_file(rt, &name)?;
     Ok(bytes)
+}
+
+/// Writes the image and the script of the bars.
+fn write_inputs(rt: &HostRuntime) -> Result<(), Fail> {
+    write(rt, "image", &image(rt.alloc(), bars_told())?)?;
+    write(rt, "script", script(rt.alloc(), bars_told())?.as_bytes())
+}
+
+/// Whether the file of frames is that of the bars.
+fn has_frames(rt: &HostRuntime) -> Result<bool, Fail> {
+    let written = take(rt, "frames")?;
+    Ok(written.as_slice() == frames(rt.alloc(), bars_told())?.as_slice())
+}
+
+/// Whether the trace is that of the bars.
+fn has_trace(rt: &HostRuntime) -> Result<bool, Fail> {
+    let written = take(rt, "trace")?;
+    Ok(written.as_slice() == trace(rt.alloc(), bars_told())?.as_bytes())
+}
+
+/// Whether the memory is that of the bars.
+fn has_memory(rt: &HostRuntime) -> Result<bool, Fail> {
+    let written = take(rt, "memory")?;
+    Ok(written.as_slice() == memory(rt.alloc(), bars_told())?.as_slice())
 }
 
 #[test]
 fn bars_on_real_files(rt: HostRuntime) -> Result<(), Fail> {
-    let alloc = rt.alloc();
-    let names = names(&rt)?;
-    let [
-        image_name,
-        script_name,
-        frames_name,
-        trace_name,
-        memory_name,
-    ] = names.as_slice()
-    else {
-        return Err(Fail::from("five names"));
-    };
-    write(&rt, image_name.as_str(), &image(alloc, bars_told())?)?;
-    write(
-        &rt,
-        script_name.as_str(),
-        script(alloc, bars_told())?.as_bytes(),
-    )?;
-    let mut folder = Folder::new(&rt);
-    let words = words(&rt, &names)?;
-    assert_eq!(rt; ocs_main(&rt, alloc, &words, &mut folder, NoGate), 0);
-    fs::remove_file(&rt, image_name.as_str())?;
-    fs::remove_file(&rt, script_name.as_str())?;
-    let written = take(&rt, frames_name.as_str())?;
-    assert!(rt;
-        written.as_slice() == frames(alloc, bars_told())?.as_slice(),
-        "frames"
-    );
-    let written = take(&rt, trace_name.as_str())?;
-    assert!(rt;
-        written.as_slice() == trace(alloc, bars_told())?.as_bytes(),
-        "trace"
-    );
-    let written = take(&rt, memory_name.as_str())?;
-    assert!(rt;
-        written.as_slice() == memory(alloc, bars_told())?.as_slice(),
-        "memory"
-    );
+    write_inputs(&rt)?;
+    let words = words(&rt)?;
+    let status = ocs_main(&rt, rt.alloc(), &words, &mut Folder::new(&rt), NoGate);
+    let _image = take(&rt, "image")?;
+    let _script = take(&rt, "script")?;
+    let found = [has_frames(&rt)?, has_trace(&rt)?, has_memory(&rt)?];
+    assert!(rt; status == 0 && found == [true; 3]);
     Ok(())
 }
