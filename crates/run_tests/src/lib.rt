@@ -1,5 +1,6 @@
 //! The worked runs of the command line, as tests: images and scripts, and the files that come of
-//! them, worked by hand. Nothing of it is part of the program.
+//! them; runs with sound and with a disk; clocks of a run that are gone to, and the lines that are said of
+//! them. All are worked by hand. Nothing of it is part of the program.
 #![tactic(auto)]
 
 #[cfg(test)]
@@ -19,6 +20,20 @@ mod pokes;
 #[cfg(test)]
 mod processor;
 #[cfg(test)]
+mod rewind_lines;
+#[cfg(test)]
+mod rewind_refusals;
+#[cfg(test)]
+mod rewinds;
+#[cfg(test)]
+mod side_slots;
+#[cfg(test)]
+mod sides;
+#[cfg(test)]
+mod sound;
+#[cfg(test)]
 mod sprite_pictures;
 #[cfg(test)]
 mod told_wrongly;
+#[cfg(test)]
+mod track_reads;

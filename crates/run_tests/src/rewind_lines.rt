@@ -54,9 +54,10 @@ fn sixteen_clocks(rt: HostRuntime) -> Result<(), Fail> {
         words.push_str(" 9")?;
         said.push_str("9 0 0 9 1 0000 0000 0 9\n")?;
     }
-    assert!(rt; says(&rt, alloc, words.as_str(), red_inputs(), 0, said.as_str())?);
+    let is_done = says(&rt, alloc, words.as_str(), red_inputs(), 0, said.as_str())?;
     words.push_str(" 9")?;
     let usage = "usage: ocs rewind IMAGE SCRIPT EVERY KEEP CLOCK..\n";
-    assert!(rt; says(&rt, alloc, words.as_str(), red_inputs(), 2, usage)?);
+    let is_refused = says(&rt, alloc, words.as_str(), red_inputs(), 2, usage)?;
+    assert!(rt; is_done && is_refused);
     Ok(())
 }
