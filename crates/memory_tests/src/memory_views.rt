@@ -39,7 +39,7 @@ fn halves_written(chip: &mut Chip) -> Result<([u16; 2], u64), OutOfMemory>
 #[test]
 fn a_half_of_a_word(rt: HostRuntime) -> Result<(), OutOfMemory> {
     let mut chip = made(rt.alloc(), &[0; 8], 524_288)?;
-    assert_eq!(rt; halves_written(&mut chip)?, ([0x1200, 0x1234], 2));
+    assert!(rt; halves_written(&mut chip)? == ([0x1200, 0x1234], 2));
     Ok(())
 }
 
@@ -63,9 +63,9 @@ fn words_and_page(chip: &mut Chip) -> Result<([u16; 5], usize, u64), OutOfMemory
 fn pages_and_words(rt: HostRuntime) -> Result<(), OutOfMemory> {
     let image = [0x12, 0x34, 0x56, 0x78, 0, 0, 0xff, 0xfe];
     let mut chip = made(rt.alloc(), &image, 524_288)?;
-    assert_eq!(rt; chip.pages(), 1024);
+    let pages = chip.pages();
     let words = [0x1234, 0x5678, 0xfffe, 0, 0xabcd];
-    assert_eq!(rt; words_and_page(&mut chip)?, (words, 256, 260));
+    assert!(rt; words_and_page(&mut chip)? == (words, 256, 260) && pages == 1024);
     Ok(())
 }
 
@@ -84,8 +84,8 @@ fn words_of_both_halves(chip: &mut Chip) -> Result<[u16; 3], OutOfMemory>
 #[test]
 fn one_mebibyte(rt: HostRuntime) -> Result<(), OutOfMemory> {
     let mut chip = made(rt.alloc(), &[0; 8], 1_048_576)?;
-    assert_eq!(rt; chip.pages(), 2048);
-    assert_eq!(rt; words_of_both_halves(&mut chip)?, [0x1234, 0, 0x1234]);
+    let pages = chip.pages();
+    assert!(rt; words_of_both_halves(&mut chip)? == [0x1234, 0, 0x1234] && pages == 2048);
     Ok(())
 }
 
@@ -107,7 +107,7 @@ fn view_of_both_halves(chip: &mut Chip) -> Result<[u16; 3], OutOfMemory>
 #[test]
 fn a_view_of_one_mebibyte(rt: HostRuntime) -> Result<(), OutOfMemory> {
     let mut chip = made(rt.alloc(), &[0; 8], 1_048_576)?;
-    assert_eq!(rt; view_of_both_halves(&mut chip)?, [0, 0x56, 0]);
+    assert!(rt; view_of_both_halves(&mut chip)? == [0, 0x56, 0]);
     Ok(())
 }
 
@@ -132,7 +132,7 @@ fn words_around_the_end(chip: &mut Chip) -> Result<([u16; 5], u64), OutOfMemory>
 fn above_the_memory(rt: HostRuntime) -> Result<(), OutOfMemory> {
     let mut chip = Chip::new(rt.alloc(), &[0x12, 0x34, 0, 0, 0, 0, 0, 0])?;
     let words = [0x1234, 0, 0x1234, 0, 0];
-    assert_eq!(rt; words_around_the_end(&mut chip)?, (words, 3));
+    assert!(rt; words_around_the_end(&mut chip)? == (words, 3));
     Ok(())
 }
 
@@ -157,7 +157,7 @@ fn words_beside_a_view(chip: &mut Chip) -> Result<([u16; 5], u64), OutOfMemory>
 #[test]
 fn a_view_stays_as_it_was(rt: HostRuntime) -> Result<(), OutOfMemory> {
     let mut chip = made(rt.alloc(), &[0; 8], 524_288)?;
-    assert_eq!(rt; words_beside_a_view(&mut chip)?, ([0, 7, 7, 9, 0], 2));
+    assert!(rt; words_beside_a_view(&mut chip)? == ([0, 7, 7, 9, 0], 2));
     Ok(())
 }
 
@@ -186,7 +186,7 @@ fn words_at_a_cut(chip: &mut Chip) -> Result<[u16; 5], OutOfMemory>
 #[test]
 fn a_write_at_the_cut(rt: HostRuntime) -> Result<(), OutOfMemory> {
     let mut chip = made(rt.alloc(), &[0; 8], 524_288)?;
-    assert_eq!(rt; words_at_a_cut(&mut chip)?, [0, 6, 0, 2, 6]);
+    assert!(rt; words_at_a_cut(&mut chip)? == [0, 6, 0, 2, 6]);
     Ok(())
 }
 
@@ -210,7 +210,7 @@ fn the_last_of_a_hundred_writes(rt: HostRuntime) -> Result<(), OutOfMemory> {
         view.at(Clock(1), Addr::at(2)),
         view.at(Clock(200), Addr::at(2)),
     ];
-    assert_eq!(rt; found, [49, 0, 100]);
+    assert!(rt; found == [49, 0, 100]);
     Ok(())
 }
 

@@ -34,22 +34,30 @@ fn best_of(ring: &Ring<u32>, clock: u64) -> (u64, u32) {
 #[test]
 fn the_best_for_a_clock(rt: HostRuntime) -> Result<(), OutOfMemory> {
     let ring = after_three_pushes(rt.alloc())?;
-    assert!(rt; ring.best(Clock(1)).is_none());
-    assert_eq!(rt; best_of(&ring, 2), (2, 20));
-    assert_eq!(rt; best_of(&ring, 3), (3, 30));
-    assert_eq!(rt; best_of(&ring, 9), (3, 30));
+    let found = [
+        best_of(&ring, 1),
+        best_of(&ring, 2),
+        best_of(&ring, 3),
+        best_of(&ring, 9),
+    ];
+    assert!(rt; found == [(0, 0), (2, 20), (3, 30), (3, 30)]);
     Ok(())
+}
+
+/// The best entries of a ring that is cut behind clock 2, then pushed to at clock 7, and then cut behind
+/// clock 0.
+fn best_of_cuts(ring: &mut Ring<u32>) -> [(u64, u32); 4] {
+    ring.cut_after(Clock(2));
+    let cut = best_of(ring, 9);
+    ring.push(Clock(7), 70);
+    let pushed = [best_of(ring, 6), best_of(ring, 9)];
+    ring.cut_after(Clock(0));
+    [cut, pushed[0], pushed[1], best_of(ring, 9)]
 }
 
 #[test]
 fn a_ring_is_cut(rt: HostRuntime) -> Result<(), OutOfMemory> {
     let mut ring = after_three_pushes(rt.alloc())?;
-    ring.cut_after(Clock(2));
-    assert_eq!(rt; best_of(&ring, 9), (2, 20));
-    ring.push(Clock(7), 70);
-    assert_eq!(rt; best_of(&ring, 6), (2, 20));
-    assert_eq!(rt; best_of(&ring, 9), (7, 70));
-    ring.cut_after(Clock(0));
-    assert!(rt; ring.best(Clock(9)).is_none());
+    assert!(rt; best_of_cuts(&mut ring) == [(2, 20), (2, 20), (7, 70), (0, 0)]);
     Ok(())
 }
