@@ -44,20 +44,16 @@ fn the_best_for_a_clock(rt: HostRuntime) -> Result<(), OutOfMemory> {
     Ok(())
 }
 
-/// The best entries of a ring that is cut behind clock 2, then pushed to at clock 7, and then cut behind
-/// clock 0.
-fn best_of_cuts(ring: &mut Ring<u32>) -> [(u64, u32); 4] {
-    ring.cut_after(Clock(2));
-    let cut = best_of(ring, 9);
-    ring.push(Clock(7), 70);
-    let pushed = [best_of(ring, 6), best_of(ring, 9)];
-    ring.cut_after(Clock(0));
-    [cut, pushed[0], pushed[1], best_of(ring, 9)]
-}
-
+/// It is cut behind clock 2, then pushed to at clock 7, and then cut behind clock 0.
 #[test]
 fn a_ring_is_cut(rt: HostRuntime) -> Result<(), OutOfMemory> {
     let mut ring = after_three_pushes(rt.alloc())?;
-    assert!(rt; best_of_cuts(&mut ring) == [(2, 20), (2, 20), (7, 70), (0, 0)]);
+    ring.cut_after(Clock(2));
+    let cut = best_of(&ring, 9);
+    ring.push(Clock(7), 70);
+    let pushed = [best_of(&ring, 6), best_of(&ring, 9)];
+    ring.cut_after(Clock(0));
+    let emptied = best_of(&ring, 9);
+    assert!(rt; [cut, pushed[0], pushed[1], emptied] == [(2, 20), (2, 20), (7, 70), (0, 0)]);
     Ok(())
 }
