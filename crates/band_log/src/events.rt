@@ -41,6 +41,15 @@ impl Events {
         })
     }
 
+    /// All are forgotten, and there is room for so many. It is refused for want of memory alone.
+    pub(crate) fn clear(&mut self, count: usize) -> Result<(), OutOfMemory>
+        ensures { OnOk result (self.new ≡ []) }
+    {
+        self.list.clear();
+        self.list.reserve(count)?;
+        Ok(())
+    }
+
     /// Appends an event. After a refusal, for want of memory, all is as before.
     pub fn push(&mut self, e: Event) -> Result<(), OutOfMemory>
         ensures ok { OnOk result (self.new ≡ self.old ++ e ∷ []) }

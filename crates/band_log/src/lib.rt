@@ -9,6 +9,7 @@ pub mod picture;
 pub mod raster;
 pub mod room;
 pub mod run;
+pub mod spare;
 
 pub use cursor::Cursor;
 pub use events::Events;
@@ -19,3 +20,4 @@ pub use room::Room;
 pub use run::Run;
 pub use serial_bands::Event;
 pub use serial_model::Denise;
+pub use spare::Spare;

@@ -1,6 +1,6 @@
 //! Room for the pixels of a band.
 
-ghost use Rattle.std.specs.Prelude.{◌≡◌, IfOk, replicate};
+ghost use Rattle.std.specs.Prelude.{◌≡◌, IfOk, OnOk, length, replicate};
 ghost use Rattle.std.specs.Borrow.{sem};
 ghost use Rattle.band_log.specs.Lending.{LendsPixels};
 
@@ -8,8 +8,7 @@ use ocs_base::OutOfMemory;
 use std::alloc::Global;
 use std::marker::Model;
 
-/// The bytes of the visible pixels of a band, three a pixel: red, green and blue. Their number stays
-/// as it was made.
+/// The bytes of the visible pixels of a band, three a pixel: red, green and blue.
 #[derive(Drop)]
 pub struct Room {
     bytes: Vec<u8>,
@@ -31,6 +30,14 @@ impl Room {
         let mut room = Vec::with_capacity(alloc, bytes)?;
         room.resize(bytes, 0)?;
         Ok(Room { bytes: room })
+    }
+
+    /// It gets so many bytes, whatever they are. It is refused for want of memory alone.
+    pub(crate) fn resize(&mut self, bytes: usize) -> Result<(), OutOfMemory>
+        ensures { OnOk result (length self.new ≡ bytes) }
+    {
+        self.bytes.resize(bytes, 0)?;
+        Ok(())
     }
 
     /// The bytes.

@@ -47,16 +47,16 @@ impl<S: Side> Fore<S> {
             self.old.machine.chip.reads self.new.machine.chip.reads }
     {
         let Fore {
-            alloc,
             run,
             machine,
             log,
             clx,
+            spare,
             ..
         } = self;
         let to = machine.t;
-        let job = log.cut_line(*alloc, run, &mut machine.chip, to, shown)?;
-        submit(job, raster, out, clx)?;
+        let job = log.cut_line(spare, run, &mut machine.chip, to, shown)?;
+        submit(job, raster, out, clx, spare)?;
         Ok(())
     }
 
@@ -83,16 +83,16 @@ impl<S: Side> Fore<S> {
         ensures reads { self.new.machine.chip.reads ≡ self.old.machine.chip.reads }
     {
         let Fore {
-            alloc,
             run,
             machine,
             log,
             clx,
+            spare,
             ..
         } = self;
-        let job = log.close(*alloc, run, &mut machine.chip, to, shown)?;
-        submit(job, raster, out, clx)?;
-        let closing = gather_all(raster, out, clx)?;
+        let job = log.close(spare, run, &mut machine.chip, to, shown)?;
+        submit(job, raster, out, clx, spare)?;
+        let closing = gather_all(raster, out, clx, spare)?;
         Ok(closing)
     }
 

@@ -7,7 +7,7 @@ ghost use Rattle.serial_bands.specs.Run.{run_over};
 ghost use Rattle.foreground.specs.Fore.{over, IsNew, is_done};
 
 use crate::lookout::Lookout;
-use band_log::{Cursor, Run};
+use band_log::{Cursor, Run, Spare};
 use machine::Machine;
 use ocs_base::{Beam, OutOfMemory, System};
 use picture_log::Log;
@@ -22,7 +22,6 @@ use std::sync::Arc;
 /// call. After a refusal for want of memory each later call refuses too, and adds nothing.
 #[derive(Drop)]
 pub struct Fore<S> {
-    pub(crate) alloc: Global,
     pub(crate) run: Arc<Run<S>>,
     pub(crate) machine: Machine<S>,
     pub(crate) log: Log,
@@ -34,6 +33,8 @@ pub struct Fore<S> {
     pub(crate) spent: bool,
     /// When quiet clocks are looked for.
     pub(crate) lookout: Lookout,
+    /// What is left of a band that was gathered.
+    pub(crate) spare: Spare,
 }
 
 impl<S> Model for Fore<S> {
@@ -81,7 +82,6 @@ impl<S: Side> Fore<S> {
         )?;
         let log = Log::new(alloc)?;
         Ok(Fore {
-            alloc,
             run,
             machine,
             log,
@@ -89,6 +89,7 @@ impl<S: Side> Fore<S> {
             clx: 0,
             spent: false,
             lookout: Lookout::new(),
+            spare: Spare::new(alloc),
         })
     }
 

@@ -7,7 +7,7 @@ ghost use Rattle.band_log.specs.Raster.{with_submitted, without_first};
 ghost use Rattle.band_log.specs.Right.{IsRightJob};
 ghost use Rattle.foreground.specs.Gathered.{Fits, GathersOne, GathersSome, GathersAll, GathersPart, GathersNone, Submits};
 
-use band_log::{Drawn, Job, Picture, Raster};
+use band_log::{Drawn, Job, Picture, Raster, Spare};
 use ocs_base::OutOfMemory;
 use out_files::OutFiles;
 use serial_model::Side;
@@ -16,11 +16,13 @@ use serial_model::Side;
 const PLACES: usize = 16;
 
 /// Gathers the first outstanding band: its pixels go to the output files, and its collision bits
-/// are added. The answer is its closing picture state. It may wait for the band.
+/// are added; its room and its events are spare then. The answer is its closing picture state. It may
+/// wait for the band.
 pub fn gather_one<S: Side, Q: Raster<S>>(
     raster: &mut Q,
     out: &mut OutFiles,
     clx: &mut u16,
+    spare: &mut Spare,
 ) -> Result<Picture, OutOfMemory>
     requires { 0 < length (Q.seen raster.old).outstanding }
     ensures taken { Q.seen raster.new ≡ without_first (Q.seen raster.old) }
@@ -30,9 +32,16 @@ pub fn gather_one<S: Side, Q: Raster<S>>(
         out.old out.new) }
 {
     let Drawn { job, clx: bits } = raster.collect();
-    out.pixels(job.room.pixels())?;
+    let Job {
+        picture,
+        events,
+        room,
+        ..
+    } = job;
+    out.pixels(room.pixels())?;
+    spare.keep(room, events);
     *clx |= bits;
-    Ok(job.picture)
+    Ok(picture)
 }
 
 /// Gathers all outstanding bands. The answer is the closing picture state of the last, if there was
@@ -41,6 +50,7 @@ pub fn gather_all<S: Side, Q: Raster<S>>(
     raster: &mut Q,
     out: &mut OutFiles,
     clx: &mut u16,
+    spare: &mut Spare,
 ) -> Result<Option<Picture>, OutOfMemory>
     ensures gathered { IfOk result (λ closing. GathersAll (Q.seen raster.old) (Q.seen raster.new)
         out.old out.new clx.old clx.new closing) }
@@ -50,7 +60,7 @@ pub fn gather_all<S: Side, Q: Raster<S>>(
 {
     let mut last = None;
     while raster.outstanding() > 0 {
-        last = Some(gather_one(raster, out, clx)?);
+        last = Some(gather_one(raster, out, clx, spare)?);
     }
     Ok(last)
 }
@@ -60,6 +70,7 @@ fn make_place<S: Side, Q: Raster<S>>(
     raster: &mut Q,
     out: &mut OutFiles,
     clx: &mut u16,
+    spare: &mut Spare,
 ) -> Result<(), OutOfMemory>
     ensures few { OnOk result (length (Q.seen raster.old).outstanding ≤ 16
         → length (Q.seen raster.new).outstanding < 16) }
@@ -73,7 +84,7 @@ fn make_place<S: Side, Q: Raster<S>>(
     if raster.outstanding() < PLACES {
         return Ok(());
     }
-    gather_one(raster, out, clx)?;
+    gather_one(raster, out, clx, spare)?;
     Ok(())
 }
 
@@ -84,6 +95,7 @@ pub fn submit<S: Side, Q: Raster<S>>(
     raster: &mut Q,
     out: &mut OutFiles,
     clx: &mut u16,
+    spare: &mut Spare,
 ) -> Result<(), OutOfMemory>
     requires right { IsRightJob S.seen (run_over S.seen (arc_value job.run)) job.number job }
     requires fits { (first : ℕ) × Fits (run_over S.seen (arc_value job.run)) job.number job.from.0
@@ -98,7 +110,7 @@ pub fn submit<S: Side, Q: Raster<S>>(
     ensures part { OnErr result (GathersPart (Q.seen raster.old) (Q.seen raster.new)
         out.old out.new) }
 {
-    make_place(raster, out, clx)?;
+    make_place(raster, out, clx, spare)?;
     raster.submit(job);
     Ok(())
 }

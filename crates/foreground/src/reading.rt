@@ -103,7 +103,7 @@ impl<S: Side> Fore<S> {
             self.end_at_read(to, h, shown, raster, out)?;
             return Ok(self.take_bits());
         }
-        gather_all(raster, out, &mut self.clx)?;
+        gather_all(raster, out, &mut self.clx, &mut self.spare)?;
         Ok(self.take_bits())
     }
 

@@ -14,7 +14,7 @@ use crate::fore::Fore;
 use crate::gather::gather_all;
 use crate::lookout::Lookout;
 use crate::reading::clock_before;
-use band_log::{Cursor, Events, Picture, Raster, Run};
+use band_log::{Cursor, Events, Picture, Raster, Run, Spare};
 use machine::Machine;
 use mem_versions::Chip;
 use ocs_base::OutOfMemory;
@@ -109,7 +109,7 @@ impl<S: Side + Copy> Fore<S> {
             self.end_at_read(to, h, shown, raster, out)?;
             return Ok(());
         }
-        gather_all(raster, out, &mut self.clx)?;
+        gather_all(raster, out, &mut self.clx, &mut self.spare)?;
         Ok(())
     }
 
@@ -158,7 +158,6 @@ impl<S: Side + Copy> Fore<S> {
             events: Events::new(alloc),
         };
         Ok(Fore {
-            alloc,
             run,
             machine,
             log: Log {
@@ -170,6 +169,7 @@ impl<S: Side + Copy> Fore<S> {
             clx: from.clx,
             spent: false,
             lookout: Lookout::new(),
+            spare: Spare::new(alloc),
         })
     }
 }

@@ -69,7 +69,7 @@ impl<S: Side> Fore<S> {
             self.end_all(to, shown, raster, out)?;
             return Ok(());
         }
-        gather_all(raster, out, &mut self.clx)?;
+        gather_all(raster, out, &mut self.clx, &mut self.spare)?;
         Ok(())
     }
 

@@ -19,7 +19,7 @@ ghost use Rattle.picture_log.specs.Log.{with_script_touch, with_access_touch, wi
 use crate::band::OpenBand;
 use crate::shadow;
 use crate::shown_count::shown_before;
-use band_log::{Event, Events, Job, Picture, Room, Run};
+use band_log::{Event, Events, Job, Picture, Run, Spare};
 use mem_versions::Chip;
 use ocs_base::{Beam, Clock, OutOfMemory};
 use serial_bands::Shadow;
@@ -126,7 +126,7 @@ impl Log {
     /// band opens is not known yet. After a refusal all is as before.
     pub fn close<S: Side>(
         &mut self,
-        alloc: Global,
+        spare: &mut Spare,
         run: &Arc<Run<S>>,
         chip: &mut Chip,
         to: u64,
@@ -150,9 +150,8 @@ impl Log {
         let system = run.script().system();
         let run = Arc::try_clone(run)?;
         let bytes = shown - shown_before(system, &self.band.beam);
-        let room = Room::new(alloc, bytes as usize)?;
-        let blank = Picture::new(alloc, Denise::reset())?;
-        let events = Events::with_room(alloc, self.band.events.list().len())?;
+        let (room, events) = spare.take(bytes as usize, self.band.events.list().len())?;
+        let blank = Picture::new(spare.alloc(), Denise::reset())?;
         let view = chip.cut(Clock(to))?;
         let next = OpenBand {
             number: self.band.number + 1,
@@ -180,7 +179,7 @@ impl Log {
     /// refusal all is as before.
     pub fn cut_line<S: Side>(
         &mut self,
-        alloc: Global,
+        spare: &mut Spare,
         run: &Arc<Run<S>>,
         chip: &mut Chip,
         to: u64,
@@ -204,7 +203,7 @@ impl Log {
         ensures refused { OnErr result (self.new ≡ self.old) }
         ensures kept { OnErr result (chip.new ≡ chip.old) }
     {
-        let job = self.close(alloc, run, chip, to, shown)?;
+        let job = self.close(spare, run, chip, to, shown)?;
         shadow::find_words(&mut self.shadow, &job.view, chip);
         self.band.opening.set(shadow::opening(&self.shadow));
         self.waiting = None;

@@ -1,6 +1,5 @@
 use Rattle.serial_bands.specs.Run.{run_over}
-use Rattle.std.proofs.Common.{◌≡◌, ◌+◌, ◌-◌, ◌≤◌, rules, length, refl, ap, ◌∙◌, sym, subst, arith}
-use Rattle.std.proofs.lemmas.List.{length-replicate}
+use Rattle.std.proofs.Common.{◌≡◌, ◌+◌, ◌-◌, ◌≤◌, rules, refl, ap, ◌∙◌, sym, subst, arith}
 use Rattle.std.specs.Arc.{arc_value}
 use Rattle.ocs_base.specs.Script.{ScriptValue}
 use Rattle.picture_log.specs.Log.{IsCut, blank_after, size_to}
@@ -29,7 +28,7 @@ returns-clause-job g c =
     let before : c.shown_before.result ≡ shown_before run.script.system c.args.self.now.band.beam =
     c.shown_before.ensures ∙ ap (λ s. shown_before s c.args.self.now.band.beam) system in
     let rest : c.args.shown - c.shown_before.result ≡ size_to run c.args.self.now.band.from c.args.to = omega (arith, whole, before) in
-    ap length c.in_ok-room.ensures ∙ length-replicate _ 0 ∙ rest)
+    c.in_ok-room.ensures.size ∙ rest)
 
 pub overflow_sub-bytes : goal.overflow_sub-bytes
 overflow_sub-bytes g c =
