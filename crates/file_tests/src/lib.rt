@@ -1,8 +1,19 @@
-//! Tests of the crates of files: numbers as text and the places of files, and the files of a run, a
-//! module a crate. They stand here and not beside the code, so that those crates are proved once.
+//! Tests of the crates of files and of what stands in them: numbers as text and the places of files, the
+//! files of a run, the text of scripts and its versions, the scenes that are made without files, and the log
+//! of slots. They stand here and not beside the code, so that those crates are proved once.
 #![tactic(auto)]
 
 #[cfg(test)]
 mod files_of_a_run;
 #[cfg(test)]
+mod log_texts;
+#[cfg(test)]
 mod numbers_and_places;
+#[cfg(test)]
+mod scenes;
+#[cfg(test)]
+mod script_versions;
+#[cfg(test)]
+mod scripts;
+#[cfg(test)]
+mod texts;

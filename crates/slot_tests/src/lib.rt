@@ -1,5 +1,0 @@
-//! Tests of the log of slots.
-#![tactic(auto)]
-
-#[cfg(test)]
-mod log_texts;
