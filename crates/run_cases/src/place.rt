@@ -22,10 +22,16 @@ pub fn status<R: Threads + Wait + Clone + Drop + Send + Sync + 'static>(
     shelf: &mut Shelf,
 ) -> Result<u8, CaseFault> {
     let mut owned = Vec::new(alloc);
+    push_words(alloc, words, &mut owned)?;
+    Ok(ocs_main(rt, alloc, &owned, shelf, NoGate))
+}
+
+/// Appends words.
+fn push_words(alloc: Global, words: &[&str], owned: &mut Vec<String>) -> Result<(), CaseFault> {
     for word in words {
         owned.push(String::from_str(alloc, word)?)?;
     }
-    Ok(ocs_main(rt, alloc, &owned, shelf, NoGate))
+    Ok(())
 }
 
 /// A shelf with the two input files.

@@ -100,21 +100,34 @@ fn wrong_file(
     counts: &[&str; 3],
 ) -> Result<Option<&'static str>, Fail> {
     let [frames_count, trace_count, memory_count] = counts;
-    if !has_part(shelf, "frames", &frames(alloc, run_told())?, frames_count)? {
+    if !has_frames(alloc, shelf, frames_count)? {
         return Ok(Some("frames"));
     }
-    if !has_part(
-        shelf,
-        "trace",
-        trace(alloc, run_told())?.as_bytes(),
-        trace_count,
-    )? {
+    if !has_trace(alloc, shelf, trace_count)? {
         return Ok(Some("trace"));
     }
-    if !has_part(shelf, "memory", &memory(alloc, run_told())?, memory_count)? {
+    if !has_memory(alloc, shelf, memory_count)? {
         return Ok(Some("memory"));
     }
     Ok(None)
+}
+
+/// Whether so many bytes of the frames are there.
+fn has_frames(alloc: Global, shelf: &Shelf, count: &str) -> Result<bool, Fail> {
+    let whole = frames(alloc, run_told())?;
+    has_part(shelf, "frames", &whole, count)
+}
+
+/// Whether so many bytes of the trace are there.
+fn has_trace(alloc: Global, shelf: &Shelf, count: &str) -> Result<bool, Fail> {
+    let whole = trace(alloc, run_told())?;
+    has_part(shelf, "trace", whole.as_bytes(), count)
+}
+
+/// Whether so many bytes of the memory are there.
+fn has_memory(alloc: Global, shelf: &Shelf, count: &str) -> Result<bool, Fail> {
+    let whole = memory(alloc, run_told())?;
+    has_part(shelf, "memory", &whole, count)
 }
 
 /// What of the run with the failing call of a line is not as it should be.
@@ -124,20 +137,39 @@ fn wrong<R: Threads + Wait + Abort + Clone + Drop + Send + Sync + 'static>(
     band: &str,
     fault: &Fault<'_>,
 ) -> Result<Option<&'static str>, Fail> {
-    let mut shelf = shelf(
-        alloc,
-        &image(alloc, run_told())?,
-        script(alloc, run_told())?.as_str(),
-    )?;
-    shelf.fail_at(number(fault.call)?)?;
+    let mut shelf = failing_shelf(alloc, number(fault.call)?)?;
     let ended = status(rt, alloc, &run_words(band, "2"), &mut shelf)?;
+    wrong_part(alloc, ended, &shelf, fault)
+}
+
+/// A shelf with the image and the script, whose call of this number fails.
+fn failing_shelf(alloc: Global, call: u64) -> Result<Shelf, Fail> {
+    let mut shelf = inputs(alloc)?;
+    shelf.fail_at(call)?;
+    Ok(shelf)
+}
+
+/// A shelf with the image and the script.
+fn inputs(alloc: Global) -> Result<Shelf, Fail> {
+    let image = image(alloc, run_told())?;
+    let script = script(alloc, run_told())?;
+    Ok(shelf(alloc, &image, script.as_str())?)
+}
+
+/// What of a run that ended with this status is not as a line tells.
+fn wrong_part(
+    alloc: Global,
+    ended: u8,
+    shelf: &Shelf,
+    fault: &Fault<'_>,
+) -> Result<Option<&'static str>, Fail> {
     if ended as u64 != number(fault.status)? {
         return Ok(Some("status"));
     }
     if said_line(shelf.said()) != fault.said.as_bytes() {
         return Ok(Some("said"));
     }
-    wrong_file(alloc, &shelf, &fault.counts)
+    wrong_file(alloc, shelf, &fault.counts)
 }
 
 /// What was said without the end of its line.
@@ -158,13 +190,9 @@ fn check_faults<R: Threads + Wait + Abort + Clone + Drop + Send + Sync + 'static
     let mut calls = 0u64;
     for line in table.lines() {
         if let Some(fault) = read_fault(line) {
-            assert_eq!(rt; number(fault.call)?, calls);
+            let found = (number(fault.call)?, wrong(rt, alloc, band, &fault)?);
+            assert_eq!(rt; found, (calls, None), "bands of {band}: {line}");
             calls = calls.saturating_add(1);
-            assert_eq!(rt;
-                wrong(rt, alloc, band, &fault)?,
-                None,
-                "bands of {band}: {line}"
-            );
         }
     }
     assert!(rt; calls > 8);
