@@ -37,27 +37,72 @@ fn answers(
     Ok(ended == answer && shelf.said() == said.as_bytes() && shelf.file("out") == out)
 }
 
+/// Whether words of no form have the usage said.
+fn says_usage(alloc: Global, text: &str) -> Result<bool, CaseFault> {
+    let mut shelf = inputs(alloc)?;
+    let usage = "usage: ocs-slots IMAGE SCRIPT FROM TO OUT\n";
+    answers(alloc, text, &mut shelf, 2, usage, None)
+}
+
 #[test]
 fn words_of_no_form(rt: HostRuntime) -> Result<(), Fail> {
-    let alloc = rt.alloc();
-    let usage = "usage: ocs-slots IMAGE SCRIPT FROM TO OUT\n";
     for text in no_orders() {
-        let mut shelf = inputs(alloc)?;
-        assert!(rt; answers(alloc, text, &mut shelf, 2, usage, None)?, "{text}");
+        assert!(rt; says_usage(rt.alloc(), text)?, "{text}");
     }
     Ok(())
+}
+
+/// Whether a bad image is told before a bad script, and the script where the image is good.
+fn are_told_in_order(alloc: Global, shelf: &mut Shelf) -> Result<bool, CaseFault> {
+    let order = "image script 0 1 out";
+    let first = answers(alloc, order, shelf, 3, "bad image\n", None)?;
+    shelf.put("image", &[0; 8])?;
+    let said = "bad image\nbad script: line 3: frames\n";
+    let second = answers(alloc, order, shelf, 4, said, None)?;
+    Ok(first && second)
 }
 
 #[test]
 fn bad_inputs(rt: HostRuntime) -> Result<(), Fail> {
     let alloc = rt.alloc();
-    let order = "image script 0 1 out";
     let mut shelf = shelf(alloc, &[0; 7], "ocs 1\ncpu off\nframes 0\nend\n")?;
-    assert!(rt; answers(alloc, order, &mut shelf, 3, "bad image\n", None)?);
-    shelf.put("image", &[0; 8])?;
-    let said = "bad image\nbad script: line 3: frames\n";
-    assert!(rt; answers(alloc, order, &mut shelf, 4, said, None)?);
+    assert!(rt; are_told_in_order(alloc, &mut shelf)?);
     Ok(())
+}
+
+/// The inputs, of which the call of this number fails.
+fn failing_inputs(alloc: Global, call: u64) -> Result<Shelf, CaseFault> {
+    let mut shelf = inputs(alloc)?;
+    shelf.fail_at(call)?;
+    Ok(shelf)
+}
+
+/// Whether a run whose call of this number fails answers so and leaves no file.
+fn fails_at(alloc: Global, call: u64, answer: u8, said: &str) -> Result<bool, CaseFault> {
+    let mut shelf = failing_inputs(alloc, call)?;
+    answers(
+        alloc,
+        "image script 0 1 out",
+        &mut shelf,
+        answer,
+        said,
+        None,
+    )
+}
+
+/// Whether a part of a log is there, from its heading on, and the refusal was said.
+fn has_part(shelf: &Shelf) -> bool {
+    let out = shelf.file("out").unwrap_or(&[]);
+    shelf.said() == b"cannot write out\n".as_slice()
+        && out.len() > 262_144
+        && out.starts_with(b"ocs-slots 2 pal 0 1 524288\n")
+}
+
+/// Whether a run whose append fails leaves a part of its log.
+fn leaves_a_part(alloc: Global) -> Result<bool, CaseFault> {
+    let mut shelf = failing_inputs(alloc, 3)?;
+    let ended = status(alloc, "image script 0 1 out", &mut shelf)?;
+    Ok(ended == 6 && has_part(&shelf))
 }
 
 /// The calls of the place that fail, each in turn: the two reads, the create, and the append, of which half
@@ -65,23 +110,13 @@ fn bad_inputs(rt: HostRuntime) -> Result<(), Fail> {
 #[test]
 fn calls_that_fail(rt: HostRuntime) -> Result<(), Fail> {
     let alloc = rt.alloc();
-    let order = "image script 0 1 out";
-    let refused = "cannot write out\n";
-    for (call, answer, said) in [
-        (0, 5, "cannot read image\n"),
-        (1, 5, "cannot read script\n"),
-        (2, 6, refused),
-    ] {
-        let mut shelf = inputs(alloc)?;
-        shelf.fail_at(call)?;
-        assert!(rt; answers(alloc, order, &mut shelf, answer, said, None)?);
-    }
-    let mut shelf = inputs(alloc)?;
-    shelf.fail_at(3)?;
-    assert_eq!(rt; status(alloc, order, &mut shelf)?, 6);
-    assert_eq!(rt; shelf.said(), refused.as_bytes());
-    let out = shelf.file("out").ok_or("it was created")?;
-    assert!(rt; out.len() > 262_144 && out.starts_with(b"ocs-slots 2 pal 0 1 524288\n"));
+    let found = [
+        fails_at(alloc, 0, 5, "cannot read image\n")?,
+        fails_at(alloc, 1, 5, "cannot read script\n")?,
+        fails_at(alloc, 2, 6, "cannot write out\n")?,
+        leaves_a_part(alloc)?,
+    ];
+    assert!(rt; found == [true; 4]);
     Ok(())
 }
 
@@ -120,18 +155,28 @@ impl Place for FullShelf {
     }
 }
 
-#[test]
-fn memory_that_is_wanting(rt: HostRuntime) -> Result<(), Fail> {
-    let alloc = rt.alloc();
+/// The words of an order.
+fn words_of_an_order(alloc: Global) -> Result<Vec<String>, CaseFault> {
     let mut words = Vec::new(alloc);
     for word in ["image", "script", "0", "1", "out"] {
         words.push(String::from_str(alloc, word)?)?;
     }
+    Ok(words)
+}
+
+/// Whether memory was wanting, and no file is there.
+fn has_nothing(shelf: &Shelf) -> bool {
+    shelf.said() == b"out of memory\n".as_slice() && shelf.file("out").is_none()
+}
+
+#[test]
+fn memory_that_is_wanting(rt: HostRuntime) -> Result<(), Fail> {
+    let alloc = rt.alloc();
+    let words = words_of_an_order(alloc)?;
     let mut place = FullShelf {
         shelf: inputs(alloc)?,
     };
-    assert_eq!(rt; slots_main(alloc, &words, &mut place), 7);
-    assert_eq!(rt; place.shelf.said(), b"out of memory\n".as_slice());
-    assert!(rt; place.shelf.file("out").is_none());
+    let ended = slots_main(alloc, &words, &mut place);
+    assert!(rt; ended == 7 && has_nothing(&place.shelf));
     Ok(())
 }
