@@ -13,9 +13,6 @@ none_seen side = no_side
 abbrev pub run_of_job : Job NoSide → RunValue
 run_of_job job = run_over none_seen (arc_value job.run)
 
--- as it stands, and under the tint 255
-abbrev pub plainly : DirectValue NoSide → RasterValue
-plainly direct = seen_of none_seen direct
-
+-- under the tint 255
 abbrev pub inverted : DirectValue NoSide → RasterValue
 inverted direct = record (seen_of none_seen direct) { tint = 255 }

@@ -17,10 +17,14 @@ use std::test::Fail;
 
 const HEADING: &[u8] = b"P6\n720 286\n255\n";
 
-/// A raster that hands its calls to another and turns each pixel byte b of a band into 255 - b.
+/// A raster that hands its calls to another, turns each pixel byte b of a band into 255 - b and counts the
+/// jobs. Of the first three it keeps the first clock and that behind the last. (Each type of raster has the
+/// whole clock loop compiled once more, so one does both.)
 #[derive(Drop)]
 struct Inverted {
     direct: Direct<NoSide>,
+    jobs: usize,
+    clocks: [(u64, u64); 3],
 }
 
 impl Raster<NoSide> for Inverted {
@@ -39,6 +43,10 @@ impl Raster<NoSide> for Inverted {
         ensures { inverted self.new.direct
             ≡ with_submitted (run_of_job job) job.number (inverted self.old.direct) }
     {
+        if let Some(place) = self.clocks.get_mut(self.jobs) {
+            *place = (job.from.0, job.to.0);
+        }
+        self.jobs = self.jobs.saturating_add(1);
         self.direct.submit(job)
     }
 
@@ -76,54 +84,6 @@ fn invert_bytes(bytes: &mut [u8])
     }
 }
 
-/// A raster that hands its calls to another and counts the jobs. Of the first three it keeps the first
-/// clock and that behind the last.
-#[derive(Drop)]
-struct Counted {
-    direct: Direct<NoSide>,
-    jobs: usize,
-    clocks: [(u64, u64); 3],
-}
-
-impl Raster<NoSide> for Counted {
-    ghost use Rattle.band_draw.specs.Direct.{zero_is_byte};
-    ghost use Rattle.foreground_tests.specs.Rasters.{none_seen, run_of_job, plainly};
-
-    ghost seen = { λ raster. plainly raster.direct };
-
-    ghost tint_is_byte = { λ raster. zero_is_byte none_seen raster.direct };
-
-    fn submit(&mut self, job: Job<NoSide>)
-        requires few { length (plainly self.old.direct).outstanding < 16 }
-        requires number { job.number ≡ (plainly self.old.direct).next }
-        requires right { IsRightJob none_seen (run_of_job job) job.number job }
-        requires bound { Takes (plainly self.old.direct).bound (run_of_job job) }
-        ensures { plainly self.new.direct
-            ≡ with_submitted (run_of_job job) job.number (plainly self.old.direct) }
-    {
-        if let Some(place) = self.clocks.get_mut(self.jobs) {
-            *place = (job.from.0, job.to.0);
-        }
-        self.jobs = self.jobs.saturating_add(1);
-        self.direct.submit(job)
-    }
-
-    fn collect(&mut self) -> Drawn<NoSide>
-        requires { 0 < length (plainly self.old.direct).outstanding }
-        ensures taken { plainly self.new.direct ≡ without_first (plainly self.old.direct) }
-        ensures right { IsRightForFirst none_seen (plainly self.old.direct).tint
-            (plainly self.old.direct).outstanding result }
-    {
-        self.direct.collect()
-    }
-
-    fn outstanding(&self) -> usize
-        ensures { result ≡ length (plainly self.now.direct).outstanding }
-    {
-        self.direct.outstanding()
-    }
-}
-
 /// The frames file of a picture that is white up to the pixel of clock 100 of line 100, and then cyan.
 fn white_and_cyan(alloc: Global) -> Result<Vec<u8>, OutOfMemory> {
     let mut frames = Vec::from_slice(alloc, HEADING)?;
@@ -141,8 +101,12 @@ fn white_and_cyan(alloc: Global) -> Result<Vec<u8>, OutOfMemory> {
 /// The files of a run over a raster that inverts, in which COLOR00 becomes red at clock 100 of line 100.
 fn inverted_files(alloc: Global) -> Result<Shelf, Fail> {
     let run = run_of(alloc, &[0; 8], "at 0 100 100 poke 180 0f00\n", 20)?;
-    let direct = Direct::new(alloc)?;
-    let (shelf, _reads) = run_whole(alloc, run, &mut Inverted { direct })?;
+    let mut raster = Inverted {
+        direct: Direct::new(alloc)?,
+        jobs: 0,
+        clocks: [(0, 0); 3],
+    };
+    let (shelf, _reads) = run_whole(alloc, run, &mut raster)?;
     Ok(shelf)
 }
 
@@ -200,7 +164,7 @@ at 0 50 61 peek 00e\nat 0 50 62 peek 00e\nat 0 50 62 peek 00e\n";
 /// How many jobs a run with reads makes, and the clocks of the first three.
 fn jobs_of_reads(alloc: Global) -> Result<(usize, [(u64, u64); 3]), Fail> {
     let run = run_of(alloc, &[0; 8], READS, 313)?;
-    let mut raster = Counted {
+    let mut raster = Inverted {
         direct: Direct::new(alloc)?,
         jobs: 0,
         clocks: [(0, 0); 3],
