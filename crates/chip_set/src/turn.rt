@@ -65,19 +65,20 @@ impl Chips {
             return rest - 1;
         }
         self.count_timers(t, 0);
-        self.clocks_before_tick(t + 1)
+        self.clocks_behind(t)
     }
 
-    /// In how many clocks from clock `t` on nothing is to be done for the CIAs: those before the next tick of
-    /// their timers, and none where they request an interrupt that is not requested yet.
+    /// In how many clocks from the one behind clock `t` on nothing is to be done for the CIAs: those before
+    /// the next tick of their timers, and none where they request an interrupt that is not requested yet.
     #[inline(always)]
-    fn clocks_before_tick(&self, t: u64) -> u16
-        ensures { CiasRest t result self.now }
+    fn clocks_behind(&self, t: u64) -> u16
+        requires { t + 1 < 2 ^ 64 }
+        ensures { CiasRest (t + 1) result self.now }
     {
         if !self.asks_nothing_new() {
             return 0;
         }
-        ((5 - t % 5) % 5) as u16
+        (4 - t % 5) as u16
     }
 
     /// The timers tick at each fifth clock.
