@@ -1,7 +1,7 @@
 //! The blitter: a blit of either kind, by LINE of BLTCON1.
 #![tactic(auto)]
 
-ghost use Rattle.std.specs.Prelude.{◌≡◌, ◌≢◌, ℕ, List, [], ◌∷◌, ◌++◌};
+ghost use Rattle.std.specs.Prelude.{◌≡◌, ◌≢◌, ℕ, List, [], ◌∷◌, ◌++◌, IfSome};
 ghost use Rattle.blit_words.specs.declared.blit.BlitRegs.{BlitRegs};
 ghost use Rattle.blit_words.specs.Blitter.{blit_ask, is_done as done_of, blit_zero, blit_end};
 
@@ -9,6 +9,7 @@ use blit_words::is_set;
 pub use blit_words::{BlitRegs, SlotAsk};
 use blitter_area::AreaBlit;
 use blitter_line::LineBlit;
+use ocs_base::Addr;
 
 /// A blit under way. It stands for its registers at the start and the answers that it was given: `StandsFor`.
 #[derive(Clone, Copy)]
@@ -41,6 +42,28 @@ impl Blit {
         match self {
             Blit::Area(blit) => blit.next(),
             Blit::Line(blit) => blit.next(),
+        }
+    }
+
+    /// The address and the word of the write that an area blit makes with its next slot, where it makes one.
+    #[inline(always)]
+    pub fn area_write(&self) -> Option<(Addr, u16)>
+        ensures { IfSome result (λ write. slot_shown self.now ≡ SlotAsk.Write write.0 write.1) }
+    {
+        match self {
+            Blit::Area(blit) => blit.write_ask(),
+            Blit::Line(_) => None,
+        }
+    }
+
+    /// The address of the read that an area blit makes with its next slot, where it makes one.
+    #[inline(always)]
+    pub fn area_read(&self) -> Option<Addr>
+        ensures { IfSome result (λ at. slot_shown self.now ≡ SlotAsk.Read at) }
+    {
+        match self {
+            Blit::Area(blit) => blit.read_ask(),
+            Blit::Line(_) => None,
         }
     }
 

@@ -1,6 +1,6 @@
 //! An area blit from ask to ask.
 
-ghost use Rattle.std.specs.Prelude.{◌≡◌, ◌≢◌, ◌<◌, ◌≤◌, ℕ, List, [], ◌∷◌, ◌++◌, false, nat_lt, if◌then◌else◌};
+ghost use Rattle.std.specs.Prelude.{◌≡◌, ◌≢◌, ◌<◌, ◌≤◌, ℕ, List, [], ◌∷◌, ◌++◌, false, nat_lt, if◌then◌else◌, IfSome};
 ghost use Rattle.blit_words.specs.declared.blit.BlitRegs.{BlitRegs};
 ghost use Rattle.blit_words.specs.declared.blit.WordAsk.{WordAsk};
 ghost use Rattle.blit_words.specs.declared.blit.WordAsk.TheVariants.{D, Rest};
@@ -14,6 +14,7 @@ use crate::asks::AskRow;
 use crate::channel::Pointers;
 use crate::data_path::{DataPath, Outcome, Past, Words};
 use blit_words::{BlitRegs, SlotAsk, WordAsk, height, is_set};
+use ocs_base::Addr;
 
 /// An area blit under way. It stands for its registers at the start and the answers that it was
 /// given: `Stands`.
@@ -88,6 +89,30 @@ impl AreaBlit {
         ensures done { ForWhatItStands self.now (λ s ws. IsDoneAfterAll result s ws) }
     {
         self.slot_now()
+    }
+
+    /// The address and the word of the write that it makes with its next slot, where it makes one.
+    #[inline(always)]
+    pub fn write_ask(&self) -> Option<(Addr, u16)>
+        ensures { IfSome result (λ write. shown self.now ≡ SlotAsk.Write write.0 write.1) }
+    {
+        match self.ask {
+            WordAsk::D => Some((self.pointers.d(), self.ready.word)),
+            WordAsk::A | WordAsk::B | WordAsk::C | WordAsk::Rest => None,
+        }
+    }
+
+    /// The address of the read that it makes with its next slot, where it makes one.
+    #[inline(always)]
+    pub fn read_ask(&self) -> Option<Addr>
+        ensures { IfSome result (λ at. shown self.now ≡ SlotAsk.Read at) }
+    {
+        match self.ask {
+            WordAsk::A => Some(self.pointers.a()),
+            WordAsk::B => Some(self.pointers.b()),
+            WordAsk::C => Some(self.pointers.c()),
+            WordAsk::D | WordAsk::Rest => None,
+        }
     }
 
     /// Whether the blit has ended: no ask is left.

@@ -1,6 +1,6 @@
 //! Clocks that refresh, sprites and the Copper leave to the planes, the blitter and the processor.
 
-ghost use Rattle.std.specs.Prelude.{◌≡◌, ◌≤◌, ◌<◌, ◌+◌, ◌&&◌, ℕ, true, false, is_some};
+ghost use Rattle.std.specs.Prelude.{◌≡◌, ◌≤◌, ◌<◌, ◌+◌, ◌&&◌, ℕ, true, false, is_some, IfSome};
 ghost use Rattle.ocs_base.specs.declared.beam.Beam.{Beam as BeamOf};
 ghost use Rattle.serial_model.specs.Bus.{blit_owner_ask, processor_ask as processor_ask_of};
 ghost use Rattle.quiet_clocks.specs.PlainClock.{comes_first};
@@ -10,6 +10,7 @@ ghost use Rattle.serial_model.specs.Side.{IsInTime};
 ghost use Rattle.serial_model.specs.State.{Chips as ChipsOf};
 ghost use Rattle.serial_model.specs.Bus.{ask_at};
 ghost use Rattle.serial_model.specs.declared.bus.SideAsk.{SideAsk};
+ghost use Rattle.serial_model.specs.declared.bus.Ask.TheVariants as A;
 ghost use Rattle.cpu_bus.specs.Bus.{wish_shown};
 ghost use Rattle.chip_set.specs.Chips.{IsChipsOf, HasAsked, HasAccessed, CanAsk, CanDo, WorkingChips, plain_chips, IsAnswer, IsBlitAsk, kept_wish, late_ask as asked_late};
 ghost use Rattle.chip_set.specs.Chips.{reads_by_chips, read_by};
@@ -20,8 +21,9 @@ ghost use Rattle.chip_set.specs.BusCode.{ask_beside_planes, is_bus_ask, is_bus_m
 use crate::asks::{made_by, slot_ask};
 use crate::chips::{Chips, read_for_blit};
 use bitplane_dma::{FetchRules, PlaneAsk};
+use blitter::SlotAsk;
 use mem_versions::Chip;
-use ocs_base::Beam;
+use ocs_base::{Addr, Beam};
 use serial_model::{Ask, CopperAct, Made, ProcessorAsk};
 
 /// Whether the blitter asks for the slots of such clocks, and whether it gives way to a processor that has
@@ -30,6 +32,16 @@ use serial_model::{Ask, CopperAct, Made, ProcessorAsk};
 pub struct BlitterClaim {
     asks: bool,
     yields: bool,
+}
+
+impl BlitterClaim {
+    /// Whether the blitter asks.
+    #[inline(always)]
+    pub fn asks(&self) -> bool
+        ensures { result ≡ self.now.asks }
+    {
+        self.asks
+    }
 }
 
 impl Chips {
@@ -105,6 +117,7 @@ impl Chips {
     }
 
     /// How the blitter asks for the slots of such clocks.
+    #[inline(always)]
     pub fn blitter_claim(&self) -> BlitterClaim
         ensures { IsClaim result self.now }
     {
@@ -147,6 +160,32 @@ impl Chips {
         match &self.blit {
             Some(blit) => slot_ask(blit.next()),
             None => Ask::Free,
+        }
+    }
+
+    /// The address and the word of the write that it asks for, where an area blit asks for one.
+    #[inline(always)]
+    pub fn blit_write_in_turn(&self) -> Option<(Addr, u16)>
+        requires { is_some (kept_wish self.now) ≡ true }
+        ensures { IfSome result (λ write. blit_owner_ask (kept_wish self.now)
+            ≡ A.Blit (SlotAsk.Write write.0 write.1)) }
+    {
+        match &self.blit {
+            Some(blit) => blit.area_write(),
+            None => None,
+        }
+    }
+
+    /// The address of the read that it asks for, where an area blit asks for one.
+    #[inline(always)]
+    pub fn blit_read_in_turn(&self) -> Option<Addr>
+        requires { is_some (kept_wish self.now) ≡ true }
+        ensures { IfSome result (λ at. blit_owner_ask (kept_wish self.now)
+            ≡ A.Blit (SlotAsk.Read at)) }
+    {
+        match &self.blit {
+            Some(blit) => blit.area_read(),
+            None => None,
         }
     }
 
