@@ -212,7 +212,7 @@ inks_shown v h x now p stands room at inside after free =
     ∙ sym (four_written (replicate 4 []) (f (2 * (2 * h))) (f (2 * (2 * h) + 1)) (f (2 * (2 * h + 1))) (f (2 * (2 * h + 1) + 1)) refl)
     ∙ ink_clock v h now p stands room inside after free (replicate 4 []) _ _ refl refl refl
 
-held_of_inks : (now : Painter) (h n : ℕ) (held : List ℕ) → 1 ≤ n →
+pub held_of_inks : (now : Painter) (h n : ℕ) (held : List ℕ) → 1 ≤ n →
     held_to (all_inks now h) held n ≡ colour_bytes (ink_at now.inks now.line (4 * h + 4 * (n - 1) + 3))
 unfolding held_to
 held_of_inks now h zero held some = absurd (omega arith)

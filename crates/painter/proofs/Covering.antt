@@ -1,19 +1,22 @@
 -- Sprites over the pixels of clocks inside the display window.
-use Rattle.std.proofs.Common.{◌≡◌, ℕ, ◌+◌, ◌*◌, true, List, Option, length, bit_or, bit_and, refl, sym, ◌∙◌, ap, subst, arith}
+use Rattle.std.proofs.Common.{◌≡◌, ℕ, ◌+◌, ◌*◌, ◌<◌, true, List, Option, length, bit_or, bit_and, refl, sym, ◌∙◌, ap, subst, arith}
+use Rattle.sprites.specs.SpriteFront.{front_pixel}
 use Rattle.sprites.specs.declared.runs.Start.{Start}
 use Rattle.collisions.specs.Collision.{collision_bits}
 use Rattle.serial_model.specs.declared.picture.Denise.{Denise}
-use Rattle.serial_model.specs.Picture.{runs_at, runs_after, sprite_values, clock_collisions}
+use Rattle.serial_model.specs.Picture.{runs_at, runs_after, sprite_values, attached_pairs, clock_collisions}
 use Rattle.serial_model.specs.Window.{is_inside}
 use Rattle.painter.specs.declared.painter.Painter.{Painter}
 use Rattle.painter.specs.Overlay.{with_runs, shown_bits, covered_column, covered_collisions, clock_over}
 use Rattle.painter.specs.Painter.{IsPainterOf}
 use Rattle.painter.specs.StartsCode.{IsSteady, IsAlone}
-use Rattle.painter.proofs.Overlays.{after_first, after_second, same_runs_stand, runs_same, runs_of, inside_same}
+use Rattle.painter.proofs.Overlays.{after_first, after_second, same_runs_stand, runs_same, runs_of, inside_same, attached_same}
 use Rattle.painter.proofs.Overlays.{clock_changed, clock_gathered, column_inside, bits_inside}
 use Rattle.painter.proofs.Ors.{or_reached, or_both}
 use Rattle.painter.proofs.Pairs.{later_pairs}
 use Rattle.sprite_rows.specs.LineValues.{pair_byte}
+use Rattle.sprite_rows.specs.PairFrontCode.{pixel_of_byte}
+use Rattle.sprite_rows.proofs.Standing.{front_alone}
 use Rattle.painter.specs.Line.{ArePaired}
 use Rattle.painter.specs.SpriteState.{attached_in}
 use Rattle.painter.specs.SteadyCode.{IsSteadyFrom}
@@ -88,3 +91,13 @@ steady_further h k steady old new sprites line holds = record {
 -- it leaves the words that run as they are
 pub steady_same : (h : ℕ) (old new : Painter) → new.sprites ≡ old.sprites → IsSteady h old.sprites → IsSteady h new.sprites
 steady_same h old new same is = subst (λ s. IsSteady h s) (sym same) is
+
+-- the pixel in front is that of the one pair
+pub front_of_pair : (column pair attached byte : ℕ) (now : Painter) (p : Denise) → IsPainterOf now p → column < 512 → pair < 4 →
+    IsAlone column pair now.sprites.runs → attached ≡ attached_in now.sprites → byte ≡ pair_byte column now.sprites.runs pair →
+    front_pixel (sprite_values column p.runs) (attached_pairs p) ≡ pixel_of_byte pair byte attached
+front_of_pair column pair attached byte now p stands room few alone same is =
+    sym (ap (λ (runs : List (Option Start)). front_pixel (sprite_values column runs) attached) (sym stands.runs)
+    ∙ ap (front_pixel (sprite_values column p.runs)) (same ∙ attached_same now p stands))
+    ∙ front_alone column now.sprites.runs pair attached (omega (arith, few)) (λ q lt other. alone.none q column lt other (omega arith) room)
+    ∙ ap (λ (n : ℕ). pixel_of_byte pair n attached) (sym is)

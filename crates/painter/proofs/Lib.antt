@@ -20,3 +20,5 @@ pub mod KeptLoads
 pub mod RunningLaws
 pub mod Spans
 pub mod Clocks
+pub mod PairOver
+pub mod Begun

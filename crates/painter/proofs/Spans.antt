@@ -82,7 +82,7 @@ no_span system v h p now bytes clx stands = record {
 }
 
 -- a span and the span behind it
-joined_at : (system : System) (v h n m : ℕ) (p : Denise) (now new : Painter) (before between after : List ℕ) (old mid clx : ℕ) →
+pub joined_at : (system : System) (v h n m : ℕ) (p : Denise) (now new : Painter) (before between after : List ℕ) (old mid clx : ℕ) →
     IsSpan system v h n p now before between old mid →
     IsSpan system v (h + n) m (after_shows system v h n p) new between after mid clx →
     IsSpan system v h (n + m) p new before after old clx

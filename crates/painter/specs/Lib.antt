@@ -14,3 +14,4 @@ pub mod Painter
 pub mod RunningWords
 pub mod Span
 pub mod SpanCode
+pub mod PairOver

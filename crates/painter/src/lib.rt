@@ -14,6 +14,7 @@ mod once;
 mod overlay;
 mod painter;
 mod pixels;
+mod put_pair;
 mod row;
 mod show_covered;
 mod show_spans;

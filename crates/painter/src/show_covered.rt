@@ -14,6 +14,7 @@ ghost use Rattle.painter.specs.Span.{IsSpan};
 use crate::field_place::FieldPlace;
 use crate::overlay::cover;
 use crate::painter::Painter;
+use crate::pixels::ink_bytes;
 use crate::span::put;
 use sprite_rows::pair_pixel;
 
@@ -97,6 +98,42 @@ impl Painter {
             self.show_steady(from, steady, room, at, clx);
             return steady;
         }
+        self.show_begun(from, count, room, at, clx)
+    }
+
+    /// The same where words may begin at the first of them. Those that do at its first column are begun
+    /// before it is shown, since they show from there on.
+    #[inline(always)]
+    fn show_begun(
+        &mut self,
+        from: FieldPlace,
+        count: u16,
+        room: &mut [u8],
+        at: usize,
+        clx: &mut u16,
+    ) -> u16
+        requires place { from.h + count ≤ 228 }
+        requires some { 1 ≤ count }
+        requires first { (k : ℕ) → k < count → is_inside from.v (2 * (from.h + k))
+            self.old.window.diwstrt self.old.window.diwstop ≡ true }
+        requires second { (k : ℕ) → k < count → is_inside from.v (2 * (from.h + k) + 1)
+            self.old.window.diwstrt self.old.window.diwstop ≡ true }
+        requires seen { (k : ℕ) → k < count → is_visible from.system from.v (from.h + k) ≡ true }
+        requires room { at + 12 * count ≤ length room.old }
+        ensures given { (p : DeniseValue) → IsPainterOf self.old p
+            → IsSpan from.system from.v from.h result p self.new
+            (take at room.old) (take (at + 12 * result) room.new) clx.old clx.new }
+        ensures some { 1 ≤ result }
+        ensures most { result ≤ count }
+        ensures window { self.new.window ≡ self.old.window }
+        ensures size { length room.new ≡ length room.old }
+    {
+        self.sprites.begin_words(2 * from.h);
+        let steady = self.sprites.begun_clocks(from.h, count);
+        if steady > 0 {
+            self.show_steady(from, steady, room, at, clx);
+            return steady;
+        }
         self.show_beginning(from, room, at, clx);
         1
     }
@@ -154,6 +191,41 @@ impl Painter {
     /// The picture steps of so many of them, of which this holds, where one pair of sprites may show
     /// alone, and all is gathered that may collide.
     fn show_alone(
+        &mut self,
+        from: FieldPlace,
+        count: u16,
+        steady: &Steady,
+        room: &mut [u8],
+        filled: usize,
+    )
+        requires place { from.h + count ≤ 228 }
+        requires some { 1 ≤ count }
+        requires first { (k : ℕ) → k < count → is_inside from.v (2 * (from.h + k))
+            self.old.window.diwstrt self.old.window.diwstop ≡ true }
+        requires second { (k : ℕ) → k < count → is_inside from.v (2 * (from.h + k) + 1)
+            self.old.window.diwstrt self.old.window.diwstop ≡ true }
+        requires seen { (k : ℕ) → k < count → is_visible from.system from.v (from.h + k) ≡ true }
+        requires steady { (k : ℕ) → k < count → IsSteady (from.h + k) self.old.sprites }
+        requires holds { IsSteadyFrom from.h steady.now self.old }
+        requires alone { steady.now.lone ≤ 3 }
+        requires room { filled + 12 * count ≤ length room.old }
+        ensures given { (p : DeniseValue) (clx : ℕ) → IsPainterOf self.old p
+            → bit_and clx steady.now.reach ≡ steady.now.reach
+            → IsSpan from.system from.v from.h count p self.new
+            (take filled room.old) (take (filled + 12 * count) room.new) clx clx }
+        ensures window { self.new.window ≡ self.old.window }
+        ensures size { length room.new ≡ length room.old }
+    {
+        if self.put_pair(from, count, steady, room, filled) {
+            let last = 4 * from.h as usize + 4 * (count - 1) as usize + 3;
+            self.held = ink_bytes(&self.inks, &self.line, last);
+            return;
+        }
+        self.show_alone_clocks(from, count, steady, room, filled);
+    }
+
+    /// The same, clock by clock.
+    fn show_alone_clocks(
         &mut self,
         from: FieldPlace,
         count: u16,

@@ -276,6 +276,21 @@ impl SpriteState {
         self.clocks_before_start(h, count)
     }
 
+    /// How many clocks from `h` on, at most so many, are known to be steady, where the words have begun
+    /// whose HSTART is the first column of the first.
+    pub fn begun_clocks(&self, h: u16, count: u16) -> u16
+        requires place { h + count ≤ 228 }
+        requires some { 1 ≤ count }
+        requires begun { runs_in (2 * h) self.now ≡ self.now.runs }
+        ensures most { result ≤ count }
+        ensures steady { (k : ℕ) → k < result → IsSteady (h + k) self.now }
+    {
+        if self.may_begin_at(2 * h + 1) {
+            return 0;
+        }
+        1 + self.clocks_before_start(h + 1, count - 1)
+    }
+
     /// How many clocks from `h` on there are in which words that have begun may still show.
     pub fn clocks_running(&self, h: u16) -> u16
         ensures { result ≡ self.now.quiet_from / 2 + 1 - h }
@@ -386,6 +401,20 @@ impl SpriteState {
             return self.running_byte(column, pair);
         }
         self.rows.byte(column, pair)
+    }
+
+    /// The bytes of a pair, by column, where they are known from a column on.
+    #[inline(always)]
+    pub fn row_from(&self, column: u16, pair: u8) -> Option<&[u8; 512]>
+        requires { pair ≤ 3 }
+        ensures value { IfSome result (λ row. (x : ℕ) → column ≤ x → x ≤ 455
+            → slice_index row.now x ≡ pair_byte x self.now.runs pair) }
+        ensures few { IfSome result (λ row. (x : ℕ) → slice_index row.now x ≤ 15) }
+    {
+        if column < self.exact_from {
+            return None;
+        }
+        Some(self.rows.row(pair))
     }
 
     /// The same, looked up in the words that run.

@@ -1,6 +1,6 @@
 //! The sprite in front, from the bytes of the four pairs.
 
-ghost use Rattle.std.specs.Prelude.{◌≡◌, ◌≤◌, ◌+◌, IfSome};
+ghost use Rattle.std.specs.Prelude.{◌≡◌, ◌≤◌, ◌+◌, ℕ, IfSome, slice_index};
 ghost use Rattle.sprite_rows.specs.PairFrontCode.{colour_of_byte, front_of_bytes};
 
 use sprites::SpritePixel;
@@ -47,4 +47,25 @@ pub fn pair_pixel(pair: u8, byte: u8, attached: u8) -> SpritePixel
         16 + 4 * pair + byte / 4
     };
     SpritePixel { pair, colour }
+}
+
+/// The numbers of the colours of a pair's pixels by its bytes, of which that of 0 is never shown.
+pub fn pair_colours(pair: u8, attached: u8) -> [u8; 16]
+    requires { pair ≤ 3 }
+    ensures value { (byte : ℕ) → byte ≤ 15
+        → slice_index result byte ≡ colour_of_byte pair byte attached }
+    ensures few { (byte : ℕ) → slice_index result byte ≤ 31 }
+{
+    if (attached >> pair) & 1 == 1 {
+        return [
+            16, 17, 18, 19, 20, 21, 22, 23, 24, 25, 26, 27, 28, 29, 30, 31,
+        ];
+    }
+    let none = 16 + 4 * pair;
+    let one = none + 1;
+    let two = none + 2;
+    let three = none + 3;
+    [
+        none, one, two, three, one, one, two, three, two, one, two, three, three, one, two, three,
+    ]
 }

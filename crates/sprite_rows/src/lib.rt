@@ -9,6 +9,6 @@ pub mod rows;
 pub mod words;
 
 pub use collision::{collisions, playfield_worth};
-pub use front::pair_pixel;
+pub use front::{pair_colours, pair_pixel};
 pub use rows::SpriteRows;
 pub use words::bits_as_bytes;

@@ -144,6 +144,18 @@ impl SpriteRows {
         self.pairs[pair as usize][x as usize]
     }
 
+    /// The bytes of a pair, by position: the value of its even sprite as bits 0 and 1, and that of its odd
+    /// one as bits 2 and 3.
+    #[inline(always)]
+    pub fn row(&self, pair: u8) -> &[u8; 512]
+        requires { pair ≤ 3 }
+        ensures value { (from x : ℕ) → (runs : List (Option Start)) → IsRowsOf from self.now runs →
+            from ≤ x → x ≤ 511 → slice_index result.now x ≡ pair_byte x runs pair }
+        ensures few { (x : ℕ) → slice_index result.now x ≤ 15 }
+    {
+        &self.pairs[pair as usize]
+    }
+
     /// The one pair that may show at position `x` or behind it, 4 where more than one may.
     #[inline(always)]
     pub fn lone_from(&self, x: u16) -> u8

@@ -1,30 +1,11 @@
-use Rattle.std.proofs.Common.{◌≡◌, ◌<◌, ◌+◌, ◌*◌, ◌∙◌, ℕ, List, Option, false, nat_eq, sym, ap, arith}
+use Rattle.std.proofs.Common.{◌≡◌, ◌+◌, ◌*◌, ◌∙◌, ℕ, false, nat_eq, sym, ap, arith}
 use Rattle.std.proofs.lemmas.Bool.Decides.{nat_tests}
-use Rattle.sprites.specs.SpriteFront.{front_pixel}
-use Rattle.sprites.specs.declared.runs.Start.{Start}
-use Rattle.serial_model.specs.declared.picture.Denise.{Denise}
-use Rattle.serial_model.specs.Picture.{attached_pairs, sprite_values}
-use Rattle.sprite_rows.specs.LineValues.{pair_byte}
 use Rattle.sprite_rows.specs.PairFrontCode.{pixel_of_byte}
 use Rattle.sprite_rows.proofs.FrontByBytes.{some_pixel}
-use Rattle.sprite_rows.proofs.Standing.{front_alone}
-use Rattle.painter.specs.declared.painter.Painter.{Painter}
 use Rattle.painter.specs.Inks.{counted_bits}
-use Rattle.painter.specs.Painter.{IsPainterOf}
-use Rattle.painter.specs.SpriteState.{attached_in}
-use Rattle.painter.specs.StartsCode.{IsAlone}
-use Rattle.painter.proofs.Overlays.{attached_same, counted_same, covered_some, covered_none}
+use Rattle.painter.proofs.Covering.{front_of_pair}
+use Rattle.painter.proofs.Overlays.{counted_same, covered_some, covered_none}
 use Rattle.painter.proofs.painter.Painter.put_alone.Goals as goal
-
--- the pixel in front is that of the one pair
-seen : (column pair attached byte : ℕ) (now : Painter) (p : Denise) → IsPainterOf now p → column < 512 → pair < 4 →
-    IsAlone column pair now.sprites.runs → attached ≡ attached_in now.sprites → byte ≡ pair_byte column now.sprites.runs pair →
-    front_pixel (sprite_values column p.runs) (attached_pairs p) ≡ pixel_of_byte pair byte attached
-seen column pair attached byte now p stands room few alone same is =
-    sym (ap (λ (runs : List (Option Start)). front_pixel (sprite_values column runs) attached) (sym stands.runs)
-    ∙ ap (front_pixel (sprite_values column p.runs)) (same ∙ attached_same now p stands))
-    ∙ front_alone column now.sprites.runs pair attached (omega (arith, few)) (λ q lt other. alone.none q column lt other (omega arith) room)
-    ∙ ap (λ (n : ℕ). pixel_of_byte pair n attached) (sym is)
 
 pub returns-then-byte-eq0 : goal.returns-then-byte-eq0
 returns-then-byte-eq0 c p stands =
@@ -32,7 +13,7 @@ returns-then-byte-eq0 c p stands =
     let lone = c.args.steady.now.lone in
     let attached = c.args.steady.now.attached in
     covered_none c.args.column c.args.at p c.args.into.now
-    (seen c.args.column lone attached c.pair_byte-byte.result c.args.self.now p stands (omega (arith, c.requires.room))
+    (front_of_pair c.args.column lone attached c.pair_byte-byte.result c.args.self.now p stands (omega (arith, c.requires.room))
     (omega (arith, c.requires.alone)) c.requires.none c.requires.attached c.pair_byte-byte.ensures.value
     ∙ ap (λ (n : ℕ). pixel_of_byte lone n attached) c.if-byte-eq0.true)
 
@@ -48,7 +29,7 @@ returns-then-steady c p stands =
     (counted_same (2 * column) c.bits-first.result c.args.self.now p stands (omega (arith, c.requires.room)) c.bits-first.ensures.value)
     (counted_same (2 * column + 1) c.bits-first.result c.args.self.now p stands (omega (arith, c.requires.room))
     (c.bits-first.ensures.value ∙ c.requires.pair c.if-steady.true))
-    (seen column lone attached c.pair_byte-byte.result c.args.self.now p stands (omega (arith, c.requires.room))
+    (front_of_pair column lone attached c.pair_byte-byte.result c.args.self.now p stands (omega (arith, c.requires.room))
     (omega (arith, c.requires.alone)) c.requires.none c.requires.attached c.pair_byte-byte.ensures.value
     ∙ sym (some_pixel lone c.pair_byte-byte.result attached c.pair_pixel-sprite.result shown
     c.pair_pixel-sprite.ensures.pair c.pair_pixel-sprite.ensures.colour))
@@ -65,7 +46,7 @@ returns c p stands =
     c.args.into.now c.cover.new.into c.cover-2.new.into stands
     (counted_same (2 * column) c.bits-first.result c.args.self.now p stands (omega (arith, c.requires.room)) c.bits-first.ensures.value)
     (counted_same (2 * column + 1) c.bits-second.result c.args.self.now p stands (omega (arith, c.requires.room)) c.bits-second.ensures.value)
-    (seen column lone attached c.pair_byte-byte.result c.args.self.now p stands (omega (arith, c.requires.room))
+    (front_of_pair column lone attached c.pair_byte-byte.result c.args.self.now p stands (omega (arith, c.requires.room))
     (omega (arith, c.requires.alone)) c.requires.none c.requires.attached c.pair_byte-byte.ensures.value
     ∙ sym (some_pixel lone c.pair_byte-byte.result attached c.pair_pixel-sprite.result shown
     c.pair_pixel-sprite.ensures.pair c.pair_pixel-sprite.ensures.colour))

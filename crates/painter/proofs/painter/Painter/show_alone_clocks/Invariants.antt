@@ -3,7 +3,7 @@ use Rattle.std.proofs.Common.{◌≡◌, ◌+◌, ◌*◌, ℕ, bit_and, length,
 use Rattle.serial_model.specs.declared.picture.Denise.{Denise}
 use Rattle.painter.specs.Painter.{IsPainterOf}
 use Rattle.painter.specs.Span.{IsSpan}
-use Rattle.painter.proofs.painter.Painter.show_alone.Given as goal
+use Rattle.painter.proofs.painter.Painter.show_alone_clocks.Given as goal
 
 abbrev pub invariant-loop-shown : goal.invariant-loop-shown
 invariant-loop-shown l = record {

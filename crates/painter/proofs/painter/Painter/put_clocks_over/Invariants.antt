@@ -1,0 +1,13 @@
+-- The clocks so far are put.
+use Rattle.std.proofs.Common.{◌≡◌, ℕ, ◌+◌, ◌*◌, ◌++◌, length, take}
+use Rattle.painter.specs.PairOver.{pixels_over}
+use Rattle.painter.specs.SpanCode.{bytes_of_clocks}
+use Rattle.painter.proofs.painter.Painter.put_clocks_over.Given as goal
+
+abbrev pub invariant-loop-clock : goal.invariant-loop-clock
+invariant-loop-clock l = record {
+  bytes : take (l.at + 12 * l.clock) l.room
+      ≡ take l.at l.initial.room
+      ++ bytes_of_clocks (λ (k : ℕ). pixels_over l.self.inks l.self.line l.row l.steady.lone l.steady.attached (l.column + 2 * k)) l.clock;
+  size : length l.room ≡ length l.initial.room;
+}
