@@ -2,6 +2,8 @@ pub mod Rows
 pub mod Spreading
 pub mod OnceTable
 pub mod TwiceTable
+pub mod ComponentTables
+pub mod HeldWords
 pub mod Loading
 pub mod Pairs
 pub mod Modifying

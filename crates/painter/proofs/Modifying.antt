@@ -11,13 +11,15 @@ use Rattle.painter.specs.declared.line.Line.{Line}
 use Rattle.painter.specs.declared.painter.Painter.{Painter}
 use Rattle.painter.specs.Painter.{IsPainterOf, clock_bytes}
 use Rattle.painter.specs.Inks.{InkRegisters, is_held, ink_number}
-use Rattle.painter.specs.Line.{row_bits}
+use Rattle.painter.specs.Line.{row_bits, ArePaired}
 use Rattle.painter.specs.Pixels.{modified_at, modified_along, modified_pixels, all_modified}
 use Rattle.painter.specs.Span.{IsSpan}
 use Rattle.painter.specs.SpanCode.{bytes_of_clocks, quiet_gathered, AreInside, AreModified}
 use Rattle.priority_ham.specs.PixelColour.{modified}
 use Rattle.painter.proofs.Showing.{held_pixel, four_written, with_held_stands}
 use Rattle.painter.proofs.Clocks.{quiet_shown, quiet_stands, gathered_of}
+use Rattle.painter.proofs.Colours.{modified_again}
+use Rattle.painter.proofs.Pairs.{first_pair, second_pair}
 
 -- so many positions, and so many more
 pub along_more : (inks : InkRegisters) (line : Line) (x colour m n : ℕ) →
@@ -205,3 +207,40 @@ unfolding modified_along
 last_modified inks line x colour =
     let place : x + 2 + 1 ≡ x + 3 = omega arith in
     ap (λ (k : ℕ). modified_at inks line k (modified_at inks line (x + 2) (modified_along inks line x colour 2))) place
+
+-- where two positions have the same bits, the second makes nothing new
+pub pair_along : (inks : InkRegisters) (line : Line) (x colour : ℕ) → row_bits line x ≡ row_bits line (x + 1) →
+    modified_at inks line (x + 1) (modified_at inks line x colour) ≡ modified_at inks line x colour
+unfolding modified_at
+pair_along inks line x colour pair =
+    ap (λ (bits : ℕ). modified (ink_number inks.con0 inks.con2 bits)
+    (modified (ink_number inks.con0 inks.con2 (row_bits line x)) colour inks.palette) inks.palette) (sym pair)
+    ∙ modified_again (ink_number inks.con0 inks.con2 (row_bits line x)) colour inks.palette
+
+-- and so a clock shows two colours, each two times
+pub paired_along : (inks : InkRegisters) (line : Line) (x colour first second : ℕ) → ArePaired line x →
+    first ≡ modified_at inks line x colour → second ≡ modified_at inks line (x + 2) first → second ≡ modified_along inks line x colour 4
+paired_along inks line x colour first second pairs one two =
+    let both : first ≡ modified_along inks line x colour 2 =
+    one ∙ sym (pair_along inks line x colour (first_pair line x pairs)) ∙ two_modified inks line x colour in
+    let third : second ≡ modified_at inks line (x + 2) (modified_along inks line x colour 2) = two ∙ ap (modified_at inks line (x + 2)) both in
+    third
+    ∙ sym (pair_along inks line (x + 2) (modified_along inks line x colour 2) (second_pair line x pairs))
+    ∙ last_modified inks line x colour
+
+pub paired_modified : (inks : InkRegisters) (line : Line) (x colour first second : ℕ) → ArePaired line x →
+    first ≡ modified_at inks line x colour → second ≡ modified_at inks line (x + 2) first →
+    colour_bytes first ∷ colour_bytes first ∷ colour_bytes second ∷ colour_bytes second ∷ [] ≡ modified_pixels inks line x colour
+paired_modified inks line x colour first second pairs one two =
+    let both : first ≡ modified_along inks line x colour 2 =
+    one ∙ sym (pair_along inks line x colour (first_pair line x pairs)) ∙ two_modified inks line x colour in
+    let third : second ≡ modified_along inks line x colour 3 =
+    two ∙ ap (modified_at inks line (x + 2)) both ∙ three_modified inks line x colour in
+    four_same _ _ _ _ _ _ _ _ (one ∙ one_modified inks line x colour) both third (paired_along inks line x colour first second pairs one two)
+
+-- the bytes of one clock
+pub one_clock : (inks : InkRegisters) (line : Line) (x colour : ℕ) →
+    bytes_of_clocks (all_modified inks line x colour) 1 ≡ flat_map (λ (l : List ℕ). l) (modified_pixels inks line x colour)
+unfolding bytes_of_clocks modified_along
+one_clock inks line x colour =
+    ap (λ (k : ℕ). flat_map (λ (l : List ℕ). l) (modified_pixels inks line k colour)) (add-zero x)

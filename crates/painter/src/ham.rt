@@ -1,10 +1,11 @@
 //! Hold and modify.
 
-ghost use Rattle.std.specs.Prelude.{◌≡◌, ◌<◌, ℕ};
+ghost use Rattle.std.specs.Prelude.{◌≡◌, ◌<◌, ◌*◌, ◌%◌, ℕ};
 ghost use Rattle.priority_ham.specs.PixelColour.{modified};
-ghost use Rattle.painter.specs.HeldCode.{IsHeld, held_bytes};
+ghost use Rattle.painter.specs.HeldCode.{IsHeld, held_bytes, colour_word};
 ghost use Rattle.serial_model.specs.Picture.{colour_bytes};
 
+use crate::components::{kept_by_bits, new_by_bits};
 use crate::held::Held;
 use crate::inks::Inks;
 
@@ -69,4 +70,37 @@ pub fn bytes_of(held: Held) -> [u8; 3]
     ensures { result ≡ held_bytes held }
 {
     [held.red, held.green, held.blue]
+}
+
+/// The same of a held colour that is the word of the bytes of two pixels.
+#[inline(always)]
+pub fn modify_word(bits: u8, held: u64, inks: &Inks) -> u64
+    requires { bits < 64 }
+    ensures { (colour : ℕ) → held ≡ colour_word colour
+        → result ≡ colour_word (modified bits colour inks.now.palette) }
+{
+    if bits < 16 {
+        return u64::from_le_bytes(inks.two_pixels(bits));
+    }
+    (held & kept_by_bits(bits)) + new_by_bits(bits)
+}
+
+/// The word of the bytes of two pixels of a held colour.
+#[inline(always)]
+pub fn word_of(held: Held) -> u64
+    ensures { (colour : ℕ) → IsHeld held colour → result ≡ colour_word colour }
+{
+    (held.red as u64 + held.green as u64 * 0x100 + held.blue as u64 * 0x1_0000) * 0x100_0001
+}
+
+/// The held colour of which a word has the bytes of two pixels.
+#[inline(always)]
+pub fn held_of(word: u64) -> Held
+    ensures { (colour : ℕ) → word ≡ colour_word colour → IsHeld result colour }
+{
+    Held {
+        red: (word % 0x100) as u8,
+        green: (word / 0x100 % 0x100) as u8,
+        blue: (word / 0x1_0000 % 0x100) as u8,
+    }
 }

@@ -2,6 +2,7 @@
 //! and the pixels of a clock with what collides there.
 #![tactic(auto)]
 
+mod components;
 mod field_place;
 mod ham;
 mod held;

@@ -2,13 +2,13 @@
 
 ghost use Rattle.std.specs.Prelude.{◌≡◌, ◌≤◌, ◌+◌, ◌*◌, ◌++◌, ℕ, true, flat_map, length, slice_index, slice_set, take};
 ghost use Rattle.serial_model.specs.Picture.{colour_bytes};
-ghost use Rattle.painter.specs.HeldCode.{IsHeld};
+ghost use Rattle.painter.specs.HeldCode.{IsHeld, colour_word};
 ghost use Rattle.painter.specs.Inks.{two_pixels};
 ghost use Rattle.painter.specs.Pixels.{ink_at, modified_at, modified_along, modified_pixels, all_modified};
 ghost use Rattle.painter.specs.Line.{row_bits, ArePaired};
 ghost use Rattle.painter.specs.SpanCode.{bytes_of_clocks, ink_pixels};
 
-use crate::ham::{bytes_of, modify, modify_again};
+use crate::ham::{bytes_of, held_of, modify, modify_again, modify_word, word_of};
 use crate::held::Held;
 use crate::inks::Inks;
 use crate::line::Line;
@@ -289,9 +289,89 @@ fn modified_clock(
     show_two(painter, paired, second, x + 2, 2, into)
 }
 
-/// Puts so many clocks of such pixels into a room, from a position on; the last pixel is held.
+/// Puts the four such pixels from a position on, which are paired, into a room with one clock more. The
+/// held colour before and behind them is the word of the bytes of two pixels.
+#[inline(always)]
+fn put_held(room: &mut [u8], at: usize, painter: &Painter, held: u64, x: usize) -> u64
+    requires room { at + 24 ≤ length room.old }
+    requires place { x ≤ 1020 }
+    requires pairs { ArePaired painter.now.line x }
+    ensures bytes { (colour : ℕ) → held ≡ colour_word colour → take (at + 12) room.new
+        ≡ take at room.old
+        ++ flat_map (λ x. x) (modified_pixels painter.now.inks painter.now.line x colour) }
+    ensures held { (colour : ℕ) → held ≡ colour_word colour
+        → result ≡ colour_word (modified_along painter.now.inks painter.now.line x colour 4) }
+    ensures size { length room.new ≡ length room.old }
+{
+    let inks = &painter.inks;
+    let first = modify_word(inks.name(painter.line.bits(x)), held, inks);
+    put_eight(room, at, &first.to_le_bytes());
+    let second = modify_word(inks.name(painter.line.bits(x + 2)), first, inks);
+    put_eight(room, at + 6, &second.to_le_bytes());
+    second
+}
+
+/// The same of so many clocks.
+#[inline(always)]
+fn put_held_clocks(
+    room: &mut [u8],
+    at: usize,
+    painter: &Painter,
+    held: Held,
+    x: usize,
+    count: u16,
+) -> Held
+    requires room { at + 12 * count + 12 ≤ length room.old }
+    requires place { x + 4 * count ≤ 1024 }
+    requires pairs { ArePaired painter.now.line x }
+    ensures bytes { (colour : ℕ) → IsHeld held colour → take (at + 12 * count) room.new
+        ≡ take at room.old
+        ++ bytes_of_clocks (all_modified painter.now.inks painter.now.line x colour) count }
+    ensures held { (colour : ℕ) → IsHeld held colour
+        → IsHeld result (modified_along painter.now.inks painter.now.line x colour (4 * count)) }
+    ensures size { length room.new ≡ length room.old }
+{
+    let mut last = word_of(held);
+    for clock in 0..count {
+        let here = x + 4 * clock as usize;
+        last = put_held(room, at + 12 * clock as usize, painter, last, here);
+    }
+    held_of(last)
+}
+
+/// Puts so many clocks of such pixels into a room, from a position on; the last pixel is held. Behind it
+/// nothing is put.
 #[inline(always)]
 pub fn put_modified(
+    room: &mut [u8],
+    at: usize,
+    painter: &Painter,
+    held: Held,
+    x: usize,
+    count: u16,
+) -> Held
+    requires some { 1 ≤ count }
+    requires room { at + 12 * count ≤ length room.old }
+    requires place { x + 4 * count ≤ 1024 }
+    ensures bytes { (colour : ℕ) → IsHeld held colour → take (at + 12 * count) room.new
+        ≡ take at room.old
+        ++ bytes_of_clocks (all_modified painter.now.inks painter.now.line x colour) count }
+    ensures held { (colour : ℕ) → IsHeld held colour
+        → IsHeld result (modified_along painter.now.inks painter.now.line x colour (4 * count)) }
+    ensures size { length room.new ≡ length room.old }
+{
+    if !painter.line.is_paired_from(x) {
+        return put_modified_each(room, at, painter, held, x, count);
+    }
+    let before = count - 1;
+    let between = put_held_clocks(room, at, painter, held, x, before);
+    let last = x + 4 * before as usize;
+    put_modified_each(room, at + 12 * before as usize, painter, between, last, 1)
+}
+
+/// The same clock by clock.
+#[inline(never)]
+fn put_modified_each(
     room: &mut [u8],
     at: usize,
     painter: &Painter,

@@ -236,6 +236,7 @@ impl Painter {
     #[inline(never)]
     fn show_modified_clocks(&mut self, h: u16, count: u16, room: &mut [u8], at: usize) -> usize
         requires place { h + count ≤ 228 }
+        requires some { 1 ≤ count }
         requires room { at + 12 * count ≤ length room.old }
         ensures given { (colour : ℕ) → self.old.held ≡ colour_bytes colour
             → AreModified h count colour self.old self.new (take at room.old) (take result room.new) }

@@ -3,7 +3,7 @@ use Rattle.std.proofs.Common.{◌≡◌, ℕ, ◌+◌, ◌*◌, ◌++◌, length
 use Rattle.painter.specs.HeldCode.{IsHeld}
 use Rattle.painter.specs.Pixels.{modified_along, all_modified}
 use Rattle.painter.specs.SpanCode.{bytes_of_clocks}
-use Rattle.painter.proofs.pixels.put_modified.Given as goal
+use Rattle.painter.proofs.pixels.put_modified_each.Given as goal
 
 abbrev pub invariant-loop-clock : goal.invariant-loop-clock
 invariant-loop-clock l = record {

@@ -1,0 +1,52 @@
+use Rattle.std.proofs.Common.{◌≡◌, ◌∙◌, ◌+◌, ◌*◌, ◌++◌, ℕ, take, subst, refl, ap, arith}
+use Rattle.painter.specs.HeldCode.{IsHeld, colour_word}
+use Rattle.painter.specs.Pixels.{modified_along, all_modified}
+use Rattle.painter.specs.SpanCode.{bytes_of_clocks}
+use Rattle.painter.proofs.Clocks.{none_put, one_put}
+use Rattle.painter.proofs.Modifying.{none_along, clock_more}
+use Rattle.painter.proofs.Pairs.{later_pairs}
+use Rattle.painter.proofs.pixels.put_held_clocks.Goals as goal
+
+pub loop-clock-init : goal.loop-clock-init
+loop-clock-init c = record {
+  bytes = λ colour is. none_put c.args.at (all_modified c.args.painter.now.inks c.args.painter.now.line c.args.x colour) c.args.room.now;
+  held = λ colour is.
+      c.word_of-last.ensures colour is
+      ∙ ap (λ (n : ℕ). colour_word n) (none_along c.args.painter.now.inks c.args.painter.now.line c.args.x colour);
+  size = refl;
+}
+
+pub put_held-last-requires-clause-pairs : goal.put_held-last-requires-clause-pairs
+put_held-last-requires-clause-pairs c = later_pairs c.args.painter.now.line c.args.x c.loop-clock.clock c.requires.pairs
+
+pub put_held-last-requires-clause-room : goal.put_held-last-requires-clause-room
+put_held-last-requires-clause-room c = omega (arith, c.requires.room, c.loop-clock.invariant.size, c.loop-clock-test.true)
+
+pub loop-clock-preserved : goal.loop-clock-preserved
+loop-clock-preserved c = record {
+  bytes = λ colour is.
+      one_put c.args.at c.loop-clock.clock (c.args.at + 12 * c.loop-clock.clock) (all_modified c.args.painter.now.inks c.args.painter.now.line c.args.x colour)
+      (take c.args.at c.args.room.now) c.loop-clock.room c.put_held-last.new.room _ refl
+      (c.loop-clock.invariant.bytes colour is)
+      (c.put_held-last.ensures.bytes (modified_along c.args.painter.now.inks c.args.painter.now.line c.args.x colour (4 * c.loop-clock.clock))
+      (c.loop-clock.invariant.held colour is)) refl;
+  held = λ colour is.
+      c.put_held-last.ensures.held (modified_along c.args.painter.now.inks c.args.painter.now.line c.args.x colour (4 * c.loop-clock.clock))
+      (c.loop-clock.invariant.held colour is)
+      ∙ ap (λ (n : ℕ). colour_word n) (clock_more c.args.painter.now.inks c.args.painter.now.line c.args.x colour c.loop-clock.clock);
+  size = c.put_held-last.ensures.size ∙ c.loop-clock.invariant.size;
+}
+
+pub returns-clause-bytes : goal.returns-clause-bytes
+returns-clause-bytes c colour is =
+    let last : c.loop-clock.clock ≡ c.args.count = omega (arith, c.loop-clock-test.false, c.loop-clock.auto.clock-end) in
+    subst (λ (n : ℕ). take (c.args.at + 12 * n) c.loop-clock.room
+    ≡ take c.args.at c.args.room.now ++ bytes_of_clocks (all_modified c.args.painter.now.inks c.args.painter.now.line c.args.x colour) n)
+    last (c.loop-clock.invariant.bytes colour is)
+
+pub returns-clause-held : goal.returns-clause-held
+returns-clause-held c colour is =
+    let last : c.loop-clock.clock ≡ c.args.count = omega (arith, c.loop-clock-test.false, c.loop-clock.auto.clock-end) in
+    subst (λ (n : ℕ). IsHeld c.held_of.result (modified_along c.args.painter.now.inks c.args.painter.now.line c.args.x colour (4 * n)))
+    last (c.held_of.ensures (modified_along c.args.painter.now.inks c.args.painter.now.line c.args.x colour (4 * c.loop-clock.clock))
+    (c.loop-clock.invariant.held colour is))
