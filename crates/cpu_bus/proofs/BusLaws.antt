@@ -1,14 +1,17 @@
 -- What the processor waits for, and its halt.
-use Rattle.std.proofs.Common.{◌≡◌, ◌<◌, ℕ, ◌%◌, Bool, true, false, nat_lt, not, ◌&&◌, ◌==◌, if◌then◌else◌, List, arith, refl, ap, subst, sym, ◌∙◌, Some, None, length}
+use Rattle.std.proofs.Common.{◌≡◌, ◌<◌, ℕ, ◌%◌, Bool, true, false, nat_lt, not, ◌&&◌, ◌==◌, if◌then◌else◌, List, [], ◌∷◌, ◌++◌, Option, arith, refl, ap, subst, sym, ◌∙◌, Some, None, length}
+use Rattle.std.proofs.lemmas.Bool.{false≢true}
 use Rattle.std.proofs.lemmas.Bool.Decides.{nat_tests}
 use Rattle.m68k_decode.specs.declared.regs.CpuRegs.{CpuRegs}
 use Rattle.m68k_decode.specs.declared.under.Under.{Under}
 use Rattle.m68k_decode.specs.Access.{Prog, Ask, End, Enter, Halt, Next, Asks, Ends, Halts, Read, Write, after, next_of}
-use Rattle.m68k_decode.specs.Walk.{program, next, advance, answered, stage}
+use Rattle.m68k_decode.specs.Walk.{Stage, program, next, advance, answered, settled, stage}
 use Rattle.m68k_exec.specs.declared.ask.Ask.{Ask as Access}
 use Rattle.m68k_exec.specs.declared.ask.Ask.TheVariants as A
 use Rattle.m68k_exec.specs.declared.state.Cpu.{Cpu}
-use Rattle.m68k_exec.specs.Stands.{Stands, Reaches, wanted, word_read}
+use Rattle.m68k_exec.proofs.Following.{after_more}
+use Rattle.m68k_exec.specs.Meaning.{follow}
+use Rattle.m68k_exec.specs.Stands.{Stands, Reaches, wanted, word_read, settled_at}
 use Rattle.ocs_base.proofs.Registers.{same_register}
 use Rattle.ocs_base.specs.declared.chip_size.ChipSize.{ChipSize}
 use Rattle.ocs_base.specs.declared.chip_size.ChipSize.TheVariants.{Kib512, Mib1}
@@ -18,9 +21,9 @@ use Rattle.ocs_base.specs.Sizes.{bytes_of}
 use Rattle.serial_model.specs.declared.bus.ProcessorAsk.TheVariants as P
 use Rattle.serial_model.specs.declared.processor.Target.TheVariants as G
 use Rattle.serial_model.specs.declared.processor.Wait.TheVariants as W
-use Rattle.serial_model.specs.Processor.{Processor, slot_wish, processor_wish, wait_of, target_of, target_at, read_wait, write_wait, half_of}
+use Rattle.serial_model.specs.Processor.{Processor, slot_wish, processor_wish, processor_wait, stage_after, wait_of, target_of, target_at, read_wait, write_wait, half_of}
 use Rattle.cpu_bus.specs.declared.BusCpu.{BusCpu}
-use Rattle.cpu_bus.specs.Bus.{IsProcessorOf, wait_by, wish_shown}
+use Rattle.cpu_bus.specs.Bus.{IsProcessorOf, GoesOn, is_slot, wait_by, wish_shown}
 
 -- it waits for what the working processor asks for
 pub wait_is : (chip : ChipSize) (n : Next) → wait_of chip n ≡ wait_by chip (wanted n)
@@ -66,6 +69,74 @@ write_waits chip n at a word byte is low below =
 pub idle_waits : (chip : ChipSize) (n : Next) (clocks : ℕ) → A.Idle clocks ≡ wanted n → wait_of chip n ≡ W.Idle clocks
 unfolding wait_by
 idle_waits chip n clocks is = wait_is chip n ∙ ap (wait_by chip) (sym is)
+
+-- ---- what asks for an access settles nothing
+
+abbrev IsMade : Access → Type 0
+IsMade (A.Read at byte) = Unit {0}
+IsMade (A.Write at byte word) = Unit {0}
+IsMade (A.Idle clocks) = ⊥
+IsMade A.Halted = ⊥
+
+rests_by : (p : Prog) (r : CpuRegs) (u : Under) (ws : List ℕ) (count level : ℕ) → IsMade (wanted (next_of p count))
+    → settled p r u ws level ≡ stage r u ws
+unfolding settled
+rests_by (Ask a k) r u ws count level is = refl
+rests_by (End t r' u') r u ws count level is = absurd is
+rests_by (Enter r' u') r u ws count level is = absurd is
+rests_by Halt r u ws count level is = refl
+
+made_rests : (r : CpuRegs) (u : Under) (ws : List ℕ) (level : ℕ) → IsMade (wanted (next r u ws)) → settled_at r u ws level ≡ stage r u ws
+unfolding next
+made_rests r u ws level is = rests_by (after (program r u) ws) r u ws (length ws) level is
+
+pub word_rests : (r : CpuRegs) (u : Under) (ws : List ℕ) (at level : ℕ) → Some at ≡ word_read (wanted (next r u ws))
+    → settled_at r u ws level ≡ stage r u ws
+word_rests r u ws at level is = made_rests r u ws level (subst IsMade (sym (asks_word (wanted (next r u ws)) at is)) tt)
+
+pub write_rests : (r : CpuRegs) (u : Under) (ws : List ℕ) (at word level : ℕ) (byte : Bool) → A.Write at byte word ≡ wanted (next r u ws)
+    → settled_at r u ws level ≡ stage r u ws
+write_rests r u ws at word level byte is = made_rests r u ws level (subst IsMade is tt)
+
+-- ---- an access that is made in a slot
+
+slot_answers : (chip : ChipSize) (p : Prog) (r : CpuRegs) (u : Under) (ws : List ℕ) (count word level : ℕ)
+    → is_slot (wait_of chip (next_of p count)) ≡ true → answered p r u ws word level ≡ settled (follow p word) r u (ws ++ word ∷ []) level
+unfolding answered wait_of
+slot_answers chip (Ask a k) r u ws count word level is = refl
+slot_answers chip (End t r' u') r u ws count word level is = absurd (false≢true is)
+slot_answers chip (Enter r' u') r u ws count word level is = absurd (false≢true is)
+slot_answers chip Halt r u ws count word level is = absurd (false≢true is)
+
+-- once its word is there, the interrupt level settles what follows
+pub slot_settles : (p : Processor) (word level : ℕ) → is_slot (processor_wait p) ≡ true
+    → stage_after word level p ≡ settled_at p.regs p.under (p.answers ++ word ∷ []) level
+unfolding next advance
+slot_settles p word level is =
+    slot_answers p.chip (after (program p.regs p.under) p.answers) p.regs p.under p.answers (length p.answers) word level is
+    ∙ ap (λ q. settled q p.regs p.under (p.answers ++ word ∷ []) level) (sym (after_more (program p.regs p.under) p.answers word))
+
+-- ---- it goes on
+
+-- to what its working processor reaches, with the wait for what is next there
+pub goes_to : (word level : ℕ) (p : Processor) (begins : Option ℕ) (new : BusCpu) (s : Stage) → stage_after word level p ≡ s → p.chip ≡ new.chip
+    → p.on ≡ new.on → Reaches new.cpu begins s → new.wait ≡ wait_of new.chip (next s.regs s.under s.answers) → 0 ≡ new.spent → None ≡ new.given
+    → GoesOn word level p begins new
+goes_to word level p begins new s is chip on reaches waits spent given =
+    let there : Reaches new.cpu begins (stage_after word level p) = subst (λ x. Reaches new.cpu begins x) (sym is) reaches in
+    record {
+      stands = record {
+        chip = chip;
+        on = on;
+        stands = there.stands;
+        wait =
+            ap (λ (x : Stage). wait_of p.chip (next x.regs x.under x.answers)) is
+            ∙ ap (λ c. wait_of c (next s.regs s.under s.answers)) chip ∙ sym waits;
+        spent = spent;
+        given = given;
+      };
+      interrupt = there.level;
+    }
 
 -- a halted processor asks for nothing, and nothing else asks so
 abbrev IsHalted : Access → Type 0

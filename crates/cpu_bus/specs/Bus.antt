@@ -1,12 +1,12 @@
 -- What the processor on the bus keeps stands for the processor of the machine.
-use Rattle.std.specs.Prelude.{◌≡◌, ℕ, not, ◌&&◌, ◌==◌, if◌then◌else◌, List, Option, None}
+use Rattle.std.specs.Prelude.{◌≡◌, ℕ, Bool, true, false, not, ◌&&◌, ◌==◌, if◌then◌else◌, List, [], ◌∷◌, ◌++◌, Option, None}
 use Rattle.m68k_decode.specs.declared.regs.CpuRegs.{CpuRegs}
 use Rattle.m68k_decode.specs.declared.under.Under.{Under}
 use Rattle.m68k_decode.specs.Walk.{advance}
 use Rattle.m68k_exec.specs.declared.ask.Ask.{Ask}
 use Rattle.m68k_exec.specs.declared.ask.Ask.TheVariants as A
 use Rattle.m68k_exec.specs.declared.state.Cpu.{Cpu}
-use Rattle.m68k_exec.specs.Stands.{Stands, Reaches}
+use Rattle.m68k_exec.specs.Stands.{Stands, Reaches, settled_at}
 use Rattle.ocs_base.specs.declared.chip_size.ChipSize.{ChipSize}
 use Rattle.serial_model.specs.declared.bus.ProcessorAsk.{ProcessorAsk}
 use Rattle.serial_model.specs.declared.processor.Wait.{Wait}
@@ -34,6 +34,21 @@ wait_by chip (A.Read at byte) = read_wait (target_of chip at byte)
 wait_by chip (A.Write at byte word) = write_wait at byte word (target_of chip at byte)
 wait_by chip (A.Idle clocks) = W.Idle clocks
 wait_by chip A.Halted = W.Halted
+
+-- it waits for a slot
+abbrev pub is_slot : Wait → Bool
+is_slot (W.Slot ask) = true
+is_slot (W.Cia cia reg byte) = false
+is_slot W.Unmapped = false
+is_slot (W.Idle clocks) = false
+is_slot W.Halted = false
+
+-- its access has this word for its answer, and what that leads to is settled by the interrupt level
+pub record IsAnswered (word : ℕ) (now : BusCpu) (p : Processor) : Type 0 where
+  pub chip : p.chip ≡ now.chip
+  pub on : p.on ≡ now.on
+  pub stands : Stands now.cpu p.regs p.under (p.answers ++ word ∷ [])
+  pub settles : (level : ℕ) → stage_after word level p ≡ settled_at p.regs p.under (p.answers ++ word ∷ []) level
 
 -- it goes on with a word, and this interrupt begins with it
 pub record GoesOn (word level : ℕ) (p : Processor) (begins : Option ℕ) (new : BusCpu) : Type 0 where

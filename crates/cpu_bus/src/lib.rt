@@ -1,15 +1,21 @@
 //! The processor on the bus: where its accesses go, what it waits for, and how its clocks pass.
 #![tactic(auto)]
 
-ghost use Rattle.std.specs.Prelude.{◌≡◌, ◌≤◌, Some};
+ghost use Rattle.std.specs.Prelude.{◌≡◌, ◌≤◌, ℕ, true, false, List, Some};
 ghost use Rattle.cpu_bus.specs.Bus.{AdvancesBy};
-ghost use Rattle.serial_model.specs.Processor.{Processor, reset_processor, processor_wish, slot_wish, give_processor, turn_of, turn_by, after_clocks};
+ghost use Rattle.irq_cia.specs.Interrupts.{level_of};
+ghost use Rattle.m68k_decode.specs.declared.regs.CpuRegs.{CpuRegs};
+ghost use Rattle.m68k_decode.specs.declared.under.Under.{Under};
+ghost use Rattle.m68k_decode.specs.Walk.{next};
+ghost use Rattle.m68k_exec.specs.Stands.{Stands, Reaches, interrupt_if, settled_at};
+ghost use Rattle.serial_model.specs.Processor.{Processor, wait_of, reset_processor, processor_wish, slot_wish, give_processor, turn_of, turn_by, after_clocks};
 
 mod quiet;
 mod target;
 
 pub use crate::quiet::waits_of_none;
-use crate::target::{look_ahead, look_further};
+use crate::target::{look_ahead, look_for_word, look_for_write, look_further};
+use irq_cia::Irq;
 use m68k_exec::{Ask as Access, Cpu};
 use ocs_base::ChipSize;
 use serial_model::{ProcessorAsk, Turn, Wait};
@@ -154,6 +160,124 @@ impl BusCpu {
         }
         look_ahead(&mut self.wait, self.chip, &self.cpu);
         None
+    }
+}
+
+impl BusCpu {
+    ghost use Rattle.cpu_bus.specs.Bus.{IsProcessorOf, IsAnswered, GoesOn, is_slot};
+
+    /// As `go_on`, with the level of these interrupts. An access that was made in a slot, which is most of what
+    /// it waits for, is looked for first.
+    #[inline(always)]
+    pub fn go_on_with(&mut self, word: u16, irq: &Irq) -> Option<u8>
+        ensures { (p : Processor) → IsProcessorOf self.old p
+            → GoesOn word (level_of irq.now) p result self.new }
+    {
+        if !self.waits_for_slot() {
+            return self.end_wait(word, irq.level());
+        }
+        self.complete(word);
+        if self.settle(irq) {
+            return Some(irq.level());
+        }
+        None
+    }
+
+    /// Whether it waits for a slot, to make an access in it.
+    #[inline(always)]
+    fn waits_for_slot(&self) -> bool
+        ensures { result ≡ is_slot self.now.wait }
+    {
+        matches!(self.wait, Wait::Slot { .. })
+    }
+
+    /// It goes on with the word of the access that it has made in its slot; what follows is not settled yet.
+    #[inline(always)]
+    fn complete(&mut self, word: u16)
+        requires { is_slot self.old.wait ≡ true }
+        ensures { (p : Processor) → IsProcessorOf self.old p → IsAnswered word self.new p }
+    {
+        self.cpu.complete_access(word);
+    }
+
+    /// What follows the access begins, with the level of these interrupts. The answer is whether an interrupt
+    /// begins with it. What comes most often is looked for first.
+    #[inline(never)]
+    fn settle(&mut self, irq: &Irq) -> bool
+        ensures { (word : ℕ) (p : Processor) → IsAnswered word self.old p
+            → GoesOn word (level_of irq.now) p (interrupt_if result (level_of irq.now)) self.new }
+    {
+        self.spent = 0;
+        self.given = None;
+        if look_for_word(&mut self.wait, self.chip, &self.cpu) {
+            return false;
+        }
+        if let Some(clocks) = self.cpu.idle_clocks_left() {
+            self.wait = Wait::Idle { clocks };
+            return false;
+        }
+        if self.cpu.settle_next_instruction(irq.level()) {
+            if look_for_word(&mut self.wait, self.chip, &self.cpu) {
+                return false;
+            }
+            return self.look_on();
+        }
+        if look_for_write(&mut self.wait, self.chip, &self.cpu) {
+            return false;
+        }
+        self.settle_rest(irq.level())
+    }
+
+    /// Puts down what it waits for, whatever that is. The answer is that no interrupt begins.
+    #[inline(never)]
+    fn look_on(&mut self) -> bool
+        ensures none { result ≡ false }
+        ensures waits { (r : CpuRegs) (u : Under) (ws : List ℕ) → Stands self.old.cpu r u ws
+            → self.new.wait ≡ wait_of self.old.chip (next r u ws) }
+        ensures kept { self.new ≡ record self.old { wait = self.new.wait } }
+    {
+        look_further(&mut self.wait, self.chip, &self.cpu);
+        false
+    }
+
+    /// What follows an access begins, and what it waits for then is put down, whatever they are. The answer is
+    /// whether an interrupt begins.
+    #[inline(never)]
+    fn settle_rest(&mut self, level: u8) -> bool
+        ensures settles { (r : CpuRegs) (u : Under) (ws : List ℕ) → Stands self.old.cpu r u ws
+            → Reaches self.new.cpu (interrupt_if result level) (settled_at r u ws level) }
+        ensures waits { (r : CpuRegs) (u : Under) (ws : List ℕ) → Stands self.new.cpu r u ws
+            → self.new.wait ≡ wait_of self.old.chip (next r u ws) }
+        ensures kept { self.new
+            ≡ record self.old { cpu = self.new.cpu; wait = self.new.wait } }
+    {
+        let begins = self.cpu.settle_access(level);
+        look_further(&mut self.wait, self.chip, &self.cpu);
+        begins
+    }
+
+    /// As `go_on`; the end of idle clocks at which the next instruction begins is looked for first.
+    #[inline(never)]
+    fn end_wait(&mut self, word: u16, level: u8) -> Option<u8>
+        requires { level ≤ 7 }
+        ensures { (p : Processor) → IsProcessorOf self.old p → GoesOn word level p result self.new }
+    {
+        if self.cpu.answer_next_instruction(level) {
+            self.spent = 0;
+            self.given = None;
+            look_ahead(&mut self.wait, self.chip, &self.cpu);
+            return None;
+        }
+        self.go_on_rest(word, level)
+    }
+
+    /// As `go_on`.
+    #[inline(never)]
+    fn go_on_rest(&mut self, word: u16, level: u8) -> Option<u8>
+        requires { level ≤ 7 }
+        ensures { (p : Processor) → IsProcessorOf self.old p → GoesOn word level p result self.new }
+    {
+        self.go_on(word, level)
     }
 }
 

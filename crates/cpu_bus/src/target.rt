@@ -1,10 +1,10 @@
 //! Where an access of the processor goes, and what it waits for then.
 
-ghost use Rattle.std.specs.Prelude.{◌≡◌, ℕ, ◌%◌, List};
+ghost use Rattle.std.specs.Prelude.{◌≡◌, ℕ, ◌%◌, true, List};
 ghost use Rattle.m68k_decode.specs.declared.regs.CpuRegs.{CpuRegs};
 ghost use Rattle.m68k_decode.specs.declared.under.Under.{Under};
-ghost use Rattle.m68k_decode.specs.Walk.{next};
-ghost use Rattle.m68k_exec.specs.Stands.{Stands};
+ghost use Rattle.m68k_decode.specs.Walk.{stage, next};
+ghost use Rattle.m68k_exec.specs.Stands.{Stands, settled_at};
 ghost use Rattle.cpu_bus.specs.Bus.{wait_by};
 ghost use Rattle.ocs_base.specs.Register.{register_of};
 ghost use Rattle.serial_model.specs.Processor.{target_of, target_at, wait_of, read_wait as read_wait_of, write_wait as write_wait_of, half_of};
@@ -25,6 +25,20 @@ pub fn look_ahead(wait: &mut Wait, chip: ChipSize, cpu: &Cpu)
     ensures { (r : CpuRegs) (u : Under) (ws : List ℕ) → Stands cpu.now r u ws
         → wait.new ≡ wait_of chip (next r u ws) }
 {
+    if !look_for_word(wait, chip, cpu) {
+        look_further(wait, chip, cpu);
+    }
+}
+
+/// Puts down the wait for the read of a word in the first 512 KiB of chip memory, where that comes next. The
+/// answer is whether it does.
+#[inline(always)]
+pub fn look_for_word(wait: &mut Wait, chip: ChipSize, cpu: &Cpu) -> bool
+    ensures waits { (r : CpuRegs) (u : Under) (ws : List ℕ) → Stands cpu.now r u ws
+        → result ≡ true → wait.new ≡ wait_of chip (next r u ws) }
+    ensures settles { (r : CpuRegs) (u : Under) (ws : List ℕ) (level : ℕ) → Stands cpu.now r u ws
+        → result ≡ true → settled_at r u ws level ≡ stage r u ws }
+{
     if let Some(at) = cpu.word_read() {
         let low = bus_address(at);
         if low < SMALL_CHIP_BYTES {
@@ -33,10 +47,34 @@ pub fn look_ahead(wait: &mut Wait, chip: ChipSize, cpu: &Cpu)
                     at: Addr::sized(chip, low),
                 },
             };
-            return;
+            return true;
         }
     }
-    look_further(wait, chip, cpu);
+    false
+}
+
+/// The same of a write.
+#[inline(always)]
+pub fn look_for_write(wait: &mut Wait, chip: ChipSize, cpu: &Cpu) -> bool
+    ensures waits { (r : CpuRegs) (u : Under) (ws : List ℕ) → Stands cpu.now r u ws
+        → result ≡ true → wait.new ≡ wait_of chip (next r u ws) }
+    ensures settles { (r : CpuRegs) (u : Under) (ws : List ℕ) (level : ℕ) → Stands cpu.now r u ws
+        → result ≡ true → settled_at r u ws level ≡ stage r u ws }
+{
+    if let Access::Write { at, byte, word } = cpu.ask() {
+        let low = bus_address(at);
+        if low < SMALL_CHIP_BYTES {
+            *wait = Wait::Slot {
+                ask: ProcessorAsk::Write {
+                    at: Addr::sized(chip, low),
+                    half: half(at, byte),
+                    word,
+                },
+            };
+            return true;
+        }
+    }
+    false
 }
 
 /// The same in all cases; a write to the first 512 KiB of chip memory, and idle clocks, are looked for first.

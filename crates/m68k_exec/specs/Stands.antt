@@ -3,7 +3,7 @@ use Rattle.std.specs.Prelude.{◌≡◌, ℕ, Bool, true, false, if◌then◌els
 use Rattle.m68k_decode.specs.declared.regs.CpuRegs.{CpuRegs}
 use Rattle.m68k_decode.specs.declared.under.Under.{Under}
 use Rattle.m68k_decode.specs.Access.{Next, Asks, Ends, Halts, Read, Write, after}
-use Rattle.m68k_decode.specs.Walk.{Stage, program, is_traced}
+use Rattle.m68k_decode.specs.Walk.{Stage, program, settled, is_traced}
 use Rattle.m68k_exec.specs.declared.ask.Ask.{Ask}
 use Rattle.m68k_exec.specs.declared.ask.Ask.TheVariants as A
 use Rattle.m68k_exec.specs.declared.state.Step.{Step}
@@ -29,6 +29,10 @@ pub record Reaches (c : Cpu) (begins : Option ℕ) (stage : Stage) : Type 0 wher
 -- the level of the interrupt that begins, if one does
 abbrev pub interrupt_if : Bool → ℕ → Option ℕ
 interrupt_if begins level = if begins then Some level else None
+
+-- what an access leads to once its answer is the last of these: where something ended or was broken off with it, what follows
+abbrev pub settled_at : CpuRegs → Under → List ℕ → ℕ → Stage
+settled_at r u ws level = settled (after (program r u) ws) r u ws level
 
 -- what the processor asks for, by what is next
 abbrev pub wanted : Next → Ask

@@ -1,15 +1,15 @@
 //! The processor.
 
-ghost use Rattle.std.specs.Prelude.{◌≡◌, ◌≢◌, ◌≤◌, ◌<◌, ℕ, true, false, List, [], ◌∷◌, ◌++◌, length, min, None, ◌%◌};
+ghost use Rattle.std.specs.Prelude.{◌≡◌, ◌≢◌, ◌≤◌, ◌<◌, ◌+◌, ℕ, true, false, List, [], ◌∷◌, ◌++◌, length, min, Some, None, ◌%◌};
 ghost use Rattle.m68k_decode.specs.declared.regs.CpuRegs.{CpuRegs};
 ghost use Rattle.m68k_decode.specs.declared.under.Under.{Under};
 ghost use Rattle.m68k_decode.specs.declared.under.Under.TheVariants as U;
 ghost use Rattle.m68k_decode.specs.Access.{after, next_of, idle_clocks};
-ghost use Rattle.m68k_decode.specs.Walk.{next, program, advance, begin, begin_again, settled, boundary, is_traced, taking_of, regs_at_reset};
+ghost use Rattle.m68k_decode.specs.Walk.{stage, next, program, advance, begin, begin_again, boundary, is_traced, taking_of, regs_at_reset};
 ghost use Rattle.m68k_exec.specs.declared.ask.Ask.TheVariants as A;
 ghost use Rattle.m68k_exec.specs.declared.state.Step.TheVariants as T;
 ghost use Rattle.m68k_exec.specs.Meaning.{meaning};
-ghost use Rattle.m68k_exec.specs.Stands.{Stands, Reaches, interrupt_if, wanted, word_read, is_halted};
+ghost use Rattle.m68k_exec.specs.Stands.{Stands, Reaches, interrupt_if, settled_at, wanted, word_read, is_halted};
 
 use crate::access::fetch_word;
 use crate::ask::Ask;
@@ -177,6 +177,16 @@ fn idle_clocks(clocks: u32, done: u32) -> u32
     clocks.saturating_sub(done.saturating_mul(4)) / 2
 }
 
+/// One more access is made.
+#[inline(always)]
+fn count_access(done: &mut u32)
+    ensures { done.new ≡ min (done.old + 1) 4294967295 }
+{
+    if *done < u32::MAX {
+        *done += 1;
+    }
+}
+
 /// Whether a number of clocks leaves no idle clocks after so many accesses.
 #[inline(always)]
 fn is_over(clocks: u32, done: u32) -> bool
@@ -220,24 +230,24 @@ impl Cpu {
         self.settle_access(level)
     }
 
-    /// Goes on with the word of an access.
+    /// Goes on with the word of an access; what ended or was broken off with it is not settled yet.
     #[inline(never)]
-    fn complete_access(&mut self, word: u16)
+    pub fn complete_access(&mut self, word: u16)
         ensures { (r : CpuRegs) (u : Under) (ws : List ℕ)
             → Stands self.old r u ws
             → Stands self.new r u (ws ++ word ∷ []) }
     {
-        self.done = self.done.saturating_add(1);
+        count_access(&mut self.done);
         continue_with_word(&mut self.context, &mut self.machine, word);
     }
 
-    /// Starts what follows an access, where something ended or was broken off with it.
+    /// Starts what follows an access, where something ended or was broken off with it. The answer is whether an
+    /// interrupt begins.
     #[inline(always)]
-    fn settle_access(&mut self, level: u8) -> bool
+    pub fn settle_access(&mut self, level: u8) -> bool
         ensures { (r : CpuRegs) (u : Under) (ws : List ℕ)
             → Stands self.old r u ws
-            → Reaches self.new (interrupt_if result level)
-            (settled (after (program r u) ws) r u ws level) }
+            → Reaches self.new (interrupt_if result level) (settled_at r u ws level) }
     {
         match self.machine.step {
             Step::Ended { clocks, .. } => {
@@ -269,12 +279,28 @@ impl Cpu {
     }
 
     /// Starts what follows an end: a trace, an interrupt, or what is under way next.
-    #[tactic(auto, unfolding(m68k_decode::specs::Walk::boundary))]
     #[inline(always)]
     fn pass_boundary(&mut self, level: u8) -> bool
         ensures { (clocks : ℕ) (under : Under) → self.old.machine.step ≡ T.Ended clocks under
             → Reaches self.new (interrupt_if result level)
             (boundary self.old.traced self.old.machine.regs under level) }
+    {
+        if self.pass_plain_boundary(level) {
+            return false;
+        }
+        self.pass_rare_boundary(level)
+    }
+
+    /// Starts the next instruction, where one has ended and nothing comes between. The answer is whether it
+    /// does; else all stays as it is.
+    #[tactic(auto, unfolding(m68k_decode::specs::Walk::boundary))]
+    #[inline(always)]
+    fn pass_plain_boundary(&mut self, level: u8) -> bool
+        ensures passes { (clocks : ℕ) (under : Under) → self.old.machine.step ≡ T.Ended clocks under
+            → result ≡ true
+            → Reaches self.new None
+            (boundary self.old.traced self.old.machine.regs under level) }
+        ensures stays { result ≡ false → self.new ≡ self.old }
     {
         if let Step::Ended {
             under: Under::Instruction { taking: false },
@@ -284,10 +310,64 @@ impl Cpu {
             let regs = &self.machine.regs;
             if !self.traced && level <= interrupt_mask(regs.sr) && regs.pc & 1 == 0 {
                 self.start_next_instruction();
-                return false;
+                return true;
             }
         }
-        self.pass_rare_boundary(level)
+        false
+    }
+
+    /// As `settle_access`, where an instruction ended with an access and the next one follows. The answer is
+    /// whether that is so; else all stays as it is.
+    #[inline(always)]
+    pub fn settle_next_instruction(&mut self, level: u8) -> bool
+        ensures settles { (r : CpuRegs) (u : Under) (ws : List ℕ) → Stands self.old r u ws
+            → result ≡ true
+            → Reaches self.new None (settled_at r u ws level) }
+        ensures stays { result ≡ false → self.new ≡ self.old }
+    {
+        if let Step::Ended { clocks, .. } = self.machine.step {
+            if is_over(clocks, self.done) {
+                return self.pass_plain_boundary(level);
+            }
+        }
+        false
+    }
+
+    /// As `answer`, where an instruction ends with its idle clocks and the next one follows. The answer is
+    /// whether that is so; else all stays as it is.
+    #[inline(always)]
+    pub fn answer_next_instruction(&mut self, level: u8) -> bool
+        ensures answers { (r : CpuRegs) (u : Under) (ws : List ℕ) (word : ℕ)
+            → Stands self.old r u ws
+            → result ≡ true
+            → Reaches self.new None (advance r u ws word level) }
+        ensures stays { result ≡ false → self.new ≡ self.old }
+    {
+        if let Step::Ended { .. } = self.machine.step {
+            return self.pass_plain_boundary(level);
+        }
+        false
+    }
+
+    /// The idle clocks that follow an access, where something ended with it and has any.
+    #[inline(always)]
+    #[tactic(auto, unfolding(m68k_decode::specs::Walk::next))]
+    pub fn idle_clocks_left(&self) -> Option<u32>
+        ensures asks { (r : CpuRegs) (u : Under) (ws : List ℕ) (clocks : ℕ)
+            → Stands self.now r u ws
+            → result ≡ Some clocks
+            → wanted (next r u ws) ≡ A.Idle clocks }
+        ensures settles { (r : CpuRegs) (u : Under) (ws : List ℕ) (clocks level : ℕ)
+            → Stands self.now r u ws
+            → result ≡ Some clocks
+            → settled_at r u ws level ≡ stage r u ws }
+    {
+        if let Step::Ended { clocks, .. } = self.machine.step {
+            if !is_over(clocks, self.done) {
+                return Some(idle_clocks(clocks, self.done));
+            }
+        }
+        None
     }
 
     /// Starts what follows an end, in any case.

@@ -9,6 +9,6 @@ returns c = λ r u ws s.
     record {
       regs = c.continue_with_word.ensures.start ∙ s.regs;
       same = c.continue_with_word.ensures.walk ∙ ap (λ p. follow p c.args.word) s.same ∙ sym (after_more _ ws c.args.word);
-      done = omega (arith, longer, s.done, c.saturating_add-self.ensures);
+      done = omega (arith, longer, s.done, c.count_access.ensures);
       traced = s.traced;
     }
