@@ -168,14 +168,14 @@ impl Chips {
     }
 
     /// The processor goes on with a word, and with the interrupt level as it is now.
+    #[inline(always)]
     fn go_on(&mut self, word: u16) -> Option<u8>
         ensures chips { (c : ChipsOf) → IsChipsOf self.old c
             → IsChipsOf self.new (go_on_with word c) }
         ensures interrupt { (c : ChipsOf) → IsChipsOf self.old c → result ≡ begins_with word c }
         ensures kept { self.new ≡ record self.old { processor = self.new.processor } }
     {
-        let level = self.irq.level();
-        self.processor.go_on(word, level)
+        self.processor.go_on_with(word, &self.irq)
     }
 
     /// The processor's access to a register of a CIA: a write of a byte, or a read. The answer is
