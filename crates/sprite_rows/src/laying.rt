@@ -21,7 +21,9 @@ pub fn lay(row: &mut [u8; 512], is_even: bool, x: usize, values: &[u8])
     }
 }
 
-/// Lays the values of sixteen pixels of the pair's even sprite from position `x` on.
+/// Lays the values of sixteen pixels of the pair's even sprite from position `x` on: a copy of them, so
+/// that all sixteen are laid at once.
+#[inline(never)]
 fn lay_even(row: &mut [u8; 512], x: usize, values: &[u8])
     requires room { x ≤ 496 }
     requires size { length values.now ≡ 16 }
@@ -30,12 +32,15 @@ fn lay_even(row: &mut [u8; 512], x: usize, values: &[u8])
         slice_index row.new k ≡ laid_byte with_even row.old x values.now 16 k }
     ensures long { length row.new ≡ 512 }
 {
+    let mut laid = [0; 16];
+    laid.copy_from_slice(&values[..16]);
     for k in 0..16 {
-        row[x + k] = row[x + k] / 4 * 4 + values[k];
+        row[x + k] = row[x + k] / 4 * 4 + laid[k];
     }
 }
 
-/// Lays the values of sixteen pixels of the pair's odd sprite from position `x` on.
+/// The same of its odd sprite.
+#[inline(never)]
 fn lay_odd(row: &mut [u8; 512], x: usize, values: &[u8])
     requires room { x ≤ 496 }
     requires size { length values.now ≡ 16 }
@@ -44,7 +49,9 @@ fn lay_odd(row: &mut [u8; 512], x: usize, values: &[u8])
         slice_index row.new k ≡ laid_byte with_odd row.old x values.now 16 k }
     ensures long { length row.new ≡ 512 }
 {
+    let mut laid = [0; 16];
+    laid.copy_from_slice(&values[..16]);
     for k in 0..16 {
-        row[x + k] = row[x + k] % 4 + 4 * values[k];
+        row[x + k] = row[x + k] % 4 + 4 * laid[k];
     }
 }

@@ -6,5 +6,5 @@ use Rattle.sprite_rows.proofs.laying.lay_odd.Given as goal
 abbrev pub invariant-loop-k : goal.invariant-loop-k
 invariant-loop-k l = record {
   long : length l.row ≡ 512;
-  bytes : (j : ℕ) → slice_index l.row j ≡ laid_byte with_odd l.initial.row l.x l.values l.k j;
+  bytes : (j : ℕ) → slice_index l.row j ≡ laid_byte with_odd l.initial.row l.x l.laid l.k j;
 }
