@@ -23,12 +23,14 @@ black_by n false = ap halved (zeros 32 (n - 32))
 no_planes : (bits : ℕ) → 0 ≡ bits % 1
 no_planes bits = omega arith
 
+-- the bytes of two pixels
+abbrev twos : ℕ → List ℕ
+twos colour = two_pixels (colour_bytes colour)
+
 -- the tables at reset
-pub reset_tables : HasTables (replicate 32 0) 0 0 (replicate 64 (0 ∷ 0 ∷ 0 ∷ []))
-    (replicate 64 (replicate 8 0)) (replicate 64 0) (replicate 64 4) (replicate 4 (0 ∷ 0 ∷ 0 ∷ []))
+pub reset_tables : HasTables (replicate 32 0) 0 0 (replicate 64 (replicate 8 0)) (replicate 64 0) (replicate 64 4) (replicate 4 (0 ∷ 0 ∷ 0 ∷ []))
 reset_tables = record {
-  bytes = λ n h. get_or-replicate 64 n (0 ∷ 0 ∷ 0 ∷ []) [] h ∙ sym (ap colour_bytes (black_by n (nat_lt n 32)));
-  twos = λ n h. get_or-replicate 64 n (replicate 8 0) [] h ∙ sym (ap two_pixels (get_or-replicate 64 n (0 ∷ 0 ∷ 0 ∷ []) [] h));
+  twos = λ n h. get_or-replicate 64 n (replicate 8 0) [] h ∙ sym (ap (λ (c : ℕ). twos c) (black_by n (nat_lt n 32)));
   numbers = λ bits h. zeros 64 bits ∙ no_planes bits;
   pairs = λ bits h. get_or-replicate 64 bits 4 0 h
       ∙ ap (λ (n : ℕ). if n == 0 then 4 else priority_code 0 0 (counted_bits 0 bits)) (no_planes bits);
@@ -72,22 +74,22 @@ ink_half palette n h false is =
 
 -- a colour and what it is halved, put into the table of inks
 abbrev two_put : List (List ℕ) → ℕ → List ℕ → List ℕ → List (List ℕ)
-two_put rgb n one two = slice_set (slice_set rgb n one) (n + 32) two
+two_put doubled n one two = slice_set (slice_set doubled n one) (n + 32) two
 
 low_put : (palette : List ℕ) (n colour k : ℕ) (low : Bool) → length palette ≡ 32 → n < 32 → k ≡ n → nat_lt k 32 ≡ low →
-    colour_bytes colour
-    ≡ colour_bytes (if low then slice_index (slice_set palette n colour) k else halved (slice_index (slice_set palette n colour) (k - 32)))
+    twos colour
+    ≡ twos (if low then slice_index (slice_set palette n colour) k else halved (slice_index (slice_set palette n colour) (k - 32)))
 low_put palette n colour k true long few here is =
-    sym (ap colour_bytes (ap (λ (m : ℕ). slice_index (slice_set palette n colour) m) here ∙ get_or-set_same palette n colour 0 (omega (arith, long, few))))
+    sym (ap (λ (c : ℕ). twos c) (ap (λ (m : ℕ). slice_index (slice_set palette n colour) m) here ∙ get_or-set_same palette n colour 0 (omega (arith, long, few))))
 low_put palette n colour k false long few here is = grind (arith, nat_tests)
 
 high_put : (palette : List ℕ) (n colour k : ℕ) (low : Bool) → length palette ≡ 32 → n < 32 → k ≡ n + 32 → nat_lt k 32 ≡ low →
-    colour_bytes (halved colour)
-    ≡ colour_bytes (if low then slice_index (slice_set palette n colour) k else halved (slice_index (slice_set palette n colour) (k - 32)))
+    twos (halved colour)
+    ≡ twos (if low then slice_index (slice_set palette n colour) k else halved (slice_index (slice_set palette n colour) (k - 32)))
 high_put palette n colour k true long few here is = grind (arith, nat_tests)
 high_put palette n colour k false long few here is =
     let back : k - 32 ≡ n = omega (arith, here) in
-    sym (ap (λ (c : ℕ). colour_bytes (halved c))
+    sym (ap (λ (c : ℕ). twos (halved c))
     (ap (λ (m : ℕ). slice_index (slice_set palette n colour) m) back ∙ get_or-set_same palette n colour 0 (omega (arith, long, few))))
 
 other_put : (palette : List ℕ) (n colour k : ℕ) (low : Bool) → (k ≡ n → ⊥) → (k ≡ n + 32 → ⊥) → nat_lt k 32 ≡ low →
@@ -98,73 +100,42 @@ other_put palette n colour k false one two is =
     let high : 32 ≤ k = grind (arith, nat_tests) in
     sym (ap halved (get_or-set_other palette n (k - 32) colour 0 (λ same. two (omega (arith, high, same)))))
 
-put_by : (palette : List ℕ) (rgb : List (List ℕ)) (n colour k : ℕ) (one two : List ℕ) (a b : Bool) → length palette ≡ 32 → length rgb ≡ 64 →
-    n < 32 → k < 64 → slice_index_or rgb k [] ≡ colour_bytes (ink palette k) → one ≡ colour_bytes colour → two ≡ colour_bytes (halved colour) →
+put_by : (palette : List ℕ) (doubled : List (List ℕ)) (n colour k : ℕ) (one two : List ℕ) (a b : Bool) → length palette ≡ 32 → length doubled ≡ 64 →
+    n < 32 → k < 64 → slice_index_or doubled k [] ≡ twos (ink palette k) → one ≡ twos colour → two ≡ twos (halved colour) →
     nat_eq k n ≡ a → nat_eq k (n + 32) ≡ b →
-    slice_index_or (two_put rgb n one two) k [] ≡ colour_bytes (ink (slice_set palette n colour) k)
-put_by palette rgb n colour k one two a true long size few room old first second other same =
+    slice_index_or (two_put doubled n one two) k [] ≡ twos (ink (slice_set palette n colour) k)
+put_by palette doubled n colour k one two a true long size few room old first second other same =
     let here : k ≡ n + 32 = grind (arith, nat_tests) in
-    ap (λ (m : ℕ). slice_index_or (two_put rgb n one two) m []) here
-    ∙ get_or-set_same (slice_set rgb n one) (n + 32) two [] (omega (arith, length-set rgb n one, size, few))
+    ap (λ (m : ℕ). slice_index_or (two_put doubled n one two) m []) here
+    ∙ get_or-set_same (slice_set doubled n one) (n + 32) two [] (omega (arith, length-set doubled n one, size, few))
     ∙ second ∙ high_put palette n colour k (nat_lt k 32) long few here refl
-put_by palette rgb n colour k one two true false long size few room old first second same other =
+put_by palette doubled n colour k one two true false long size few room old first second same other =
     let here : k ≡ n = grind (arith, nat_tests) in
     let differ : k ≡ n + 32 → ⊥ = λ e. omega (arith, e, here) in
-    get_or-set_other (slice_set rgb n one) (n + 32) k two [] differ
-    ∙ ap (λ (m : ℕ). slice_index_or (slice_set rgb n one) m []) here
-    ∙ get_or-set_same rgb n one [] (omega (arith, size, few))
+    get_or-set_other (slice_set doubled n one) (n + 32) k two [] differ
+    ∙ ap (λ (m : ℕ). slice_index_or (slice_set doubled n one) m []) here
+    ∙ get_or-set_same doubled n one [] (omega (arith, size, few))
     ∙ first ∙ low_put palette n colour k (nat_lt k 32) long few here refl
-put_by palette rgb n colour k one two false false long size few room old first second not_one not_two =
+put_by palette doubled n colour k one two false false long size few room old first second not_one not_two =
     let one_differs : k ≡ n → ⊥ = λ e. grind (arith, nat_tests) in
     let two_differs : k ≡ n + 32 → ⊥ = λ e. grind (arith, nat_tests) in
-    get_or-set_other (slice_set rgb n one) (n + 32) k two [] two_differs
-    ∙ get_or-set_other rgb n k one [] one_differs
-    ∙ old ∙ ap colour_bytes (other_put palette n colour k (nat_lt k 32) one_differs two_differs refl)
+    get_or-set_other (slice_set doubled n one) (n + 32) k two [] two_differs
+    ∙ get_or-set_other doubled n k one [] one_differs
+    ∙ old ∙ ap (λ (c : ℕ). twos c) (other_put palette n colour k (nat_lt k 32) one_differs two_differs refl)
 
-pub colour_put : (palette : List ℕ) (rgb : List (List ℕ)) (n colour k : ℕ) (one two : List ℕ) → length palette ≡ 32 → length rgb ≡ 64 →
-    n < 32 → k < 64 → slice_index_or rgb k [] ≡ colour_bytes (ink palette k) → one ≡ colour_bytes colour → two ≡ colour_bytes (halved colour) →
-    slice_index_or (two_put rgb n one two) k [] ≡ colour_bytes (ink (slice_set palette n colour) k)
-colour_put palette rgb n colour k one two long size few room old first second =
-    put_by palette rgb n colour k one two (nat_eq k n) (nat_eq k (n + 32)) long size few room old first second refl refl
+pub colour_put : (palette : List ℕ) (doubled : List (List ℕ)) (n colour k : ℕ) (one two : List ℕ) → length palette ≡ 32 → length doubled ≡ 64 →
+    n < 32 → k < 64 → slice_index_or doubled k [] ≡ twos (ink palette k) → one ≡ twos colour → two ≡ twos (halved colour) →
+    slice_index_or (two_put doubled n one two) k [] ≡ twos (ink (slice_set palette n colour) k)
+colour_put palette doubled n colour k one two long size few room old first second =
+    put_by palette doubled n colour k one two (nat_eq k n) (nat_eq k (n + 32)) long size few room old first second refl refl
 
--- two tables, of which one has what the other's bytes make
-abbrev made_of : (List ℕ → List ℕ) → List (List ℕ) → List (List ℕ) → ℕ → Type 0
-made_of f doubled rgb k = slice_index_or doubled k [] ≡ f (slice_index_or rgb k [])
+-- the first colour where another is put
+pub first_kept : (palette : List ℕ) (n colour : ℕ) → 0 < n → colour_bytes (ink palette 0) ≡ colour_bytes (ink (slice_set palette n colour) 0)
+first_kept palette n colour some = sym (ap colour_bytes (get_or-set_other palette n 0 colour 0 (λ e. omega (arith, e, some))))
 
-twos_by : (f : List ℕ → List ℕ) (doubled rgb : List (List ℕ)) (n k : ℕ) (one two first second : List ℕ) (a b : Bool) → length doubled ≡ 64
-    → length rgb ≡ 64 → n < 32 → k < 64 → made_of f doubled rgb k → first ≡ f one → second ≡ f two
-    → nat_eq k n ≡ a → nat_eq k (n + 32) ≡ b → made_of f (two_put doubled n first second) (two_put rgb n one two) k
-twos_by f doubled rgb n k one two first second a true wide size few room old is next other same =
-    let here : k ≡ n + 32 = grind (arith, nat_tests) in
-    ap (λ (m : ℕ). slice_index_or (two_put doubled n first second) m []) here
-    ∙ get_or-set_same (slice_set doubled n first) (n + 32) second [] (omega (arith, length-set doubled n first, wide, few))
-    ∙ next
-    ∙ sym (ap f (ap (λ (m : ℕ). slice_index_or (two_put rgb n one two) m []) here
-    ∙ get_or-set_same (slice_set rgb n one) (n + 32) two [] (omega (arith, length-set rgb n one, size, few))))
-twos_by f doubled rgb n k one two first second true false wide size few room old is next same other =
-    let here : k ≡ n = grind (arith, nat_tests) in
-    let differ : k ≡ n + 32 → ⊥ = λ e. omega (arith, e, here) in
-    get_or-set_other (slice_set doubled n first) (n + 32) k second [] differ
-    ∙ ap (λ (m : ℕ). slice_index_or (slice_set doubled n first) m []) here
-    ∙ get_or-set_same doubled n first [] (omega (arith, wide, few))
-    ∙ is
-    ∙ sym (ap f (get_or-set_other (slice_set rgb n one) (n + 32) k two [] differ
-    ∙ ap (λ (m : ℕ). slice_index_or (slice_set rgb n one) m []) here
-    ∙ get_or-set_same rgb n one [] (omega (arith, size, few))))
-twos_by f doubled rgb n k one two first second false false wide size few room old is next not_one not_two =
-    let one_differs : k ≡ n → ⊥ = λ e. grind (arith, nat_tests) in
-    let two_differs : k ≡ n + 32 → ⊥ = λ e. grind (arith, nat_tests) in
-    get_or-set_other (slice_set doubled n first) (n + 32) k second [] two_differs
-    ∙ get_or-set_other doubled n k first [] one_differs
-    ∙ old
-    ∙ sym (ap f (get_or-set_other (slice_set rgb n one) (n + 32) k two [] two_differs ∙ get_or-set_other rgb n k one [] one_differs))
-
-pub twos_put : (doubled rgb : List (List ℕ)) (n k : ℕ) (one two first second : List ℕ) → length doubled ≡ 64 → length rgb ≡ 64
-    → n < 32 → k < 64 → slice_index_or doubled k [] ≡ two_pixels (slice_index_or rgb k []) → first ≡ two_pixels one → second ≡ two_pixels two
-    → slice_index_or (two_put doubled n first second) k [] ≡ two_pixels (slice_index_or (two_put rgb n one two) k [])
-twos_put doubled rgb n k one two first second wide size few room old is next =
-    twos_by (λ (bytes : List ℕ). two_pixels bytes) doubled rgb n k one two first second (nat_eq k n) (nat_eq k (n + 32)) wide size few room old
-    is next refl refl
+pub first_put : (palette : List ℕ) (n colour : ℕ) → length palette ≡ 32 → n ≡ 0 → colour_bytes colour ≡ colour_bytes (ink (slice_set palette n colour) 0)
+first_put palette n colour long is =
+    sym (ap colour_bytes (ap (λ (m : ℕ). slice_index (slice_set palette n colour) m) (sym is) ∙ get_or-set_same palette n colour 0 (omega (arith, long, is))))
 
 -- two playfields have the first sixteen colours
 dual_by : (one two : ℕ) (chosen none : Bool) → one < 8 → two < 8 → (if chosen then (if none then 0 else 8 + two) else one) < 32

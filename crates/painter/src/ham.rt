@@ -19,7 +19,7 @@ pub fn modify(bits: u8, held: Held, inks: &Inks) -> Held
 {
     let component = bits % 16 * 17;
     match bits / 16 {
-        0 => hold(inks.bytes(bits)),
+        0 => hold(&inks.bytes(bits)),
         1 => Held {
             red: held.red,
             green: held.green,

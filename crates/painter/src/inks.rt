@@ -17,7 +17,6 @@ pub struct Inks {
     palette: [u16; 32],
     con0: u16,
     con2: u16,
-    rgb: [[u8; 3]; 64],
     /// The bytes of two pixels of each ink, and two more, so that they are put as one word.
     doubled: [[u8; 8]; 64],
     names: [u8; 64],
@@ -34,7 +33,7 @@ impl Model for Inks {
 
     ghost view = { λ s. record { palette = s.palette; con0 = s.con0; con2 = s.con2 } };
 
-    ghost invariant = { λ s. HasTables s.palette s.con0 s.con2 s.rgb s.doubled s.names s.hidden
+    ghost invariant = { λ s. HasTables s.palette s.con0 s.con2 s.doubled s.names s.hidden
         s.backdrop };
 }
 
@@ -49,7 +48,6 @@ impl Inks {
             palette: [0; 32],
             con0: 0,
             con2: 0,
-            rgb: [[0; 3]; 64],
             doubled: [[0; 8]; 64],
             names: [0; 64],
             hidden: [4; 64],
@@ -89,14 +87,12 @@ impl Inks {
         self.palette[number] = colour;
         let two = twice(colour);
         let half = twice(half_of(colour));
-        self.rgb[number] = one_of(&two);
-        self.rgb[number + 32] = one_of(&half);
         self.doubled[number] = two;
         self.doubled[number + 32] = half;
         if number > 0 {
             return;
         }
-        self.backdrop = [self.rgb[0]; 4];
+        self.backdrop = [one_of(&two); 4];
     }
 
     /// A write to BPLCON0.
@@ -190,11 +186,12 @@ impl Inks {
     }
 
     /// The bytes of an ink.
-    pub fn bytes(&self, number: u8) -> &[u8; 3]
+    #[inline(always)]
+    pub fn bytes(&self, number: u8) -> [u8; 3]
         requires { number < 64 }
-        ensures { result.now ≡ colour_bytes (ink self.now.palette number) }
+        ensures { result ≡ colour_bytes (ink self.now.palette number) }
     {
-        &self.rgb[number as usize]
+        one_of(&self.doubled[number as usize])
     }
 }
 

@@ -20,6 +20,6 @@ pub fn cover(inks: &Inks, sprite: SpritePixel, bits: usize, at: usize, into: &mu
         (Some sprite) (slice_index_or into.old at []) inks.now.palette) }
 {
     if !inks.hides(bits, sprite.pair) {
-        into[at] = *inks.bytes(sprite.colour);
+        into[at] = inks.bytes(sprite.colour);
     }
 }

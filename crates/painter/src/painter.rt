@@ -248,7 +248,7 @@ impl Painter {
         if beam.h == 0 {
             self.line.clear();
             self.sprites.clear();
-            self.held = *self.inks.bytes(0);
+            self.held = self.inks.bytes(0);
         }
     }
 
@@ -424,7 +424,7 @@ impl Painter {
         } }
     {
         *into = *self.inks.backdrop();
-        self.held = *self.inks.bytes(0);
+        self.held = self.inks.bytes(0);
     }
 
     /// The four pixels of a clock inside the display window, in hold-and-modify.

@@ -23,8 +23,8 @@ pub fn show_border(inks: &Inks, at: usize, into: &mut [[u8; 3]; 4])
         into.new ≡ slice_set (slice_set into.old at bytes) (at + 1) bytes }
 {
     let bytes = inks.bytes(0);
-    into[at] = *bytes;
-    into[at + 1] = *bytes;
+    into[at] = bytes;
+    into[at + 1] = bytes;
 }
 
 /// Two pixels inside the display window where no colour is held: the inks that their bits name, which
@@ -46,13 +46,13 @@ pub fn show_inks(
         (at + 1) (colour_bytes (ink_at inks.now line.now (x + 1))) }
 {
     let first = inks.bytes(inks.name(line.bits(x)));
-    into[at] = *first;
+    into[at] = first;
     if paired {
-        into[at + 1] = *first;
+        into[at + 1] = first;
         return;
     }
     let second = inks.bytes(inks.name(line.bits(x + 1)));
-    into[at + 1] = *second;
+    into[at + 1] = second;
 }
 
 /// Two pixels inside the display window in hold-and-modify; the second is held.
@@ -147,7 +147,7 @@ pub fn ink_bytes(inks: &Inks, line: &Line, x: usize) -> [u8; 3]
     requires { x ≤ 1023 }
     ensures { result ≡ colour_bytes (ink_at inks.now line.now x) }
 {
-    *inks.bytes(inks.name(line.bits(x)))
+    inks.bytes(inks.name(line.bits(x)))
 }
 
 /// The four such pixels from a position on, which may be known to be paired.

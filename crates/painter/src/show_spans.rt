@@ -328,7 +328,7 @@ impl Painter {
         ensures hidden { visible ≡ false → take result room.new ≡ take at room.old }
         ensures size { length room.new ≡ length room.old }
     {
-        self.held = *self.inks.bytes(0);
+        self.held = self.inks.bytes(0);
         if !visible {
             return at;
         }

@@ -8,10 +8,10 @@ pub returns : goal.returns
 unfolding ink_at
 returns c =
     let inks = c.args.inks.now in
-    let first : c.bytes-first.result.now ≡ colour_bytes (ink_at c.args.inks.now c.args.line.now c.args.x) =
+    let first : c.bytes-first.result ≡ colour_bytes (ink_at c.args.inks.now c.args.line.now c.args.x) =
     c.bytes-first.ensures
     ∙ ap (λ (n : ℕ). colour_bytes (ink inks.palette n)) (c.name.ensures.value ∙ ap (ink_number inks.con0 inks.con2) c.bits.ensures.value) in
-    let second : c.bytes-second.result.now ≡ colour_bytes (ink_at c.args.inks.now c.args.line.now (c.args.x + 1)) =
+    let second : c.bytes-second.result ≡ colour_bytes (ink_at c.args.inks.now c.args.line.now (c.args.x + 1)) =
     c.bytes-second.ensures
     ∙ ap (λ (n : ℕ). colour_bytes (ink inks.palette n)) (c.name-2.ensures.value ∙ ap (ink_number inks.con0 inks.con2) c.bits-2.ensures.value) in
     rw (first, second)
@@ -20,10 +20,10 @@ pub returns-then-paired : goal.returns-then-paired
 unfolding ink_at
 returns-then-paired c =
     let inks = c.args.inks.now in
-    let first : c.bytes-first.result.now ≡ colour_bytes (ink_at c.args.inks.now c.args.line.now c.args.x) =
+    let first : c.bytes-first.result ≡ colour_bytes (ink_at c.args.inks.now c.args.line.now c.args.x) =
     c.bytes-first.ensures
     ∙ ap (λ (n : ℕ). colour_bytes (ink inks.palette n)) (c.name.ensures.value ∙ ap (ink_number inks.con0 inks.con2) c.bits.ensures.value) in
-    let second : c.bytes-first.result.now ≡ colour_bytes (ink_at c.args.inks.now c.args.line.now (c.args.x + 1)) =
+    let second : c.bytes-first.result ≡ colour_bytes (ink_at c.args.inks.now c.args.line.now (c.args.x + 1)) =
     first ∙ ap (λ (n : ℕ). colour_bytes (ink inks.palette (ink_number inks.con0 inks.con2 n))) (c.requires.pair c.if-paired.true) in
     first_second c.args.into.now c.args.at _ _ _ first second
   where
