@@ -1,12 +1,21 @@
 -- Clocks at which everybody but the planes only waits.
-use Rattle.std.proofs.Common.{◌≡◌, ◌<◌, ℕ, suc, ◌==◌, false, Option, Some, None, IfSome, arith, ap, subst, sym, ◌∙◌}
+use Rattle.std.proofs.Common.{◌≡◌, ◌<◌, ℕ, suc, ◌==◌, true, false, List, Option, Some, None, IfSome, arith, refl, ap, subst, sym, ◌∙◌}
+use Rattle.std.proofs.lemmas.Bool.{false≢true}
 use Rattle.std.proofs.lemmas.Bool.Decides.{nat_tests}
+use Rattle.cpu_bus.specs.Bus.{wish_shown}
 use Rattle.cpu_bus.specs.Quiet.{waited}
 use Rattle.cpu_bus.proofs.QuietLaws.{waited_none}
 use Rattle.irq_cia.specs.Interrupts.{Interrupts}
 use Rattle.irq_cia.specs.Ticks.{HasNoUnderflow, ticks_on}
 use Rattle.irq_cia.specs.declared.cia.CiaState.{CiaState}
 use Rattle.ocs_base.specs.declared.beam.Beam.{Beam}
+use Rattle.serial_model.specs.declared.bus.Ask.{Ask}
+use Rattle.serial_model.specs.declared.bus.Ask.TheVariants as A
+use Rattle.serial_model.specs.declared.bus.Made.{Made}
+use Rattle.serial_model.specs.declared.bus.SideAsk.{SideAsk}
+use Rattle.serial_model.specs.declared.copper.CopperAct.{CopperAct}
+use Rattle.serial_model.specs.Bus.{ask_at, copper_after, copper_word, missed_after}
+use Rattle.serial_model.specs.Side.{IsInTime}
 use Rattle.serial_model.specs.PlaneFetch.{last_unit, fetched_plane, ask_for_plane, plane_ask, IsLastUnit}
 use Rattle.serial_model.specs.Registers.{Registers}
 use Rattle.serial_model.specs.State.{Chips}
@@ -20,8 +29,10 @@ use Rattle.quiet_clocks.specs.Ticks.{ticks_in}
 use Rattle.quiet_clocks.specs.FetchClocks.{IsStillBesidePlanes, AreResting, Fetching, fetching_on, fetching_of, planes_on, planes_of_chips, fetched_later}
 use Rattle.quiet_clocks.proofs.FetchClocks.{still_is_at_rest, fetching_later}
 use Rattle.quiet_clocks.proofs.PlainClock.{else_of}
-use Rattle.chip_set.specs.Chips.{WorkingChips, IsChipsOf, IsPlane}
+use Rattle.chip_set.specs.BusCode.{is_fetch_ask}
+use Rattle.chip_set.specs.Chips.{WorkingChips, IsChipsOf, IsPlane, IsAnswer, AnswersOwner, HasAsked, HasAccessed, plain_chips, answering, act_at, made_with}
 use Rattle.chip_set.specs.Quiet.{AreAtRest, HaveFetched, FetchesPass, fetching_in, with_fetching}
+use Rattle.chip_set.proofs.AskLaws.{answer_is}
 use Rattle.chip_set.proofs.QuietLaws.{sprites_of, copper_of, blit_of, lines_of}
 
 -- a plane that is asked for is one of six
@@ -107,3 +118,30 @@ fetches_pass b t n old new c some begun rest later is = record {
   rest = are_resting b t n old c begun rest is;
   stands = stand_fetched b t n old new c some later is;
 }
+
+-- ---- the access of a plane, a sprite, the Copper or nobody
+
+owner_stays : (ask : Ask) (word : ℕ) (now : WorkingChips) → is_fetch_ask ask ≡ true → AnswersOwner ask word now now
+owner_stays A.Free word now is = refl
+owner_stays (A.Side ask) word now is = absurd (false≢true is)
+owner_stays (A.Plane ask) word now is = refl
+owner_stays (A.Sprite ask) word now is = refl
+owner_stays (A.Copper at) word now is = refl
+owner_stays (A.Blit ask) word now is = absurd (false≢true is)
+owner_stays (A.Processor ask) word now is = absurd (false≢true is)
+
+pub fetch_answered : (b : Beam) (clx : ℕ) (memory : List ℕ) (ask : Ask) (old mid new : WorkingChips) (word : ℕ) (act : CopperAct) (made : Made)
+    → is_fetch_ask ask ≡ true → IsAnswer ask b clx old memory word
+    → mid ≡ record old { copper = copper_after b (copper_word ask word) (plain_chips old) }
+    → new ≡ record mid { missed = missed_after (wish_shown mid.processor) ask mid.missed }
+    → act ≡ act_at b ask word (plain_chips old) → made ≡ made_with ask word act
+    → (side : SideAsk) (c : Chips) → IsInTime b side → HasAsked b c old → ask ≡ ask_at side b c → HasAccessed side b clx c memory made new
+fetch_answered b clx memory ask old mid new word act made is answer steps counts acts makes =
+    let both : new ≡ answering b ask word old =
+    counts ∙ ap (λ (m : WorkingChips). record m { missed = missed_after (wish_shown m.processor) ask m.missed }) steps in
+    answer_is b clx memory ask old new made (record {
+      word = word;
+      answer = answer;
+      owner = subst (λ n. AnswersOwner ask word (answering b ask word old) n) (sym both) (owner_stays ask word (answering b ask word old) is);
+      makes = makes ∙ ap (λ act. made_with ask word act) acts;
+    })

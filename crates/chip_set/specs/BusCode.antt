@@ -110,3 +110,13 @@ is_bus_made (M.Read reg by) = false
 is_bus_made (M.Stored at half word) = true
 is_bus_made (M.Plane plane at) = true
 is_bus_made (M.Sprite sprite second at) = false
+
+-- a plane asks, or a sprite, or the Copper, or nobody
+abbrev pub is_fetch_ask : Ask → Bool
+is_fetch_ask A.Free = true
+is_fetch_ask (A.Side ask) = false
+is_fetch_ask (A.Plane ask) = true
+is_fetch_ask (A.Sprite ask) = true
+is_fetch_ask (A.Copper at) = true
+is_fetch_ask (A.Blit ask) = false
+is_fetch_ask (A.Processor ask) = false

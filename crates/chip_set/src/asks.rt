@@ -82,7 +82,7 @@ pub fn made_by(ask: &Ask, word: u16, act: &CopperAct) -> Made
 
 /// What a sprite's fetch makes: its control word is written to its register, its image word fills a latch.
 #[inline(always)]
-fn made_by_sprite(ask: &SpriteAsk, word: u16) -> Made
+pub(crate) fn made_by_sprite(ask: &SpriteAsk, word: u16) -> Made
     ensures { result ≡ made_by_sprite_of ask.now word }
 {
     match ask {
@@ -127,7 +127,7 @@ fn made_by_processor(ask: &ProcessorAsk) -> Made
 
 /// What a step of the Copper makes: a MOVE is a write.
 #[inline(always)]
-fn made_by_copper(act: &CopperAct) -> Made
+pub(crate) fn made_by_copper(act: &CopperAct) -> Made
     ensures { result ≡ made_by_copper_of act.now }
 {
     match act {

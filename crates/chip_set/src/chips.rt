@@ -606,7 +606,7 @@ impl Chips {
 
     /// The Copper's step of this clock.
     #[inline(always)]
-    fn step_copper(&mut self, beam: &Beam, ask: &Ask, word: u16) -> CopperAct
+    pub(crate) fn step_copper(&mut self, beam: &Beam, ask: &Ask, word: u16) -> CopperAct
         ensures chips { self.new ≡ record self.old {
           copper
               = copper_after beam.now (word_to_copper ask.now word) (plain_chips self.old);

@@ -3,6 +3,7 @@
 ghost use Rattle.std.specs.Prelude.{◌≡◌, ◌+◌, ◌<◌, ◌^◌, true, false, IfOk, OnOk, OnErr};
 ghost use Rattle.serial_bands.specs.BusReads.{reads_of_ask};
 ghost use Rattle.chip_set.specs.AskLaws.{is_clx_ask as is_clx_asked};
+ghost use Rattle.chip_set.specs.BusCode.{is_fetch_ask as is_fetch_asked};
 ghost use Rattle.chip_set.specs.Chips.{late_ask, ask_or_late, ask_of_late};
 ghost use Rattle.chip_set.specs.declared.late.LateOwner.{LateOwner};
 ghost use Rattle.band_log.specs.Raster.{RasterValue};
@@ -13,7 +14,7 @@ ghost use Rattle.foreground.specs.Steps.{MakesAskedAccess, AccessesPart, KeepsCl
 
 use crate::fore::Fore;
 use band_log::Raster;
-use chip_set::{LateOwner, is_clx_ask};
+use chip_set::{LateOwner, is_clx_ask, is_fetch_ask};
 use machine::touch_of;
 use ocs_base::OutOfMemory;
 use out_files::OutFiles;
@@ -38,9 +39,28 @@ impl<S: Side> Fore<S> {
             (Q.seen raster.old) (Q.seen raster.new) out.old out.new result }
     {
         match ask {
-            Some(ask) => self.access_by(&ask, raster, out),
+            Some(ask) => self.access_early(&ask, raster, out),
             None => self.access_late(raster, out),
         }
+    }
+
+    /// The access of a slot for which the side, a plane or a sprite asks.
+    #[inline(never)]
+    fn access_early<Q: Raster<S>>(
+        &mut self,
+        ask: &Ask,
+        raster: &mut Q,
+        out: &mut OutFiles,
+    ) -> Result<(), OutOfMemory>
+        requires can { CanAccess ask.now (over S.seen self.old) (Q.seen raster.old) }
+        requires room { self.old.machine.t + 1 < 2 ^ 64 }
+        ensures { MakesAccessWith ask.now (over S.seen self.old) (over S.seen self.new)
+            (Q.seen raster.old) (Q.seen raster.new) out.old out.new result }
+    {
+        if is_fetch_ask(ask) {
+            return self.make_fetch(ask, out);
+        }
+        self.access_by(ask, raster, out)
     }
 
     /// The same of a clock that is made alone, as at the start of a line, where whoever has the slot asks for
@@ -88,7 +108,7 @@ impl<S: Side> Fore<S> {
             LateOwner::Copper => self.access_for_copper(raster, out),
             LateOwner::Blitter => self.access_for_blitter(raster, out),
             LateOwner::Processor => self.access_for_processor(raster, out),
-            LateOwner::Nobody => self.make_access(&Ask::Free, out),
+            LateOwner::Nobody => self.make_fetch(&Ask::Free, out),
         }
     }
 
@@ -109,8 +129,8 @@ impl<S: Side> Fore<S> {
             (Q.seen raster.old) (Q.seen raster.new) out.old out.new result }
     {
         match self.machine.chips.copper_wish(&self.machine.beam) {
-            Some(at) => self.make_access(&Ask::Copper { at }, out),
-            None => self.access_by(&Ask::Free, raster, out),
+            Some(at) => self.make_fetch(&Ask::Copper { at }, out),
+            None => self.make_fetch(&Ask::Free, out),
         }
     }
 
@@ -191,6 +211,25 @@ impl<S: Side> Fore<S> {
             (reads_of_ask ask.now) self.old.machine.chip.reads }
     {
         let made = self.machine.answer(ask, 0, out)?;
+        let t = self.machine.t;
+        self.log.note_access(t, &touch_of(&made))
+    }
+
+    /// The same of a plane, a sprite, the Copper or nobody, which takes less.
+    #[inline(always)]
+    fn make_fetch(&mut self, ask: &Ask, out: &mut OutFiles) -> Result<(), OutOfMemory>
+        requires can { (seen : RasterValue) × CanAccess ask.now (over S.seen self.old) seen }
+        requires fetch { is_fetch_asked ask.now ≡ true }
+        requires room { self.old.machine.t + 1 < 2 ^ 64 }
+        ensures makes { OnOk result ((seen : RasterValue) → MakesAskedAccess
+            (over S.seen self.old) (over S.seen self.new) seen seen out.old out.new) }
+        ensures part { OnErr result ((seen : RasterValue) → AccessesPart
+            (over S.seen self.old) seen seen out.old out.new) }
+        ensures kept { KeepsClock (over S.seen self.old) (over S.seen self.new) }
+        ensures reads { self.new.machine.chip.reads ≡ reads_more
+            (reads_of_ask ask.now) self.old.machine.chip.reads }
+    {
+        let made = self.machine.answer_fetch(ask, out)?;
         let t = self.machine.t;
         self.log.note_access(t, &touch_of(&made))
     }

@@ -19,7 +19,7 @@ use Rattle.serial_model.specs.Side.{SideValue, answer_side, side_by_made}
 use Rattle.serial_model.specs.State.{Chips, State}
 use Rattle.serial_model.specs.Tick.{ask_of}
 use Rattle.chip_set.specs.AskLaws.{is_clx_ask}
-use Rattle.chip_set.specs.BusCode.{KeepsBus, KeepsCias, KeepsOnBus, reaches_memory, is_bus_ask, is_bus_made}
+use Rattle.chip_set.specs.BusCode.{KeepsBus, KeepsOnBus, reaches_memory, is_bus_ask, is_bus_made, is_fetch_ask}
 use Rattle.chip_set.specs.Chips.{WorkingChips, IsChipsOf}
 use Rattle.chip_set.proofs.BusLaws.{kept_then, kept_alike, cias_then, cias_of_same}
 use Rattle.machine.specs.Machine.{MachineValue, HasAskedOf}
@@ -92,3 +92,13 @@ access_keeps ask made old new chip chips side out after bus makes answers does s
     let behind : KeepsBus chips new.chips = kept_alike chips new.chips _ stands after in
     let before = kept (sym behind.busy ∙ same) in
     (kept_then old.chips chips new.chips before.0 behind, cias_then old.chips chips new.chips before.1 (cias_of_same chips new.chips _ stands after))
+
+-- an access of a plane, a sprite, the Copper or nobody does not read CLXDAT either
+pub fetch_reads_no_bits : (ask : Ask) → is_fetch_ask ask ≡ true → is_clx_ask ask ≡ false
+fetch_reads_no_bits A.Free is = refl
+fetch_reads_no_bits (A.Side ask) is = refl
+fetch_reads_no_bits (A.Plane ask) is = refl
+fetch_reads_no_bits (A.Sprite ask) is = refl
+fetch_reads_no_bits (A.Copper at) is = refl
+fetch_reads_no_bits (A.Blit ask) is = refl
+fetch_reads_no_bits (A.Processor ask) is = absurd (false≢true is)

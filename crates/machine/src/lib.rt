@@ -3,6 +3,7 @@
 #![tactic(auto)]
 
 mod bus;
+mod fetches;
 mod machine;
 mod quiet;
 mod touches;
