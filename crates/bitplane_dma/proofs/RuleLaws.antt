@@ -1,5 +1,5 @@
 -- What decides the fetches of a line decides them as the registers do.
-use Rattle.std.proofs.Common.{◌≡◌, ℕ, ◌+◌, ◌-◌, ◌/◌, ◌*◌, ◌%◌, Bool, true, false, not, ◌&&◌, ◌||◌, ◌==◌, nat_le, nat_lt, min, max, if◌then◌else◌}
+use Rattle.std.proofs.Common.{◌≡◌, ◌≤◌, ◌<◌, ℕ, ◌+◌, ◌-◌, ◌/◌, ◌*◌, ◌%◌, Bool, true, false, not, ◌&&◌, ◌||◌, ◌==◌, nat_le, nat_lt, min, max, if◌then◌else◌}
 use Rattle.std.proofs.Common.{inl, inr, Option, Some, None, arith, refl, ap, ◌∙◌, sym}
 use Rattle.std.proofs.lemmas.Bool.Decides.{nat_tests}
 use Rattle.irq_cia.specs.Bits.{has_bits}
@@ -14,7 +14,7 @@ use Rattle.serial_model.specs.declared.fetch.PlaneAsk.{PlaneAsk}
 use Rattle.serial_model.specs.Registers.{Registers, kept_word}
 use Rattle.serial_model.specs.Window.{is_window_line}
 use Rattle.serial_model.proofs.FetchLaws.{IsNoPlanePointer, kept_word-move_planes}
-use Rattle.bitplane_dma.specs.RulesCode.{first_unit, rules_of, is_first, follows_by, begins_by, plane_by, bytes_by}
+use Rattle.bitplane_dma.specs.RulesCode.{first_unit, rules_of, is_first, follows_by, begins_by, fetches_by, plane_by, bytes_by}
 use Rattle.bitplane_dma.specs.declared.rules.FetchRules.{FetchRules}
 
 -- ---- units
@@ -77,6 +77,25 @@ plane_as v h start registers =
     let plane : ℕ = slot_plane (high_resolution registers) (h - start) in
     ap (λ fetches. if is_in_unit h start && fetches then Some plane else None) (few_as (plane_dma registers) plane (planes_of (kept_word registers 0x100)))
 
+-- in a unit it is that of its slot, where that is fetched
+pub found_in_unit : (rules : FetchRules) (h start plane : ℕ) (fetches : Bool) → start ≤ h → h < start + 8 → plane ≡ slot_plane rules.high (h - start)
+    → fetches ≡ fetches_by rules plane → (if fetches then Some plane else None) ≡ plane_by rules h start
+found_in_unit rules h start plane fetches low high is may =
+    let within : is_in_unit h start ≡ true = grind (arith, nat_tests, low, high) in
+    ap (λ f. if f then Some plane else None) may
+    ∙ ap (λ p. if fetches_by rules p then Some p else None) is
+    ∙ sym (ap (λ within. if within && fetches_by rules (slot_plane rules.high (h - start)) then Some (slot_plane rules.high (h - start)) else None) within)
+
+pub some_in_unit : (rules : FetchRules) (h start plane : ℕ) (fetches : Bool) → start ≤ h → h < start + 8 → plane ≡ slot_plane rules.high (h - start)
+    → fetches ≡ fetches_by rules plane → fetches ≡ true → Some plane ≡ plane_by rules h start
+some_in_unit rules h start plane fetches low high is may does =
+    sym (ap (λ f. if f then Some plane else None) does) ∙ found_in_unit rules h start plane fetches low high is may
+
+pub none_in_unit : (rules : FetchRules) (h start plane : ℕ) (fetches : Bool) → start ≤ h → h < start + 8 → plane ≡ slot_plane rules.high (h - start)
+    → fetches ≡ fetches_by rules plane → fetches ≡ false → plane_by rules h start ≡ None
+none_in_unit rules h start plane fetches low high is may lacks =
+    sym (found_in_unit rules h start plane fetches low high is may) ∙ ap (λ f. if f then Some plane else None) lacks
+
 word_as : (odd : Bool) (registers : Registers) → (if odd then kept_word registers 0x108 else kept_word registers 0x10a)
     ≡ kept_word registers (if odd then 0x108 else 0x10a)
 word_as true registers = refl
@@ -138,3 +157,19 @@ moved_as v h start plane bytes registers moved rules same found adds moves =
     ∙ ap (λ n. move_pointer (plane_pointer plane) n registers)
     (adds ∙ ap (λ (r : FetchRules). bytes_by r h start plane) same ∙ bytes_as v h start plane registers)
     ∙ ap (λ (f : Option ℕ). move_if_fetched h (Some start) f registers) (sym (found_as v h start plane registers rules same found))
+
+-- and the same of a slot in which no plane is fetched
+none_found : (v h start : ℕ) (registers : Registers) (rules : FetchRules) → rules ≡ rules_of v registers → plane_by rules h start ≡ None
+    → fetched_plane h registers (Some start) ≡ None
+none_found v h start registers rules same none =
+    sym (plane_as v h start registers) ∙ ap (λ (r : FetchRules). plane_by r h start) (sym same) ∙ none
+
+pub none_asked : (v h start : ℕ) (registers : Registers) (rules : FetchRules) → rules ≡ rules_of v registers → plane_by rules h start ≡ None
+    → None ≡ plane_ask h registers (Some start)
+none_asked v h start registers rules same none =
+    ap (λ (f : Option ℕ). option_map (λ plane. ask_for_plane registers plane) f) (sym (none_found v h start registers rules same none))
+
+pub none_moved : (v h start : ℕ) (registers : Registers) (rules : FetchRules) → rules ≡ rules_of v registers → plane_by rules h start ≡ None
+    → registers ≡ move_planes h (Some start) registers
+none_moved v h start registers rules same none =
+    ap (λ (f : Option ℕ). move_if_fetched h (Some start) f registers) (sym (none_found v h start registers rules same none))

@@ -42,11 +42,15 @@ follows_by rules h (Some start) = (h == start + 8) && nat_lt start rules.end
 abbrev pub begins_by : FetchRules → ℕ → Option ℕ → Bool
 begins_by rules h last = not (is_running h last) && (follows_by rules h last || is_first h rules.first)
 
+-- a unit fetches a plane that is not above the number of planes
+abbrev pub fetches_by : FetchRules → ℕ → Bool
+fetches_by rules plane = nat_le 1 plane && nat_le plane rules.planes
+
 -- the plane that is fetched at clock h, where the line's last unit began at `start`
 abbrev pub plane_by : FetchRules → ℕ → ℕ → Option ℕ
 plane_by rules h start =
     let plane = slot_plane rules.high (h - start) in
-    if is_in_unit h start && (nat_le 1 plane && nat_le plane rules.planes) then Some plane else None
+    if is_in_unit h start && fetches_by rules plane then Some plane else None
 
 -- how many bytes its fetch adds to the pointer beside the word's two
 abbrev pub bytes_by : FetchRules → ℕ → ℕ → ℕ → ℕ

@@ -15,7 +15,7 @@ ghost use Rattle.serial_model.specs.PlaneFetch.{slot_plane as plane_of_slot, add
 ghost use Rattle.serial_model.specs.Registers.{kept_word, Registers};
 ghost use Rattle.quiet_clocks.specs.Plan.{unit_on};
 ghost use Rattle.quiet_clocks.specs.QuietClocks.{later_beam};
-ghost use Rattle.bitplane_dma.specs.Quiet.{FetchesNothing};
+ghost use Rattle.bitplane_dma.specs.Quiet.{FetchesNothing, IsUnitAt};
 ghost use Rattle.bitplane_dma.specs.RulesCode.{rules_of};
 ghost use Rattle.serial_model.specs.Window.{is_window_line as in_window};
 
@@ -97,6 +97,26 @@ impl Fetcher {
         self.begin_by(rules, beam);
         let start = self.last?;
         fetch_by(rules, beam.h, start, regs)
+    }
+
+    /// Where the unit began that runs at this clock, which is not a line's first, by what decides the fetches
+    /// of the line: one that begins here has begun. None where none runs.
+    #[inline(always)]
+    pub fn unit_by(&mut self, rules: &FetchRules, beam: &Beam) -> Option<u16>
+        requires inner { 0 < beam.now.h }
+        requires rules { (regs : Registers) × (rules.now ≡ rules_of beam.now.v regs) }
+        ensures last { (regs : Registers) → rules.now ≡ rules_of beam.now.v regs
+            → self.new ≡ last_unit_at beam.now regs self.old }
+        ensures begun { IsLastUnit self.new }
+        ensures some { IfSome result (λ start. IsUnitAt start beam.now.h self.new) }
+        ensures none { result ≡ None → is_running beam.now.h self.new ≡ false }
+    {
+        self.begin_by(rules, beam);
+        let start = self.last?;
+        if beam.h < start || beam.h - start >= 8 {
+            return None;
+        }
+        Some(start)
     }
 
     /// For how many clocks of this line, from this one on and at most so many, the planes need no slot, while
@@ -388,6 +408,23 @@ fn fetch_by(rules: &FetchRules, h: u16, start: u16, regs: &mut Regs) -> Option<P
     ensures moved { regs.new ≡ move_planes h (Some start) regs.old }
 {
     let plane = rules.plane(h, start)?;
+    let bytes = rules.bytes(h, start, plane);
+    Some(fetch_word(plane, bytes, regs))
+}
+
+/// The fetch of clock `h`, if there is one, of the unit that began at `start` and runs then.
+#[inline(always)]
+pub fn fetch_in_unit(rules: &FetchRules, h: u16, start: u16, regs: &mut Regs) -> Option<PlaneAsk>
+    requires low { start ≤ h }
+    requires high { h < start + 8 }
+    requires rules { (v : ℕ) × (rules.now ≡ rules_of v regs.old) }
+    ensures ask { result ≡ plane_ask h regs.old (Some start) }
+    ensures moved { regs.new ≡ move_planes h (Some start) regs.old }
+{
+    let plane = rules.slot_plane(h - start);
+    if !rules.fetches(plane) {
+        return None;
+    }
     let bytes = rules.bytes(h, start, plane);
     Some(fetch_word(plane, bytes, regs))
 }

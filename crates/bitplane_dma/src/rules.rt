@@ -1,7 +1,8 @@
 //! What decides the fetches of a line, read from the registers once.
 
-ghost use Rattle.std.specs.Prelude.{◌≡◌, ◌≤◌, ◌<◌, IfSome};
-ghost use Rattle.bitplane_dma.specs.RulesCode.{rules_of, first_unit, planes_by, begins_by, plane_by, bytes_by};
+ghost use Rattle.std.specs.Prelude.{◌≡◌, ◌≤◌, ◌<◌, true, IfSome};
+ghost use Rattle.bitplane_dma.specs.RulesCode.{rules_of, first_unit, planes_by, begins_by, plane_by, fetches_by, bytes_by};
+ghost use Rattle.serial_model.specs.PlaneFetch.{slot_plane as plane_of_slot};
 
 use crate::{fetch_end, fetch_start, has_dma, is_window_line, modulo_bytes, slot_plane};
 use ocs_base::offset::{BPL1MOD, BPL2MOD, BPLCON0};
@@ -72,6 +73,25 @@ impl FetchRules {
         } else {
             None
         }
+    }
+
+    /// The plane of a slot of a unit; 0 is none.
+    #[inline(always)]
+    pub(crate) fn slot_plane(&self, slot: u16) -> u8
+        requires { slot < 8 }
+        ensures plane { result ≡ plane_of_slot self.now.high slot }
+        ensures most { result ≤ 6 }
+    {
+        slot_plane(self.high, slot)
+    }
+
+    /// Whether a unit fetches this plane.
+    #[inline(always)]
+    pub(crate) fn fetches(&self, plane: u8) -> bool
+        ensures fetches { result ≡ fetches_by self.now plane }
+        ensures some { result ≡ true → 1 ≤ plane }
+    {
+        plane >= 1 && plane as u16 <= self.planes
     }
 
     /// How many bytes a plane's fetch at clock `h` adds to its pointer beside the word's two.

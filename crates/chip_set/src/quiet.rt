@@ -1,6 +1,6 @@
 //! Clocks at which no chip does anything but wait, passed over at once.
 
-ghost use Rattle.std.specs.Prelude.{◌≡◌, ◌⊎◌, ◌≤◌, ◌<◌, ◌+◌, ℕ, false, true, is_some, IfSome};
+ghost use Rattle.std.specs.Prelude.{◌≡◌, ◌⊎◌, ◌≤◌, ◌<◌, ◌+◌, ℕ, false, true, Some, None, is_some, IfSome};
 ghost use Rattle.serial_model.specs.Registers.{blitter_dma, copper_dma};
 ghost use Rattle.serial_model.specs.State.{Chips as ChipsOf};
 ghost use Rattle.bitplane_dma.specs.RulesCode.{rules_of};
@@ -10,7 +10,8 @@ ghost use Rattle.quiet_clocks.specs.PlainClock.{AsksNothingNew};
 ghost use Rattle.quiet_clocks.specs.QuietClocks.{later_beam};
 ghost use Rattle.quiet_clocks.specs.Ticks.{ticks_in};
 ghost use Rattle.chip_set.specs.Chips.{IsChipsOf, plain_chips};
-ghost use Rattle.serial_model.specs.PlaneFetch.{IsLastUnit};
+ghost use Rattle.serial_model.specs.PlaneFetch.{IsLastUnit, last_unit_at, is_running, plane_ask, move_planes};
+ghost use Rattle.bitplane_dma.specs.Quiet.{IsUnitAt};
 ghost use Rattle.chip_set.specs.Chips.{IsPlane};
 ghost use Rattle.quiet_clocks.specs.FetchClocks.{fetching_after, ask_of_fetching};
 ghost use Rattle.chip_set.specs.Quiet.{PassesQuiet, AreIdle, AreAtRest, AreLater, HasRested, IsCopperIdle};
@@ -18,7 +19,7 @@ ghost use Rattle.chip_set.specs.Quiet.{fetching_in, with_fetching};
 
 use crate::chips::Chips;
 use crate::turn::{EXTER, PORTS};
-use bitplane_dma::{FetchRules, PlaneAsk};
+use bitplane_dma::{FetchRules, PlaneAsk, fetch_in_unit};
 use ocs_base::Beam;
 
 impl Chips {
@@ -90,6 +91,39 @@ impl Chips {
         ensures same { rules.now ≡ rules_of beam.now.v self.new.registers }
     {
         self.fetcher.step_by(rules, beam, &mut self.registers)
+    }
+
+    /// Where the unit of bitplane fetch began that runs at this clock behind a line's first, by what decides the
+    /// fetches of the line: one that begins here has begun. None where none runs.
+    #[inline(always)]
+    pub fn plane_unit(&mut self, rules: &FetchRules, beam: &Beam) -> Option<u16>
+        requires inner { 0 < beam.now.h }
+        requires rules { rules.now ≡ rules_of beam.now.v self.old.registers }
+        ensures last { self.new ≡ record self.old {
+          last = last_unit_at beam.now self.old.registers self.old.last;
+        } }
+        ensures begun { IsLastUnit self.new.last }
+        ensures some { IfSome result (λ start. IsUnitAt start beam.now.h self.new.last) }
+        ensures none { result ≡ None → is_running beam.now.h self.new.last ≡ false }
+    {
+        self.fetcher.unit_by(rules, beam)
+    }
+
+    /// The fetch of clock `h`, if there is one, of the unit that began at `start` and runs then: the plane's
+    /// pointer has moved. The rules stay right.
+    #[inline(always)]
+    pub fn fetch_in_unit(&mut self, rules: &FetchRules, h: u16, start: u16) -> Option<PlaneAsk>
+        requires unit { IsUnitAt start h self.old.last }
+        requires begun { IsLastUnit self.old.last }
+        requires rules { (v : ℕ) × (rules.now ≡ rules_of v self.old.registers) }
+        ensures ask { result ≡ plane_ask h self.old.registers (Some start) }
+        ensures able { IfSome result (λ ask. IsPlane ask.plane) }
+        ensures moved { self.new ≡ record self.old {
+          registers = move_planes h (Some start) self.old.registers;
+        } }
+        ensures same { (v : ℕ) → rules_of v self.new.registers ≡ rules_of v self.old.registers }
+    {
+        fetch_in_unit(rules, h, start, &mut self.registers)
     }
 
     /// The part of everybody else, for so many clocks from clock `t` on at which they only wait.

@@ -19,6 +19,7 @@ pub mod QuietLaws
 pub mod QuietRuns
 pub mod AskedLaws
 pub mod FetchLaws
+pub mod UnitLaws
 pub mod LineLaws
 pub mod SlotLaws
 pub mod BusLaws

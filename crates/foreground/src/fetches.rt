@@ -1,23 +1,24 @@
 //! Clocks at which everybody but the bitplanes rests, made one behind the other.
 
-ghost use Rattle.std.specs.Prelude.{◌≡◌, ◌≤◌, ◌<◌, ◌+◌, ◌^◌, ℕ, true, false, [], IfOk, OnOk, OnErr};
+ghost use Rattle.std.specs.Prelude.{◌≡◌, ◌≤◌, ◌<◌, ◌+◌, ◌^◌, ℕ, true, false, Some, [], IfOk, OnOk, OnErr};
 ghost use Rattle.serial_model.specs.Events.{due_events};
-ghost use Rattle.serial_model.specs.PlaneFetch.{IsLastUnit};
+ghost use Rattle.serial_model.specs.PlaneFetch.{IsLastUnit, plane_ask, move_planes};
 ghost use Rattle.serial_model.specs.Side.{no_side};
-ghost use Rattle.quiet_clocks.specs.FetchClocks.{ask_of_fetching};
+ghost use Rattle.quiet_clocks.specs.FetchClocks.{fetching_on};
 ghost use Rattle.quiet_clocks.specs.QuietClocks.{later_beam};
+ghost use Rattle.bitplane_dma.specs.Quiet.{IsUnitAt};
 ghost use Rattle.bitplane_dma.specs.RulesCode.{rules_of};
-ghost use Rattle.chip_set.specs.Quiet.{AreAtRest, fetching_in};
+ghost use Rattle.chip_set.specs.Quiet.{AreAtRest, fetching_in, with_fetching};
 ghost use Rattle.band_log.specs.Raster.{RasterValue};
 ghost use Rattle.picture_log.specs.Log.{with_waiting};
 ghost use Rattle.foreground.specs.Fore.{over, IsUnderway, is_done};
 ghost use Rattle.foreground.specs.QuietCode.{HasPassed};
-ghost use Rattle.foreground.specs.FetchesCode.{with_fetch, with_fetches, clock_of_planes, clocks_of_planes, HasFetched};
+ghost use Rattle.foreground.specs.FetchesCode.{with_fetch, with_fetches, clocks_of_planes, HasFetched};
 
 use crate::fore::Fore;
-use chip_set::FetchRules;
+use chip_set::{Chips, FetchRules};
 use machine::Machine;
-use ocs_base::OutOfMemory;
+use ocs_base::{Beam, OutOfMemory};
 use picture_log::Log;
 use serial_model::{PlaneAsk, Side, Touch};
 
@@ -89,7 +90,6 @@ fn fetch_planes<S>(machine: &mut Machine<S>, log: &mut Log, clocks: u16) -> Resu
     requires inner { 0 < machine.old.beam.h }
     requires line { machine.old.beam.h + clocks ≤ 226 }
     requires count { machine.old.t + clocks < 2 ^ 64 }
-    requires begun { IsLastUnit machine.old.chips.last }
     ensures machine { OnOk result (machine.new ≡ clocks_of_planes clocks machine.old) }
     ensures log { OnOk result (log.new ≡ with_fetches clocks machine.old.beam machine.old.t
         (fetching_in machine.old.chips) log.old) }
@@ -98,37 +98,113 @@ fn fetch_planes<S>(machine: &mut Machine<S>, log: &mut Log, clocks: u16) -> Resu
     let rules = machine.chips.fetch_rules(&machine.beam);
     let mut passed = 0;
     while passed < clocks {
-        fetch_plane(&rules, machine, log)?;
+        passed += fetch_unit(&rules, machine, log, clocks - passed)?;
+    }
+    Ok(())
+}
+
+/// The planes' part of the clocks of the unit that runs, or of one clock where none runs; at most so many. The
+/// answer is how many. By what decides the fetches of the line.
+#[inline(always)]
+fn fetch_unit<S>(
+    rules: &FetchRules,
+    machine: &mut Machine<S>,
+    log: &mut Log,
+    most: u16,
+) -> Result<u16, OutOfMemory>
+    requires inner { 0 < machine.old.beam.h }
+    requires some { 0 < most }
+    requires line { machine.old.beam.h + most ≤ 226 }
+    requires rules { rules.now ≡ rules_of machine.old.beam.v machine.old.chips.registers }
+    requires count { machine.old.t + most < 2 ^ 64 }
+    ensures most { IfOk result (λ clocks. clocks ≤ most) }
+    ensures some { IfOk result (λ clocks. 0 < clocks) }
+    ensures machine { IfOk result (λ clocks. machine.new ≡ clocks_of_planes clocks machine.old) }
+    ensures log { IfOk result (λ clocks. log.new ≡ with_fetches clocks machine.old.beam
+        machine.old.t (fetching_in machine.old.chips) log.old) }
+    ensures same { OnOk result (rules.now
+        ≡ rules_of machine.new.beam.v machine.new.chips.registers) }
+    ensures chip { machine.new.chip ≡ machine.old.chip }
+{
+    let Some(start) = machine.chips.plane_unit(rules, &machine.beam) else {
+        machine.beam.h += 1;
+        machine.t += 1;
+        return Ok(1);
+    };
+    let beam = machine.beam;
+    let clocks = most.min(start + 8 - beam.h);
+    fetch_slots(
+        rules,
+        start,
+        &beam,
+        machine.t,
+        clocks,
+        &mut machine.chips,
+        log,
+    )?;
+    machine.beam.h += clocks;
+    machine.t += clocks as u64;
+    Ok(clocks)
+}
+
+/// The fetches of so many clocks, from clock `t` on, where the beam is there, of the unit that began at
+/// `start` and runs in all of them.
+#[inline(always)]
+fn fetch_slots(
+    rules: &FetchRules,
+    start: u16,
+    beam: &Beam,
+    t: u64,
+    clocks: u16,
+    chips: &mut Chips,
+    log: &mut Log,
+) -> Result<(), OutOfMemory>
+    requires inner { 0 < beam.now.h }
+    requires line { beam.now.h + clocks ≤ 226 }
+    requires unit { chips.old.last ≡ Some start }
+    requires low { start ≤ beam.now.h }
+    requires high { beam.now.h + clocks ≤ start + 8 }
+    requires begun { IsLastUnit chips.old.last }
+    requires rules { rules.now ≡ rules_of beam.now.v chips.old.registers }
+    requires count { t + clocks < 2 ^ 64 }
+    ensures chips { OnOk result (chips.new ≡ with_fetching
+        (fetching_on clocks beam.now (fetching_in chips.old)) chips.old) }
+    ensures log { OnOk result (log.new ≡ with_fetches clocks beam.now t
+        (fetching_in chips.old) log.old) }
+    ensures same { OnOk result (rules.now ≡ rules_of beam.now.v chips.new.registers) }
+    ensures next { OnOk result (chips.new.last ≡ Some start) }
+{
+    let mut passed = 0;
+    while passed < clocks {
+        fetch_slot(rules, start, beam.h + passed, t + passed as u64, chips, log)?;
         passed += 1;
     }
     Ok(())
 }
 
-/// The planes' part of one clock, by what decides the fetches of the line: the plane that is fetched at it,
-/// if one is, and the beam's advance.
+/// The fetch of one of them, clock `h` of the line, if there is one.
 #[inline(always)]
-fn fetch_plane<S>(
+fn fetch_slot(
     rules: &FetchRules,
-    machine: &mut Machine<S>,
+    start: u16,
+    h: u16,
+    t: u64,
+    chips: &mut Chips,
     log: &mut Log,
 ) -> Result<(), OutOfMemory>
-    requires inner { 0 < machine.old.beam.h }
-    requires line { machine.old.beam.h < 226 }
-    requires rules { rules.now ≡ rules_of machine.old.beam.v machine.old.chips.registers }
-    requires count { machine.old.t + 1 < 2 ^ 64 }
-    requires begun { IsLastUnit machine.old.chips.last }
-    ensures machine { OnOk result (machine.new ≡ clock_of_planes machine.old) }
-    ensures log { OnOk result (log.new ≡ with_fetch machine.old.t
-        (ask_of_fetching machine.old.beam (fetching_in machine.old.chips)) log.old) }
-    ensures next { IsLastUnit machine.new.chips.last }
-    ensures same { OnOk result (rules.now
-        ≡ rules_of machine.new.beam.v machine.new.chips.registers) }
-    ensures chip { machine.new.chip ≡ machine.old.chip }
+    requires unit { IsUnitAt start h chips.old.last }
+    requires begun { IsLastUnit chips.old.last }
+    requires rules { (v : ℕ) × (rules.now ≡ rules_of v chips.old.registers) }
+    requires room { t + 1 < 2 ^ 64 }
+    ensures chips { chips.new ≡ record chips.old {
+      registers = move_planes h (Some start) chips.old.registers;
+    } }
+    ensures log { OnOk result (log.new ≡ with_fetch t
+        (plane_ask h chips.old.registers (Some start)) log.old) }
+    ensures same { (v : ℕ) → rules_of v chips.new.registers ≡ rules_of v chips.old.registers }
 {
-    if let Some(PlaneAsk { plane, at }) = machine.chips.fetch_plane(rules, &machine.beam) {
-        log.note_access(machine.t, &Some(Touch::Plane { plane, at }))?;
+    if let Some(PlaneAsk { plane, at }) = chips.fetch_in_unit(rules, h, start) {
+        log.note_access(t, &Some(Touch::Plane { plane, at }))?;
     }
-    machine.beam.h += 1;
-    machine.t += 1;
     Ok(())
 }

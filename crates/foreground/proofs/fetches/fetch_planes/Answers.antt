@@ -1,6 +1,7 @@
-use Rattle.std.proofs.Common.{◌∙◌, ap, arith, refl}
-use Rattle.foreground.specs.FetchesCode.{with_fetches, clock_of_planes}
-use Rattle.foreground.proofs.FetchLaws.{no_clock_of_planes, one_clock_more, fetch_noted}
+use Rattle.std.proofs.Common.{arith, refl}
+use Rattle.foreground.specs.FetchesCode.{with_fetches}
+use Rattle.foreground.proofs.FetchLaws.{no_clock_of_planes}
+use Rattle.foreground.proofs.UnitLaws.{units_then, units_noted}
 use Rattle.foreground.proofs.fetches.fetch_planes.Goals as goal
 
 pub loop-passed-init : goal.loop-passed-init
@@ -9,17 +10,15 @@ loop-passed-init g c = record {
   most = omega arith;
   machine = no_clock_of_planes c.args.machine.now;
   log = refl;
-  begun = c.requires.begun;
   rules = c.fetch_rules-rules.ensures;
 }
 
 pub loop-passed-preserved : goal.loop-passed-preserved
 loop-passed-preserved g c = record {
-  most = omega (arith, c.loop-passed-test.true);
-  machine = c.in_ok-fetch_plane.ensures.machine ∙ ap (λ m. clock_of_planes m) c.loop-passed.invariant.machine
-      ∙ one_clock_more c.loop-passed.passed c.args.machine.now;
-  log = fetch_noted c.loop-passed.passed c.args.machine.now _ c.args.log.now _ _ c.loop-passed.invariant.machine c.loop-passed.invariant.log
-      c.in_ok-fetch_plane.ensures.log;
-  begun = c.fetch_plane.ensures.next;
-  rules = c.in_ok-fetch_plane.ensures.same;
+  most = omega (arith, c.loop-passed.invariant.most, c.in_ok-passed.ensures.most);
+  machine = units_then c.loop-passed.passed c.in_ok-passed.field-0 c.args.machine.now c.loop-passed.machine _ c.loop-passed.invariant.machine
+      c.in_ok-passed.ensures.machine;
+  log = units_noted c.loop-passed.passed c.in_ok-passed.field-0 c.args.machine.now c.loop-passed.machine c.args.log.now c.loop-passed.log _
+      c.loop-passed.invariant.machine c.loop-passed.invariant.log c.in_ok-passed.ensures.log;
+  rules = c.in_ok-passed.ensures.same;
 }

@@ -1,5 +1,4 @@
 use Rattle.std.proofs.Common.{◌≡◌, ◌≤◌, ◌-◌}
-use Rattle.serial_model.specs.PlaneFetch.{IsLastUnit}
 use Rattle.bitplane_dma.specs.RulesCode.{rules_of}
 use Rattle.chip_set.specs.Quiet.{fetching_in}
 use Rattle.foreground.specs.FetchesCode.{with_fetches, clocks_of_planes}
@@ -11,7 +10,6 @@ invariant-loop-passed g l = record {
   most : l.passed ≤ l.clocks;
   machine : l.machine ≡ clocks_of_planes l.passed l.initial.machine;
   log : l.log ≡ with_fetches l.passed l.initial.machine.beam l.initial.machine.t (fetching_in l.initial.machine.chips) l.initial.log;
-  begun : IsLastUnit l.machine.chips.last;
   rules : l.rules ≡ rules_of l.machine.beam.v l.machine.chips.registers;
 }
 
