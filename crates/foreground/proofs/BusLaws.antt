@@ -13,7 +13,7 @@ use Rattle.chip_set.specs.BusCode.{LeavesToPlanes, LeavesBeside, LeaveBus, Keeps
 use Rattle.chip_set.specs.Chips.{WorkingChips}
 use Rattle.chip_set.proofs.BusLaws.{leaves_beside_kept, beside_kept, beside_then, rest_kept}
 use Rattle.out_files.specs.OutFiles.{OutFilesValue}
-use Rattle.picture_log.specs.Log.{with_waiting, waiting_list, waiting_write}
+use Rattle.picture_log.specs.Log.{with_waiting, with_access_touch, waiting_list, waiting_write}
 use Rattle.picture_log.specs.declared.log.Log.{Log}
 use Rattle.serial_bands.specs.declared.event.Event.{Event}
 use Rattle.serial_model.specs.Events.{due_events}
@@ -21,12 +21,12 @@ use Rattle.serial_model.specs.Made.{touch_of}
 use Rattle.serial_model.specs.declared.bus.Made.{Made}
 use Rattle.serial_model.specs.declared.bus.Made.TheVariants as M
 use Rattle.serial_model.specs.declared.picture.Touch.{Touch}
-use Rattle.foreground.specs.BusRun.{IsOpenForBus, StaysOnBus, GoesOnBus}
-use Rattle.foreground.specs.Fore.{ForeOf, ForeValue, GivesPart, IsUnderway, over, is_done}
+use Rattle.foreground.specs.BusRun.{IsOpenForBus, StaysOnBus, GoesOnBus, HasRunOnBus}
+use Rattle.foreground.specs.Fore.{ForeOf, ForeValue, IsUnderway, over, is_done}
 use Rattle.foreground.specs.Steps.{BeginsClock, EndsClock, KeepsClock}
 use Rattle.foreground.proofs.BeginLaws.{begins_within}
 use Rattle.foreground.proofs.LineLaws.{no_band_place, no_read_due}
-use Rattle.foreground.specs.RunTo.{RisesInSome}
+use Rattle.foreground.proofs.RunToLaws.{runs_none, no_reads}
 use Rattle.foreground.specs.LineCode.{AreInLine}
 use Rattle.machine.specs.Machine.{IsSamePlace}
 
@@ -57,6 +57,13 @@ as_it_is log none =
     ap (λ waits. record log { waiting = waits }) none
     ∙ sym (ap (λ (waits : Option Event). record log { band = record log.band { events = log.band.events ++ waiting_list waits }; waiting = None }) none
     ∙ ap (λ (list : List Event). record log { band = record log.band { events = list }; waiting = None }) events)
+
+pub untouched : (c : ℕ) (touch : Option Touch) (log : Log) → log.waiting ≡ None → touch ≡ None → log ≡ with_access_touch c touch log
+untouched c touch log none is =
+    let events : log.band.events ++ [] ≡ log.band.events = append-nil log.band.events in
+    ap (λ waits. record log { waiting = waits }) none
+    ∙ sym (ap (λ (list : List Event). record log { band = record log.band { events = list }; waiting = None }) events)
+    ∙ sym (ap (λ (t : Option Touch). with_access_touch c t log) is)
 
 pub begins_on_bus : (f : ForeValue) (first : ℕ) (before seen : RasterValue) (out : OutFilesValue) → IsUnderway f first before → IsOpenForBus f
     → is_done f ≡ false → 0 < f.machine.beam.h → due_events f.machine.beam f.run.script.events ≡ [] → BeginsClock f f 0 seen seen out out
@@ -146,14 +153,14 @@ leave_next rules n b next old new some leave place kept k below =
     (subst (λ (at : Beam). LeavesBeside rules (later_beam k at) old) (sym place)
     (leaves_elsewhere rules (record b { h = b.h + 1 + k }) next.lof old there))
 
--- a look changes nothing that counts
-pub part_alike : (f g : ForeValue) (seen after : RasterValue) (out given : OutFilesValue) → f ≡ g → GivesPart f seen after out given
-    → GivesPart g seen after out given
-part_alike f g seen after out given same part = subst (λ (x : ForeValue). GivesPart x seen after out given) same part
-
-pub few_alike : (limit : ℕ) (f g : ForeValue) (reads : ℕ) → f ≡ g → RisesInSome limit f.run f.machine.t f.machine.chip.reads reads
-    → RisesInSome limit g.run g.machine.t g.machine.chip.reads reads
-few_alike limit f g reads same few = subst (λ (x : ForeValue). RisesInSome limit x.run x.machine.t x.machine.chip.reads reads) same few
+-- where no clock is made
+pub none_made : (limit : ℕ) (f : ForeValue) (seen : RasterValue) (out : OutFilesValue) → HasRunOnBus limit f f seen seen out out
+none_made limit f seen out = record {
+  clocks = runs_none f seen out;
+  on = omega arith;
+  most = omega arith;
+  reads = no_reads f.run f.machine.t f.machine.chip.reads;
+}
 
 -- fewer clocks of a line
 pub fewer_in_line : (limit m n : ℕ) (f : ForeValue) → m ≤ n → AreInLine limit n f → AreInLine limit m f

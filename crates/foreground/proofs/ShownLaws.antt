@@ -1,5 +1,5 @@
 -- How many pixel bytes a run has shown behind the picture step of a clock, by the place of the beam there, and where a foreground stands.
-use Rattle.std.proofs.Common.{◌≡◌, ℕ, ◌+◌, ◌-◌, Bool, true, false, if◌then◌else◌, [], ◌++◌}
+use Rattle.std.proofs.Common.{◌≡◌, ℕ, ◌+◌, Bool, true, false, if◌then◌else◌, [], ◌++◌}
 use Rattle.std.proofs.Common.{length, refl, ap, ◌∙◌, sym, subst, length-append, add-one}
 use Rattle.ocs_base.specs.declared.beam.Beam.{Beam}
 use Rattle.ocs_base.specs.Systems.{is_visible}

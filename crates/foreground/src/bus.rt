@@ -1,36 +1,39 @@
 //! Clocks of a line that refresh, sprites and the Copper leave to the planes, the blitter and the processor,
 //! made one behind the other.
 
-ghost use Rattle.std.specs.Prelude.{◌≡◌, ◌≤◌, ◌<◌, ◌+◌, ◌-◌, ◌^◌, max, ℕ, Bool, true, false, [], is_some, IfOk, OnOk, OnErr};
+ghost use Rattle.std.specs.Prelude.{◌≡◌, ◌≤◌, ◌<◌, ◌+◌, ◌-◌, ◌^◌, ℕ, Bool, true, false, [], is_some, None, IfOk, OnOk, OnErr};
 ghost use Rattle.serial_model.specs.Events.{due_events};
 ghost use Rattle.serial_model.specs.Beam.{next_place};
 ghost use Rattle.serial_model.specs.Side.{no_side};
 ghost use Rattle.serial_model.specs.Bus.{blit_owner_ask};
 ghost use Rattle.serial_model.specs.declared.bus.Ask.TheVariants as A;
 ghost use Rattle.serial_bands.specs.BusReads.{bus_reads, reads_of_ask};
+ghost use Rattle.serial_bands.specs.Shadows.{IsInRange};
+ghost use Rattle.picture_log.specs.Log.{with_access_touch};
 ghost use Rattle.quiet_clocks.specs.QuietClocks.{later_beam};
 ghost use Rattle.band_log.specs.Raster.{RasterValue};
 ghost use Rattle.chip_set.specs.BusCode.{LeavesToPlanes, LeavesBeside, LeaveBus, KeepsBus, KeepsBeside};
 ghost use Rattle.chip_set.specs.BusCode.{KeepsCias, CiasRest, IsClaim, ask_beside_planes, is_bus_ask};
 ghost use Rattle.chip_set.specs.Chips.{CanAsk, IsBlitAsk, kept_wish, late_ask};
 ghost use Rattle.foreground.specs.AccessCode.{CanAccess, MakesAccessWith};
-ghost use Rattle.foreground.specs.BusRun.{IsOpenForBus, StaysOnBus, GoesOnBus};
+ghost use Rattle.foreground.specs.BusRun.{IsOpenForBus, StaysOnBus, GoesOnBus, AreOnBus, HasRunOnBus, HasRunInPart};
 ghost use Rattle.foreground.specs.Clock.{Rises};
 ghost use Rattle.machine.specs.Machine.{IsSamePlace};
 ghost use Rattle.machine.specs.MachineStepsCode.{AsksInTime};
 ghost use Rattle.foreground.specs.Fore.{over, CanGo, IsUnderway, Advances, GivesPart, is_done, looked_up};
 ghost use Rattle.foreground.specs.LineCode.{AreInLine};
-ghost use Rattle.foreground.specs.RunTo.{RunsOn, RisesIn, RisesInSome};
 ghost use Rattle.foreground.specs.Steps.{MakesAskedAccess, AccessesPart, EndsClock, KeepsClock, reads_more};
 
 use crate::fore::Fore;
 use crate::lookout::{WORTH, is_beside_refresh};
 use band_log::Raster;
+use blit_words::SlotAsk;
 use chip_set::{BlitterClaim, FetchRules};
 use machine::touch_of;
 use ocs_base::OutOfMemory;
 use out_files::OutFiles;
-use serial_model::{Ask, PlaneAsk, ProcessorAsk, Side};
+use picture_log::Log;
+use serial_model::{Ask, PlaneAsk, ProcessorAsk, Side, Touch};
 
 /// The most clocks that are made without a look for quiet ones.
 const LONGEST_RUN: u16 = 128;
@@ -49,29 +52,146 @@ impl<S: Side> Fore<S> {
     ) -> Result<(), OutOfMemory>
         requires fits { CanGo (over S.seen self.old) (Q.seen raster.old) }
         requires fresh { self.old.spent ≡ false }
-        ensures clocks { OnOk result (RunsOn (over S.seen self.old) (over S.seen self.new)
-            (Q.seen raster.old) (Q.seen raster.new) out.old out.new) }
-        ensures on { OnOk result (self.old.machine.t ≤ self.new.machine.t) }
-        ensures most { OnOk result (self.new.machine.t ≤ max self.old.machine.t limit) }
+        ensures runs { OnOk result (HasRunOnBus limit (over S.seen self.old)
+            (over S.seen self.new) (Q.seen raster.old) (Q.seen raster.new) out.old out.new) }
+        ensures part { OnErr result (HasRunInPart limit (over S.seen self.old)
+            (over S.seen self.new) (Q.seen raster.old) (Q.seen raster.new) out.old out.new) }
         ensures run { (over S.seen self.new).run ≡ (over S.seen self.old).run }
         ensures fresh { OnOk result (self.new.spent ≡ false) }
-        ensures reads { OnOk result (RisesIn (over S.seen self.old).run self.old.machine.t
-            (self.new.machine.t - self.old.machine.t)
-            self.old.machine.chip.reads self.new.machine.chip.reads) }
         ensures still { OnOk result (self.new.machine.t ≡ self.old.machine.t
             → self.new ≡ self.old) }
         ensures spent { OnErr result (self.new.spent ≡ true) }
-        ensures part { OnErr result (GivesPart (over S.seen self.old)
-            (Q.seen raster.old) (Q.seen raster.new) out.old out.new) }
-        ensures few { OnErr result (RisesInSome limit (over S.seen self.old).run self.old.machine.t
-            self.old.machine.chip.reads self.new.machine.chip.reads) }
     {
         let (clocks, rules) = self.bus_clocks(limit);
         let claim = self.machine.chips.blitter_claim();
+        self.clocks_by_claim(&rules, &claim, clocks, limit, raster, out)
+    }
+
+    /// So many of them. Where the planes have no slots those in which the blitter asks and those in which it does
+    /// not have a loop of their own, which does not look for it in each clock; nothing else hangs on that.
+    #[inline(always)]
+    fn clocks_by_claim<Q: Raster<S>>(
+        &mut self,
+        rules: &Option<FetchRules>,
+        claim: &BlitterClaim,
+        clocks: u16,
+        limit: u64,
+        raster: &mut Q,
+        out: &mut OutFiles,
+    ) -> Result<(), OutOfMemory>
+        requires fits { CanGo (over S.seen self.old) (Q.seen raster.old) }
+        requires fresh { self.old.spent ≡ false }
+        requires bus { AreOnBus limit clocks rules.now claim.now (over S.seen self.old) }
+        ensures runs { OnOk result (HasRunOnBus limit (over S.seen self.old)
+            (over S.seen self.new) (Q.seen raster.old) (Q.seen raster.new) out.old out.new) }
+        ensures part { OnErr result (HasRunInPart limit (over S.seen self.old)
+            (over S.seen self.new) (Q.seen raster.old) (Q.seen raster.new) out.old out.new) }
+        ensures run { (over S.seen self.new).run ≡ (over S.seen self.old).run }
+        ensures fresh { OnOk result (self.new.spent ≡ false) }
+        ensures still { OnOk result (self.new.machine.t ≡ self.old.machine.t
+            → self.new ≡ self.old) }
+        ensures spent { OnErr result (self.new.spent ≡ true) }
+    {
+        if clocks == 0 {
+            return Ok(());
+        }
+        match rules {
+            Some(_) => self.clocks_on_bus(rules, claim, clocks, limit, raster, out),
+            None if claim.asks() => self.clocks_of_blit(claim, clocks, limit, raster, out),
+            None => self.clocks_of_processor(claim, clocks, limit, raster, out),
+        }
+    }
+
+    /// The same where the planes have no slots and the blitter asks; none where it does not.
+    #[inline(never)]
+    fn clocks_of_blit<Q: Raster<S>>(
+        &mut self,
+        claim: &BlitterClaim,
+        clocks: u16,
+        limit: u64,
+        raster: &mut Q,
+        out: &mut OutFiles,
+    ) -> Result<(), OutOfMemory>
+        requires fits { CanGo (over S.seen self.old) (Q.seen raster.old) }
+        requires fresh { self.old.spent ≡ false }
+        requires bus { AreOnBus limit clocks None claim.now (over S.seen self.old) }
+        ensures runs { OnOk result (HasRunOnBus limit (over S.seen self.old)
+            (over S.seen self.new) (Q.seen raster.old) (Q.seen raster.new) out.old out.new) }
+        ensures part { OnErr result (HasRunInPart limit (over S.seen self.old)
+            (over S.seen self.new) (Q.seen raster.old) (Q.seen raster.new) out.old out.new) }
+        ensures run { (over S.seen self.new).run ≡ (over S.seen self.old).run }
+        ensures fresh { OnOk result (self.new.spent ≡ false) }
+        ensures still { OnOk result (self.new.machine.t ≡ self.old.machine.t
+            → self.new ≡ self.old) }
+        ensures spent { OnErr result (self.new.spent ≡ true) }
+    {
+        let claim = *claim;
+        if claim.asks() {
+            self.clocks_on_bus(&None, &claim, clocks, limit, raster, out)
+        } else {
+            Ok(())
+        }
+    }
+
+    /// The same where the planes have no slots and the blitter does not ask; none where it does.
+    #[inline(never)]
+    fn clocks_of_processor<Q: Raster<S>>(
+        &mut self,
+        claim: &BlitterClaim,
+        clocks: u16,
+        limit: u64,
+        raster: &mut Q,
+        out: &mut OutFiles,
+    ) -> Result<(), OutOfMemory>
+        requires fits { CanGo (over S.seen self.old) (Q.seen raster.old) }
+        requires fresh { self.old.spent ≡ false }
+        requires bus { AreOnBus limit clocks None claim.now (over S.seen self.old) }
+        ensures runs { OnOk result (HasRunOnBus limit (over S.seen self.old)
+            (over S.seen self.new) (Q.seen raster.old) (Q.seen raster.new) out.old out.new) }
+        ensures part { OnErr result (HasRunInPart limit (over S.seen self.old)
+            (over S.seen self.new) (Q.seen raster.old) (Q.seen raster.new) out.old out.new) }
+        ensures run { (over S.seen self.new).run ≡ (over S.seen self.old).run }
+        ensures fresh { OnOk result (self.new.spent ≡ false) }
+        ensures still { OnOk result (self.new.machine.t ≡ self.old.machine.t
+            → self.new ≡ self.old) }
+        ensures spent { OnErr result (self.new.spent ≡ true) }
+    {
+        let claim = *claim;
+        if claim.asks() {
+            Ok(())
+        } else {
+            self.clocks_on_bus(&None, &claim, clocks, limit, raster, out)
+        }
+    }
+
+    /// So many of them, one behind the other.
+    #[inline(always)]
+    fn clocks_on_bus<Q: Raster<S>>(
+        &mut self,
+        rules: &Option<FetchRules>,
+        claim: &BlitterClaim,
+        clocks: u16,
+        limit: u64,
+        raster: &mut Q,
+        out: &mut OutFiles,
+    ) -> Result<(), OutOfMemory>
+        requires fits { CanGo (over S.seen self.old) (Q.seen raster.old) }
+        requires fresh { self.old.spent ≡ false }
+        requires bus { AreOnBus limit clocks rules.now claim.now (over S.seen self.old) }
+        ensures runs { OnOk result (HasRunOnBus limit (over S.seen self.old)
+            (over S.seen self.new) (Q.seen raster.old) (Q.seen raster.new) out.old out.new) }
+        ensures part { OnErr result (HasRunInPart limit (over S.seen self.old)
+            (over S.seen self.new) (Q.seen raster.old) (Q.seen raster.new) out.old out.new) }
+        ensures run { (over S.seen self.new).run ≡ (over S.seen self.old).run }
+        ensures fresh { OnOk result (self.new.spent ≡ false) }
+        ensures still { OnOk result (self.new.machine.t ≡ self.old.machine.t
+            → self.new ≡ self.old) }
+        ensures spent { OnErr result (self.new.spent ≡ true) }
+    {
         let mut rest = 0;
         let mut left = clocks;
         while left > 0 {
-            match self.clock_on_bus(&rules, &claim, &mut rest, raster, out) {
+            match self.clock_on_bus(rules, claim, &mut rest, raster, out) {
                 Ok(on) => left = if on { left - 1 } else { 0 },
                 Err(refused) => {
                     self.spent = true;
@@ -235,6 +355,7 @@ impl<S: Side> Fore<S> {
             (ask_beside_planes plane self.old.machine.beam self.old.machine.chips)
             (over S.seen self.old) (Q.seen raster.old) }
         requires room { self.old.machine.t + 1 < 2 ^ 64 }
+        requires waits { self.old.log.waiting ≡ None }
         requires leaves { LeavesToPlanes self.old.machine.beam self.old.machine.chips }
         requires claim { IsClaim claim.now self.old.machine.chips }
         ensures access { MakesAccessWith
@@ -261,6 +382,7 @@ impl<S: Side> Fore<S> {
         requires can { CanAccess (late_ask self.old.machine.beam self.old.machine.chips)
             (over S.seen self.old) (Q.seen raster.old) }
         requires room { self.old.machine.t + 1 < 2 ^ 64 }
+        requires waits { self.old.log.waiting ≡ None }
         requires leaves { LeavesToPlanes self.old.machine.beam self.old.machine.chips }
         requires claim { IsClaim claim.now self.old.machine.chips }
         ensures access { MakesAccessWith (late_ask self.old.machine.beam self.old.machine.chips)
@@ -278,7 +400,8 @@ impl<S: Side> Fore<S> {
         }
     }
 
-    /// That of the blitter.
+    /// That of the blitter. Which kind of access an area blit makes is asked for at once, so that each has a way
+    /// of its own from the ask to its end.
     #[inline(always)]
     fn blit_on_bus<Q: Raster<S>>(
         &mut self,
@@ -288,6 +411,7 @@ impl<S: Side> Fore<S> {
         requires can { CanAccess (blit_owner_ask (kept_wish self.old.machine.chips))
             (over S.seen self.old) (Q.seen raster.old) }
         requires room { self.old.machine.t + 1 < 2 ^ 64 }
+        requires waits { self.old.log.waiting ≡ None }
         requires leaves { LeavesToPlanes self.old.machine.beam self.old.machine.chips }
         requires asks { is_some (kept_wish self.old.machine.chips) ≡ true }
         ensures access { MakesAccessWith (blit_owner_ask (kept_wish self.old.machine.chips))
@@ -296,6 +420,22 @@ impl<S: Side> Fore<S> {
         ensures bus { IfOk result (λ on. on ≡ true
             → StaysOnBus (over S.seen self.old) (over S.seen self.new)) }
     {
+        if let Some((at, word)) = self.machine.chips.blit_write_in_turn() {
+            return self.serve_on_bus(
+                &Ask::Blit {
+                    ask: SlotAsk::Write { at, word },
+                },
+                out,
+            );
+        }
+        if let Some(at) = self.machine.chips.blit_read_in_turn() {
+            return self.serve_on_bus(
+                &Ask::Blit {
+                    ask: SlotAsk::Read { at },
+                },
+                out,
+            );
+        }
         match self.machine.chips.blit_ask_in_turn() {
             Ask::Blit { ask } => self.serve_on_bus(&Ask::Blit { ask }, out),
             other => {
@@ -315,6 +455,7 @@ impl<S: Side> Fore<S> {
     ) -> Result<bool, OutOfMemory>
         requires can { CanAccess (A.Processor ask) (over S.seen self.old) (Q.seen raster.old) }
         requires room { self.old.machine.t + 1 < 2 ^ 64 }
+        requires waits { self.old.log.waiting ≡ None }
         requires leaves { LeavesToPlanes self.old.machine.beam self.old.machine.chips }
         ensures access { MakesAccessWith (A.Processor ask)
             (over S.seen self.old) (over S.seen self.new)
@@ -348,6 +489,7 @@ impl<S: Side> Fore<S> {
         requires can { (seen : RasterValue) × CanAccess ask.now (over S.seen self.old) seen }
         requires bus { is_bus_ask ask.now ≡ true }
         requires room { self.old.machine.t + 1 < 2 ^ 64 }
+        requires waits { self.old.log.waiting ≡ None }
         requires leaves { LeavesToPlanes self.old.machine.beam self.old.machine.chips }
         ensures makes { OnOk result ((seen : RasterValue) → MakesAskedAccess
             (over S.seen self.old) (over S.seen self.new) seen seen out.old out.new) }
@@ -362,8 +504,22 @@ impl<S: Side> Fore<S> {
         let busy = self.machine.chips.is_blitting();
         let made = self.machine.answer_on_bus(ask, out)?;
         let t = self.machine.t;
-        self.log.note_access(t, &touch_of(&made))?;
+        note_touch(&mut self.log, t, &touch_of(&made))?;
         Ok(self.machine.chips.is_blitting() == busy)
+    }
+}
+
+/// A touch by the access of a clock, where no write waits: without one nothing is to be noted.
+#[inline(always)]
+fn note_touch(log: &mut Log, t: u64, touch: &Option<Touch>) -> Result<(), OutOfMemory>
+    requires waits { log.old.waiting ≡ None }
+    requires range { IsInRange touch.now }
+    requires room { t + 1 < 2 ^ 64 }
+    ensures { OnOk result (log.new ≡ with_access_touch t touch.now log.old) }
+{
+    match touch {
+        Some(_) => log.note_access(t, touch),
+        None => Ok(()),
     }
 }
 

@@ -355,6 +355,7 @@ impl<S: Side> Machine<S> {
     }
 
     /// A word, or its low byte as one half of a word, is stored in memory.
+    #[inline(always)]
     fn store(&mut self, at: Addr, half: Half, word: u16) -> Result<(), OutOfMemory>
         requires { self.old.chip.newest ≤ self.old.t }
         ensures does { (clx : ℕ) (out : OutFilesValue) → OnOk result

@@ -3,7 +3,7 @@ use Rattle.std.proofs.Common.{ap, refl, ◌∙◌}
 use Rattle.chip_set.proofs.BusLaws.{claim_kept}
 use Rattle.machine.specs.Machine.{MachineValue}
 use Rattle.mem_versions.specs.Chip.{ChipValue}
-use Rattle.foreground.specs.Fore.{over, looked_up}
+use Rattle.foreground.specs.Fore.{ForeOf, over, looked_up}
 use Rattle.foreground.proofs.BeginLaws.{rises_same}
 use Rattle.foreground.proofs.BusLaws.{begins_on_bus, goes_on_bus, line_left, rest_left}
 use Rattle.foreground.proofs.MadeLaws.{on_err}
@@ -21,6 +21,9 @@ access_on_bus-requires-clause-can g c =
     let reaches = reaches_ask _ _ _ _ _ _ _ runs c.ask_on_bus-plane.ensures.asks (ap (over g.S.Side.seen) c.ask_on_bus-plane.ensures.same) in
     let at = at_ask _ _ _ _ _ _ _ _ _ _ _ c.requires.underway.1 begins reaches in
     record { logged = at.1; asked = at.0; able = c.ask_on_bus-plane.ensures.able; wish = c.ask_on_bus-plane.ensures.wish }
+
+pub access_on_bus-requires-clause-waits : goal.access_on_bus-requires-clause-waits
+access_on_bus-requires-clause-waits g c = ap (λ (f : ForeOf _). f.log.waiting) c.ask_on_bus-plane.ensures.same ∙ c.requires.ready.waits
 
 pub access_on_bus-requires-clause-claim : goal.access_on_bus-requires-clause-claim
 access_on_bus-requires-clause-claim g c =

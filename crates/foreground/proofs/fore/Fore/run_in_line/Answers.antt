@@ -11,33 +11,39 @@ use Rattle.foreground.proofs.fore.Fore.run_in_line.Goals as goal
 pub run_one_by_one-requires-clause-fits : goal.run_one_by_one-requires-clause-fits
 run_one_by_one-requires-clause-fits g c =
     let of = over g.S.Side.seen in
-    can_go_then (of c.args.self.now) (of c.run_on_bus.new.self) _ _ _ _ c.in_ok-run_on_bus.ensures.clocks c.requires.fresh c.requires.fits
+    can_go_then (of c.args.self.now) (of c.run_on_bus.new.self) _ _ _ _ c.in_ok-run_on_bus.ensures.runs.clocks c.requires.fresh c.requires.fits
+
+pub returns-in_err-run_on_bus-clause-part : goal.returns-in_err-run_on_bus-clause-part
+returns-in_err-run_on_bus-clause-part g c = on_err c.from_residual.result c.in_err-run_on_bus.ensures.part.part
+
+pub returns-in_err-run_on_bus-clause-few : goal.returns-in_err-run_on_bus-clause-few
+returns-in_err-run_on_bus-clause-few g c = on_err c.from_residual.result c.in_err-run_on_bus.ensures.part.few
 
 pub returns-in_err-run_one_by_one-clause-part : goal.returns-in_err-run_one_by_one-clause-part
 returns-in_err-run_one_by_one-clause-part g c =
     let of = over g.S.Side.seen in
     on_err c.from_residual-in_err-run_one_by_one.result (part_behind (of c.args.self.now) (of c.run_on_bus.new.self) _ _ _ _ _ _
-    c.in_ok-run_on_bus.ensures.clocks c.in_err-run_one_by_one.ensures.part c.run_on_bus.ensures.run)
+    c.in_ok-run_on_bus.ensures.runs.clocks c.in_err-run_one_by_one.ensures.part c.run_on_bus.ensures.run)
 
 pub returns-in_err-run_one_by_one-clause-few : goal.returns-in_err-run_one_by_one-clause-few
 returns-in_err-run_one_by_one-clause-few g c =
     let of = over g.S.Side.seen in
     on_err c.from_residual-in_err-run_one_by_one.result
     (few_in_two (of c.args.self.now) (of c.run_on_bus.new.self) (of c.run_one_by_one.new.self) c.args.limit
-    c.run_on_bus.ensures.run c.in_ok-run_on_bus.ensures.on c.in_ok-run_on_bus.ensures.most c.in_ok-run_on_bus.ensures.reads
+    c.run_on_bus.ensures.run c.in_ok-run_on_bus.ensures.runs.on c.in_ok-run_on_bus.ensures.runs.most c.in_ok-run_on_bus.ensures.runs.reads
     c.in_err-run_one_by_one.ensures.few)
 
 pub returns-clause-clocks : goal.returns-clause-clocks
 returns-clause-clocks g c =
     let of = over g.S.Side.seen in
     runs_more (of c.args.self.now) (of c.run_on_bus.new.self) (of c.run_one_by_one.new.self) _ _ _ _ _ _
-    c.in_ok-run_on_bus.ensures.clocks c.in_ok-run_one_by_one.ensures.clocks c.run_on_bus.ensures.run
+    c.in_ok-run_on_bus.ensures.runs.clocks c.in_ok-run_one_by_one.ensures.clocks c.run_on_bus.ensures.run
 
 pub returns-clause-reads : goal.returns-clause-reads
 returns-clause-reads g c =
     let of = over g.S.Side.seen in
     reads_twice (of c.args.self.now) (of c.run_on_bus.new.self) (of c.run_one_by_one.new.self)
-    c.run_on_bus.ensures.run c.in_ok-run_on_bus.ensures.on c.in_ok-run_one_by_one.ensures.on c.in_ok-run_on_bus.ensures.reads
+    c.run_on_bus.ensures.run c.in_ok-run_on_bus.ensures.runs.on c.in_ok-run_one_by_one.ensures.on c.in_ok-run_on_bus.ensures.runs.reads
     c.in_ok-run_one_by_one.ensures.reads
 
 pub returns-clause-none : goal.returns-clause-none
@@ -45,5 +51,11 @@ returns-clause-none g c none =
     let from : c.self.inside.machine.t ≡ c.args.self.now.machine.t = ap (λ (f : ForeOf _). f.machine.t) c.self.view_is in
     let to : c.self-2.inside.machine.t ≡ c.run_one_by_one.new.self.machine.t = ap (λ (f : ForeOf _). f.machine.t) c.self-2.view_is in
     let least : c.self-2.inside.machine.t ≤ c.self.inside.machine.t = grind (arith, nat_tests, none) in
-    nothing_made c.args.self.now c.run_on_bus.new.self c.run_one_by_one.new.self c.in_ok-run_on_bus.ensures.on c.in_ok-run_one_by_one.ensures.on
+    nothing_made c.args.self.now c.run_on_bus.new.self c.run_one_by_one.new.self c.in_ok-run_on_bus.ensures.runs.on c.in_ok-run_one_by_one.ensures.on
     c.in_ok-run_on_bus.ensures.still c.in_ok-run_one_by_one.ensures.still (omega (arith, from, to, least))
+
+pub returns-clause-on : goal.returns-clause-on
+returns-clause-on g c = omega (arith, c.in_ok-run_on_bus.ensures.runs.on, c.in_ok-run_one_by_one.ensures.on)
+
+pub returns-clause-most : goal.returns-clause-most
+returns-clause-most g c = omega (arith, c.in_ok-run_on_bus.ensures.runs.most, c.in_ok-run_one_by_one.ensures.most)

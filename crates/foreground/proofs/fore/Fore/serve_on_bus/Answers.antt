@@ -14,9 +14,9 @@ pub returns-in_err-made-clause-part : goal.returns-in_err-made-clause-part
 returns-in_err-made-clause-part g c =
     on_err c.from_residual.result (λ seen. quiet_part (over g.S.Side.seen c.args.self.now) seen _ _ (lines_same _ _ c.in_err-made.ensures.refused))
 
-pub returns-in_err-note_access-clause-part : goal.returns-in_err-note_access-clause-part
-returns-in_err-note_access-clause-part g c =
-    on_err c.from_residual-in_err-note_access.result
+pub returns-in_err-note_touch-clause-part : goal.returns-in_err-note_touch-clause-part
+returns-in_err-note_touch-clause-part g c =
+    on_err c.from_residual-in_err-note_touch.result
     (λ seen. quiet_part (over g.S.Side.seen c.args.self.now) seen _ _ (lines_of_access _ _ _ c.args.ask.now _ _ _
     (ap (over g.S.Side.seen) c.self.view_is) c.requires.can.1.asked (no_clx c.args.ask.now c.requires.bus) c.in_ok-made.ensures.access))
 
@@ -24,15 +24,15 @@ pub returns-clause-makes : goal.returns-clause-makes
 returns-clause-makes g c seen =
     makes_quietly_of _ _ c.args.ask.now _ _ _ _ seen _ _ (ap (over g.S.Side.seen) c.self.view_is)
     c.requires.can.1.asked (no_clx c.args.ask.now c.requires.bus) c.in_ok-made.ensures.access c.in_ok-made.ensures.able c.in_ok-made.ensures.place
-    c.in_ok-made.ensures.memory c.touch_of.ensures.touch c.touch_of.ensures.range c.in_ok-note_access.ensures
+    c.in_ok-made.ensures.memory c.touch_of.ensures.touch c.touch_of.ensures.range c.in_ok-note_touch.ensures
 
 pub returns-clause-bus : goal.returns-clause-bus
 returns-clause-bus g c same =
     stays_view g.S.Side.seen _ c.args.self.now _ c.self.view_is (record {
       chips = c.in_ok-made.ensures.bus
           (blits_on _ _ c.is_blitting-busy.result c.is_blitting.result c.is_blitting-busy.ensures c.is_blitting.ensures same);
-      waits = ap (λ (l : Log). l.waiting) c.in_ok-note_access.ensures
+      waits = ap (λ (l : Log). l.waiting) c.in_ok-note_touch.ensures
           ∙ none_waits _ _ _ c.touch_of.ensures.touch c.in_ok-made.ensures.made;
-      from = ap (λ (l : Log). l.band.from) c.in_ok-note_access.ensures;
+      from = ap (λ (l : Log). l.band.from) c.in_ok-note_touch.ensures;
       side = c.in_ok-made.ensures.side;
     })

@@ -4,7 +4,7 @@ use Rattle.foreground.specs.BusRun.{IsOpenForBus}
 use Rattle.foreground.specs.Fore.{over, CanGo}
 use Rattle.foreground.specs.LineCode.{AreInLine}
 use Rattle.foreground.specs.RunTo.{RunsOn, RisesIn}
-use Rattle.foreground.proofs.fore.Fore.run_on_bus.Given as goal
+use Rattle.foreground.proofs.fore.Fore.clocks_on_bus.Given as goal
 
 abbrev pub invariant-loop-left : goal.invariant-loop-left
 invariant-loop-left g l =

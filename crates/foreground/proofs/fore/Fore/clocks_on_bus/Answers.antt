@@ -1,0 +1,113 @@
+use Rattle.std.proofs.Common.{◌<◌, arith, refl, ◌∙◌, ap, subst, sym}
+use Rattle.chip_set.specs.BusCode.{LeaveBus}
+use Rattle.foreground.specs.Fore.{over}
+use Rattle.foreground.specs.LineCode.{AreInLine}
+use Rattle.foreground.specs.RunTo.{RisesInSome}
+use Rattle.foreground.proofs.RunToLaws.{runs_none, runs_then, part_behind, can_go_on, no_reads, reads_then, few_behind}
+use Rattle.chip_set.proofs.BusLaws.{claim_kept}
+use Rattle.foreground.proofs.BusLaws.{first_leaves, leave_next, no_rest}
+use Rattle.foreground.proofs.LineLaws.{in_line_next, first_due}
+use Rattle.foreground.proofs.fore.Fore.clocks_on_bus.Goals as goal
+use Rattle.foreground.proofs.fore.Fore.clocks_on_bus.Goals.{then-on, else-on}
+
+pub loop-left-init : goal.loop-left-init
+loop-left-init g c = record {
+  able = c.requires.fits;
+  runs = runs_none _ _ _;
+  run = refl;
+  on = omega arith;
+  most = omega arith;
+  reads = no_reads _ _ _;
+  fresh = c.requires.fresh;
+  still = λ there. refl;
+  line = c.requires.bus.line;
+  leave = c.requires.bus.leave;
+  claim = λ some. c.requires.bus.asks;
+  ready = c.requires.bus.ready;
+  rest = λ some. no_rest c.args.self.now.machine.t c.args.self.now.machine.chips;
+}
+
+pub clock_on_bus-requires : goal.clock_on_bus-requires
+clock_on_bus-requires g c =
+    let f = over g.S.Side.seen c.loop-left.self in
+    let some : 0 < c.loop-left.left = c.loop-left-test.true in
+    let are : AreInLine c.args.limit c.loop-left.left f = c.loop-left.invariant.line some in
+    record {
+      underway = c.loop-left.invariant.able c.loop-left.invariant.fresh;
+      running = are.running;
+      inner = are.inner;
+      last = omega (arith, are.line, some);
+      due = first_due c.args.limit c.loop-left.left f some are;
+      ready = c.loop-left.invariant.ready some;
+      leaves = first_leaves c.args.rules.now c.loop-left.left f.machine.beam f.machine.chips some (c.loop-left.invariant.leave some);
+      claim = c.loop-left.invariant.claim some;
+      rest = c.loop-left.invariant.rest some;
+    }
+
+pub loop-left-preserved : goal.loop-left-preserved
+loop-left-preserved g c =
+    let of = over g.S.Side.seen in
+    let f0 = of c.args.self.now in
+    let f = of c.loop-left.self in
+    let next = of c.clock_on_bus.new.self in
+    let rules = c.args.rules.now in
+    let some : 0 < c.loop-left.left = c.loop-left-test.true in
+    let are : AreInLine c.args.limit c.loop-left.left f = c.loop-left.invariant.line some in
+    let one = c.in-Ok.ensures in
+    record {
+      able = can_go_on f next _ _ _ _ one.clock c.loop-left.invariant.fresh c.loop-left.invariant.able;
+      runs = runs_then f0 f next _ _ _ _ _ _ c.loop-left.invariant.runs one.clock c.loop-left.invariant.run one.count;
+      run = c.clock_on_bus.ensures.run ∙ c.loop-left.invariant.run;
+      on = omega (arith, c.loop-left.invariant.on, one.count);
+      most = omega (arith, are.before, one.count, some);
+      reads = reads_then f0 f next _ c.loop-left.invariant.run c.loop-left.invariant.on c.loop-left.invariant.fresh c.loop-left.invariant.able
+          c.loop-left.invariant.reads one.reads one.count;
+      fresh = one.spent ∙ c.loop-left.invariant.fresh;
+      still = λ same. absurd (omega (arith, c.loop-left.invariant.on, one.count, same));
+      line = λ more. elim c.if-on.branch [
+        | then-on w ↦ subst (λ n. AreInLine c.args.limit n next) (sym w.left-is)
+            (in_line_next c.args.limit c.loop-left.left f next some are c.clock_on_bus.ensures.run one.count one.place)
+        | else-on w ↦ absurd (omega (arith, more, w.left-is))
+      ];
+      leave = λ more. elim c.if-on.branch [
+        | then-on w ↦ subst (λ n. LeaveBus rules next.machine.beam n next.machine.chips) (sym w.left-is)
+            (leave_next rules c.loop-left.left f.machine.beam next.machine.beam f.machine.chips next.machine.chips some
+            (c.loop-left.invariant.leave some) one.place (one.bus w.if-on.true).chips)
+        | else-on w ↦ absurd (omega (arith, more, w.left-is))
+      ];
+      claim = λ more. elim c.if-on.branch [
+        | then-on w ↦ claim_kept _ rules f.machine.chips next.machine.chips (one.bus w.if-on.true).chips (c.loop-left.invariant.claim some)
+        | else-on w ↦ absurd (omega (arith, more, w.left-is))
+      ];
+      ready = λ more. elim c.if-on.branch [
+        | then-on w ↦ (one.bus w.if-on.true).ready
+        | else-on w ↦ absurd (omega (arith, more, w.left-is))
+      ];
+      rest = λ more. elim c.if-on.branch [
+        | then-on w ↦ (one.bus w.if-on.true).rests
+        | else-on w ↦ absurd (omega (arith, more, w.left-is))
+      ];
+    }
+
+pub returns-in-Err-clause-part : goal.returns-in-Err-clause-part
+returns-in-Err-clause-part g c =
+    let of = over g.S.Side.seen in
+    let f0 = c.args.self.now in
+    let some : 0 < c.loop-left.left = c.loop-left-test.true in
+    let are : AreInLine c.args.limit c.loop-left.left (of c.loop-left.self) = c.loop-left.invariant.line some in
+    let same = ap (λ f. f.machine.chip.reads) c.self.view_is in
+    record {
+      part = part_behind (of f0) (of c.loop-left.self) _ _ _ _ _ _ c.loop-left.invariant.runs c.in-Err.ensures.part c.loop-left.invariant.run;
+      few = subst (λ reads. RisesInSome c.args.limit (of f0).run f0.machine.t f0.machine.chip.reads reads) (sym same)
+          (few_behind (of f0) (of c.loop-left.self) (of c.clock_on_bus.new.self) _ c.args.limit c.loop-left.invariant.run
+          c.loop-left.invariant.on (omega (arith, are.before, some)) c.loop-left.invariant.fresh c.loop-left.invariant.able
+          c.loop-left.invariant.reads c.in-Err.ensures.few);
+    }
+
+pub returns-clause-runs : goal.returns-clause-runs
+returns-clause-runs g c = record {
+  clocks = c.loop-left.invariant.runs;
+  on = c.loop-left.invariant.on;
+  most = c.loop-left.invariant.most;
+  reads = c.loop-left.invariant.reads;
+}
