@@ -115,23 +115,34 @@ pub begun_at : (run : RunValue) (n from to : ℕ) (beam : Beam) (opening : Denis
       filled = 0;
       clx = 0;
     })
-begun_at run n from to beam opening painter events words room sets due parts painted keeps counted left within = record {
-  picture = opened beam opening;
-  painted = painted;
-  kept = λ none. not_both painter.keeps keeps none;
-  drawn = opened_drawn run n from to beam opening events words (length room) parts;
-  place = record {
-    frame = ap (λ (b : Beam). b.frame) parts.place;
-    line = ap (λ (b : Beam). b.v) parts.place;
-    clock = ap (λ (b : Beam). b.h) parts.place;
-  };
-  sets = counted ∙ ap (λ b. length (touches_of (due_events b run.script.events))) parts.place;
-  left = left;
-  due = within;
-  next = omega arith;
-  filled = no_bytes run from ∙ ap (λ k. length (bytes_from run from k)) (no_clocks from);
-  size = parts.size;
-}
+begun_at run n from to beam opening painter events words room sets due parts painted keeps counted left within =
+    let drawn = opened_drawn run n from to beam opening events words (length room) parts in
+    record {
+      reached = record {
+        picture = opened beam opening;
+        stands = drawn.stands;
+        least = drawn.least;
+        most = drawn.most;
+        log = drawn.log;
+        place = record {
+          frame = ap (λ (b : Beam). b.frame) parts.place;
+          line = ap (λ (b : Beam). b.v) parts.place;
+          clock = ap (λ (b : Beam). b.h) parts.place;
+        };
+        sets = counted ∙ ap (λ b. length (touches_of (due_events b run.script.events))) parts.place;
+        left = left;
+        due = within;
+        next = omega arith;
+      };
+      painted = painted;
+      kept = λ none. not_both painter.keeps keeps none;
+      filled = record {
+        shown = drawn.shown;
+        gathered = drawn.gathered;
+        count = no_bytes run from ∙ ap (λ k. length (bytes_from run from k)) (no_clocks from);
+        size = parts.size;
+      };
+    }
 
 pub job_screen : (run : RunValue) (n from to : ℕ) (beam : Beam) (opening : Denise) (events : List Event) (words : ℕ → Addr → ℕ) (room : ℕ)
     → IsRightJob run n from to beam opening events words room → IsOnScreen beam

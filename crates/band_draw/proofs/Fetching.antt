@@ -28,7 +28,7 @@ use Rattle.serial_bands.proofs.Spans.{quiet_joined, quiet_once, quiet_nowhere, u
 use Rattle.serial_bands.proofs.Spans.{fetch_is_next, fetched_same, fetched_once}
 use Rattle.band_draw.specs.AheadCode.{IsPlaced, IsFetched, first_clock}
 use Rattle.band_draw.specs.BandPainter.{IsBandPainterOf, Paints}
-use Rattle.band_draw.specs.ProgressCode.{IsSource, IsSamePlace, IsAt}
+use Rattle.band_draw.specs.ProgressCode.{IsSource, IsSamePlace, IsReached}
 use Rattle.band_draw.specs.declared.band_painter.BandPainter.{BandPainter}
 use Rattle.band_draw.specs.declared.progress.Progress.{Progress}
 use Rattle.band_draw.proofs.Turning.{nexts, same_next}
@@ -89,12 +89,12 @@ stays_on_line run view events p n source at more line k few =
     (sym place.line ∙ at.place.line, sym place.clock ∙ ap (λ h. h + k) at.place.clock)
 
 -- what is placed
-pub placed : (run : RunValue) (events : List Event) (room : List ℕ) (p : Progress) → IsAt run events room p → IsPlaced run events p
-placed run events room p at = record {
-  least = at.drawn.least;
-  most = at.drawn.most;
+pub placed : (run : RunValue) (events : List Event) (p : Progress) → IsReached run events p → IsPlaced run events p
+placed run events p at = record {
+  least = at.least;
+  most = at.most;
   place = at.place;
-  log = at.drawn.log;
+  log = at.log;
   next = at.next;
 }
 

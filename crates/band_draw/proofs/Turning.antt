@@ -26,7 +26,7 @@ use Rattle.serial_bands.specs.Run.{RunValue, beam_at, run_memory}
 use Rattle.serial_bands.specs.Clock.{sets_at, bytes_at, bus_touch_at, fetch_alone, opening_at}
 use Rattle.serial_bands.specs.ClockLaws.{IsNextInField}
 use Rattle.serial_bands.specs.Bands.{begins}
-use Rattle.serial_bands.specs.BandShown.{bytes_from, IsRightDrawn}
+use Rattle.serial_bands.specs.BandShown.{bytes_from, clx_from, IsRightDrawn}
 use Rattle.serial_model.specs.StandsFor.{StandsFor}
 use Rattle.serial_bands.specs.RightJob.{HasMemory, events_from, script_events, bus_events}
 use Rattle.serial_bands.specs.EventReading.{touch_of_event, bus_touch_of}
@@ -40,7 +40,7 @@ use Rattle.band_draw.specs.DueCode.{IsLeft}
 use Rattle.band_draw.specs.Given.{IsGiven, filled_after}
 use Rattle.band_draw.specs.declared.band_painter.BandPainter.{BandPainter}
 use Rattle.band_draw.specs.BandPainter.{IsBandPainterOf, Paints}
-use Rattle.band_draw.specs.ProgressCode.{IsSource, IsSamePlace, IsAt, IsEnded}
+use Rattle.band_draw.specs.ProgressCode.{IsSource, IsSamePlace, IsReached, IsFilled, IsAt, IsShown, IsEnded}
 use Rattle.band_draw.specs.SoundCode.{IsSound}
 use Rattle.band_draw.specs.TouchedCode.{touched_by, touched_by_events}
 use Rattle.band_draw.proofs.Sounding.{sound_opening, sound_kept, sound_in_order, sound_after, sound_touched}
@@ -103,19 +103,39 @@ room_there run events room p at visible =
     visible_filled run.script.system p.beam.v p.beam.h p.filled (length room) visible
     (omega (
       arith,
-      filled_next run p.from p.clock p.beam.v p.beam.h p.filled at.drawn.least at.place.line at.place.clock at.filled,
-      size_within run p.from (p.clock + 1 - p.from) (p.to - p.from) (omega (arith, at.drawn.most, at.drawn.least)),
-      at.size,
+      filled_next run p.from p.clock p.beam.v p.beam.h p.filled at.reached.least at.reached.place.line at.reached.place.clock at.filled.count,
+      size_within run p.from (p.clock + 1 - p.from) (p.to - p.from) (omega (arith, at.reached.most, at.reached.least)),
+      at.filled.size,
     ))
 
-pub filled_within : (run : RunValue) (events : List Event) (room : List ℕ) (p : Progress) → IsAt run events room p → p.filled ≤ length room
-filled_within run events room p at =
-    omega (arith, at.filled, at.size, size_within run p.from (p.clock - p.from) (p.to - p.from) (omega (arith, at.drawn.most, at.drawn.least)))
+-- a band that has come to its clock is drawn to it
+drawn_there : (run : RunValue) (events : List Event) (p : Progress) (at : IsReached run events p)
+    → IsDrawnTo run p.from p.to p.clock at.picture (drop p.next events) (bytes_from run p.from (p.clock - p.from))
+    (clx_from run p.from (p.clock - p.from))
+drawn_there run events p at = record {
+  least = at.least;
+  most = at.most;
+  stands = at.stands;
+  log = at.log;
+  shown = refl;
+  gathered = refl;
+}
+
+pub drawn_of : (run : RunValue) (events : List Event) (room : List ℕ) (p : Progress) (at : IsAt run events room p)
+    → IsDrawnTo run p.from p.to p.clock at.reached.picture (drop p.next events) (take p.filled room) p.clx
+drawn_of run events room p at = record {
+  least = at.reached.least;
+  most = at.reached.most;
+  stands = at.reached.stands;
+  log = at.reached.log;
+  shown = at.filled.shown;
+  gathered = at.filled.gathered;
+}
 
 -- the picture state and the place
-pub sound_there : (run : RunValue) (events : List Event) (room : List ℕ) (p : Progress) (at : IsAt run events room p) → IsSound at.picture
-sound_there run events room p at =
-    sound_kept (4 * (beam_at run p.clock).h) at.picture (opening_at run p.clock) at.drawn.stands (sound_opening run p.clock)
+pub sound_there : (run : RunValue) (events : List Event) (p : Progress) (at : IsReached run events p) → IsSound at.picture
+sound_there run events p at =
+    sound_kept (4 * (beam_at run p.clock).h) at.picture (opening_at run p.clock) at.stands (sound_opening run p.clock)
 
 pub same_screen : (b other : Beam) → IsSamePlace b other → IsOnScreen other → IsOnScreen b
 same_screen b other same on = record {
@@ -123,8 +143,8 @@ same_screen b other same on = record {
   clock = subst (λ k. k < 228) (sym same.clock) on.clock;
 }
 
-pub screen_there : (run : RunValue) (events : List Event) (room : List ℕ) (p : Progress) → IsAt run events room p → IsOnScreen p.beam
-screen_there run events room p at = same_screen p.beam (beam_at run p.clock) at.place (on_screen run.side run.image run.script p.clock)
+pub screen_there : (run : RunValue) (events : List Event) (p : Progress) → IsReached run events p → IsOnScreen p.beam
+screen_there run events p at = same_screen p.beam (beam_at run p.clock) at.place (on_screen run.side run.image run.script p.clock)
 
 -- the script's events of the clock
 script_part : (run : RunValue) (events : List Event) (c n next sets : ℕ) → drop next events ≡ events_from run c n
@@ -132,12 +152,12 @@ script_part : (run : RunValue) (events : List Event) (c n next sets : ℕ) → d
 script_part run events c n next sets log is =
     ap (λ l. take sets l) log ∙ ap (λ k. take k (events_from run c n)) is ∙ script_comes_first run c n
 
-pub part_there : (run : RunValue) (events : List Event) (room : List ℕ) (p : Progress) → IsAt run events room p
+pub part_there : (run : RunValue) (events : List Event) (p : Progress) → IsReached run events p
     → p.next + p.sets ≤ length events
-part_there run events room p at =
+part_there run events p at =
     let c : ℕ = p.clock in
     let part : length (take p.sets (drop p.next events)) ≡ length (sets_at run c) =
-    ap (λ (l : List Event). length l) (script_part run events c (p.to - c - 1) p.next p.sets at.drawn.log at.sets)
+    ap (λ (l : List Event). length l) (script_part run events c (p.to - c - 1) p.next p.sets at.log at.sets)
     ∙ length-map (sets_at run c) _ in
     omega (arith, part, at.sets, at.next, length-take p.sets (drop p.next events), length-drop p.next events)
 
@@ -151,59 +171,60 @@ all_found run from to c word_found (touch ∷ touches) p has least most =
     ∙ ap (λ q. touch_in_order (beam_at run c).h (word_of (run_memory run c)) touches q)
     (words_are_found run from to c word_found (Some touch) p has least most)
 
-script_drawn : (run : RunValue) (events : List Event) (view : ViewValue) (room : List ℕ) (p : Progress) → IsSource run p.from p.to view
-    → (at : IsAt run events room p)
+script_drawn : (run : RunValue) (events : List Event) (view : ViewValue) (p : Progress) → IsSource run p.from p.to view
+    → (at : IsReached run events p)
     → touched_by_events (beam_at run p.clock).h (word_then view p.clock) (take p.sets (drop p.next events)) at.picture
     ≡ with_script run p.clock at.picture
-script_drawn run events view room p source at =
+script_drawn run events view p source at =
     let c : ℕ = p.clock in
     let h : ℕ = (beam_at run c).h in
     ap (λ l. touched_by h (word_then view c) (map touch_of_event l) at.picture)
-    (script_part run events c (p.to - c - 1) p.next p.sets at.drawn.log at.sets)
+    (script_part run events c (p.to - c - 1) p.next p.sets at.log at.sets)
     ∙ ap (λ l. touched_by h (word_then view c) l at.picture) (script_events_are_sets run c)
-    ∙ all_found run p.from p.to c (word_then view) (sets_at run c) at.picture source.memory at.drawn.least (omega (arith, at.drawn.most))
+    ∙ all_found run p.from p.to c (word_then view) (sets_at run c) at.picture source.memory at.least (omega (arith, at.most))
 
 -- what the clock shows
 abbrev pub IsGivenBy : System → Progress → List Event → ViewValue → List ℕ → List ℕ → BandPainter → ℕ → Type 0
 IsGivenBy system p events view before after shown clx = (q : Denise) → IsBandPainterOf (4 * p.beam.h) p.painter q →
     IsGiven system p.beam.v p.beam.h (touched_by_events p.beam.h (word_then view p.clock) (take p.sets (drop p.next events)) q) shown before after p.clx clx
 
-given_here : (run : RunValue) (events : List Event) (view : ViewValue) (room before after : List ℕ) (p : Progress) (shown : BandPainter) (clx : ℕ)
-    → IsSource run p.from p.to view → (at : IsAt run events room p) → IsGivenBy run.script.system p events view before after shown clx
+given_here : (run : RunValue) (events : List Event) (view : ViewValue) (before after : List ℕ) (p : Progress) (shown : BandPainter) (clx : ℕ)
+    → IsSource run p.from p.to view → (at : IsReached run events p) → IsBandPainterOf (4 * p.beam.h) p.painter at.picture
+    → IsGivenBy run.script.system p events view before after shown clx
     → IsGiven run.script.system (beam_at run p.clock).v (beam_at run p.clock).h (with_script run p.clock at.picture) shown before after p.clx clx
-given_here run events view room before after p shown clx source at given =
+given_here run events view before after p shown clx source at painted given =
     let b : Beam = beam_at run p.clock in
     let system : System = run.script.system in
     let part : List Event = take p.sets (drop p.next events) in
-    subst (λ q. IsGiven system b.v b.h q shown before after p.clx clx) (script_drawn run events view room p source at)
+    subst (λ q. IsGiven system b.v b.h q shown before after p.clx clx) (script_drawn run events view p source at)
     (subst (λ k. IsGiven system b.v k (touched_by_events k (word_then view p.clock) part at.picture) shown before after p.clx clx) at.place.clock
     (subst (λ k. IsGiven system k p.beam.h (touched_by_events p.beam.h (word_then view p.clock) part at.picture) shown before after p.clx clx) at.place.line
-    (given at.picture at.painted)))
+    (given at.picture painted)))
 
 -- the events behind the script's
-pub rest_there : (run : RunValue) (events : List Event) (room : List ℕ) (p : Progress) → IsAt run events room p
+pub rest_there : (run : RunValue) (events : List Event) (p : Progress) → IsReached run events p
     → drop (p.next + p.sets) events ≡ behind_script run p.clock (drop p.next events)
-rest_there run events room p at =
+rest_there run events p at =
     sym (drop-drop p.sets p.next events) ∙ ap (λ k. drop k (drop p.next events)) at.sets
 
 behind : (h : ℕ) → 4 * h ≤ 4 * h + 4
 behind h = omega arith
 
 -- with the access's touch, whichever it is found to be
-accessed : (run : RunValue) (events : List Event) (view : ViewValue) (room : List ℕ) (p : Progress) (shown touched : BandPainter) (after : Denise)
-    (found there : Option Touch) → IsSource run p.from p.to view → IsAt run events room p → found ≡ there
+accessed : (run : RunValue) (events : List Event) (view : ViewValue) (p : Progress) (shown touched : BandPainter) (after : Denise)
+    (found there : Option Touch) → IsSource run p.from p.to view → IsReached run events p → found ≡ there
     → IsBandPainterOf (4 * (beam_at run p.clock).h + 4) shown after
     → Paints (4 * p.beam.h) (touch_by_address p.beam.h (word_then view p.clock) found) shown touched
     → IsBandPainterOf (4 * (beam_at run p.clock).h + 4) touched
     (touch_if_any (beam_at run p.clock).h (word_of (run_memory run p.clock)) there after)
-accessed run events view room p shown touched after found there source at is painted paints =
+accessed run events view p shown touched after found there source at is painted paints =
     let c : ℕ = p.clock in
     let h : ℕ = (beam_at run c).h in
     let here : Paints (4 * h) (touch_by_address h (word_then view c) there) shown touched =
     subst (λ t. Paints (4 * h) (touch_by_address h (word_then view c) t) shown touched) is
     (subst (λ k. Paints (4 * k) (touch_by_address k (word_then view c) found) shown touched) at.place.clock paints) in
     subst (λ q. IsBandPainterOf (4 * h + 4) touched q)
-    (words_are_found run p.from p.to c (word_then view) there after source.memory at.drawn.least (omega (arith, at.drawn.most)))
+    (words_are_found run p.from p.to c (word_then view) there after source.memory at.least (omega (arith, at.most)))
     (here (4 * h + 4) after (behind h) painted)
 
 -- the next place
@@ -233,21 +254,21 @@ same_next system b beam other next same one two = record {
   clock = one.clock ∙ clock_by system b.h other.h b.v other.v same.clock same.line ∙ sym two.clock;
 }
 
-inner_next : (run : RunValue) (events : List Event) (view : ViewValue) (room : List ℕ) (p : Progress) → IsSource run p.from p.to view
-    → IsAt run events room p → p.clock + 1 < p.to → begins run (p.clock + 1) ≡ false
-inner_next run events view room p source at more = source.inner (p.clock + 1) (omega (arith, at.drawn.least)) more
+inner_next : (run : RunValue) (events : List Event) (view : ViewValue) (p : Progress) → IsSource run p.from p.to view
+    → IsReached run events p → p.clock + 1 < p.to → begins run (p.clock + 1) ≡ false
+inner_next run events view p source at more = source.inner (p.clock + 1) (omega (arith, at.least)) more
 
-pub place_next : (run : RunValue) (events : List Event) (view : ViewValue) (room : List ℕ) (p : Progress) (beam : Beam)
-    → IsSource run p.from p.to view → IsAt run events room p → p.clock + 1 < p.to → IsNextInField run.script.system p.beam beam
+pub place_next : (run : RunValue) (events : List Event) (view : ViewValue) (p : Progress) (beam : Beam)
+    → IsSource run p.from p.to view → IsReached run events p → p.clock + 1 < p.to → IsNextInField run.script.system p.beam beam
     → IsSamePlace beam (beam_at run (p.clock + 1))
-place_next run events view room p beam source at more next =
+place_next run events view p beam source at more next =
     same_next run.script.system p.beam beam (beam_at run p.clock) (beam_at run (p.clock + 1)) at.place next
-    (nexts run p.clock (inner_next run events view room p source at more))
+    (nexts run p.clock (inner_next run events view p source at more))
 
-pub screen_next : (run : RunValue) (events : List Event) (view : ViewValue) (room : List ℕ) (p : Progress) (beam : Beam)
-    → IsSource run p.from p.to view → IsAt run events room p → p.clock + 1 < p.to → IsNextInField run.script.system p.beam beam → IsOnScreen beam
-screen_next run events view room p beam source at more next =
-    same_screen beam (beam_at run (p.clock + 1)) (place_next run events view room p beam source at more next)
+pub screen_next : (run : RunValue) (events : List Event) (view : ViewValue) (p : Progress) (beam : Beam)
+    → IsSource run p.from p.to view → IsReached run events p → p.clock + 1 < p.to → IsNextInField run.script.system p.beam beam → IsOnScreen beam
+screen_next run events view p beam source at more next =
+    same_screen beam (beam_at run (p.clock + 1)) (place_next run events view p beam source at more next)
     (on_screen run.side run.image run.script (p.clock + 1))
 
 one_place_on : (frame v h line clock last : ℕ) → h < 228 → line ≡ (if nat_le last h then v + 1 else v) → clock ≡ (if nat_le last h then 0 else h + 1)
@@ -292,9 +313,9 @@ left_on system script left b beam within next so =
       same = λ later screen from. so.same later screen (omega (arith, on, from));
     }
 
-pub left_there : (run : RunValue) (events : List Event) (room : List ℕ) (p : Progress) (beam : Beam) → IsAt run events room p
+pub left_there : (run : RunValue) (events : List Event) (p : Progress) (beam : Beam) → IsReached run events p
     → IsNextInField run.script.system p.beam beam → IsLeft (place_of beam) run.script.events (drop p.due.next run.script.events)
-left_there run events room p beam at next = left_on run.script.system run.script.events _ p.beam beam (screen_there run events room p at).clock next at.left
+left_there run events p beam at next = left_on run.script.system run.script.events _ p.beam beam (screen_there run events p at).clock next at.left
 
 -- the clearing
 same_clear : (b other : Beam) (p : Denise) → b.h ≡ other.h → clear_line b p ≡ clear_line other p
@@ -309,43 +330,40 @@ clear_by false h next is none = omega (arith, is)
 clear_order : (last h next : ℕ) → next ≡ (if nat_le last h then 0 else h + 1) → (next == 0) ≡ false → 4 * h + 4 ≤ 4 * next
 clear_order last h next is none = clear_by (nat_le last h) h next is none
 
--- what a clock before the last comes to
-pub record IsTurn (run : RunValue) (events : List Event) (view : ViewValue) (room after : List ℕ) (p : Progress)
-    (shown touched cleared : BandPainter) (filled clx : ℕ) (beam : Beam) (sets due count : ℕ) : Type 0 where
-  pub given : IsGivenBy run.script.system p events view (take p.filled room) (take filled after) shown clx
-  pub bytes : filled ≡ filled_after run.script.system p.beam.v p.beam.h p.filled
-  pub size : length after ≡ length room
+-- what the access of a clock before the last comes to
+pub record IsTurn (run : RunValue) (events : List Event) (view : ViewValue) (p : Progress) (touched cleared : BandPainter)
+    (beam : Beam) (sets due count : ℕ) : Type 0 where
   pub place : IsNextInField run.script.system p.beam beam
   pub coming : sets ≡ length (touches_of (due_events beam run.script.events))
   pub left : IsLeft (place_of beam + 1) run.script.events (drop due run.script.events)
   pub bound : due ≤ length run.script.events
   pub access : Paints (4 * p.beam.h)
-      (touch_by_address p.beam.h (word_then view p.clock) (bus_touch_of p.clock sets (drop (p.next + p.sets) events))) shown touched
+      (touch_by_address p.beam.h (word_then view p.clock) (bus_touch_of p.clock sets (drop (p.next + p.sets) events))) p.painter touched
   pub counted : count ≡ length (bus_events p.clock (bus_touch_of p.clock sets (drop (p.next + p.sets) events)))
   pub within : count ≤ length (drop (p.next + p.sets) events)
   pub clean : (from : ℕ) (q : Denise) → IsBandPainterOf from touched q → ((beam.h == 0) ≡ false → from ≤ 4 * beam.h)
       → IsBandPainterOf (4 * beam.h) cleared (clear_line beam q)
   pub kept : cleared.keeps ≡ false → p.clock + 1 + 228 < p.to + beam.h
 
-touch_next : (run : RunValue) (events : List Event) (view : ViewValue) (room : List ℕ) (p : Progress) (beam : Beam) (sets : ℕ)
-    → IsSource run p.from p.to view → IsAt run events room p → p.clock + 1 < p.to → IsNextInField run.script.system p.beam beam
+touch_next : (run : RunValue) (events : List Event) (view : ViewValue) (p : Progress) (beam : Beam) (sets : ℕ)
+    → IsSource run p.from p.to view → IsReached run events p → p.clock + 1 < p.to → IsNextInField run.script.system p.beam beam
     → sets ≡ length (touches_of (due_events beam run.script.events))
     → bus_touch_of p.clock sets (drop (p.next + p.sets) events) ≡ bus_touch_at run p.clock
-touch_next run events view room p beam sets source at more next is =
-    let place : IsSamePlace beam (beam_at run (p.clock + 1)) = place_next run events view room p beam source at more next in
+touch_next run events view p beam sets source at more next is =
+    let place : IsSamePlace beam (beam_at run (p.clock + 1)) = place_next run events view p beam source at more next in
     let coming : sets ≡ length (sets_at run (p.clock + 1)) =
     is ∙ ap (λ l. length (touches_of l)) (events_by_place run.script.events beam (beam_at run (p.clock + 1)) place.frame place.line place.clock) in
-    ap (λ l. bus_touch_of p.clock sets l) (rest_there run events room p at)
+    ap (λ l. bus_touch_of p.clock sets l) (rest_there run events p at)
     ∙ ap (λ k. bus_touch_of p.clock k (behind_script run p.clock (drop p.next events))) coming
-    ∙ touch_is_next run p.from p.to p.clock at.picture (drop p.next events) (take p.filled room) p.clx at.drawn more
+    ∙ touch_is_next run p.from p.to p.clock at.picture (drop p.next events) _ _ (drawn_there run events p at) more
 
-pub next_within : (run : RunValue) (events : List Event) (room : List ℕ) (p : Progress) (count : ℕ) → IsAt run events room p
+pub next_within : (run : RunValue) (events : List Event) (p : Progress) (count : ℕ) → IsReached run events p
     → count ≤ length (drop (p.next + p.sets) events) → p.next + (p.sets + count) ≤ length events
-next_within run events room p count at within =
-    omega (arith, within, length-drop (p.next + p.sets) events, part_there run events room p at)
+next_within run events p count at within =
+    omega (arith, within, length-drop (p.next + p.sets) events, part_there run events p at)
 
-abbrev pub come_to : Progress → BandPainter → ℕ → ℕ → Beam → ℕ → ℕ → ℕ → Progress
-come_to p cleared filled clx beam sets due count = record {
+abbrev pub come_to : Progress → BandPainter → Beam → ℕ → ℕ → ℕ → Progress
+come_to p cleared beam sets due count = record {
   from = p.from;
   to = p.to;
   clock = p.clock + 1;
@@ -354,98 +372,137 @@ come_to p cleared filled clx beam sets due count = record {
   sets = sets;
   due = record { next = due };
   next = p.next + (p.sets + count);
-  filled = filled;
-  clx = clx;
+  filled = p.filled;
+  clx = p.clx;
 }
 
-painted_next : (run : RunValue) (events : List Event) (view : ViewValue) (room after : List ℕ) (p : Progress)
-    (shown touched cleared : BandPainter) (filled clx : ℕ) (beam : Beam) (sets due count : ℕ)
-    → IsSource run p.from p.to view → (at : IsAt run events room p) → p.clock + 1 < p.to
-    → IsTurn run events view room after p shown touched cleared filled clx beam sets due count
+painted_next : (run : RunValue) (events : List Event) (view : ViewValue) (p : Progress) (touched cleared : BandPainter)
+    (beam : Beam) (sets due count : ℕ) → IsSource run p.from p.to view → (so : IsShown run events p) → p.clock + 1 < p.to
+    → IsTurn run events view p touched cleared beam sets due count
     → IsBandPainterOf (4 * beam.h) cleared
-    (clear_line (beam_at run (p.clock + 1)) (with_access run p.clock (after_kept run p.clock at.picture)))
-painted_next run events view room after p shown touched cleared filled clx beam sets due count source at more turn =
+    (clear_line (beam_at run (p.clock + 1)) (with_access run p.clock (after_kept run p.clock so.reached.picture)))
+painted_next run events view p touched cleared beam sets due count source so more turn =
     let c : ℕ = p.clock in
+    let at : IsReached run events p = so.reached in
     let next : Beam = beam_at run (c + 1) in
     let h : ℕ = (beam_at run c).h in
-    let left : Denise = with_access run c (after_kept run c at.picture) in
-    let place : IsSamePlace beam next = place_next run events view room p beam source at more turn.place in
+    let after : Denise = after_kept run c at.picture in
+    let left : Denise = with_access run c after in
+    let place : IsSamePlace beam next = place_next run events view p beam source at more turn.place in
     let painted : IsBandPainterOf (4 * h + 4) touched left =
-    accessed run events view room p shown touched (after_kept run c at.picture) _ _ source at
-    (touch_next run events view room p beam sets source at more turn.place turn.coming)
-    (given_here run events view room (take p.filled room) (take filled after) p shown clx source at turn.given).painted turn.access in
+    accessed run events view p p.painter touched after _ _ source at
+    (touch_next run events view p beam sets source at more turn.place turn.coming)
+    (subst (λ k. IsBandPainterOf (4 * k + 4) p.painter after) at.place.clock so.painted) turn.access in
     subst (λ q. IsBandPainterOf (4 * beam.h) cleared q) (same_clear beam next left place.clock)
     (turn.clean (4 * h + 4) left painted
     (clear_order (last_clock run.script.system (beam_at run c).v) h beam.h
-    (place.clock ∙ (nexts run c (inner_next run events view room p source at more)).clock)))
+    (place.clock ∙ (nexts run c (inner_next run events view p source at more)).clock)))
 
-drop_clock : (run : RunValue) (events : List Event) (view : ViewValue) (room : List ℕ) (p : Progress) (beam : Beam) (sets count : ℕ)
-    → IsSource run p.from p.to view → IsAt run events room p → p.clock + 1 < p.to → IsNextInField run.script.system p.beam beam
+drop_clock : (run : RunValue) (events : List Event) (view : ViewValue) (p : Progress) (beam : Beam) (sets count : ℕ)
+    → IsSource run p.from p.to view → IsReached run events p → p.clock + 1 < p.to → IsNextInField run.script.system p.beam beam
     → sets ≡ length (touches_of (due_events beam run.script.events))
     → count ≡ length (bus_events p.clock (bus_touch_of p.clock sets (drop (p.next + p.sets) events)))
     → drop (p.next + (p.sets + count)) events ≡ behind_clock run p.clock (drop p.next events)
-drop_clock run events view room p beam sets count source at more next is counted =
+drop_clock run events view p beam sets count source at more next is counted =
     let there : p.next + (p.sets + count) ≡ p.next + p.sets + count = omega arith in
     ap (λ k. drop k events) there
     ∙ sym (drop-drop count (p.next + p.sets) events)
-    ∙ ap (λ l. drop count l) (rest_there run events room p at)
+    ∙ ap (λ l. drop count l) (rest_there run events p at)
     ∙ ap (λ k. drop k (behind_script run p.clock (drop p.next events)))
-    (counted ∙ ap (λ t. length (bus_events p.clock t)) (touch_next run events view room p beam sets source at more next is))
+    (counted ∙ ap (λ t. length (bus_events p.clock t)) (touch_next run events view p beam sets source at more next is))
 
-drawn_on : (run : RunValue) (from to c : ℕ) (kept : Denise) (events left : List Event) (bytes others : List ℕ) (clx more : ℕ)
-    → IsDrawnTo run from to c kept events bytes clx → left ≡ events → others ≡ bytes → more ≡ clx
-    → IsDrawnTo run from to c kept left others more
-drawn_on run from to c kept events left bytes others clx more drawn log shown gathered = record {
-  least = drawn.least;
-  most = drawn.most;
-  stands = drawn.stands;
-  log = log ∙ drawn.log;
-  shown = shown ∙ drawn.shown;
-  gathered = gathered ∙ drawn.gathered;
-}
-
-pub turned : (run : RunValue) (events : List Event) (view : ViewValue) (room after : List ℕ) (p : Progress)
-    (shown touched cleared : BandPainter) (filled clx : ℕ) (beam : Beam) (sets due count : ℕ)
-    → IsSource run p.from p.to view → IsAt run events room p → p.clock + 1 < p.to
-    → IsTurn run events view room after p shown touched cleared filled clx beam sets due count
-    → IsAt run events after (come_to p cleared filled clx beam sets due count)
-turned run events view room after p shown touched cleared filled clx beam sets due count source at more turn =
+reached_next : (run : RunValue) (events : List Event) (view : ViewValue) (p : Progress) (touched cleared : BandPainter)
+    (beam : Beam) (sets due count : ℕ) → IsSource run p.from p.to view → IsReached run events p → p.clock + 1 < p.to
+    → IsTurn run events view p touched cleared beam sets due count
+    → IsReached run events (come_to p cleared beam sets due count)
+reached_next run events view p touched cleared beam sets due count source at more turn =
     let c : ℕ = p.clock in
-    let given : IsGiven run.script.system (beam_at run c).v (beam_at run c).h (with_script run c at.picture) shown (take p.filled room)
-    (take filled after) p.clx clx =
-    given_here run events view room (take p.filled room) (take filled after) p shown clx source at turn.given in
-    let place : IsSamePlace beam (beam_at run (c + 1)) = place_next run events view room p beam source at more turn.place in
+    let place : IsSamePlace beam (beam_at run (c + 1)) = place_next run events view p beam source at more turn.place in
+    let drawn = drawing_goes_on run p.from p.to c at.picture (drop p.next events) _ _ (drawn_there run events p at) more in
     record {
       picture = clear_line (beam_at run (c + 1)) (with_access run c (after_kept run c at.picture));
-      kept = turn.kept;
-      painted = painted_next run events view room after p shown touched cleared filled clx beam sets due count source at more turn;
-      drawn =
-          drawn_on run p.from p.to (c + 1) _ _ (drop (p.next + (p.sets + count)) events) _ (take filled after) _ clx
-          (drawing_goes_on run p.from p.to c at.picture (drop p.next events) (take p.filled room) p.clx at.drawn more)
-          (drop_clock run events view room p beam sets count source at more turn.place turn.coming turn.counted)
-          given.bytes
-          given.bits;
+      stands = drawn.stands;
+      least = drawn.least;
+      most = drawn.most;
+      log = drop_clock run events view p beam sets count source at more turn.place turn.coming turn.counted ∙ drawn.log;
       place = place;
       sets =
           turn.coming
           ∙ ap (λ l. length (touches_of l)) (events_by_place run.script.events beam (beam_at run (c + 1)) place.frame place.line place.clock);
       left = turn.left;
       due = turn.bound;
-      next = next_within run events room p count at turn.within;
-      filled =
-          turn.bytes ∙ filled_next run p.from c p.beam.v p.beam.h p.filled at.drawn.least at.place.line at.place.clock at.filled;
-      size = turn.size ∙ at.size;
+      next = next_within run events p count at turn.within;
+    }
+
+-- with the access, a clock that is shown is behind it
+pub turned : (run : RunValue) (events : List Event) (view : ViewValue) (room : List ℕ) (p : Progress) (touched cleared : BandPainter)
+    (beam : Beam) (sets due count : ℕ) → IsSource run p.from p.to view → IsShown run events p → p.clock + 1 < p.to
+    → IsTurn run events view p touched cleared beam sets due count → IsFilled run (p.clock + 1) room p
+    → IsAt run events room (come_to p cleared beam sets due count)
+unfolding reached_next
+turned run events view room p touched cleared beam sets due count source so more turn filled = record {
+  reached = reached_next run events view p touched cleared beam sets due count source so.reached more turn;
+  painted = painted_next run events view p touched cleared beam sets due count source so more turn;
+  kept = turn.kept;
+  filled = record { shown = filled.shown; gathered = filled.gathered; count = filled.count; size = filled.size };
+}
+
+-- the picture step of a clock is shown
+abbrev pub with_shown : Progress → BandPainter → ℕ → ℕ → Progress
+with_shown p shown filled clx = record p { painter = shown; filled = filled; clx = clx }
+
+pub shown_there : (run : RunValue) (events : List Event) (view : ViewValue) (room after : List ℕ) (p : Progress)
+    (shown : BandPainter) (filled clx : ℕ) → IsSource run p.from p.to view → IsAt run events room p
+    → IsGivenBy run.script.system p events view (take p.filled room) (take filled after) shown clx → shown.keeps ≡ p.painter.keeps
+    → IsShown run events (with_shown p shown filled clx)
+shown_there run events view room after p shown filled clx source at given keeps =
+    let c : ℕ = p.clock in
+    let here : IsReached run events p = at.reached in
+    record {
+      reached = record {
+        picture = here.picture;
+        stands = here.stands;
+        least = here.least;
+        most = here.most;
+        log = here.log;
+        place = here.place;
+        sets = here.sets;
+        left = here.left;
+        due = here.due;
+        next = here.next;
+      };
+      painted =
+          subst (λ k. IsBandPainterOf (4 * k + 4) shown (after_kept run c here.picture)) (sym here.place.clock)
+          (given_here run events view (take p.filled room) (take filled after) p shown clx source here at.painted given).painted;
+      kept = λ none. at.kept (sym keeps ∙ none);
+    }
+
+pub filled_there : (run : RunValue) (events : List Event) (view : ViewValue) (room after : List ℕ) (p : Progress)
+    (shown : BandPainter) (filled clx : ℕ) → IsSource run p.from p.to view → IsAt run events room p → p.clock + 1 < p.to
+    → IsGivenBy run.script.system p events view (take p.filled room) (take filled after) shown clx
+    → filled ≡ filled_after run.script.system p.beam.v p.beam.h p.filled → length after ≡ length room
+    → IsFilled run (p.clock + 1) after (with_shown p shown filled clx)
+filled_there run events view room after p shown filled clx source at more given bytes size =
+    let c : ℕ = p.clock in
+    let here : IsReached run events p = at.reached in
+    let made = given_here run events view (take p.filled room) (take filled after) p shown clx source here at.painted given in
+    let drawn = drawing_goes_on run p.from p.to c here.picture (drop p.next events) (take p.filled room) p.clx (drawn_of run events room p at) more in
+    record {
+      shown = made.bytes ∙ drawn.shown;
+      gathered = made.bits ∙ drawn.gathered;
+      count = bytes ∙ filled_next run p.from c p.beam.v p.beam.h p.filled here.least here.place.line here.place.clock at.filled.count;
+      size = size ∙ at.filled.size;
     }
 
 -- the last clock
-sound_end : (run : RunValue) (events : List Event) (room : List ℕ) (p : Progress) (at : IsAt run events room p)
+sound_end : (run : RunValue) (events : List Event) (p : Progress) (at : IsReached run events p)
     → IsSound (with_fetch run p.clock (after_kept run p.clock at.picture))
-sound_end run events room p at =
+sound_end run events p at =
     let c : ℕ = p.clock in
     let b : Beam = beam_at run c in
     let words : ℕ → ℕ = word_of (run_memory run c) in
     let script : IsSound (with_script run c at.picture) =
-    sound_in_order b.h words (sets_at run c) at.picture (sound_there run events room p at) in
+    sound_in_order b.h words (sets_at run c) at.picture (sound_there run events p at) in
     sound_touched b.h words (fetch_alone (bus_touch_at run c)) (after_kept run c at.picture)
     (sound_after run.script.system b.v b.h (with_script run c at.picture) script)
 
@@ -460,25 +517,26 @@ pub ended : (run : RunValue) (events : List Event) (view : ViewValue) (room afte
     → IsEnded run p.from p.to after closing clx
 ended run events view room after p shown touched closing filled clx coming source at last given filled_is size access close n band =
     let c : ℕ = p.clock in
-    let left : Denise = with_fetch run c (after_kept run c at.picture) in
-    let here : IsGiven run.script.system (beam_at run c).v (beam_at run c).h (with_script run c at.picture) shown (take p.filled room)
+    let drawn = drawn_of run events room p at in
+    let left : Denise = with_fetch run c (after_kept run c at.reached.picture) in
+    let here : IsGiven run.script.system (beam_at run c).v (beam_at run c).h (with_script run c at.reached.picture) shown (take p.filled room)
     (take filled after) p.clx clx =
-    given_here run events view room (take p.filled room) (take filled after) p shown clx source at given in
+    given_here run events view (take p.filled room) (take filled after) p shown clx source at.reached at.painted given in
     let touch : bus_touch_of c coming (drop (p.next + p.sets) events) ≡ fetch_alone (bus_touch_at run c) =
-    ap (λ l. bus_touch_of c coming l) (rest_there run events room p at)
-    ∙ last_fetch_is_next run p.from p.to c coming at.picture (drop p.next events) (take p.filled room) p.clx at.drawn last in
+    ap (λ l. bus_touch_of c coming l) (rest_there run events p at.reached)
+    ∙ last_fetch_is_next run p.from p.to c coming at.reached.picture (drop p.next events) (take p.filled room) p.clx drawn last in
     let painted : IsBandPainterOf (4 * (beam_at run c).h + 4) touched left =
-    accessed run events view room p shown touched (after_kept run c at.picture) _ _ source at touch here.painted access in
+    accessed run events view p shown touched (after_kept run c at.reached.picture) _ _ source at.reached touch here.painted access in
     let stands : StandsFor (4 * (beam_at run c).h + 4) closing left =
-    close (4 * (beam_at run c).h + 4) left painted (sound_end run events room p at).held in
+    close (4 * (beam_at run c).h + 4) left painted (sound_end run events p at.reached).held in
     let whole : filled ≡ length (bytes_from run p.from (p.to - p.from)) =
-    filled_is ∙ filled_next run p.from c p.beam.v p.beam.h p.filled at.drawn.least at.place.line at.place.clock at.filled
+    filled_is ∙ filled_next run p.from c p.beam.v p.beam.h p.filled at.reached.least at.reached.place.line at.reached.place.clock at.filled.count
     ∙ ap (λ k. length (bytes_from run p.from (k - p.from))) last in
-    let full : length after ≤ filled = omega (arith, size, at.size, whole) in
+    let full : length after ≤ filled = omega (arith, size, at.filled.size, whole) in
     subst (λ l. IsRightDrawn run n p.from p.to l clx closing) (sym here.bytes ∙ take_all filled after full)
-    (subst (λ k. IsRightDrawn run n p.from p.to (take p.filled room ++ (step_of_kept run c at.picture).bytes) k closing)
+    (subst (λ k. IsRightDrawn run n p.from p.to (take p.filled room ++ (step_of_kept run c at.reached.picture).bytes) k closing)
     (sym here.bits)
-    (drawing_ends run n p.from p.to c at.picture closing (drop p.next events) (take p.filled room) p.clx band at.drawn last stands))
+    (drawing_ends run n p.from p.to c at.reached.picture closing (drop p.next events) (take p.filled room) p.clx band drawn last stands))
 
 pub given_part : (system : System) (p : Progress) (events : List Event) (view : ViewValue) (part : List Event) (before after : List ℕ)
     (shown : BandPainter) (clx : ℕ)

@@ -130,8 +130,9 @@ fn draw_all<S: Side>(
     ensures size { length room.new ≡ length room.old }
 {
     while p.clock < p.to - 1 {
+        let before = p.clock;
         p.pass(run, events, view, room);
-        if p.clock < p.to - 1 {
+        if p.clock == before {
             p.turn(run, events, view, room);
         }
     }

@@ -1,9 +1,8 @@
 //! How far a band is drawn, and the steps from clock to clock.
 
-ghost use Rattle.std.specs.Prelude.{◌≡◌, ◌≤◌, ◌<◌, ◌+◌, ◌*◌, ◌^◌, ℕ, length, take, drop};
-ghost use Rattle.serial_bands.specs.DrawnTo.{IsDrawnTo};
+ghost use Rattle.std.specs.Prelude.{◌≡◌, ◌≤◌, ◌<◌, ◌+◌, ◌*◌, ◌^◌, ℕ, List, length, take, drop, true, if◌then◌else◌};
 ghost use Rattle.serial_bands.specs.Run.{run_over};
-ghost use Rattle.band_draw.specs.ProgressCode.{IsSource, IsAt, IsEnded};
+ghost use Rattle.band_draw.specs.ProgressCode.{IsSource, IsFilled, IsAt, IsShown, IsEnded};
 
 use crate::ahead::is_sprite_near;
 use crate::band_painter::BandPainter;
@@ -42,7 +41,9 @@ pub struct Progress {
 impl Progress {
     /// Draws the clocks up to the next change, at most to the last of the line and of the band, as one
     /// span: none where the next clock has a change, or where a sprite's fetch comes so soon that a clock
-    /// alone is cheaper. Fetches of bitplanes are made before it is shown.
+    /// alone is cheaper. Fetches of bitplanes are made before it is shown. Where the script writes nothing
+    /// at the clock of the change, and it is not the band's last, the span takes it in, and what its
+    /// access does follows.
     pub fn pass<S: Side>(&mut self, run: &Run<S>, events: &[Event], view: &MemView, room: &mut [u8])
         requires source { IsSource (run_over S.seen run.now) self.old.from self.old.to view.now }
         requires at { IsAt (run_over S.seen run.now) events.now room.old self.old }
@@ -66,14 +67,19 @@ impl Progress {
             v: self.beam.v,
             h: self.beam.h,
         };
-        self.filled = self
-            .painter
-            .show_span(from, count, room, self.filled, &mut self.clx);
         self.beam.h += count;
         let due = find_due(script.events(), self.due, &self.beam);
+        let on = is_clock_taken(due.sets, until, self.to);
+        let shown = count_with(count, on);
+        self.filled = self
+            .painter
+            .show_span(from, shown, room, self.filled, &mut self.clx);
         self.clock = until;
         self.sets = due.sets;
         self.due = due.behind;
+        if on {
+            self.go_to_next(run, events, view);
+        }
     }
 
     /// Draws a clock before the last, and comes to the next one.
@@ -87,22 +93,37 @@ impl Progress {
         ensures clock { self.new.clock ≡ self.old.clock + 1 }
         ensures size { length room.new ≡ length room.old }
     {
-        let script = run.script();
-        let system = script.system();
-        let h = self.beam.h;
-        let clock = Clock(self.clock);
         let due = part(events, self.next, self.sets);
-        touch_all(&mut self.painter, h, due, clock, view);
-        let filled = show_clock(
+        touch_all(&mut self.painter, self.beam.h, due, Clock(self.clock), view);
+        self.filled = show_clock(
             &mut self.painter,
-            system,
+            run.script().system(),
             &self.beam,
             room,
             self.filled,
             &mut self.clx,
         );
+        self.go_to_next(run, events, view);
+    }
+
+    /// Comes to the next clock behind the picture step of one, with the touch of its access.
+    #[inline(always)]
+    fn go_to_next<S: Side>(&mut self, run: &Run<S>, events: &[Event], view: &MemView)
+        requires source { IsSource (run_over S.seen run.now) self.old.from self.old.to view.now }
+        requires shown { IsShown (run_over S.seen run.now) events.now self.old }
+        requires more { self.old.clock + 1 < self.old.to }
+        ensures at { (room : List ℕ)
+            → IsFilled (run_over S.seen run.now) (self.old.clock + 1) room self.old
+            → IsAt (run_over S.seen run.now) events.now room self.new }
+        ensures from { self.new.from ≡ self.old.from }
+        ensures to { self.new.to ≡ self.old.to }
+        ensures clock { self.new.clock ≡ self.old.clock + 1 }
+    {
+        let script = run.script();
+        let h = self.beam.h;
+        let clock = Clock(self.clock);
         let rest = behind(events, self.next + self.sets);
-        next_place(system, &mut self.beam);
+        next_place(script.system(), &mut self.beam);
         let coming = due_from(script.events(), self.due, &self.beam);
         let count = touch_access(&mut self.painter, h, rest, coming.sets, clock, view);
         let is_last_line = self.to - self.clock <= 229;
@@ -111,7 +132,6 @@ impl Progress {
         self.next += self.sets + count;
         self.sets = coming.sets;
         self.due = coming.behind;
-        self.filled = filled;
     }
 
     /// Draws the last clock, and closes with the picture state after it. The write of a register by
@@ -147,4 +167,25 @@ impl Progress {
         touch_access(&mut self.painter, h, rest, 0, clock, view);
         self.painter.close()
     }
+}
+
+/// Whether a span takes in the clock that it comes to, at which the script makes so many writes: it
+/// makes none, and the clock is not the last before `to`.
+#[inline(always)]
+fn is_clock_taken(sets: usize, clock: u64, to: u64) -> bool
+    requires { clock < to }
+    ensures none { result ≡ true → sets ≡ 0 }
+    ensures more { result ≡ true → clock + 1 < to }
+{
+    sets == 0 && clock + 1 < to
+}
+
+/// So many clocks, and one more where it is taken in.
+#[inline(always)]
+fn count_with(count: u16, on: bool) -> u16
+    requires { count ≤ 227 }
+    ensures count { result ≡ count + (if on then 1 else 0) }
+    ensures most { result ≤ count + 1 }
+{
+    count + on as u16
 }

@@ -1,4 +1,4 @@
-use Rattle.std.proofs.Common.{◌≡◌, ◌+◌, ◌*◌, ℕ, List, subst, sym, arith}
+use Rattle.std.proofs.Common.{◌+◌, ◌*◌, List, subst, sym, arith}
 use Rattle.planes.specs.PlaneBit.{ShowsSame}
 use Rattle.planes.specs.declared.load.Load.{Load}
 use Rattle.band_draw.proofs.Painting.{loads_kept}

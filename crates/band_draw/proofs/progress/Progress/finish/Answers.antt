@@ -15,17 +15,17 @@ use Rattle.band_draw.proofs.progress.Progress.finish.Goals as goal
 pub part-due-requires : goal.part-due-requires
 part-due-requires g c =
     let run = run_over g.S.Side.seen c.args.run.now in
-    part_there run c.args.events.now c.args.room.now c.args.self.now c.requires.at
+    part_there run c.args.events.now c.args.self.now c.requires.at.reached
 
 pub touch_all-requires-clause-place : goal.touch_all-requires-clause-place
 touch_all-requires-clause-place g c =
     let run = run_over g.S.Side.seen c.args.run.now in
-    omega (arith, (screen_there run c.args.events.now c.args.room.now c.args.self.now c.requires.at).clock)
+    omega (arith, (screen_there run c.args.events.now c.args.self.now c.requires.at.reached).clock)
 
 pub show_clock-requires-clause-place : goal.show_clock-requires-clause-place
 show_clock-requires-clause-place g c =
     let run = run_over g.S.Side.seen c.args.run.now in
-    omega (arith, (screen_there run c.args.events.now c.args.room.now c.args.self.now c.requires.at).clock)
+    omega (arith, (screen_there run c.args.events.now c.args.self.now c.requires.at.reached).clock)
 
 pub show_clock-requires-clause-room : goal.show_clock-requires-clause-room
 show_clock-requires-clause-room g c =
@@ -39,17 +39,17 @@ show_clock-requires-clause-room g c =
 pub overflow_add-self : goal.overflow_add-self
 overflow_add-self g c =
     let run = run_over g.S.Side.seen c.args.run.now in
-    omega (arith, part_there run c.args.events.now c.args.room.now c.args.self.now c.requires.at, c.part-due.ensures.few)
+    omega (arith, part_there run c.args.events.now c.args.self.now c.requires.at.reached, c.part-due.ensures.few)
 
 pub behind-rest-requires : goal.behind-rest-requires
 behind-rest-requires g c =
     let run = run_over g.S.Side.seen c.args.run.now in
-    part_there run c.args.events.now c.args.room.now c.args.self.now c.requires.at
+    part_there run c.args.events.now c.args.self.now c.requires.at.reached
 
 pub touch_access-requires-clause-place : goal.touch_access-requires-clause-place
 touch_access-requires-clause-place g c =
     let run = run_over g.S.Side.seen c.args.run.now in
-    omega (arith, (screen_there run c.args.events.now c.args.room.now c.args.self.now c.requires.at).clock)
+    omega (arith, (screen_there run c.args.events.now c.args.self.now c.requires.at.reached).clock)
 
 pub close-requires : goal.close-requires
 close-requires g c =
@@ -57,7 +57,7 @@ close-requires g c =
     let p : Progress = c.args.self.now in
     c.touch_access.ensures.keeps ∙ c.show_clock.ensures.keeps ∙ c.touch_all.ensures.keeps
     ∙ keeps_last p.painter.keeps p.to p.clock p.beam.h c.requires.at.kept c.requires.last
-    (screen_there run c.args.events.now c.args.room.now p c.requires.at).clock
+    (screen_there run c.args.events.now p c.requires.at.reached).clock
 
 pub returns-clause-ended : goal.returns-clause-ended
 returns-clause-ended g c =
