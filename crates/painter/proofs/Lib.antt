@@ -24,3 +24,4 @@ pub mod Spans
 pub mod Clocks
 pub mod PairOver
 pub mod Begun
+pub mod FourBytes

@@ -40,6 +40,11 @@ pub regrouped : (a a' b b' c c' : ℕ) →
     a + 4294967296 * a' + 4 * (b + 4294967296 * b') + 16 * (c + 4294967296 * c') ≡ a + 4 * b + 16 * c + 4294967296 * (a' + 4 * b' + 16 * c')
 regrouped a a' b b' c c' = omega arith
 
+-- the same of two words
+pub two_regrouped : (a a' b b' : ℕ) →
+    a + 4294967296 * a' + 4 * (b + 4294967296 * b') ≡ a + 4 * b + 16 * 0 + 4294967296 * (a' + 4 * b' + 16 * 0)
+two_regrouped a a' b b' = omega arith
+
 -- the bytes of two pixels whose components are these
 pub pixel_bytes : (red green blue : ℕ) → red < 16 → green < 16 → blue < 16 →
     to_le_bytes w64 ((red + green * 256 + blue * 65536) * 17 * 16777217)

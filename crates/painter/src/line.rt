@@ -1,6 +1,6 @@
 //! What the bitplanes show along a line.
 
-ghost use Rattle.std.specs.Prelude.{◌≡◌, ◌≤◌, ◌<◌, ◌+◌, ◌-◌, ◌*◌, max, ◌∷◌, ◌++◌, [], ◌/◌, ◌%◌, ℕ, ◌&&◌, true, nat_le, List, slice_index};
+ghost use Rattle.std.specs.Prelude.{◌≡◌, ◌≤◌, ◌<◌, ◌+◌, ◌-◌, ◌*◌, max, ◌∷◌, ◌++◌, [], ◌/◌, ◌%◌, ℕ, ◌&&◌, true, false, nat_le, List, slice_index};
 ghost use Rattle.planes.specs.declared.load.Load.{Load};
 ghost use Rattle.planes.specs.PlaneBit.{load_of, delay};
 
@@ -39,7 +39,72 @@ impl Line {
 
     /// Shows the load of a write to BPL1DAT at clock `h`, with the latches and BPLCON1 as they are
     /// then.
+    #[inline(always)]
     pub fn load(&mut self, h: u16, latches: &[u16; 6], con1: u16, hires: bool)
+        requires { h ≤ 227 }
+        ensures { (loads : List Load) → IsLineOf self.old loads
+            → IsLineOf self.new (loads ++ load_of h latches.now con1 hires ∷ []) }
+    {
+        if hires {
+            self.load_high(h, latches, con1);
+        } else {
+            self.load_low(h, latches, con1);
+        }
+    }
+
+    /// The same in high resolution. Mostly nothing is laid behind what it shows.
+    #[inline(never)]
+    fn load_high(&mut self, h: u16, latches: &[u16; 6], con1: u16)
+        requires { h ≤ 227 }
+        ensures { (loads : List Load) → IsLineOf self.old loads
+            → IsLineOf self.new (loads ++ load_of h latches.now con1 true ∷ []) }
+    {
+        if self.ends_with(h, con1, true) {
+            self.lay_load(h, latches, con1, true);
+        } else {
+            self.lay_over(h, latches, con1, true);
+        }
+    }
+
+    /// The same in low resolution.
+    #[inline(never)]
+    fn load_low(&mut self, h: u16, latches: &[u16; 6], con1: u16)
+        requires { h ≤ 227 }
+        ensures { (loads : List Load) → IsLineOf self.old loads
+            → IsLineOf self.new (loads ++ load_of h latches.now con1 false ∷ []) }
+    {
+        if self.ends_with(h, con1, false) {
+            self.lay_load(h, latches, con1, false);
+        } else {
+            self.lay_over(h, latches, con1, false);
+        }
+    }
+
+    /// Whether nothing is laid behind what a load shows. Only speed hangs on it.
+    #[inline(always)]
+    fn ends_with(&self, h: u16, con1: u16, hires: bool) -> bool
+        requires { h ≤ 227 }
+        ensures odd { result ≡ true → self.now.odd.end ≤ 4 * h + 38 + 2 * delay hires (con1 % 16) }
+        ensures even { result ≡ true
+            → self.now.even.end ≤ 4 * h + 38 + 2 * delay hires (con1 / 16 % 16) }
+    {
+        self.odd.end <= start_at(h, con1, hires) + 32
+            && self.even.end <= start_at(h, con1 / 16, hires) + 32
+    }
+
+    /// The same load where more may be laid.
+    #[inline(never)]
+    fn lay_over(&mut self, h: u16, latches: &[u16; 6], con1: u16, hires: bool)
+        requires { h ≤ 227 }
+        ensures { (loads : List Load) → IsLineOf self.old loads
+            → IsLineOf self.new (loads ++ load_of h latches.now con1 hires ∷ []) }
+    {
+        self.lay_load(h, latches, con1, hires);
+    }
+
+    /// Lays a load's bytes over both rows.
+    #[inline(always)]
+    fn lay_load(&mut self, h: u16, latches: &[u16; 6], con1: u16, hires: bool)
         requires { h ≤ 227 }
         ensures { (loads : List Load) → IsLineOf self.old loads
             → IsLineOf self.new (loads ++ load_of h latches.now con1 hires ∷ []) }
@@ -87,6 +152,19 @@ impl Line {
         ensures few { result < 64 }
     {
         self.odd.at(x) as usize + 2 * self.even.at(x) as usize
+    }
+
+    /// The same at four positions from one on.
+    #[inline(always)]
+    pub fn four_bits(&self, x: usize) -> [u8; 4]
+        requires { x ≤ 1020 }
+        ensures first { slice_index result 0 ≡ row_bits self.now x }
+        ensures second { slice_index result 1 ≡ row_bits self.now (x + 1) }
+        ensures third { slice_index result 2 ≡ row_bits self.now (x + 2) }
+        ensures fourth { slice_index result 3 ≡ row_bits self.now (x + 3) }
+    {
+        let bits = self.odd.four_at(x) + 2 * self.even.four_at(x);
+        bits.to_le_bytes()
     }
 }
 

@@ -1,9 +1,9 @@
 //! Two pixels of one low-resolution column.
 
-ghost use Rattle.std.specs.Prelude.{◌≡◌, ◌≤◌, ◌+◌, ◌*◌, ◌++◌, ℕ, true, flat_map, length, slice_index, slice_set, take};
+ghost use Rattle.std.specs.Prelude.{◌≡◌, ◌≤◌, ◌<◌, ◌+◌, ◌*◌, ◌++◌, ℕ, true, flat_map, length, slice_index, slice_set, take};
 ghost use Rattle.serial_model.specs.Picture.{colour_bytes};
 ghost use Rattle.painter.specs.HeldCode.{IsHeld, colour_word};
-ghost use Rattle.painter.specs.Inks.{two_pixels};
+ghost use Rattle.painter.specs.Inks.{ink, ink_number, two_pixels};
 ghost use Rattle.painter.specs.Pixels.{ink_at, modified_at, modified_along, modified_pixels, all_modified};
 ghost use Rattle.painter.specs.Line.{row_bits, ArePaired};
 ghost use Rattle.painter.specs.SpanCode.{bytes_of_clocks, ink_pixels};
@@ -179,6 +179,16 @@ fn two_inks(inks: &Inks, line: &Line, x: usize) -> [u8; 8]
     inks.two_pixels(inks.name(line.bits(x)))
 }
 
+/// Two pixels of the ink that these bits name, and two bytes more.
+#[inline(always)]
+fn named_twice(inks: &Inks, bits: u8) -> [u8; 8]
+    requires { bits < 64 }
+    ensures { result ≡ two_pixels (colour_bytes (ink inks.now.palette
+        (ink_number inks.now.con0 inks.now.con2 bits))) }
+{
+    inks.two_pixels(inks.name(bits as usize))
+}
+
 /// Puts the four such pixels from a position on, which are paired, into a room with one clock more.
 #[inline(always)]
 fn put_pairs(room: &mut [u8], at: usize, inks: &Inks, line: &Line, x: usize)
@@ -202,10 +212,11 @@ fn put_singles(room: &mut [u8], at: usize, inks: &Inks, line: &Line, x: usize)
         ≡ take at room.old ++ flat_map (λ x. x) (ink_pixels inks.now line.now x) }
     ensures size { length room.new ≡ length room.old }
 {
-    put_eight(room, at, &two_inks(inks, line, x));
-    put_eight(room, at + 3, &two_inks(inks, line, x + 1));
-    put_eight(room, at + 6, &two_inks(inks, line, x + 2));
-    put_eight(room, at + 9, &two_inks(inks, line, x + 3));
+    let bits = line.four_bits(x);
+    put_eight(room, at, &named_twice(inks, bits[0]));
+    put_eight(room, at + 3, &named_twice(inks, bits[1]));
+    put_eight(room, at + 6, &named_twice(inks, bits[2]));
+    put_eight(room, at + 9, &named_twice(inks, bits[3]));
 }
 
 /// Puts four such pixels, which may be known to be paired, into a room with one clock more.

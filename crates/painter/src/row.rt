@@ -1,6 +1,6 @@
 //! What the planes of one parity show along a line.
 
-ghost use Rattle.std.specs.Prelude.{◌≡◌, ◌≤◌, ◌+◌, ◌%◌, ℕ, true, nat_le, length, slice_index};
+ghost use Rattle.std.specs.Prelude.{◌≡◌, ◌≤◌, ◌+◌, ◌*◌, ◌%◌, ℕ, true, nat_le, length, slice_index};
 ghost use Rattle.painter.specs.RowCode.{laid, cut_off, IsPaired};
 
 /// How many high-resolution positions a row has: a line has 908, or 912 with NTSC, and a load may
@@ -51,6 +51,7 @@ impl Row {
 
     /// Shows these bytes from a position on, and nothing after them. Those of a low-resolution load
     /// come in pairs.
+    #[inline(always)]
     pub fn lay(&mut self, start: usize, bytes: &[u8], paired: bool)
         requires room { start ≤ 992 }
         requires even { start % 2 ≡ 0 }
@@ -83,6 +84,20 @@ impl Row {
         ensures few { result ≤ 21 }
     {
         self.shown[x]
+    }
+
+    /// What is shown at four positions from one on, each as a byte, the first of them the lowest.
+    #[inline(always)]
+    pub fn four_at(&self, x: usize) -> u32
+        requires { x ≤ 1020 }
+        ensures value { result ≡ slice_index self.now.shown x
+            + 256 * slice_index self.now.shown (x + 1)
+            + 65536 * slice_index self.now.shown (x + 2)
+            + 16777216 * slice_index self.now.shown (x + 3) }
+        ensures few { result ≤ 353703189 }
+    {
+        let shown = &self.shown;
+        u32::from_le_bytes([shown[x], shown[x + 1], shown[x + 2], shown[x + 3]])
     }
 }
 

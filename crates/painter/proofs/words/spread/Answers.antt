@@ -2,11 +2,6 @@ use Rattle.std.proofs.Math.Nat.{div-div-eq-div-mul}
 use Rattle.painter.specs.WordsCode.{spread_bits}
 use Rattle.painter.proofs.words.spread.Goals as goal
 
-pub returns-then-hires : goal.returns-then-hires
-unfolding spread_bits
-returns-then-hires c =
-    rw (c.if-hires.true, c.bytes_once.ensures, c.bytes_once-then-hires.ensures) (simp div-div-eq-div-mul)
-
 pub returns-else-hires : goal.returns-else-hires
 unfolding spread_bits
 returns-else-hires c =

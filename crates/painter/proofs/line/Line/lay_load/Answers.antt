@@ -4,7 +4,7 @@ use Rattle.planes.specs.PlaneBit.{load_of}
 use Rattle.painter.specs.WordsCode.{spread_bits}
 use Rattle.painter.proofs.Pairs.{spread_paired}
 use Rattle.painter.proofs.Loading.{spread_at, spread_few, laid_shows}
-use Rattle.painter.proofs.line.Line.load.Goals as goal
+use Rattle.painter.proofs.line.Line.lay_load.Goals as goal
 
 few_of : (bytes : List ℕ) (hires : Bool) (a b c x : ℕ) → bytes ≡ spread_bits hires a b c → slice_index bytes x ≤ 21
 few_of bytes hires a b c x is = subst (λ (l : List ℕ). slice_index l x ≤ 21) (sym is) (spread_few hires a b c x)
