@@ -197,6 +197,25 @@ one_put at n place shown first now new pixels is before put same =
     ∙ append_assoc first (bytes_of_clocks shown n) (flat_map (λ (x : List ℕ). x) (shown n))
     ∙ ap (λ (k : ℕ). first ++ bytes_of_clocks shown k) (sym next)
 
+-- four clocks of the same pixels are put one behind the other
+pub four_put_alike : (at : ℕ) (pixels : List (List ℕ)) (room one two three four : List ℕ) →
+    take (at + 12) one ≡ take at room ++ flat_map (λ (x : List ℕ). x) pixels →
+    take (at + 12 + 12) two ≡ take (at + 12) one ++ flat_map (λ (x : List ℕ). x) pixels →
+    take (at + 24 + 12) three ≡ take (at + 24) two ++ flat_map (λ (x : List ℕ). x) pixels →
+    take (at + 36 + 12) four ≡ take (at + 36) three ++ flat_map (λ (x : List ℕ). x) pixels →
+    take (at + 48) four ≡ take at room ++ bytes_of_clocks (λ (k : ℕ). pixels) 4
+four_put_alike at pixels room one two three four put_one put_two put_three put_four =
+    let shown : ℕ → List (List ℕ) = λ (k : ℕ). pixels in
+    let first : List ℕ = take at room in
+    let none : at ≡ at + 12 * 0 = omega arith in
+    let after_one : take (at + 12) one ≡ first ++ bytes_of_clocks shown 1 =
+    one_put at 0 at shown first room one pixels none (ap (λ (k : ℕ). take k room) none ∙ none_put at shown room) put_one refl in
+    let after_two : take (at + 24) two ≡ first ++ bytes_of_clocks shown 2 =
+    one_put at 1 (at + 12) shown first one two pixels (omega arith) after_one put_two refl in
+    let after_three : take (at + 36) three ≡ first ++ bytes_of_clocks shown 3 =
+    one_put at 2 (at + 24) shown first two three pixels (omega arith) after_two put_three refl in
+    one_put at 3 (at + 36) shown first three four pixels (omega arith) after_three put_four refl
+
 -- clocks inside the display window where no colour is held
 four_alike : (f : ℕ → List ℕ) (a b c d e g h i : ℕ) → a ≡ e → b ≡ g → c ≡ h → d ≡ i →
     f a ∷ f b ∷ f c ∷ f d ∷ [] ≡ f e ∷ f g ∷ f h ∷ f i ∷ []

@@ -28,13 +28,12 @@ abbrev twos : ℕ → List ℕ
 twos colour = two_pixels (colour_bytes colour)
 
 -- the tables at reset
-pub reset_tables : HasTables (replicate 32 0) 0 0 (replicate 64 (replicate 8 0)) (replicate 64 0) (replicate 64 4) (replicate 4 (0 ∷ 0 ∷ 0 ∷ []))
+pub reset_tables : HasTables (replicate 32 0) 0 0 (replicate 64 (replicate 8 0)) (replicate 64 0) (replicate 64 4)
 reset_tables = record {
   twos = λ n h. get_or-replicate 64 n (replicate 8 0) [] h ∙ sym (ap (λ (c : ℕ). twos c) (black_by n (nat_lt n 32)));
   numbers = λ bits h. zeros 64 bits ∙ no_planes bits;
   pairs = λ bits h. get_or-replicate 64 bits 4 0 h
       ∙ ap (λ (n : ℕ). if n == 0 then 4 else priority_code 0 0 (counted_bits 0 bits)) (no_planes bits);
-  backdrop = refl;
 }
 
 -- the first pair that is hidden tells which are
@@ -128,14 +127,6 @@ pub colour_put : (palette : List ℕ) (doubled : List (List ℕ)) (n colour k : 
     slice_index_or (two_put doubled n one two) k [] ≡ twos (ink (slice_set palette n colour) k)
 colour_put palette doubled n colour k one two long size few room old first second =
     put_by palette doubled n colour k one two (nat_eq k n) (nat_eq k (n + 32)) long size few room old first second refl refl
-
--- the first colour where another is put
-pub first_kept : (palette : List ℕ) (n colour : ℕ) → 0 < n → colour_bytes (ink palette 0) ≡ colour_bytes (ink (slice_set palette n colour) 0)
-first_kept palette n colour some = sym (ap colour_bytes (get_or-set_other palette n 0 colour 0 (λ e. omega (arith, e, some))))
-
-pub first_put : (palette : List ℕ) (n colour : ℕ) → length palette ≡ 32 → n ≡ 0 → colour_bytes colour ≡ colour_bytes (ink (slice_set palette n colour) 0)
-first_put palette n colour long is =
-    sym (ap colour_bytes (ap (λ (m : ℕ). slice_index (slice_set palette n colour) m) (sym is) ∙ get_or-set_same palette n colour 0 (omega (arith, long, is))))
 
 -- two playfields have the first sixteen colours
 dual_by : (one two : ℕ) (chosen none : Bool) → one < 8 → two < 8 → (if chosen then (if none then 0 else 8 + two) else one) < 32

@@ -97,6 +97,22 @@ same_places room at a b c d e f =
     ap (λ (k : ℕ). slice_set (slice_set (slice_set (three_set room at a b c) (at + 3) d) k e) (at + 5) f) four
     ∙ ap (λ (k : ℕ). slice_set (slice_set (slice_set (three_set room at a b c) (at + 3) d) (at + 3 + 1) e) k f) five
 
+pub first_six_of : (room bytes : List ℕ) (at : ℕ) → length bytes ≡ 8 → at + 6 ≤ length room →
+    take (at + 6) (slice_set (slice_set (slice_set (three_set room at
+    (slice_index_or bytes 0 0) (slice_index_or bytes 1 0) (slice_index_or bytes 2 0)) (at + 3) (slice_index_or bytes 3 0))
+    (at + 4) (slice_index_or bytes 4 0)) (at + 5) (slice_index_or bytes 5 0))
+    ≡ take at room ++ take 6 bytes
+first_six_of room bytes at is long =
+    let a : ℕ = slice_index_or bytes 0 0 in
+    let b : ℕ = slice_index_or bytes 1 0 in
+    let c : ℕ = slice_index_or bytes 2 0 in
+    let d : ℕ = slice_index_or bytes 3 0 in
+    let e : ℕ = slice_index_or bytes 4 0 in
+    let f : ℕ = slice_index_or bytes 5 0 in
+    ap (λ (l : List ℕ). take (at + 6) l) (same_places room at a b c d e f)
+    ∙ first_six room at a b c d e f long
+    ∙ ap (λ (l : List ℕ). take at room ++ l) (taken_six bytes is)
+
 pub six_of_eight : (room bytes : List ℕ) (at g h : ℕ) → length bytes ≡ 8 → at + 8 ≤ length room →
     take (at + 6) (slice_set (slice_set (slice_set (slice_set (slice_set (three_set room at
     (slice_index_or bytes 0 0) (slice_index_or bytes 1 0) (slice_index_or bytes 2 0)) (at + 3) (slice_index_or bytes 3 0))
@@ -112,9 +128,7 @@ six_of_eight room bytes at g h is long =
     let six : List ℕ = slice_set (slice_set (slice_set (three_set room at a b c) (at + 3) d) (at + 4) e) (at + 5) f in
     take-set-le (at + 6) (slice_set six (at + 6) g) (at + 7) h (omega arith)
     ∙ take-set-le (at + 6) six (at + 6) g (omega arith)
-    ∙ ap (λ (l : List ℕ). take (at + 6) l) (same_places room at a b c d e f)
-    ∙ first_six room at a b c d e f (omega (arith, long))
-    ∙ ap (λ (l : List ℕ). take at room ++ l) (taken_six bytes is)
+    ∙ first_six_of room bytes at is (omega (arith, long))
 
 -- two pixels twice, and four pixels
 pub pairs_put : (at a b : ℕ) (room first last one two : List ℕ) → one ≡ two_pixels (colour_bytes a) → two ≡ two_pixels (colour_bytes b)

@@ -48,8 +48,7 @@ abbrev pub two_pixels : List ℕ → List ℕ
 two_pixels bytes = bytes ++ bytes ++ 0 ∷ 0 ∷ []
 
 -- the tables say what the registers do
-pub record HasTables (palette : List ℕ) (con0 con2 : ℕ) (doubled : List (List ℕ)) (names hidden : List ℕ) (pixels : List (List ℕ)) : Type 0 where
+pub record HasTables (palette : List ℕ) (con0 con2 : ℕ) (doubled : List (List ℕ)) (names hidden : List ℕ) : Type 0 where
   pub twos : (n : ℕ) → n < 64 → slice_index_or doubled n [] ≡ two_pixels (colour_bytes (ink palette n))
   pub numbers : (bits : ℕ) → bits < 64 → slice_index names bits ≡ ink_number con0 con2 bits
   pub pairs : (bits : ℕ) → bits < 64 → slice_index hidden bits ≡ first_hidden con0 con2 bits
-  pub backdrop : pixels ≡ replicate 4 (colour_bytes (ink palette 0))

@@ -1,6 +1,6 @@
 //! Inks: the colours that the bits of the planes name, as bytes.
 
-ghost use Rattle.std.specs.Prelude.{◌≡◌, ◌≤◌, ◌<◌, ◌%◌, ◌/◌, ℕ, List, length, slice_set};
+ghost use Rattle.std.specs.Prelude.{◌≡◌, ◌≤◌, ◌<◌, ◌%◌, ◌/◌, ℕ, List, length, slice_index, slice_set};
 ghost use Rattle.serial_model.specs.Picture.{colour_bytes};
 ghost use Rattle.painter.specs.Inks.{ink, ink_number, counted_bits, halved, is_held, backdrop};
 ghost use Rattle.painter.specs.Inks.{two_pixels};
@@ -22,8 +22,6 @@ pub struct Inks {
     names: [u8; 64],
     /// By the bits of the planes: the first pair of sprites that they hide, 4 for none.
     hidden: [u8; 64],
-    /// Four pixels of COLOR00.
-    backdrop: [[u8; 3]; 4],
 }
 
 impl Model for Inks {
@@ -33,8 +31,7 @@ impl Model for Inks {
 
     ghost view = { λ s. record { palette = s.palette; con0 = s.con0; con2 = s.con2 } };
 
-    ghost invariant = { λ s. HasTables s.palette s.con0 s.con2 s.doubled s.names s.hidden
-        s.backdrop };
+    ghost invariant = { λ s. HasTables s.palette s.con0 s.con2 s.doubled s.names s.hidden };
 }
 
 impl Inks {
@@ -51,7 +48,6 @@ impl Inks {
             doubled: [[0; 8]; 64],
             names: [0; 64],
             hidden: [4; 64],
-            backdrop: [[0; 3]; 4],
         }
     }
 
@@ -77,7 +73,7 @@ impl Inks {
         self.put_colour(number, word % 0x1000);
     }
 
-    /// One of COLOR00 to COLOR31 becomes a colour. The backdrop is that of COLOR00 alone.
+    /// One of COLOR00 to COLOR31 becomes a colour.
     fn put_colour(&mut self, number: usize, colour: u16)
         requires { number < 32 }
         ensures { self.new ≡ record self.old {
@@ -89,10 +85,6 @@ impl Inks {
         let half = twice(half_of(colour));
         self.doubled[number] = two;
         self.doubled[number + 32] = half;
-        if number > 0 {
-            return;
-        }
-        self.backdrop = [one_of(&two); 4];
     }
 
     /// A write to BPLCON0.
@@ -170,10 +162,18 @@ impl Inks {
 
     /// Four pixels of COLOR00.
     #[inline(always)]
-    pub fn backdrop(&self) -> &[[u8; 3]; 4]
-        ensures { result.now ≡ backdrop self.now.palette }
+    pub fn backdrop(&self) -> [[u8; 3]; 4]
+        ensures { result ≡ backdrop self.now.palette }
     {
-        &self.backdrop
+        [self.bytes(0); 4]
+    }
+
+    /// The bytes of two pixels of COLOR00, and two more.
+    #[inline(always)]
+    pub fn backdrop_twice(&self) -> &[u8; 8]
+        ensures { result.now ≡ two_pixels (colour_bytes (slice_index self.now.palette 0)) }
+    {
+        &self.doubled[0]
     }
 
     /// The bytes of two pixels of an ink, and two more.

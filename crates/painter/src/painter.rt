@@ -423,7 +423,7 @@ impl Painter {
           held = colour_bytes (slice_index self.old.inks.palette 0);
         } }
     {
-        *into = *self.inks.backdrop();
+        *into = self.inks.backdrop();
         self.held = self.inks.bytes(0);
     }
 

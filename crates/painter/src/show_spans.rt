@@ -17,7 +17,7 @@ use crate::field_place::FieldPlace;
 use crate::ham::{bytes_of, hold};
 use crate::painter::Painter;
 use crate::pixels::{ink_bytes, put_inks, put_modified};
-use crate::span::{fill, put};
+use crate::span::{fill, put, put_block};
 use crate::visible::{Alike, clocks_alike};
 use collisions::do_playfields_meet;
 use ocs_base::Beam;
@@ -332,7 +332,11 @@ impl Painter {
         if !visible {
             return at;
         }
-        fill(room, at, count, self.inks.backdrop());
+        if count == 4 {
+            put_block(room, at, self.inks.backdrop_twice());
+            return at + 48;
+        }
+        fill(room, at, count, &self.inks.backdrop());
         at + 12 * count as usize
     }
 

@@ -1,6 +1,8 @@
 //! Bytes of pixels, put one after another.
 
-ghost use Rattle.std.specs.Prelude.{◌≡◌, ◌≤◌, ◌+◌, ◌*◌, ◌++◌, flat_map, length, take};
+ghost use Rattle.std.specs.Prelude.{◌≡◌, ◌≤◌, ◌+◌, ◌*◌, ◌++◌, ℕ, flat_map, length, replicate, take};
+ghost use Rattle.serial_model.specs.Picture.{colour_bytes};
+ghost use Rattle.painter.specs.Inks.{two_pixels};
 ghost use Rattle.painter.specs.SpanCode.{bytes_of_clocks};
 
 /// Puts the bytes of four pixels into a room from a place on.
@@ -31,6 +33,64 @@ pub fn put_eight(room: &mut [u8], at: usize, bytes: &[u8; 8])
     room[at + 5] = f;
     room[at + 6] = g;
     room[at + 7] = h;
+}
+
+/// Puts the first six of eight bytes into a room from a place on.
+#[inline(always)]
+fn put_six(room: &mut [u8], at: usize, bytes: &[u8; 8])
+    requires { at + 6 ≤ length room.old }
+    ensures bytes { take (at + 6) room.new ≡ take at room.old ++ take 6 bytes.now }
+    ensures size { length room.new ≡ length room.old }
+{
+    let [a, b, c, d, e, f, _, _] = *bytes;
+    room[at] = a;
+    room[at + 1] = b;
+    room[at + 2] = c;
+    room[at + 3] = d;
+    room[at + 4] = e;
+    room[at + 5] = f;
+}
+
+/// Puts four pixels of a colour into a room, by the bytes of two of them. The two bytes behind them are
+/// to be put over.
+#[inline(always)]
+fn put_twice(room: &mut [u8], at: usize, two: &[u8; 8])
+    requires { at + 14 ≤ length room.old }
+    ensures bytes { (colour : ℕ) → two.now ≡ two_pixels (colour_bytes colour)
+        → take (at + 12) room.new
+        ≡ take at room.old ++ flat_map (λ x. x) (replicate 4 (colour_bytes colour)) }
+    ensures size { length room.new ≡ length room.old }
+{
+    put_eight(room, at, two);
+    put_eight(room, at + 6, two);
+}
+
+/// The same, and nothing behind them.
+#[inline(always)]
+fn put_last(room: &mut [u8], at: usize, two: &[u8; 8])
+    requires { at + 12 ≤ length room.old }
+    ensures bytes { (colour : ℕ) → two.now ≡ two_pixels (colour_bytes colour)
+        → take (at + 12) room.new
+        ≡ take at room.old ++ flat_map (λ x. x) (replicate 4 (colour_bytes colour)) }
+    ensures size { length room.new ≡ length room.old }
+{
+    put_eight(room, at, two);
+    put_six(room, at + 6, two);
+}
+
+/// Puts the pixels of four clocks that all show one colour into a room, by the bytes of two of them.
+#[inline(always)]
+pub fn put_block(room: &mut [u8], at: usize, two: &[u8; 8])
+    requires { at + 48 ≤ length room.old }
+    ensures bytes { (colour : ℕ) → two.now ≡ two_pixels (colour_bytes colour)
+        → take (at + 48) room.new
+        ≡ take at room.old ++ bytes_of_clocks (λ _. replicate 4 (colour_bytes colour)) 4 }
+    ensures size { length room.new ≡ length room.old }
+{
+    put_twice(room, at, two);
+    put_twice(room, at + 12, two);
+    put_twice(room, at + 24, two);
+    put_last(room, at + 36, two);
 }
 
 /// Puts the bytes of four pixels so many times, one behind the other: four at once, and those that are

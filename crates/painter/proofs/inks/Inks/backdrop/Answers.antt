@@ -1,8 +1,5 @@
-use Rattle.std.proofs.Common.{◌∙◌, ap}
-use Rattle.painter.specs.Inks.{InkRegisters, backdrop}
+use Rattle.std.proofs.Common.{ℕ, List, replicate, ap}
 use Rattle.painter.proofs.inks.Inks.backdrop.Goals as goal
 
 pub returns : goal.returns
-returns c =
-    c.self.invariant.backdrop
-    ∙ ap (λ (i : InkRegisters). backdrop i.palette) c.self.view_is
+returns c = ap (λ (l : List ℕ). replicate 4 l) c.bytes.ensures

@@ -1,7 +1,7 @@
-use Rattle.std.proofs.Common.{◌≡◌, ℕ, ◌+◌, List, replicate, refl, sym, ◌∙◌, ap, arith}
+use Rattle.std.proofs.Common.{ℕ, ◌∙◌, ap}
 use Rattle.serial_model.specs.Picture.{colour_bytes}
-use Rattle.painter.specs.Inks.{halved, two_pixels}
-use Rattle.painter.proofs.Colours.{colour_put, first_kept, first_put}
+use Rattle.painter.specs.Inks.{two_pixels}
+use Rattle.painter.proofs.Colours.{colour_put}
 use Rattle.painter.proofs.inks.Inks.put_colour.Goals as goal
 
 pub invariant_of-self : goal.invariant_of-self
@@ -12,21 +12,4 @@ invariant_of-self c = record {
       (c.twice-half.ensures ∙ ap (λ (n : ℕ). two_pixels (colour_bytes n)) c.half_of.ensures);
   numbers = c.self.invariant.numbers;
   pairs = c.self.invariant.pairs;
-  backdrop =
-      c.self.invariant.backdrop
-      ∙ ap (λ (l : List ℕ). replicate 4 l) (first_kept c.self.inside.palette c.args.number c.args.colour (omega (arith, c.if-number-gt0.true)));
-}
-
-pub invariant_of-self-2 : goal.invariant_of-self-2
-invariant_of-self-2 c = record {
-  twos = λ k few.
-      colour_put c.self.inside.palette c.self.inside.doubled c.args.number c.args.colour k c.twice-two.result c.twice-half.result
-      c.self.told.0 c.self.told.1 c.requires few (c.self.invariant.twos k few) c.twice-two.ensures
-      (c.twice-half.ensures ∙ ap (λ (n : ℕ). two_pixels (colour_bytes n)) c.half_of.ensures);
-  numbers = c.self.invariant.numbers;
-  pairs = c.self.invariant.pairs;
-  backdrop =
-      ap (λ (l : List ℕ). replicate 4 l)
-      (c.one_of-self-inside.ensures (colour_bytes c.args.colour) refl c.twice-two.ensures
-      ∙ first_put c.self.inside.palette c.args.number c.args.colour c.self.told.0 (omega (arith, c.if-number-gt0.false)));
 }
