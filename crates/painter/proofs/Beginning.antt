@@ -4,7 +4,7 @@ use Rattle.std.proofs.Common.{List, [], ◌∷◌, length, map, slice_index, sli
 use Rattle.std.specs.Bool.{if◌then◌else◌}
 use Rattle.std.proofs.Math.ListN.{set, length-set, get_or-eq_default}
 use Rattle.std.proofs.Math.Nat.{zero-div}
-use Rattle.std.proofs.lemmas.List.{get_or-replicate, length-replicate, get_or-set_same, get_or-set_other}
+use Rattle.std.proofs.lemmas.List.{get_or-replicate, length-replicate, get_or-set_same, get_or-set_other, set-get_or}
 use Rattle.std.proofs.lemmas.Bool.Decides.{nat_tests}
 use Rattle.std.specs.List.{list_any}
 use Rattle.std.specs.Option.{option_to_list}
@@ -14,6 +14,7 @@ use Rattle.serial_model.specs.Picture.{all_sprites, sprite_values}
 use Rattle.painter.specs.SpriteState.{SpriteRegisters, IsQuiet, begins_at, run_or, run_in, runs_in, first_runs}
 use Rattle.painter.specs.StartsCode.{IsIdle}
 use Rattle.painter.specs.SpriteState.{quiet_or, first_quiet, first_begun, words_begun, has_start, has_start_at, is_known_idle}
+use Rattle.painter.specs.SpriteState.{start_of, starts_in}
 
 pub not_true : (b : Bool) → not b ≡ true → b ≡ false
 not_true true is = cc
@@ -255,3 +256,34 @@ idle h q s quiet few le first second = record {
   second = none_begun (2 * h + 1) s quiet.eight second;
   values = λ x from. quiet_values q x s.runs quiet few (omega (arith, le, from));
 }
+
+-- a sprite whose HSTART is elsewhere begins nothing
+pub starts_at : (s : SpriteRegisters) (n : ℕ) → n < 8 → slice_index (starts_in s) n ≡ start_of s n
+starts_at s zero lt = refl
+starts_at s (suc zero) lt = refl
+starts_at s (suc (suc zero)) lt = refl
+starts_at s (suc (suc (suc zero))) lt = refl
+starts_at s (suc (suc (suc (suc zero)))) lt = refl
+starts_at s (suc (suc (suc (suc (suc zero))))) lt = refl
+starts_at s (suc (suc (suc (suc (suc (suc zero)))))) lt = refl
+starts_at s (suc (suc (suc (suc (suc (suc (suc zero))))))) lt = refl
+starts_at s (suc (suc (suc (suc (suc (suc (suc (suc n)))))))) lt = absurd (omega (arith, lt))
+
+same_by : (b : Bool) (x q n : ℕ) (start : Start) (runs : List (Option Start)) → b ≡ false →
+    (slice_set runs n (if b then Some start else slice_index_or runs n None) ≡ runs) × ((if b then max q (x + 16) else q) ≡ q)
+same_by false x q n start runs is = (set-get_or runs n None, refl)
+same_by true x q n start runs is = cc
+
+pub none_of_one : (x : ℕ) (s now next : SpriteRegisters) (n : ℕ) → n < 8 → now ≡ first_begun x s n → next ≡ now →
+    (slice_index (starts_in s) n ≡ x → ⊥) → next ≡ first_begun x s (n + 1)
+none_of_one x s now next n lt is same other =
+    let differ : start_of s n ≡ x → ⊥ = λ e. other (starts_at s n lt ∙ e) in
+    let elsewhere : (start_of s n == x) ≡ false = grind (arith, nat_tests) in
+    let none : begins_at x s n ≡ false = and_false (s.armed / 2 ^ n % 2 == 1) _ elsewhere in
+    let here : begins_at x now n ≡ false = ap (λ (t : SpriteRegisters). begins_at x t n) is ∙ none in
+    let start : Start = record { x = x; word_a = slice_index now.words_a n; word_b = slice_index now.words_b n } in
+    let both = same_by (begins_at x now n) x now.quiet_from n start now.runs here in
+    one_more x s now next n is
+    (same
+    ∙ sym (ap (λ (l : List (Option Start)). record now { runs = l; quiet_from = quiet_or x now n now.quiet_from }) both.0
+    ∙ ap (λ (q : ℕ). record now { quiet_from = q }) both.1))

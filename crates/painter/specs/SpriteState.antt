@@ -87,6 +87,13 @@ has_start h s = list_any (λ sprite. slice_index s.pos sprite % 256 == h) all_sp
 abbrev pub has_start_at : ℕ → SpriteRegisters → Bool
 has_start_at x s = list_any (λ sprite. 2 * (slice_index s.pos sprite % 256) + slice_index s.ctl sprite % 2 == x) all_sprites
 
+-- HSTART of a sprite, armed or not, and those of all eight
+abbrev pub start_of : SpriteRegisters → ℕ → ℕ
+start_of s sprite = 2 * (slice_index s.pos sprite % 256) + slice_index s.ctl sprite % 2
+
+abbrev pub starts_in : SpriteRegisters → List ℕ
+starts_in s = map (start_of s) all_sprites
+
 -- whether it is known at a clock that nothing begins there, and nothing shows from it on
 abbrev pub is_known_idle : ℕ → SpriteRegisters → Bool
 is_known_idle h s = nat_le s.quiet_from (2 * h) && ((s.armed == 0) || not (has_start h s))

@@ -14,6 +14,7 @@ ghost use Rattle.painter.specs.SpriteState.{
   words_begun,
   has_start,
   has_start_at,
+  starts_in,
   is_known_idle,
   attached_in,
 };
@@ -223,9 +224,31 @@ impl SpriteState {
         if self.armed == 0 || !self.may_begin_at(column) {
             return;
         }
+        let starts = self.starts();
         for sprite in 0..8 {
-            self.begin_words_of(sprite, column);
+            if starts[sprite as usize] == column {
+                self.begin_words_of(sprite, column);
+            }
         }
+    }
+
+    /// HSTART of each sprite, armed or not.
+    #[inline(always)]
+    fn starts(&self) -> [u16; 8]
+        ensures { result ≡ starts_in self.now }
+    {
+        let [a, b, c, d, e, f, g, i] = self.pos;
+        let [j, k, l, m, n, o, p, q] = self.ctl;
+        [
+            2 * (a % 256) + j % 2,
+            2 * (b % 256) + k % 2,
+            2 * (c % 256) + l % 2,
+            2 * (d % 256) + m % 2,
+            2 * (e % 256) + n % 2,
+            2 * (f % 256) + o % 2,
+            2 * (g % 256) + p % 2,
+            2 * (i % 256) + q % 2,
+        ]
     }
 
     /// The words of a sprite begin to run if its HSTART is this column, and it is armed.

@@ -1,9 +1,10 @@
-use Rattle.std.proofs.Common.{◌≡◌, ◌∙◌, ℕ, List, Option, length, sym, ap, subst, arith}
+use Rattle.std.proofs.Common.{◌≡◌, ◌∙◌, ℕ, List, Option, length, slice_index, sym, ap, subst, arith}
 use Rattle.sprites.specs.declared.runs.Start.{Start}
 use Rattle.painter.specs.SpriteState.{SpriteRegisters, first_quiet, first_begun}
-use Rattle.painter.proofs.Beginning.{NoneBegins, none_armed, none_there_at, none_begun_at_all, none_more, one_more, all_begun}
+use Rattle.painter.proofs.Beginning.{NoneBegins, none_armed, none_there_at, none_begun_at_all, none_more, one_more, all_begun, none_of_one}
 use Rattle.painter.proofs.sprite_state.SpriteState.begin_words.Goals as goal
 use Rattle.painter.proofs.sprite_state.SpriteState.begin_words.Goals.{then-self-eq0-via-then-self-eq0, then-self-eq0-via-else-self-eq0+then-not-may_begin_at}
+use Rattle.painter.proofs.sprite_state.SpriteState.begin_words.Goals.{then-starts-sprite, else-starts-sprite}
 
 pub returns-then-self-eq0 : goal.returns-then-self-eq0
 returns-then-self-eq0 c =
@@ -22,8 +23,15 @@ loop-sprite-init c = none_more c.args.column c.args.self.now
 
 pub loop-sprite-preserved : goal.loop-sprite-preserved
 loop-sprite-preserved c =
-    one_more c.args.column c.args.self.now c.loop-sprite.self c.begin_words_of.new.self c.loop-sprite.sprite
-    c.loop-sprite.invariant c.begin_words_of.ensures
+    elim c.if-starts-sprite.branch [
+      | then-starts-sprite w ↦
+          one_more c.args.column c.args.self.now c.loop-sprite.self c.if-starts-sprite.self c.loop-sprite.sprite
+          c.loop-sprite.invariant (w.self-is ∙ w.begin_words_of.ensures)
+      | else-starts-sprite w ↦
+          none_of_one c.args.column c.args.self.now c.loop-sprite.self c.if-starts-sprite.self c.loop-sprite.sprite c.loop-sprite-test.true
+          c.loop-sprite.invariant w.self-is
+          (λ e. w.if-starts-sprite.false (ap (λ (l : List ℕ). slice_index l c.loop-sprite.sprite) c.starts-starts.ensures ∙ e))
+    ]
 
 pub returns : goal.returns
 returns c =
