@@ -1,6 +1,6 @@
 -- Inks against the colours of the playfields.
 use Rattle.std.proofs.Common.{◌≡◌, ℕ, zero, ◌+◌, ◌-◌, ◌/◌, ◌%◌, ◌^◌, ◌≤◌, ◌<◌, ◌==◌, Bool, true, false, not, ◌&&◌}
-use Rattle.std.proofs.Common.{nat_le, nat_lt, nat_eq, min, List, [], ◌∷◌, length, slice_index, slice_index_or, slice_set, replicate, ◌++◌}
+use Rattle.std.proofs.Common.{nat_le, nat_lt, nat_eq, min, List, [], length, slice_index, slice_index_or, slice_set, replicate}
 use Rattle.std.proofs.Common.{refl, sym, ◌∙◌, ap, arith}
 use Rattle.std.specs.Bool.{if◌then◌else◌}
 use Rattle.std.proofs.Math.Pow.{pow_mono}

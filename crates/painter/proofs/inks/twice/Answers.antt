@@ -1,4 +1,4 @@
-use Rattle.std.proofs.Common.{◌/◌, ◌%◌, ◌<◌, ◌∙◌, arith}
+use Rattle.std.proofs.Common.{◌/◌, ◌%◌, ◌∙◌, arith}
 use Rattle.painter.proofs.Spreading.{pixel_bytes}
 use Rattle.painter.proofs.inks.twice.Goals as goal
 

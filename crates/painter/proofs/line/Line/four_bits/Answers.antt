@@ -1,5 +1,4 @@
-use Rattle.std.proofs.Common.{◌≡◌, ◌+◌, ◌*◌, ◌∙◌, ◌∷◌, [], ℕ, List, slice_index, ap}
-use Rattle.painter.specs.Line.{row_bits}
+use Rattle.std.proofs.Common.{◌+◌, ◌∙◌, ℕ, List, slice_index, ap}
 use Rattle.painter.proofs.FourBytes.{four_sums}
 use Rattle.painter.proofs.line.Line.four_bits.Goals as goal
 

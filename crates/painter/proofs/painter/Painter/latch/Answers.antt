@@ -1,4 +1,4 @@
-use Rattle.std.proofs.Common.{◌≡◌, ◌≤◌, ◌+◌, ◌-◌, ◌*◌, ◌/◌, arith, ap, slice_set}
+use Rattle.std.proofs.Common.{◌≡◌, ◌+◌, ◌-◌, ◌*◌, ◌/◌, arith, ap, slice_set}
 use Rattle.painter.proofs.Registers.{latch_set}
 use Rattle.painter.proofs.painter.Painter.latch.Goals as goal
 
