@@ -1,10 +1,10 @@
 //! What paints a band.
 
-ghost use Rattle.std.specs.Prelude.{◌≡◌, ◌≤◌, ◌+◌, ◌*◌, ℕ, bit_or, false, true, flat_map, length, take, ◌++◌, ◌∷◌, []};
+ghost use Rattle.std.specs.Prelude.{◌≡◌, ◌≤◌, ◌<◌, ◌+◌, ◌*◌, ℕ, bit_or, false, true, flat_map, length, take, ◌++◌, ◌∷◌, []};
 ghost use Rattle.serial_model.specs.declared.picture.Denise.{Denise as DeniseValue};
 ghost use Rattle.ocs_base.specs.Systems.{is_visible};
 ghost use Rattle.serial_model.specs.Beam.{is_line_start};
-ghost use Rattle.serial_model.specs.Picture.{set_picture, plane_latch, clear_line as cleared, pixels, step_of};
+ghost use Rattle.serial_model.specs.Picture.{set_picture, plane_latch, sprite_data, clear_line as cleared, pixels, step_of};
 ghost use Rattle.serial_model.specs.Picture.{after_step};
 ghost use Rattle.serial_model.specs.StandsFor.{StandsFor};
 
@@ -84,6 +84,17 @@ impl BandPainter {
         ensures keeps { self.new.keeps ≡ self.old.keeps }
     {
         self.painter.latch(plane, word);
+    }
+
+    /// A word that is fetched for a sprite, its second where `second` is so, at any clock of the line.
+    #[inline(always)]
+    pub fn fill_sprite(&mut self, sprite: u8, second: bool, word: u16)
+        requires { sprite < 8 }
+        ensures paints { (h : ℕ) → Paints (4 * h) (set_picture h (sprite_data sprite second) word)
+            self.old self.new }
+        ensures keeps { self.new.keeps ≡ self.old.keeps }
+    {
+        self.painter.fill_sprite(sprite, second, word);
     }
 
     /// Keeps the load of a write to BPL1DAT at clock `h` of the line that has just been made.

@@ -54,6 +54,10 @@ fn touch(painter: &mut BandPainter, h: u16, event: &Event, clock: Clock, view: &
             ..
         } => {
             let word = view.at(clock, *addr);
+            if *sprite < 8 {
+                painter.fill_sprite(*sprite, *second, word);
+                return;
+            }
             let half = if *second { 2 } else { 0 };
             painter.set(h, SPR0DATA + 8 * *sprite as u16 + half, word);
         }

@@ -1,8 +1,8 @@
 -- Writes to Denise's registers, by the register.
-use Rattle.std.proofs.Common.{◌≡◌, ◌≢◌, ℕ, ◌-◌, ◌/◌, ◌%◌, ◌≤◌, ◌<◌, slice_set, ap, arith}
+use Rattle.std.proofs.Common.{◌≡◌, ◌≢◌, ℕ, ◌+◌, ◌*◌, ◌-◌, ◌/◌, ◌%◌, ◌≤◌, ◌<◌, ◌∙◌, Bool, true, false, slice_set, ap, arith}
 use Rattle.std.proofs.lemmas.Bool.Decides.{nat_tests}
 use Rattle.serial_model.specs.declared.picture.Denise.{Denise}
-use Rattle.serial_model.specs.Picture.{add_load, set_picture, set_sprite}
+use Rattle.serial_model.specs.Picture.{add_load, set_picture, set_sprite, sprite_data}
 
 pub latch_set : (h offset word : ℕ) (p : Denise) → 274 ≤ offset → offset ≤ 282
     → set_picture h offset word p ≡ record p { latches = slice_set p.latches ((offset - 272) / 2) word }
@@ -44,3 +44,19 @@ pub load_set : (h offset word : ℕ) (p : Denise) → offset ≡ 272 →
     set_picture h offset word p ≡ add_load h (record p { latches = slice_set p.latches 0 word })
 unfolding set_picture
 load_set h offset word p is = ap (λ (o : ℕ). set_picture h o word p) is
+
+-- the words that are fetched for a sprite, by where their registers lie behind the first sprite's first
+pub sprite_from : (h offset from word : ℕ) (p : Denise) → from ≤ 62 → from + 320 ≡ offset
+    → set_picture h offset word p ≡ set_sprite (from / 8) (from % 8) word p
+sprite_from h offset from word p most is =
+    let behind : offset - 320 ≡ from = omega (arith, is) in
+    sprite_set h offset word p (omega (arith, is)) (omega (arith, is, most))
+    ∙ ap (λ (n : ℕ). set_sprite (n / 8) (n % 8) word p) behind
+
+pub second_word : (sprite : ℕ) (second : Bool) → second ≡ true → 8 * sprite + 6 + 320 ≡ sprite_data sprite second
+second_word sprite true is = omega arith
+second_word sprite false is = cc
+
+pub first_word : (sprite : ℕ) (second : Bool) → second ≡ false → 8 * sprite + 4 + 320 ≡ sprite_data sprite second
+first_word sprite false is = omega arith
+first_word sprite true is = cc

@@ -53,7 +53,8 @@ pub struct Painter {
 
 impl Painter {
     ghost use Rattle.serial_model.specs.declared.picture.Denise.{Denise as DeniseValue};
-    ghost use Rattle.serial_model.specs.Picture.{reset_picture, set_picture, set_sprite as set_sprite_of, add_load, plane_latch};
+    ghost use Rattle.serial_model.specs.Picture.{reset_picture, set_picture, set_sprite as set_sprite_of};
+    ghost use Rattle.serial_model.specs.Picture.{add_load, plane_latch, sprite_data};
     ghost use Rattle.serial_model.specs.Picture.{clear_line as cleared, step_of, after_step};
     ghost use Rattle.painter.specs.Painter.{IsPainterOf, first_colour, second_colour, with_held, clock_bytes};
     ghost use Rattle.painter.specs.Painter.{is_known_gathered, is_known_blank, is_known_backdrop};
@@ -183,6 +184,20 @@ impl Painter {
         self.latches[plane as usize - 1] = word;
     }
 
+    /// A word that is fetched for a sprite, its second where `second` is so, at any clock of the line.
+    #[inline(always)]
+    pub fn fill_sprite(&mut self, sprite: u8, second: bool, word: u16)
+        requires { sprite < 8 }
+        ensures { (h : ℕ) (p : DeniseValue) → IsPainterOf self.old p
+            → IsPainterOf self.new (set_picture h (sprite_data sprite second) word p) }
+    {
+        if second {
+            self.set_sprite(8 * sprite as u16 + 6, word);
+        } else {
+            self.set_sprite(8 * sprite as u16 + 4, word);
+        }
+    }
+
     /// The same to any register. The colours are tried first, which the Copper writes most often.
     #[inline(never)]
     #[tactic(auto, unfolding(serial_model::specs::Picture::set_picture))]
@@ -224,6 +239,7 @@ impl Painter {
     }
 
     /// A write to a sprite's register, which lies so far behind SPR0POS.
+    #[inline(always)]
     fn set_sprite(&mut self, from: u16, word: u16)
         requires { from < 64 }
         ensures { (p : DeniseValue) → IsPainterOf self.old p
