@@ -33,7 +33,7 @@ pub fn touch_all(painter: &mut BandPainter, h: u16, events: &[Event], clock: Clo
 }
 
 /// One event at clock `h` of the line.
-#[inline(never)]
+#[inline(always)]
 fn touch(painter: &mut BandPainter, h: u16, event: &Event, clock: Clock, view: &MemView)
     requires place { h ≤ 227 }
     requires covered { Covers view.now clock.0 }
