@@ -1,6 +1,6 @@
 -- Ticks of a CIA's timers one behind the other, among which neither timer underflows.
-use Rattle.std.specs.Prelude.{◌≡◌, ℕ, ◌-◌, Bool, true, false, not, ◌||◌, nat_le, min, if◌then◌else◌}
-use Rattle.irq_cia.specs.Timer.{counts_as_a, counts_as_b}
+use Rattle.std.specs.Prelude.{◌≡◌, ℕ, ◌-◌, Bool, true, false, not, ◌&&◌, ◌||◌, nat_le, min, if◌then◌else◌}
+use Rattle.irq_cia.specs.Timer.{counts_as_a, counts_as_b, has_start}
 use Rattle.irq_cia.specs.declared.cia.CiaState.{CiaState}
 use Rattle.irq_cia.specs.declared.timer.Timer.{Timer}
 
@@ -15,6 +15,10 @@ counts_left counts t = if counts then t.counter else 0xffff
 -- timer B counts ticks; where it counts underflows of timer A it stands still while there are none
 abbrev pub counts_b : CiaState → Bool
 counts_b s = counts_as_b false s.timer_b
+
+-- neither timer is started
+abbrev pub both_stand : CiaState → Bool
+both_stand s = not (has_start s.timer_a) && not (has_start s.timer_b)
 
 -- neither timer underflows among so many ticks
 abbrev pub HasNoUnderflow : ℕ → CiaState → Type 0

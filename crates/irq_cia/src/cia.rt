@@ -1,11 +1,11 @@
 //! A CIA: two ports, two timers, the time of day, the serial register and the interrupt control register.
 
-ghost use Rattle.std.specs.Prelude.{◌≡◌, ◌<◌};
+ghost use Rattle.std.specs.Prelude.{◌≡◌, ◌<◌, true};
 ghost use Rattle.irq_cia.specs.Cia.{register_at, reset_cia, after_tick, after_tod_pulse, after_key, byte_at};
 ghost use Rattle.irq_cia.specs.Cia.{after_read, sets_alarm as alarm_set};
 ghost use Rattle.irq_cia.specs.Cia.{after_write};
 ghost use Rattle.irq_cia.specs.Icr.{is_active};
-ghost use Rattle.irq_cia.specs.Ticks.{HasNoUnderflow, ticks_before_underflow, ticks_on};
+ghost use Rattle.irq_cia.specs.Ticks.{HasNoUnderflow, both_stand, ticks_before_underflow, ticks_on};
 
 use crate::icr::Icr;
 use crate::port::Port;
@@ -144,6 +144,16 @@ impl Cia {
         let underflow_b = self.state.timer_b.count(counts_b);
         self.state.icr.raise(underflow_a, TIMER_A);
         self.state.icr.raise(underflow_b, TIMER_B);
+    }
+
+    /// Whether neither timer is started: a tick then leaves the CIA as it is.
+    #[inline(always)]
+    #[tactic(auto, unfolding(crate::specs::Cia::after_tick))]
+    pub fn stands(&self) -> bool
+        ensures exact { result ≡ both_stand self.now }
+        ensures still { result ≡ true → after_tick self.now ≡ self.now }
+    {
+        !self.state.timer_a.is_started() && !self.state.timer_b.is_started()
     }
 
     /// Ticks of the timers among which none underflows, as many one behind the other: each timer that counts
