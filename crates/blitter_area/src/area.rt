@@ -174,7 +174,7 @@ impl AreaBlit {
 
     /// Takes the word that answers the present ask, which is not the write. With the last of these the
     /// outcome of the word is made ready. The answer says whether the blit has ended.
-    #[inline(never)]
+    #[inline(always)]
     fn take(&mut self, word: u16) -> bool
         requires row { self.old.row < height_of self.old.start }
         requires reads { self.old.ask ≢ D }
@@ -186,11 +186,28 @@ impl AreaBlit {
             self.ask = self.asks.at(self.place + 1);
             self.place += 1;
             false
-        } else {
+        } else if self.path.copies {
             self.path
-                .mix_into(&self.words, &self.past, self.column, &mut self.ready);
+                .copy_into(&self.words, &self.past, self.column, &mut self.ready);
             self.end_inputs()
+        } else {
+            self.mix_word()
         }
+    }
+
+    /// All inputs of the present word have answers: its outcome is made ready, by whatever path. It stands
+    /// apart, so that a copied word makes no room for it. The answer says whether the blit has ended.
+    #[inline(never)]
+    fn mix_word(&mut self) -> bool
+        requires row { self.old.row < height_of self.old.start }
+        requires inputs { self.old.asks.last_input ≤ self.old.place }
+        requires reads { self.old.ask ≢ D }
+        ensures ends { EndsInputs self.old self.new }
+        ensures done { result ≡ done_of (shown self.new) }
+    {
+        self.path
+            .mix_into(&self.words, &self.past, self.column, &mut self.ready);
+        self.end_inputs()
     }
 
     /// All inputs of the present word have answers, and its outcome is ready: its write comes next, or the

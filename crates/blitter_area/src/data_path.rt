@@ -1,9 +1,10 @@
 //! The way of a word from the inputs to the result.
 
-ghost use Rattle.std.specs.Prelude.{◌≡◌, ◌≤◌, ◌<◌, ◌+◌, ℕ, true};
-ghost use Rattle.blit_words.specs.Blit.{width_of};
-ghost use Rattle.blit_words.specs.BlitWords.{masked_word};
+ghost use Rattle.std.specs.Prelude.{◌≡◌, ◌≤◌, ◌<◌, ◌+◌, ℕ, true, false};
+ghost use Rattle.blit_words.specs.Blit.{width_of, minterms_of, shift_of_a};
+ghost use Rattle.blit_words.specs.BlitWords.{masked_word, minterm_of, shifted_input};
 ghost use Rattle.blit_words.specs.AreaBlit.{is_filling as fills_of};
+ghost use Rattle.blitter_area.specs.Copies.{IsCopy};
 
 use blit_words::{BlitRegs, Minterms, WordAsk, fill_word, is_set, shift_input};
 
@@ -48,7 +49,7 @@ pub(crate) struct Outcome {
 }
 
 /// The way of a word, made ready at a blit's start: minterms, direction and shifts, the masks of A with the
-/// column of the second, and the fill.
+/// column of the second, and the fill; and whether the words of A are the results as they are.
 #[derive(Clone, Copy)]
 pub(crate) struct DataPath {
     pub(crate) minterms: Minterms,
@@ -60,6 +61,9 @@ pub(crate) struct DataPath {
     pub(crate) last_column: u16,
     pub(crate) fills: bool,
     pub(crate) exclusive: bool,
+    pub(crate) copies: bool,
+    ghost copies_is: { copies ≡ true → IsCopy minterms.lf shift_a first_mask last_mask },
+    ghost copies_plain: { copies ≡ true → fills ≡ false },
     ghost shift_a_below: { shift_a < 16 },
     ghost shift_b_below: { shift_b < 16 },
     ghost last_below: { last_column < 64 },
@@ -72,6 +76,7 @@ impl DataPath {
     pub(crate) fn of(start: &BlitRegs) -> DataPath
         ensures { IsPathOf result start.now }
     {
+        let fills = is_filling(start);
         DataPath {
             minterms: Minterms::of(start.con0 % 256),
             descending: is_set(start.con1, 1),
@@ -80,9 +85,35 @@ impl DataPath {
             first_mask: start.afwm,
             last_mask: start.alwm,
             last_column: width(start) - 1,
-            fills: is_filling(start),
+            fills,
             exclusive: is_set(start.con1, 4),
+            copies: !fills && is_copy(start),
         }
+    }
+
+    /// Puts down the outcome of a word as `mix_into` does, where the words of A are the results as they are.
+    #[inline(always)]
+    pub(crate) fn copy_into(&self, words: &Words, past: &Past, column: u16, outcome: &mut Outcome)
+        requires { self.now.copies ≡ true }
+        ensures { outcome.new ≡ outcome_with self.now past.now column words.now }
+    {
+        let word = self.copy(past.a, column, words.a);
+        outcome.word = word;
+        outcome.past.a = word;
+        outcome.past.b = words.b;
+        outcome.past.carry = past.carry;
+    }
+
+    /// A word of A behind the word before it, which is the result as it is.
+    #[inline(always)]
+    fn copy(&self, before: u16, column: u16, word: u16) -> u16
+        requires { self.now.copies ≡ true }
+        ensures masked { result ≡ masked_word self.now.first_mask self.now.last_mask
+            (self.now.last_column + 1) column word }
+        ensures joined { (b c : ℕ) → result ≡ minterm_of self.now.minterms.lf
+            (shifted_input self.now.descending self.now.shift_a before result) b c }
+    {
+        word
     }
 
     /// Puts down the outcome of a word in a column of its row: the result, and what the word leaves for
@@ -144,6 +175,17 @@ fn width(start: &BlitRegs) -> u16
 {
     let words = start.size % 64;
     if words == 0 { 64 } else { words }
+}
+
+/// Whether a word of A is the minterm, and A has neither a shift nor a mask with a 0.
+fn is_copy(start: &BlitRegs) -> bool
+    ensures { result ≡ true → IsCopy (minterms_of start.now) (shift_of_a start.now)
+        start.now.afwm start.now.alwm }
+{
+    start.con0 % 256 == 0xf0
+        && start.con0 >> 12 == 0
+        && start.afwm == 0xffff
+        && start.alwm == 0xffff
 }
 
 /// Whether the blit fills: in descending mode alone, with EFE or IFE. That it does so in descending

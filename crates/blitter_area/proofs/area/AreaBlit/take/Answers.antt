@@ -22,7 +22,7 @@ invariant_of-self-clause-ready_is c =
 pub end_inputs-requires-clause-outcome : goal.end_inputs-requires-clause-outcome
 end_inputs-requires-clause-outcome c =
     let b = c.args.self.now in
-    c.mix_into.ensures ∙ ready_outcome b.path b.start b.past b.column _ b.path_is
+    c.copy_into.ensures ∙ ready_outcome b.path b.start b.past b.column _ b.path_is
 
 pub returns-then-self-clause-done : goal.returns-then-self-clause-done
 returns-then-self-clause-done c = goes_on _ c.requires.row
@@ -47,10 +47,24 @@ returns-then-self-clause-gives c = λ s ws h.
       place = omega (arith, asks, last, first, more);
     }
 
-pub returns-else-self-clause-gives : goal.returns-else-self-clause-gives
-returns-else-self-clause-gives c = λ s ws h.
+pub returns-then-self-2-clause-gives : goal.returns-then-self-2-clause-gives
+returns-then-self-2-clause-gives c = λ s ws h.
     let b = c.args.self.now in
     c.end_inputs.ensures.ends s _ (answered b _ s ws c.args.word h (record {
+      start = refl;
+      row = refl;
+      column = refl;
+      pointers = refl;
+      past = refl;
+      zero = refl;
+      words = c.take.ensures ∙ ap (λ (k : WordAsk). words_with k c.args.word b.words) (asked_is b c.requires.row);
+    }))
+    h.place
+
+pub returns-else-self-2-clause-gives : goal.returns-else-self-2-clause-gives
+returns-else-self-2-clause-gives c = λ s ws h.
+    let b = c.args.self.now in
+    c.mix_word.ensures.ends s _ (answered b _ s ws c.args.word h (record {
       start = refl;
       row = refl;
       column = refl;
