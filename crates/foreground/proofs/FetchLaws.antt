@@ -32,7 +32,7 @@ use Rattle.serial_bands.proofs.Gathering.{gathered_start, gathered_next}
 use Rattle.serial_bands.proofs.WholeRun.{frames_rise}
 use Rattle.band_log.specs.Raster.{RasterValue}
 use Rattle.chip_set.specs.Chips.{IsChipsOf, WorkingChips}
-use Rattle.chip_set.specs.Quiet.{AreAtRest, HaveFetched, PassesFetches, fetching_in, with_fetching}
+use Rattle.chip_set.specs.Quiet.{AreAtRest, HaveFetched, PassesFetches, fetching_in}
 use Rattle.chip_set.proofs.FetchLaws.{fetches_pass}
 use Rattle.quiet_clocks.specs.PlainClock.{AsksNothingNew, asked_by_side}
 use Rattle.quiet_clocks.specs.QuietClocks.{clocks, later_beam}
@@ -42,7 +42,7 @@ use Rattle.quiet_clocks.proofs.FetchClocks.{fetch_makes, planes_have, fetch_span
 use Rattle.quiet_clocks.proofs.PlainClock.{before_plain}
 use Rattle.quiet_clocks.proofs.QuietClocks.{clocks_of_run}
 use Rattle.foreground.specs.Clock.{IsAt}
-use Rattle.foreground.specs.FetchesCode.{with_fetch, with_fetches, clock_of_planes, clocks_of_planes}
+use Rattle.foreground.specs.FetchesCode.{with_fetch, with_fetches, clocks_of_planes}
 use Rattle.foreground.specs.Fore.{ForeValue, HasScript, IsUnderway, is_done}
 use Rattle.picture_log.specs.Log.{IsLogOf, IsShown, with_waiting, with_script_touches, with_access_touch}
 use Rattle.machine.specs.Machine.{MachineValue, IsMachineOf}
@@ -484,26 +484,3 @@ no_clock_of_planes m =
     let t : m.t ≡ m.t + 0 = omega arith in
     let h : m.beam.h ≡ m.beam.h + 0 = omega arith in
     ap (λ at. record m { t = at }) t ∙ ap (λ at. record m { t = m.t + 0; beam = record m.beam { h = at } }) h
-
-pub one_clock_more : {S : Type 0} (k : ℕ) (m : Machine S) → clock_of_planes (clocks_of_planes k m) ≡ clocks_of_planes (k + 1) m
-unfolding fetching_on
-one_clock_more k m =
-    let t : m.t + k + 1 ≡ m.t + suc k = omega arith in
-    let h : m.beam.h + k + 1 ≡ m.beam.h + suc k = omega arith in
-    let more : suc k ≡ k + 1 = omega arith in
-    let chips : WorkingChips = with_fetching (fetching_on (suc k) m.beam (fetching_in m.chips)) m.chips in
-    ap (λ at. record m { t = at; beam = record m.beam { h = m.beam.h + k + 1 }; chips = chips }) t
-    ∙ ap (λ at. record m { t = m.t + suc k; beam = record m.beam { h = at }; chips = chips }) h
-    ∙ ap (λ n. clocks_of_planes n m) more
-
-pub fetch_noted : {S : Type 0} (k : ℕ) (old m : Machine S) (log before noted : Log) → m ≡ clocks_of_planes k old
-    → before ≡ with_fetches k old.beam old.t (fetching_in old.chips) log
-    → noted ≡ with_fetch m.t (ask_of_fetching m.beam (fetching_in m.chips)) before
-    → noted ≡ with_fetches (k + 1) old.beam old.t (fetching_in old.chips) log
-unfolding with_fetches
-fetch_noted k old m log before noted is was notes =
-    let more : suc k ≡ k + 1 = omega arith in
-    notes
-    ∙ ap (λ now. with_fetch now.t (ask_of_fetching now.beam (fetching_in now.chips)) before) is
-    ∙ ap (λ l. with_fetch (old.t + k) (ask_of_fetching (later_beam k old.beam) (fetching_on k old.beam (fetching_in old.chips))) l) was
-    ∙ ap (λ n. with_fetches n old.beam old.t (fetching_in old.chips) log) more

@@ -3,7 +3,7 @@ use Rattle.std.specs.Prelude.{◌≡◌, ℕ, zero, suc, ◌+◌, Option, Some, 
 use Rattle.ocs_base.specs.declared.beam.Beam.{Beam}
 use Rattle.serial_model.specs.declared.fetch.PlaneAsk.{PlaneAsk}
 use Rattle.serial_model.specs.declared.picture.Touch.TheVariants as T
-use Rattle.quiet_clocks.specs.FetchClocks.{Fetching, fetching_after, fetching_on, ask_of_fetching}
+use Rattle.quiet_clocks.specs.FetchClocks.{Fetching, fetching_on, ask_of_fetching}
 use Rattle.quiet_clocks.specs.QuietClocks.{later_beam}
 use Rattle.chip_set.specs.Quiet.{fetching_in, with_fetching, HaveFetched}
 use Rattle.picture_log.specs.Log.{with_access_touch}
@@ -20,14 +20,7 @@ unfoldable pub with_fetches : ℕ → Beam → ℕ → Fetching → Log → Log
 with_fetches zero b c f log = log
 with_fetches (suc n) b c f log = with_fetch (c + n) (ask_of_fetching (later_beam n b) (fetching_on n b f)) (with_fetches n b c f log)
 
--- the machine a clock on of which only the planes' part was made, and n of them
-abbrev pub clock_of_planes : {S : Type 0} → Machine S → Machine S
-clock_of_planes m = record m {
-  t = m.t + 1;
-  beam = later_beam 1 m.beam;
-  chips = with_fetching (fetching_after m.beam (fetching_in m.chips)) m.chips;
-}
-
+-- the machine n clocks on of which only the planes' part was made
 abbrev pub clocks_of_planes : {S : Type 0} → ℕ → Machine S → Machine S
 clocks_of_planes n m = record m {
   t = m.t + n;

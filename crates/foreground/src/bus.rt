@@ -1,20 +1,16 @@
 //! Clocks of a line that refresh, sprites and the Copper leave to the planes, the blitter and the processor,
 //! made one behind the other.
 
-ghost use Rattle.std.specs.Prelude.{◌≡◌, ◌≤◌, ◌<◌, ◌+◌, ◌-◌, ◌^◌, ℕ, Bool, true, false, [], is_some, None, IfOk, OnOk, OnErr};
+ghost use Rattle.std.specs.Prelude.{◌≡◌, ◌<◌, ◌+◌, ◌-◌, ◌^◌, ℕ, Bool, true, false, [], None, IfOk, OnOk, OnErr};
 ghost use Rattle.serial_model.specs.Events.{due_events};
 ghost use Rattle.serial_model.specs.Beam.{next_place};
 ghost use Rattle.serial_model.specs.Side.{no_side};
-ghost use Rattle.serial_model.specs.Bus.{blit_owner_ask};
-ghost use Rattle.serial_model.specs.declared.bus.Ask.TheVariants as A;
-ghost use Rattle.serial_bands.specs.BusReads.{bus_reads, reads_of_ask};
-ghost use Rattle.serial_bands.specs.Shadows.{IsInRange};
-ghost use Rattle.picture_log.specs.Log.{with_access_touch};
+ghost use Rattle.serial_bands.specs.BusReads.{bus_reads};
 ghost use Rattle.quiet_clocks.specs.QuietClocks.{later_beam};
 ghost use Rattle.band_log.specs.Raster.{RasterValue};
 ghost use Rattle.chip_set.specs.BusCode.{LeavesToPlanes, LeavesBeside, LeaveBus, KeepsBus, KeepsBeside};
-ghost use Rattle.chip_set.specs.BusCode.{KeepsCias, CiasRest, IsClaim, ask_beside_planes, is_bus_ask};
-ghost use Rattle.chip_set.specs.Chips.{CanAsk, IsBlitAsk, kept_wish, late_ask};
+ghost use Rattle.chip_set.specs.BusCode.{CiasRest, IsClaim, ask_beside_planes};
+ghost use Rattle.chip_set.specs.Chips.{CanAsk, IsBlitAsk, kept_wish};
 ghost use Rattle.foreground.specs.AccessCode.{CanAccess, MakesAccessWith};
 ghost use Rattle.foreground.specs.BusRun.{IsOpenForBus, StaysOnBus, GoesOnBus, AreOnBus, HasRunOnBus, HasRunInPart};
 ghost use Rattle.foreground.specs.Clock.{Rises};
@@ -22,18 +18,16 @@ ghost use Rattle.machine.specs.Machine.{IsSamePlace};
 ghost use Rattle.machine.specs.MachineStepsCode.{AsksInTime};
 ghost use Rattle.foreground.specs.Fore.{over, CanGo, IsUnderway, Advances, GivesPart, is_done, looked_up};
 ghost use Rattle.foreground.specs.LineCode.{AreInLine};
-ghost use Rattle.foreground.specs.Steps.{MakesAskedAccess, AccessesPart, EndsClock, KeepsClock, reads_more};
+ghost use Rattle.foreground.specs.Steps.{EndsClock};
 
 use crate::fore::Fore;
 use crate::lookout::{WORTH, is_beside_refresh};
+use crate::turn::{AnyTurn, BlitterTurn, ProcessorTurn, Turn};
 use band_log::Raster;
-use blit_words::SlotAsk;
 use chip_set::{BlitterClaim, FetchRules};
-use machine::touch_of;
 use ocs_base::OutOfMemory;
 use out_files::OutFiles;
-use picture_log::Log;
-use serial_model::{Ask, PlaneAsk, ProcessorAsk, Side, Touch};
+use serial_model::{Ask, PlaneAsk, Side};
 
 /// The most clocks that are made without a look for quiet ones.
 const LONGEST_RUN: u16 = 128;
@@ -96,7 +90,7 @@ impl<S: Side> Fore<S> {
             return Ok(());
         }
         match rules {
-            Some(_) => self.clocks_on_bus(rules, claim, clocks, limit, raster, out),
+            Some(_) => self.clocks_on_bus(&AnyTurn, rules, claim, clocks, limit, raster, out),
             None if claim.asks() => self.clocks_of_blit(claim, clocks, limit, raster, out),
             None => self.clocks_of_processor(claim, clocks, limit, raster, out),
         }
@@ -127,7 +121,7 @@ impl<S: Side> Fore<S> {
     {
         let claim = *claim;
         if claim.asks() {
-            self.clocks_on_bus(&None, &claim, clocks, limit, raster, out)
+            self.clocks_on_bus(&BlitterTurn, &None, &claim, clocks, limit, raster, out)
         } else {
             Ok(())
         }
@@ -160,14 +154,15 @@ impl<S: Side> Fore<S> {
         if claim.asks() {
             Ok(())
         } else {
-            self.clocks_on_bus(&None, &claim, clocks, limit, raster, out)
+            self.clocks_on_bus(&ProcessorTurn, &None, &claim, clocks, limit, raster, out)
         }
     }
 
     /// So many of them, one behind the other.
     #[inline(always)]
-    fn clocks_on_bus<Q: Raster<S>>(
+    fn clocks_on_bus<Q: Raster<S>, T: Turn<S, Q>>(
         &mut self,
+        turn: &T,
         rules: &Option<FetchRules>,
         claim: &BlitterClaim,
         clocks: u16,
@@ -191,7 +186,7 @@ impl<S: Side> Fore<S> {
         let mut rest = 0;
         let mut left = clocks;
         while left > 0 {
-            match self.clock_on_bus(rules, claim, &mut rest, raster, out) {
+            match self.clock_on_bus(turn, rules, claim, &mut rest, raster, out) {
                 Ok(on) => left = if on { left - 1 } else { 0 },
                 Err(refused) => {
                     self.spent = true;
@@ -246,8 +241,9 @@ impl<S: Side> Fore<S> {
     /// wanted is the caller's to note. In `rest` clocks from this one on nothing is to be done for the CIAs,
     /// and then in how many from the next one on.
     #[inline(always)]
-    fn clock_on_bus<Q: Raster<S>>(
+    fn clock_on_bus<Q: Raster<S>, T: Turn<S, Q>>(
         &mut self,
+        turn: &T,
         rules: &Option<FetchRules>,
         claim: &BlitterClaim,
         rest: &mut u16,
@@ -285,7 +281,7 @@ impl<S: Side> Fore<S> {
             → GoesOnBus rules.now rest.new (over S.seen self.old) (over S.seen self.new)) }
     {
         let plane = self.ask_on_bus(rules, rest);
-        let on = self.access_on_bus(plane, claim, raster, out)?;
+        let on = self.access_on_bus(turn, plane, claim, raster, out)?;
         self.end_on_bus(rest, out)?;
         Ok(on)
     }
@@ -344,8 +340,9 @@ impl<S: Side> Fore<S> {
     /// The fifth, where this plane has the slot, or none. The answer says whether the bus is known to be left
     /// in further clocks.
     #[inline(always)]
-    fn access_on_bus<Q: Raster<S>>(
+    fn access_on_bus<Q: Raster<S>, T: Turn<S, Q>>(
         &mut self,
+        turn: &T,
         plane: Option<PlaneAsk>,
         claim: &BlitterClaim,
         raster: &mut Q,
@@ -367,159 +364,8 @@ impl<S: Side> Fore<S> {
     {
         match plane {
             Some(ask) => self.serve_on_bus(&Ask::Plane { ask }, out),
-            None => self.access_without_plane(claim, raster, out),
+            None => turn.access(self, claim, raster, out),
         }
-    }
-
-    /// The same where no plane has it.
-    #[inline(always)]
-    fn access_without_plane<Q: Raster<S>>(
-        &mut self,
-        claim: &BlitterClaim,
-        raster: &mut Q,
-        out: &mut OutFiles,
-    ) -> Result<bool, OutOfMemory>
-        requires can { CanAccess (late_ask self.old.machine.beam self.old.machine.chips)
-            (over S.seen self.old) (Q.seen raster.old) }
-        requires room { self.old.machine.t + 1 < 2 ^ 64 }
-        requires waits { self.old.log.waiting ≡ None }
-        requires leaves { LeavesToPlanes self.old.machine.beam self.old.machine.chips }
-        requires claim { IsClaim claim.now self.old.machine.chips }
-        ensures access { MakesAccessWith (late_ask self.old.machine.beam self.old.machine.chips)
-            (over S.seen self.old) (over S.seen self.new)
-            (Q.seen raster.old) (Q.seen raster.new) out.old out.new result }
-        ensures bus { IfOk result (λ on. on ≡ true
-            → StaysOnBus (over S.seen self.old) (over S.seen self.new)) }
-    {
-        if self.machine.chips.has_blitter_turn(claim) {
-            return self.blit_on_bus(raster, out);
-        }
-        match self.machine.chips.processor_wish() {
-            Some(ask) => self.process_on_bus(ask, raster, out),
-            None => self.serve_on_bus(&Ask::Free, out),
-        }
-    }
-
-    /// That of the blitter. Which kind of access an area blit makes is asked for at once, so that each has a way
-    /// of its own from the ask to its end.
-    #[inline(always)]
-    fn blit_on_bus<Q: Raster<S>>(
-        &mut self,
-        raster: &mut Q,
-        out: &mut OutFiles,
-    ) -> Result<bool, OutOfMemory>
-        requires can { CanAccess (blit_owner_ask (kept_wish self.old.machine.chips))
-            (over S.seen self.old) (Q.seen raster.old) }
-        requires room { self.old.machine.t + 1 < 2 ^ 64 }
-        requires waits { self.old.log.waiting ≡ None }
-        requires leaves { LeavesToPlanes self.old.machine.beam self.old.machine.chips }
-        requires asks { is_some (kept_wish self.old.machine.chips) ≡ true }
-        ensures access { MakesAccessWith (blit_owner_ask (kept_wish self.old.machine.chips))
-            (over S.seen self.old) (over S.seen self.new)
-            (Q.seen raster.old) (Q.seen raster.new) out.old out.new result }
-        ensures bus { IfOk result (λ on. on ≡ true
-            → StaysOnBus (over S.seen self.old) (over S.seen self.new)) }
-    {
-        if let Some((at, word)) = self.machine.chips.blit_write_in_turn() {
-            return self.serve_on_bus(
-                &Ask::Blit {
-                    ask: SlotAsk::Write { at, word },
-                },
-                out,
-            );
-        }
-        if let Some(at) = self.machine.chips.blit_read_in_turn() {
-            return self.serve_on_bus(
-                &Ask::Blit {
-                    ask: SlotAsk::Read { at },
-                },
-                out,
-            );
-        }
-        match self.machine.chips.blit_ask_in_turn() {
-            Ask::Blit { ask } => self.serve_on_bus(&Ask::Blit { ask }, out),
-            other => {
-                self.access_by(&other, raster, out)?;
-                Ok(false)
-            }
-        }
-    }
-
-    /// That of the processor.
-    #[inline(always)]
-    fn process_on_bus<Q: Raster<S>>(
-        &mut self,
-        ask: ProcessorAsk,
-        raster: &mut Q,
-        out: &mut OutFiles,
-    ) -> Result<bool, OutOfMemory>
-        requires can { CanAccess (A.Processor ask) (over S.seen self.old) (Q.seen raster.old) }
-        requires room { self.old.machine.t + 1 < 2 ^ 64 }
-        requires waits { self.old.log.waiting ≡ None }
-        requires leaves { LeavesToPlanes self.old.machine.beam self.old.machine.chips }
-        ensures access { MakesAccessWith (A.Processor ask)
-            (over S.seen self.old) (over S.seen self.new)
-            (Q.seen raster.old) (Q.seen raster.new) out.old out.new result }
-        ensures bus { IfOk result (λ on. on ≡ true
-            → StaysOnBus (over S.seen self.old) (over S.seen self.new)) }
-    {
-        match ask {
-            ProcessorAsk::Read { at } => self.serve_on_bus(
-                &Ask::Processor {
-                    ask: ProcessorAsk::Read { at },
-                },
-                out,
-            ),
-            ProcessorAsk::Write { at, half, word } => self.serve_on_bus(
-                &Ask::Processor {
-                    ask: ProcessorAsk::Write { at, half, word },
-                },
-                out,
-            ),
-            other => {
-                self.access_by(&Ask::Processor { ask: other }, raster, out)?;
-                Ok(false)
-            }
-        }
-    }
-
-    /// The access of a plane, of the blitter, of the processor to memory, or of nobody.
-    #[inline(always)]
-    fn serve_on_bus(&mut self, ask: &Ask, out: &mut OutFiles) -> Result<bool, OutOfMemory>
-        requires can { (seen : RasterValue) × CanAccess ask.now (over S.seen self.old) seen }
-        requires bus { is_bus_ask ask.now ≡ true }
-        requires room { self.old.machine.t + 1 < 2 ^ 64 }
-        requires waits { self.old.log.waiting ≡ None }
-        requires leaves { LeavesToPlanes self.old.machine.beam self.old.machine.chips }
-        ensures makes { OnOk result ((seen : RasterValue) → MakesAskedAccess
-            (over S.seen self.old) (over S.seen self.new) seen seen out.old out.new) }
-        ensures part { OnErr result ((seen : RasterValue) → AccessesPart
-            (over S.seen self.old) seen seen out.old out.new) }
-        ensures kept { KeepsClock (over S.seen self.old) (over S.seen self.new) }
-        ensures reads { self.new.machine.chip.reads ≡ reads_more
-            (reads_of_ask ask.now) self.old.machine.chip.reads }
-        ensures bus { IfOk result (λ on. on ≡ true
-            → StaysOnBus (over S.seen self.old) (over S.seen self.new)) }
-    {
-        let busy = self.machine.chips.is_blitting();
-        let made = self.machine.answer_on_bus(ask, out)?;
-        let t = self.machine.t;
-        note_touch(&mut self.log, t, &touch_of(&made))?;
-        Ok(self.machine.chips.is_blitting() == busy)
-    }
-}
-
-/// A touch by the access of a clock, where no write waits: without one nothing is to be noted.
-#[inline(always)]
-fn note_touch(log: &mut Log, t: u64, touch: &Option<Touch>) -> Result<(), OutOfMemory>
-    requires waits { log.old.waiting ≡ None }
-    requires range { IsInRange touch.now }
-    requires room { t + 1 < 2 ^ 64 }
-    ensures { OnOk result (log.new ≡ with_access_touch t touch.now log.old) }
-{
-    match touch {
-        Some(_) => log.note_access(t, touch),
-        None => Ok(()),
     }
 }
 

@@ -24,6 +24,7 @@ mod save;
 mod script;
 mod settle;
 mod slot;
+mod turn;
 
 pub use checkpoint::Checkpoint;
 pub use fore::Fore;
