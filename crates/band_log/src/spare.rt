@@ -1,6 +1,6 @@
 //! What is left of bands that were gathered, for those that are cut later.
 
-ghost use Rattle.std.specs.Prelude.{◌≡◌, [], length, IfOk};
+ghost use Rattle.std.specs.Prelude.{◌≡◌, ◌⊎◌, ◌∷◌, ◌++◌, ◌-◌, [], length, take, IfOk};
 
 use crate::events::Events;
 use crate::room::Room;
@@ -18,7 +18,9 @@ pub struct Spare {
 
 impl Spare {
     /// Nothing is left of a band.
-    pub fn new(alloc: Global) -> Spare {
+    pub fn new(alloc: Global) -> Spare
+        ensures { result.kept.items ≡ [] }
+    {
         Spare {
             alloc,
             kept: Vec::new(alloc),
@@ -26,13 +28,18 @@ impl Spare {
     }
 
     /// Where new memory is taken from.
-    pub fn alloc(&self) -> Global {
+    pub fn alloc(&self) -> Global
+        ensures { result ≡ self.now.alloc }
+    {
         self.alloc
     }
 
-    /// A band that was gathered needs these no longer. They are given back where memory is wanted to keep
+    /// A band that was gathered needs these no longer. All are given back where memory is wanted to keep
     /// them.
-    pub fn keep(&mut self, room: Room, events: Events) {
+    pub fn keep(&mut self, room: Room, events: Events)
+        ensures { (self.new.kept.items ≡ self.old.kept.items ++ (room, events) ∷ [])
+            ⊎ (self.new.kept.items ≡ []) }
+    {
         if self.kept.push((room, events)).is_err() {
             self.kept.clear();
         }
@@ -43,6 +50,8 @@ impl Spare {
     pub fn take(&mut self, bytes: usize, count: usize) -> Result<(Room, Events), OutOfMemory>
         ensures size { IfOk result (λ taken. length taken.0 ≡ bytes) }
         ensures none { IfOk result (λ taken. taken.1 ≡ []) }
+        ensures kept { self.new.kept.items ≡
+            take (length self.old.kept.items - 1) self.old.kept.items }
     {
         match self.kept.pop() {
             Some((mut room, mut events)) => {
