@@ -38,9 +38,10 @@ use Rattle.quiet_clocks.specs.QuietClock.{CopperIsStill}
 use Rattle.quiet_clocks.proofs.Owners.{asked_in, late_wishes}
 use Rattle.quiet_clocks.proofs.QuietClock.{still_copper, still_steps, if_either}
 use Rattle.cpu_bus.specs.Bus.{wish_shown}
-use Rattle.chip_set.specs.BusCode.{LeavesToPlanes, LeavesBus, LeavesBeside, KeepsBus, KeepsToPlanes, KeepsBeside, KeepsCias, CiasRest, IsClaim}
+use Rattle.chip_set.specs.BusCode.{LeavesToPlanes, LeavesBus, LeavesBeside, KeepsBus, KeepsToPlanes, KeepsBeside, KeepsCias, TimersStand, CiasRest, IsClaim}
 use Rattle.chip_set.specs.declared.bus.BlitterClaim.{BlitterClaim}
 use Rattle.blitter.specs.StandsFor.{slot_shown}
+use Rattle.irq_cia.specs.Cia.{after_tick}
 use Rattle.irq_cia.specs.Icr.{is_active}
 use Rattle.irq_cia.specs.Interrupts.{Interrupts, after_request}
 use Rattle.irq_cia.specs.declared.cia.CiaState.{CiaState}
@@ -471,11 +472,21 @@ requested_kept old new kept asks =
     let b : Requested old.irq new.cia_a new.cia_b = subst (λ (cia : CiaState). Requested old.irq new.cia_a cia) (sym kept.cia_b) a in
     subst (λ (irq : Interrupts). Requested irq new.cia_a new.cia_b) (sym kept.irq) b
 
+ticks_kept : (ticks : Bool) (old new : WorkingChips) → KeepsCias old new → ((ticks ≡ false) ⊎ TimersStand old)
+    → ((ticks ≡ false) ⊎ TimersStand new)
+ticks_kept ticks old new kept (inl off) = inl off
+ticks_kept ticks old new kept (inr stand) =
+    inr (
+      subst (λ (cia : CiaState). after_tick cia ≡ cia) (sym kept.cia_a) stand.0,
+      subst (λ (cia : CiaState). after_tick cia ≡ cia) (sym kept.cia_b) stand.1,
+    )
+
 pub rest_kept : (t n : ℕ) (old new : WorkingChips) → KeepsCias old new → CiasRest t n old → CiasRest t n new
-rest_kept t n old new kept rest k below = ((rest k below).0, requested_kept old new kept (rest k below).1)
+rest_kept t n old new kept rest k below =
+    (ticks_kept ((t + k) % 5 == 0) old new kept (rest k below).0, requested_kept old new kept (rest k below).1)
 
 pub rest_next : (t n : ℕ) (now : WorkingChips) → CiasRest t n now → CiasRest (t + 1) (n - 1) now
 rest_next t n now rest k below =
     let e : t + suc k ≡ t + 1 + k = omega arith in
     let there = rest (suc k) (omega (arith, below)) in
-    (subst (λ at. (at % 5 == 0) ≡ false) e there.0, there.1)
+    (subst (λ at. ((at % 5 == 0) ≡ false) ⊎ TimersStand now) e there.0, there.1)

@@ -1,12 +1,14 @@
 -- The CIAs and the processor over plain values.
-use Rattle.std.proofs.Common.{◌≡◌, ◌<◌, ℕ, ◌+◌, ◌-◌, ◌%◌, ◌==◌, if◌then◌else◌, Bool, not, false, bit_or, arith, ap, subst, sym, ◌∙◌}
+use Rattle.std.proofs.Common.{◌≡◌, ◌⊎◌, inl, inr, ◌<◌, ℕ, ◌+◌, ◌-◌, ◌%◌, ◌==◌, if◌then◌else◌, Bool, not, false, bit_or, arith, ap, subst, sym, ◌∙◌}
 use Rattle.std.proofs.lemmas.Bool.Decides.{nat_tests}
 use Rattle.irq_cia.specs.Cia.{after_tick}
 use Rattle.irq_cia.specs.Interrupts.{Interrupts, after_request}
+use Rattle.irq_cia.specs.declared.cia.CiaState.{CiaState}
+use Rattle.quiet_clocks.proofs.QuietClock.{if_either}
 use Rattle.serial_bands.proofs.Ors.{or_none}
 use Rattle.serial_model.specs.Cias.{line_bits, request_lines, tick_timers, time_chips}
 use Rattle.serial_model.specs.State.{Chips}
-use Rattle.chip_set.specs.BusCode.{CiasRest}
+use Rattle.chip_set.specs.BusCode.{CiasRest, TimersStand}
 use Rattle.chip_set.specs.Chips.{WorkingChips, IsChipsOf}
 use Rattle.chip_set.proofs.QuietLaws.{lines_of}
 
@@ -43,17 +45,27 @@ no_line bits mid c silent quiet is =
     ∙ ap (λ r. record c.irq { req = r }) (or_none c.irq.req) in
     subst (λ i. IsChipsOf mid (record c { irq = i })) (sym same) is
 
+-- no tick changes the CIAs where there is none, and where it leaves them as they are
+untouched : (t : ℕ) (now : WorkingChips) (c : Chips) → IsChipsOf now c → (((t % 5 == 0) ≡ false) ⊎ TimersStand now) → tick_timers t c ≡ c
+untouched t now c is (inl off) =
+    ap (λ (on : Bool). record c {
+      cia_a = if on then after_tick c.cia_a else c.cia_a;
+      cia_b = if on then after_tick c.cia_b else c.cia_b;
+    }) off
+untouched t now c is (inr stand) =
+    let a : after_tick c.cia_a ≡ c.cia_a = subst (λ (cia : CiaState). after_tick cia ≡ cia) (sym is.cia_a) stand.0 in
+    let b : after_tick c.cia_b ≡ c.cia_b = subst (λ (cia : CiaState). after_tick cia ≡ cia) (sym is.cia_b) stand.1 in
+    ap (λ (cia : CiaState). record c { cia_a = cia; cia_b = if t % 5 == 0 then after_tick c.cia_b else c.cia_b })
+    (if_either (t % 5 == 0) (after_tick c.cia_a) c.cia_a a)
+    ∙ ap (λ (cia : CiaState). record c { cia_b = cia }) (if_either (t % 5 == 0) (after_tick c.cia_b) c.cia_b b)
+
 -- at a clock at which the CIAs rest nothing is done for them
 pub rested : (t n : ℕ) (now : WorkingChips) (c : Chips) → CiasRest t n now → 0 < n → IsChipsOf now c → IsChipsOf now (time_chips 0 t c)
 unfolding time_chips
 rested t n now c rest some is =
     let e : t + 0 ≡ t = omega arith in
     let here = rest 0 some in
-    let off : (t % 5 == 0) ≡ false = subst (λ at. (at % 5 == 0) ≡ false) e here.0 in
-    let ticks : tick_timers t c ≡ c = ap (λ (on : Bool). record c {
-      cia_a = if on then after_tick c.cia_a else c.cia_a;
-      cia_b = if on then after_tick c.cia_b else c.cia_b;
-    }) off in
+    let ticks : tick_timers t c ≡ c = untouched t now c is (subst (λ at. ((at % 5 == 0) ≡ false) ⊎ TimersStand now) e here.0) in
     let lines : request_lines 0 c ≡ c = ap (λ (irq : Interrupts). record c { irq = irq }) (lines_of now c is here.1) in
     subst (λ (x : Chips). IsChipsOf now x) (sym (ap (λ x. request_lines 0 x) ticks ∙ lines)) is
 

@@ -1,7 +1,8 @@
 -- Clocks that refresh, sprites and the Copper leave to the planes, the blitter and the processor.
-use Rattle.std.specs.Prelude.{◌≡◌, ◌<◌, ℕ, ◌+◌, ◌%◌, ◌==◌, Bool, true, false, not, Option, Some, None, is_some}
+use Rattle.std.specs.Prelude.{◌≡◌, ◌⊎◌, ◌<◌, ℕ, ◌+◌, ◌%◌, ◌==◌, Bool, true, false, not, Option, Some, None, is_some}
 use Rattle.bitplane_dma.specs.RulesCode.{rules_of}
 use Rattle.bitplane_dma.specs.declared.rules.FetchRules.{FetchRules}
+use Rattle.irq_cia.specs.Cia.{after_tick}
 use Rattle.ocs_base.specs.declared.beam.Beam.{Beam}
 use Rattle.quiet_clocks.specs.PlainClock.{AsksNothingNew}
 use Rattle.quiet_clocks.specs.QuietClocks.{later_beam}
@@ -72,9 +73,13 @@ pub record KeepsCias (old new : WorkingChips) : Type 0 where
 abbrev pub KeepsOnBus : WorkingChips → WorkingChips → Type 0
 KeepsOnBus old new = KeepsBus old new × KeepsCias old new
 
--- in n clocks from clock t on the timers do not tick, and the CIAs request no interrupt that is not requested yet
+-- a tick of the timers leaves both CIAs as they are
+abbrev pub TimersStand : WorkingChips → Type 0
+TimersStand now = (after_tick now.cia_a ≡ now.cia_a) × (after_tick now.cia_b ≡ now.cia_b)
+
+-- in n clocks from clock t on no tick of the timers changes the CIAs, and they request no interrupt that is not requested yet
 abbrev pub CiasRest : ℕ → ℕ → WorkingChips → Type 0
-CiasRest t n now = (k : ℕ) → k < n → (((t + k) % 5 == 0) ≡ false) × AsksNothingNew 0 (plain_chips now)
+CiasRest t n now = (k : ℕ) → k < n → ((((t + k) % 5 == 0) ≡ false) ⊎ TimersStand now) × AsksNothingNew 0 (plain_chips now)
 
 -- whether the blitter asks, and whether it gives way to a processor that has missed three clocks
 pub record IsClaim (claim : BlitterClaim) (now : WorkingChips) : Type 0 where

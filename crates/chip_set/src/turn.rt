@@ -8,7 +8,7 @@ ghost use Rattle.serial_model.specs.Cias.{tick_timers as ticked, line_bits as li
 ghost use Rattle.serial_model.specs.Turns.{go_on_with, begins_with, run_chips, interrupt_of};
 ghost use Rattle.serial_model.specs.Processor.{turn_of};
 ghost use Rattle.serial_model.specs.declared.processor.Turn.TheVariants.{Goes};
-ghost use Rattle.chip_set.specs.BusCode.{CiasRest, KeepsCias};
+ghost use Rattle.chip_set.specs.BusCode.{CiasRest, TimersStand, KeepsCias};
 ghost use Rattle.chip_set.specs.Chips.{IsChipsOf};
 
 use crate::chips::Chips;
@@ -69,7 +69,8 @@ impl Chips {
     }
 
     /// In how many clocks from the one behind clock `t` on nothing is to be done for the CIAs: those before
-    /// the next tick of their timers, and none where they request an interrupt that is not requested yet.
+    /// the next tick of their timers, or any while no timer is started, and none where they request an
+    /// interrupt that is not requested yet.
     #[inline(always)]
     fn clocks_behind(&self, t: u64) -> u16
         requires { t + 1 < 2 ^ 64 }
@@ -78,7 +79,18 @@ impl Chips {
         if !self.asks_nothing_new() {
             return 0;
         }
+        if self.timers_stand() {
+            return u16::MAX;
+        }
         (4 - t % 5) as u16
+    }
+
+    /// Whether no timer is started.
+    #[inline(always)]
+    fn timers_stand(&self) -> bool
+        ensures { result ≡ true → TimersStand self.now }
+    {
+        self.cia_a.stands() && self.cia_b.stands()
     }
 
     /// The timers tick at each fifth clock.
