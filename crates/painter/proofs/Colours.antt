@@ -79,7 +79,8 @@ low_put : (palette : List ℕ) (n colour k : ℕ) (low : Bool) → length palett
     twos colour
     ≡ twos (if low then slice_index (slice_set palette n colour) k else halved (slice_index (slice_set palette n colour) (k - 32)))
 low_put palette n colour k true long few here is =
-    sym (ap (λ (c : ℕ). twos c) (ap (λ (m : ℕ). slice_index (slice_set palette n colour) m) here ∙ get_or-set_same palette n colour 0 (omega (arith, long, few))))
+    sym (ap (λ (c : ℕ). twos c)
+    (ap (λ (m : ℕ). slice_index (slice_set palette n colour) m) here ∙ get_or-set_same palette n colour 0 (omega (arith, long, few))))
 low_put palette n colour k false long few here is = grind (arith, nat_tests)
 
 high_put : (palette : List ℕ) (n colour k : ℕ) (low : Bool) → length palette ≡ 32 → n < 32 → k ≡ n + 32 → nat_lt k 32 ≡ low →

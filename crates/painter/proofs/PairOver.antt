@@ -232,8 +232,9 @@ pub none_over : (inks : InkRegisters) (line : Line) (pair attached byte x bits n
 unfolding colour_over colour_in_front ink_at
 none_over inks line pair attached byte x bits number none at named = rw (named, at, none) refl
 
-pub hidden_over : (inks : InkRegisters) (line : Line) (pair attached byte x bits number : ℕ) → hides inks.con0 inks.con2 (counted_bits inks.con0 bits) pair ≡ true →
-    bits ≡ row_bits line x → number ≡ ink_number inks.con0 inks.con2 bits → ink inks.palette number ≡ colour_over inks line pair attached byte x
+pub hidden_over : (inks : InkRegisters) (line : Line) (pair attached byte x bits number : ℕ) →
+    hides inks.con0 inks.con2 (counted_bits inks.con0 bits) pair ≡ true → bits ≡ row_bits line x →
+    number ≡ ink_number inks.con0 inks.con2 bits → ink inks.palette number ≡ colour_over inks line pair attached byte x
 unfolding colour_over colour_in_front ink_at
 hidden_over inks line pair attached byte x bits number under at named =
     let hidden : hides inks.con0 inks.con2 (counted_bits inks.con0 (row_bits line x)) pair ≡ true =
