@@ -65,7 +65,7 @@ impl Painter {
         let Some(row) = self.sprites.row_from(2 * from.h, steady.lone) else {
             return false;
         };
-        self.put_clocks_over(row, steady, 2 * from.h, count, room, at);
+        self.put_clocks_over(row, steady, 2 * from.h as usize, count, room, at);
         true
     }
 
@@ -76,7 +76,7 @@ impl Painter {
         &self,
         row: &[u8; 512],
         steady: &Steady,
-        column: u16,
+        column: usize,
         count: u16,
         room: &mut [u8],
         at: usize,
@@ -93,7 +93,8 @@ impl Painter {
         let colours = pair_colours(steady.lone, steady.attached);
         for clock in 0..count {
             let place = at + 12 * clock as usize;
-            self.put_clock_over(row, &colours, steady, column + 2 * clock, room, place);
+            let here = column + 2 * clock as usize;
+            self.put_clock_over(row, &colours, steady, here, room, place);
         }
     }
 
@@ -104,7 +105,7 @@ impl Painter {
         row: &[u8; 512],
         colours: &[u8; 16],
         steady: &Steady,
-        column: u16,
+        column: usize,
         room: &mut [u8],
         at: usize,
     )
@@ -120,15 +121,15 @@ impl Painter {
             steady.now.lone steady.now.attached column) }
         ensures size { length room.new ≡ length room.old }
     {
-        let first = self.ink_over(row[column as usize], colours, steady, column);
+        let first = self.ink_over(row[column], colours, steady, column);
         put_eight(room, at, &self.inks.two_pixels(first));
-        let second = self.ink_over(row[column as usize + 1], colours, steady, column + 1);
+        let second = self.ink_over(row[column + 1], colours, steady, column + 1);
         put_eight(room, at + 6, &self.inks.two_pixels(second));
     }
 
     /// The ink of a column's first pixel with the pair over it, whose byte is this.
     #[inline(always)]
-    fn ink_over(&self, byte: u8, colours: &[u8; 16], steady: &Steady, column: u16) -> u8
+    fn ink_over(&self, byte: u8, colours: &[u8; 16], steady: &Steady, column: usize) -> u8
         requires place { column ≤ 455 }
         requires alone { steady.now.lone ≤ 3 }
         requires few { byte ≤ 15 }
@@ -139,7 +140,7 @@ impl Painter {
             steady.now.lone steady.now.attached byte (2 * column) }
         ensures few { result < 64 }
     {
-        let bits = self.line.bits(2 * column as usize);
+        let bits = self.line.bits(2 * column);
         if byte == 0 {
             return self.inks.name(bits);
         }

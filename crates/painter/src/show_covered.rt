@@ -68,43 +68,9 @@ impl Painter {
     }
 
     /// The picture steps of the next of so many such clocks, at least one: those before the next words
-    /// begin, or the one at which they do.
+    /// begin, or the one at which they do. Those that begin at its first column are begun before it is
+    /// shown, since they show from there on.
     fn show_next(
-        &mut self,
-        from: FieldPlace,
-        count: u16,
-        room: &mut [u8],
-        at: usize,
-        clx: &mut u16,
-    ) -> u16
-        requires place { from.h + count ≤ 228 }
-        requires some { 1 ≤ count }
-        requires first { (k : ℕ) → k < count → is_inside from.v (2 * (from.h + k))
-            self.old.window.diwstrt self.old.window.diwstop ≡ true }
-        requires second { (k : ℕ) → k < count → is_inside from.v (2 * (from.h + k) + 1)
-            self.old.window.diwstrt self.old.window.diwstop ≡ true }
-        requires seen { (k : ℕ) → k < count → is_visible from.system from.v (from.h + k) ≡ true }
-        requires room { at + 12 * count ≤ length room.old }
-        ensures given { (p : DeniseValue) → IsPainterOf self.old p
-            → IsSpan from.system from.v from.h result p self.new
-            (take at room.old) (take (at + 12 * result) room.new) clx.old clx.new }
-        ensures some { 1 ≤ result }
-        ensures most { result ≤ count }
-        ensures window { self.new.window ≡ self.old.window }
-        ensures size { length room.new ≡ length room.old }
-    {
-        let steady = self.sprites.steady_clocks(from.h, count);
-        if steady > 0 {
-            self.show_steady(from, steady, room, at, clx);
-            return steady;
-        }
-        self.show_begun(from, count, room, at, clx)
-    }
-
-    /// The same where words may begin at the first of them. Those that do at its first column are begun
-    /// before it is shown, since they show from there on.
-    #[inline(always)]
-    fn show_begun(
         &mut self,
         from: FieldPlace,
         count: u16,

@@ -185,6 +185,9 @@ impl Painter {
         ensures clx { (p : DeniseValue) → IsPainterOf self.now p
             → clx ≡ bit_or clx (quiet_gathered v h result p) }
     {
+        if idle == 0 {
+            return 0;
+        }
         if self.line.is_blank_from(4 * h as usize) && self.has_gathered(clx) {
             return idle;
         }
@@ -199,6 +202,9 @@ impl Painter {
         ensures most { result ≤ idle }
         ensures inside { AreInside v h result self.now }
     {
+        if idle == 0 {
+            return 0;
+        }
         let inside = self.window.clocks_inside(v, h, idle);
         inside.min(self.line.clocks_before_end(h))
     }

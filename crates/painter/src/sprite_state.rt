@@ -287,20 +287,8 @@ impl SpriteState {
     }
 
     /// How many clocks from `h` on, at most so many, are known to be steady: no words begin there, so
-    /// that those that run stay. Only speed hangs on where that is not known.
-    pub fn steady_clocks(&self, h: u16, count: u16) -> u16
-        requires { h + count ≤ 228 }
-        ensures most { result ≤ count }
-        ensures steady { (k : ℕ) → k < result → IsSteady (h + k) self.now }
-    {
-        if self.armed == 0 {
-            return count;
-        }
-        self.clocks_before_start(h, count)
-    }
-
-    /// How many clocks from `h` on, at most so many, are known to be steady, where the words have begun
-    /// whose HSTART is the first column of the first.
+    /// that those that run stay. The words have begun whose HSTART is the first column of the first. Only
+    /// speed hangs on where that is not known.
     pub fn begun_clocks(&self, h: u16, count: u16) -> u16
         requires place { h + count ≤ 228 }
         requires some { 1 ≤ count }

@@ -5,6 +5,16 @@ use Rattle.painter.proofs.Overlays.{inside_same, same_bits, clock_outside}
 use Rattle.painter.proofs.Clocks.{gathered_already}
 use Rattle.painter.proofs.painter.Painter.backdrops.Goals as goal
 
+pub returns-then-idle-eq0-clause-known : goal.returns-then-idle-eq0-clause-known
+returns-then-idle-eq0-clause-known c = record {
+  idle = λ k lt. absurd (omega (arith, lt));
+  pixels = λ k held q lt stands. absurd (omega (arith, lt));
+}
+
+pub returns-then-idle-eq0-clause-clx : goal.returns-then-idle-eq0-clause-clx
+returns-then-idle-eq0-clause-clx c p stands =
+    gathered_already (λ (k : ℕ). quiet_collisions c.args.v (c.args.h + k) p) c.args.clx 0 (λ k lt. absurd (omega (arith, lt))) 0 (omega arith)
+
 pub returns-then-has_gathered-clause-known : goal.returns-then-has_gathered-clause-known
 returns-then-has_gathered-clause-known c =
     let blank = c.is_blank_from.ensures.blank c.if-is_blank_from.true in
