@@ -59,10 +59,12 @@ impl Line {
         ensures { (loads : List Load) → IsLineOf self.old loads
             → IsLineOf self.new (loads ++ load_of h latches.now con1 true ∷ []) }
     {
-        if self.ends_with(h, con1, true) {
-            self.lay_load(h, latches, con1, true);
+        let odd = start_at(h, con1, true);
+        let even = start_at(h, con1 / 16, true);
+        if self.ends_with(odd, even) {
+            self.lay_load(odd, even, latches, true);
         } else {
-            self.lay_over(h, latches, con1, true);
+            self.lay_over(odd, even, latches, true);
         }
     }
 
@@ -73,49 +75,56 @@ impl Line {
         ensures { (loads : List Load) → IsLineOf self.old loads
             → IsLineOf self.new (loads ++ load_of h latches.now con1 false ∷ []) }
     {
-        if self.ends_with(h, con1, false) {
-            self.lay_load(h, latches, con1, false);
+        let odd = start_at(h, con1, false);
+        let even = start_at(h, con1 / 16, false);
+        if self.ends_with(odd, even) {
+            self.lay_load(odd, even, latches, false);
         } else {
-            self.lay_over(h, latches, con1, false);
+            self.lay_over(odd, even, latches, false);
         }
     }
 
-    /// Whether nothing is laid behind what a load shows. Only speed hangs on it.
+    /// Whether nothing is laid behind what a load shows from these positions on. Only speed hangs on it.
     #[inline(always)]
-    fn ends_with(&self, h: u16, con1: u16, hires: bool) -> bool
-        requires { h ≤ 227 }
-        ensures odd { result ≡ true → self.now.odd.end ≤ 4 * h + 38 + 2 * delay hires (con1 % 16) }
-        ensures even { result ≡ true
-            → self.now.even.end ≤ 4 * h + 38 + 2 * delay hires (con1 / 16 % 16) }
+    fn ends_with(&self, odd: usize, even: usize) -> bool
+        requires odd { odd ≤ 992 }
+        requires even { even ≤ 992 }
+        ensures odd { result ≡ true → self.now.odd.end ≤ odd + 32 }
+        ensures even { result ≡ true → self.now.even.end ≤ even + 32 }
     {
-        self.odd.end <= start_at(h, con1, hires) + 32
-            && self.even.end <= start_at(h, con1 / 16, hires) + 32
+        self.odd.end <= odd + 32 && self.even.end <= even + 32
     }
 
     /// The same load where more may be laid.
     #[inline(never)]
-    fn lay_over(&mut self, h: u16, latches: &[u16; 6], con1: u16, hires: bool)
-        requires { h ≤ 227 }
-        ensures { (loads : List Load) → IsLineOf self.old loads
+    fn lay_over(&mut self, odd: usize, even: usize, latches: &[u16; 6], hires: bool)
+        requires odd { odd ≤ 992 }
+        requires even { even ≤ 992 }
+        requires pairs { odd % 2 ≡ 0 }
+        requires even_pairs { even % 2 ≡ 0 }
+        ensures { (loads : List Load) (h con1 : ℕ) → odd ≡ 4 * h + 6 + 2 * delay hires (con1 % 16)
+            → even ≡ 4 * h + 6 + 2 * delay hires (con1 / 16 % 16) → IsLineOf self.old loads
             → IsLineOf self.new (loads ++ load_of h latches.now con1 hires ∷ []) }
     {
-        self.lay_load(h, latches, con1, hires);
+        self.lay_load(odd, even, latches, hires);
     }
 
-    /// Lays a load's bytes over both rows.
+    /// Lays a load's bytes over both rows, from these positions on.
     #[inline(always)]
-    fn lay_load(&mut self, h: u16, latches: &[u16; 6], con1: u16, hires: bool)
-        requires { h ≤ 227 }
-        ensures { (loads : List Load) → IsLineOf self.old loads
+    fn lay_load(&mut self, odd: usize, even: usize, latches: &[u16; 6], hires: bool)
+        requires odd { odd ≤ 992 }
+        requires even { even ≤ 992 }
+        requires pairs { odd % 2 ≡ 0 }
+        requires even_pairs { even % 2 ≡ 0 }
+        ensures { (loads : List Load) (h con1 : ℕ) → odd ≡ 4 * h + 6 + 2 * delay hires (con1 % 16)
+            → even ≡ 4 * h + 6 + 2 * delay hires (con1 / 16 % 16) → IsLineOf self.old loads
             → IsLineOf self.new (loads ++ load_of h latches.now con1 hires ∷ []) }
     {
         let [one, two, three, four, five, six] = *latches;
-        let odd = spread(hires, one, three, five);
-        let even = spread(hires, two, four, six);
-        self.odd
-            .lay(start_at(h, con1, hires), odd.as_flattened(), !hires);
-        self.even
-            .lay(start_at(h, con1 / 16, hires), even.as_flattened(), !hires);
+        let odd_bytes = spread(hires, one, three, five);
+        let even_bytes = spread(hires, two, four, six);
+        self.odd.lay(odd, odd_bytes.as_flattened(), !hires);
+        self.even.lay(even, even_bytes.as_flattened(), !hires);
     }
 
     /// Whether no load was laid at a high-resolution position or behind it, and so none shows a bit

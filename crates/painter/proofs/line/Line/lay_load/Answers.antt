@@ -10,35 +10,35 @@ few_of : (bytes : List ℕ) (hires : Bool) (a b c x : ℕ) → bytes ≡ spread_
 few_of bytes hires a b c x is = subst (λ (l : List ℕ). slice_index l x ≤ 21) (sym is) (spread_few hires a b c x)
 
 pub lay-requires-clause-few : goal.lay-requires-clause-few
-lay-requires-clause-few c x = few_of _ _ _ _ _ x (c.as_flattened.ensures.value ∙ c.spread-odd.ensures)
+lay-requires-clause-few c x = few_of _ _ _ _ _ x (c.as_flattened.ensures.value ∙ c.spread-odd_bytes.ensures)
 
 pub lay-requires-2-clause-few : goal.lay-requires-2-clause-few
-lay-requires-2-clause-few c x = few_of _ _ _ _ _ x (c.as_flattened-2.ensures.value ∙ c.spread-even.ensures)
+lay-requires-2-clause-few c x = few_of _ _ _ _ _ x (c.as_flattened-2.ensures.value ∙ c.spread-even_bytes.ensures)
 
 pub lay-requires-clause-pairs : goal.lay-requires-clause-pairs
-lay-requires-clause-pairs c low = spread_paired _ _ _ _ _ (c.as_flattened.ensures.value ∙ c.spread-odd.ensures) low
+lay-requires-clause-pairs c low = spread_paired _ _ _ _ _ (c.as_flattened.ensures.value ∙ c.spread-odd_bytes.ensures) low
 
 pub lay-requires-2-clause-pairs : goal.lay-requires-2-clause-pairs
-lay-requires-2-clause-pairs c low = spread_paired _ _ _ _ _ (c.as_flattened-2.ensures.value ∙ c.spread-even.ensures) low
+lay-requires-2-clause-pairs c low = spread_paired _ _ _ _ _ (c.as_flattened-2.ensures.value ∙ c.spread-even_bytes.ensures) low
 
 pub returns : goal.returns
-returns c loads is =
-    let load : Load = load_of c.args.h c.args.latches.now c.args.con1 c.args.hires in
+returns c loads h con1 odd even is =
+    let load : Load = load_of h c.args.latches.now con1 c.args.hires in
     record {
-      odd = laid_shows 1 c.start_at.result loads load c.as_flattened.result.now c.args.self.now.odd.shown c.lay.new.self.shown
+      odd = laid_shows 1 c.args.odd loads load c.as_flattened.result.now c.args.self.now.odd.shown c.lay.new.self.shown
           (record {
-            first = sym c.start_at.ensures.value;
-            second = sym c.start_at.ensures.value;
-            third = sym c.start_at.ensures.value;
-            spread = λ (x : ℕ). ap (λ (l : List ℕ). slice_index l x) (c.as_flattened.ensures.value ∙ c.spread-odd.ensures) ∙ spread_at _ _ _ _ x;
+            first = sym odd;
+            second = sym odd;
+            third = sym odd;
+            spread = λ (x : ℕ). ap (λ (l : List ℕ). slice_index l x) (c.as_flattened.ensures.value ∙ c.spread-odd_bytes.ensures) ∙ spread_at _ _ _ _ x;
             over = c.lay.ensures.shown;
           }) is.odd;
-      even = laid_shows 2 c.start_at-2.result loads load c.as_flattened-2.result.now c.args.self.now.even.shown c.lay-2.new.self.shown
+      even = laid_shows 2 c.args.even loads load c.as_flattened-2.result.now c.args.self.now.even.shown c.lay-2.new.self.shown
           (record {
-            first = sym c.start_at-2.ensures.value;
-            second = sym c.start_at-2.ensures.value;
-            third = sym c.start_at-2.ensures.value;
-            spread = λ (x : ℕ). ap (λ (l : List ℕ). slice_index l x) (c.as_flattened-2.ensures.value ∙ c.spread-even.ensures) ∙ spread_at _ _ _ _ x;
+            first = sym even;
+            second = sym even;
+            third = sym even;
+            spread = λ (x : ℕ). ap (λ (l : List ℕ). slice_index l x) (c.as_flattened-2.ensures.value ∙ c.spread-even_bytes.ensures) ∙ spread_at _ _ _ _ x;
             over = c.lay-2.ensures.shown;
           }) is.even;
     }
