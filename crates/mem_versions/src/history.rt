@@ -14,6 +14,9 @@ use std::alloc::Global;
 use std::marker::Model;
 use std::sync::ledger::Ledger;
 
+/// How many writes to a page are passed over at one look, where there are so many.
+const STRIDE: usize = 16;
+
 /// Writes in order of place, those to one place in order of happening, and where those to each page
 /// stand. Where there are no writes nothing is kept of the pages.
 #[derive(Drop)]
@@ -178,6 +181,9 @@ fn page_end(writes: &[Write], page: usize, start: usize) -> usize
     ensures { IsPageEnd writes.now page start result }
 {
     let mut end = start + 1;
+    while STRIDE < writes.len() - end && writes[end + STRIDE].place as usize / PAGE == page {
+        end += STRIDE;
+    }
     while end < writes.len() && writes[end].place as usize / PAGE == page {
         end += 1;
     }

@@ -13,3 +13,14 @@ invariant-loop-end l =
 
 abbrev pub decreases-loop-end : goal.decreases-loop-end
 decreases-loop-end l = length l.writes - l.end
+
+abbrev pub invariant-loop-end-2 : goal.invariant-loop-end-2
+invariant-loop-end-2 l =
+    record {
+      some : l.start < l.end;
+      within : l.end ≤ length l.writes;
+      same : (k : ℕ) (d : Write) → l.start ≤ k → k < l.end → (get_or l.writes k d).place / 256 ≡ l.page;
+    }
+
+abbrev pub decreases-loop-end-2 : goal.decreases-loop-end-2
+decreases-loop-end-2 l = length l.writes - l.end
