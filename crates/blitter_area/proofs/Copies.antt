@@ -8,6 +8,7 @@ use Rattle.blit_words.proofs.Numbers.{from_digits}
 use Rattle.blitter_area.specs.declared.data_path.Words.{Words}
 use Rattle.blitter_area.specs.declared.data_path.Past.{Past}
 use Rattle.blitter_area.specs.declared.data_path.DataPath.{DataPath}
+use Rattle.blitter_area.specs.declared.data_path.Outcome.{Outcome}
 use Rattle.blitter_area.specs.Data.{outcome_filled, outcome_plain}
 use Rattle.blitter_area.specs.PathCode.{joined_with, outcome_with}
 
@@ -47,11 +48,23 @@ of_a zero (suc zero) (suc (suc c)) ha hb hc = omega arith
 of_a (suc zero) zero (suc (suc c)) ha hb hc = omega arith
 of_a (suc zero) (suc zero) (suc (suc c)) ha hb hc = omega arith
 
-minterm_is : (a b c : ℕ) → a < 65536 → minterm_of 240 a b c ≡ a
+pub minterm_is : (a b c : ℕ) → a < 65536 → minterm_of 240 a b c ≡ a
 unfolding minterm_of
 minterm_is a b c low =
     sym (from_digits 16 a (λ (i : ℕ). bit_at 240 (4 * bit_at a i + 2 * bit_at b i + bit_at c i)) low (λ i below.
     of_a (bit_at a i) (bit_at b i) (bit_at c i) (bit_at-lt a i) (bit_at-lt b i) (bit_at-lt c i)))
+
+pub shifted_low : (descending : Bool) (shift before word : ℕ) → shifted_input descending shift before word < 65536
+shifted_low true shift before word = omega arith
+shifted_low false shift before word = omega arith
+
+-- whatever B and C are, A alone is the minterm
+pub minterm_same : (lf : ℕ) (d : Bool) (shift before word b c b' c' : ℕ) → lf ≡ 240
+    → minterm_of lf (shifted_input d shift before word) b c ≡ minterm_of lf (shifted_input d shift before word) b' c'
+minterm_same lf d shift before word b c b' c' is =
+    let a : ℕ = shifted_input d shift before word in
+    let low : a < 65536 = shifted_low d shift before word in
+    ap (λ (k : ℕ). minterm_of k a b c) is ∙ minterm_is a b c low ∙ sym (minterm_is a b' c' low) ∙ sym (ap (λ (k : ℕ). minterm_of k a b' c') is)
 
 -- ---- the outcome
 
@@ -84,3 +97,10 @@ copied d past column w word copies masked joined =
     (sym (d.copies_plain copies))
     ∙ ap (λ (y : Words). if d.fills then outcome_filled d.exclusive past y (joined_with d past y) else outcome_plain past y (joined_with d past y))
     (ap (λ (a : ℕ). record w { a = a }) masked)
+
+-- so the result is what its word leaves of A
+pub copied_alike : (d : DataPath) (past : Past) (column : ℕ) (w : Words) → d.copies ≡ true → past.a < 65536 → w.a < 65536
+    → ((outcome_with d past column w).word ≡ w.a) × ((outcome_with d past column w).past.a ≡ w.a)
+copied_alike d past column w copies before_low low =
+    let is = copied d past column w w.a copies (masked_is d column w.a copies low) (joined_is d past.a w.a copies before_low low) in
+    (ap (λ (o : Outcome). o.word) (sym is), ap (λ (o : Outcome). o.past.a) (sym is))

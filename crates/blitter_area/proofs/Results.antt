@@ -1,11 +1,12 @@
 -- The result of a word by the data path is that by position, and so is what it leaves.
-use Rattle.std.proofs.Common.{◌≡◌, ℕ, suc, ◌+◌, ◌*◌, ◌/◌, ◌%◌, ◌<◌, Bool, true, false, if◌then◌else◌, List, sym, ap, ◌∙◌, refl, count_ones}
+use Rattle.std.proofs.Common.{◌≡◌, inl, inr, ℕ, suc, ◌+◌, ◌*◌, ◌/◌, ◌%◌, ◌<◌, Bool, true, false, if◌then◌else◌, List, sym, ap, ◌∙◌, refl, count_ones}
 use Rattle.std.proofs.lemmas.Nat.{div-mul-add, mod-mul-add}
+use Rattle.std.proofs.lemmas.Bool.{cases_eq}
 use Rattle.blit_words.specs.declared.blit.BlitRegs.{BlitRegs}
 use Rattle.blit_words.specs.declared.blit.WordAsk.TheVariants.{A, B, C}
 use Rattle.blit_words.specs.BlitWords.{masked_word, filled_word, one_if}
-use Rattle.blit_words.specs.Blit.{width_of}
-use Rattle.blit_words.specs.AreaBlit.{channel_word, masked_a, joined_word, ones_in_row, result_word, is_filling, is_exclusive}
+use Rattle.blit_words.specs.Blit.{width_of, minterms_of, shift_of_a}
+use Rattle.blit_words.specs.AreaBlit.{channel_word, masked_a, joined_word, ones_in_row, result_word, is_filling, is_exclusive, is_descending, previous_b}
 use Rattle.blit_words.specs.Parity.{is_carry}
 use Rattle.blit_words.proofs.Filling.{carry_more, filled_by_carry}
 use Rattle.blitter_area.specs.declared.data_path.Words.{Words}
@@ -15,6 +16,7 @@ use Rattle.blitter_area.specs.declared.data_path.DataPath.{DataPath}
 use Rattle.blitter_area.specs.Data.{joined_by, mask_words, outcome_filled, outcome_plain, outcome_of}
 use Rattle.blitter_area.specs.PathCode.{IsPathOf, joined_with, mask_with, outcome_with}
 use Rattle.blitter_area.specs.Walk.{IsPast}
+use Rattle.blitter_area.proofs.Copies.{minterm_same}
 
 -- the inputs of word c of row r
 pub record AreInputs (w : Words) (s : BlitRegs) (ws : List ℕ) (j : ℕ) : Type 0 where
@@ -37,10 +39,18 @@ unfolding joined_by joined_word
 joined_is s ws r c w p inside inputs past =
     let masked = masked_is s ws r c w inside inputs in
     let a = past.of_a in
-    let b = past.of_b in
     let own_b = inputs.of_b in
     let own_c = inputs.of_c in
-    cc
+    let j : ℕ = r * width_of s + c in
+    let of_b : p.b ≡ previous_b s ws j → joined_by s p (mask_words s c w) ≡ joined_word s ws j = λ b. cc in
+    elim (cases_eq (minterms_of s) 240) [
+      | inl copies ↦
+          let q : Past = record p { b = previous_b s ws j } in
+          let b : q.b ≡ previous_b s ws j = refl in
+          let same : joined_by s q (mask_words s c w) ≡ joined_word s ws j = cc in
+          minterm_same (minterms_of s) (is_descending s) (shift_of_a s) p.a (mask_words s c w).a _ w.c _ w.c copies ∙ same
+      | inr other ↦ of_b (past.of_b other)
+    ]
 
 past_word : (f e : Bool) (p : Past) (w : Words) (n : ℕ)
     → (if f then outcome_filled e p w n else outcome_plain p w n).word ≡ (if f then filled_word e (one_if p.carry) n else n)

@@ -249,6 +249,19 @@ few_asks s =
     let both = both_true _ _ (from_all 16 size_test sizes_pass (code_of s) (code_below s)) in
     ltb-true _ _ both.1
 
+-- a blit from A to D reads A and then writes
+pub copied_asks : (s : BlitRegs) → code_of s ≡ 9 → asks_per_word s ≡ 2
+unfolding asks_per_word asks_in
+copied_asks s is = ap (λ (n : ℕ). length (asks_in n)) is
+
+pub copied_read : (s : BlitRegs) → code_of s ≡ 9 → word_ask s 0 ≡ A
+unfolding word_ask asks_in
+copied_read s is = ap (λ (n : ℕ). get_or (asks_in n) 0 Rest) is
+
+pub copied_write : (s : BlitRegs) → code_of s ≡ 9 → word_ask s 1 ≡ D
+unfolding word_ask asks_in
+copied_write s is = ap (λ (n : ℕ). get_or (asks_in n) 1 Rest) is
+
 -- ---- the row with rests behind its last ask
 
 rests : (n p : ℕ) → get_or (replicate n Rest) p Rest ≡ Rest

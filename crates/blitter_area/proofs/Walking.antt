@@ -1,10 +1,11 @@
 -- What an area blit stands for, from ask to ask.
-use Rattle.std.proofs.Common.{arith, ◌≡◌, ◌≢◌, inl, inr, ℕ, suc, ◌+◌, ◌*◌, ◌/◌, ◌%◌, ◌<◌, ◌≤◌, Bool, true, false, if◌then◌else◌}
+use Rattle.std.proofs.Common.{arith, ◌≡◌, ◌≢◌, inl, inr, ℕ, zero, suc, bit_or, ◌+◌, ◌*◌, ◌/◌, ◌%◌, ◌<◌, ◌≤◌, Bool, true, false, if◌then◌else◌}
 use Rattle.std.proofs.Common.{◌&&◌, nat_lt, nat_le, ◌==◌, List, [], ◌∷◌, ◌++◌, length, sym, ap, subst, ◌∙◌, refl}
 use Rattle.std.proofs.Math.Nat.{mul-le-mul_right}
-use Rattle.std.proofs.lemmas.Bool.{cases_lt, le-leb, lt-leb}
+use Rattle.std.proofs.lemmas.Bool.{cases_lt, cases_eq, le-leb, lt-leb}
 use Rattle.std.proofs.lemmas.List.{length_push}
-use Rattle.std.proofs.lemmas.Nat.{div-mul-add, mod-mul-add}
+use Rattle.std.proofs.lemmas.Nat.{div-mul-add, mod-mul-add, le_or_l}
+use Rattle.std.proofs.lemmas.Bool.Decides.{nat_tests}
 use Rattle.ocs_base.specs.declared.addr.Addr.{Addr}
 use Rattle.blit_words.specs.declared.blit.BlitRegs.{BlitRegs}
 use Rattle.blit_words.specs.declared.blit.SlotAsk.{SlotAsk}
@@ -12,8 +13,8 @@ use Rattle.blit_words.specs.declared.blit.SlotAsk.TheVariants as S
 use Rattle.blit_words.specs.declared.blit.WordAsk.{WordAsk}
 use Rattle.blit_words.specs.declared.blit.WordAsk.TheVariants.{A, B, C, D, Rest}
 use Rattle.blit_words.specs.BlitWords.{is_set}
-use Rattle.blit_words.specs.Blit.{is_line, height_of, width_of}
-use Rattle.blit_words.specs.AreaBlit.{asks_per_word, word_ask, is_same, is_used, is_filling, previous_a, previous_b, ones_in_row}
+use Rattle.blit_words.specs.Blit.{is_line, height_of, width_of, minterms_of}
+use Rattle.blit_words.specs.AreaBlit.{asks_per_word, word_ask, code_of, is_same, is_used, is_filling, previous_a, previous_b, ones_in_row}
 use Rattle.blit_words.specs.AreaBlit.{are_zero, ask_of, ask_at, area_ask, area_zero, area_end, held_word, address_of}
 use Rattle.blit_words.specs.LineBlit.{line_ask, line_zero, line_end}
 use Rattle.blit_words.specs.Blitter.{blit_ask, is_done, blit_zero, blit_end}
@@ -24,13 +25,15 @@ use Rattle.blitter_area.specs.declared.data_path.Past.{Past}
 use Rattle.blitter_area.specs.declared.data_path.Outcome.{Outcome}
 use Rattle.blitter_area.specs.declared.channel.Pointers.{Pointers}
 use Rattle.blitter_area.specs.Pointing.{AreAt, lane_a, lane_b, lane_c, lane_d}
-use Rattle.blitter_area.specs.Data.{words_with, outcome_of}
+use Rattle.blitter_area.specs.Data.{words_with, outcome_of, past_after}
+use Rattle.blitter_area.specs.PathCode.{outcome_with}
 use Rattle.blitter_area.specs.RowCode.{ask_in_row}
 use Rattle.blitter_area.specs.Walk.{Holds, IsPast, Walks, Stands, shown, IsDoneAfterAll, shown_by, shown_ask, outcome_now, aptl_now}
 use Rattle.blitter_area.proofs.Moves.{address_at}
-use Rattle.blitter_area.proofs.Rows.{place_within, writes_last, some_asks}
+use Rattle.blitter_area.proofs.Rows.{place_within, writes_last, some_asks, copied_asks, copied_write}
 use Rattle.blitter_area.proofs.Held.{held_next, held_read, held_first, held_begin, previous_a_kept, previous_b_kept, ones_kept, zero_kept, lt_false, lt_true}
-use Rattle.blitter_area.proofs.Results.{AreInputs, outcome_word, outcome_a, outcome_b, outcome_carry, first_carry}
+use Rattle.blitter_area.proofs.Results.{AreInputs, outcome_word, outcome_a, outcome_b, outcome_carry, first_carry, ready_outcome}
+use Rattle.blitter_area.proofs.Copies.{copied_alike}
 
 -- ---- where a blit stands
 
@@ -110,7 +113,7 @@ shows b s ws h =
 
 -- ---- BZERO and the registers
 
-pub zero_is : (b : AreaBlit) (s : BlitRegs) (ws : List ℕ) → Stands b s ws → b.zero ≡ blit_zero s ws
+pub zero_is : (b : AreaBlit) (s : BlitRegs) (ws : List ℕ) → Stands b s ws → (b.results == 0) ≡ blit_zero s ws
 unfolding blit_zero area_zero
 zero_is b s ws h =
     h.walks.zero
@@ -173,7 +176,7 @@ pub record HasTaken (b b' : AreaBlit) (w : ℕ) : Type 0 where
   pub column : b'.column ≡ b.column
   pub pointers : b'.pointers ≡ b.pointers
   pub past : b'.past ≡ b.past
-  pub zero : b'.zero ≡ b.zero
+  pub results : b'.results ≡ b.results
   pub words : b'.words ≡ words_with (word_ask b.start b.place) w b.words
 
 taken_a : (k : WordAsk) (w : ℕ) (old : Words) → (words_with k w old).a ≡ (if is_same A k then w else old.a)
@@ -243,15 +246,54 @@ answered b b' s ws w h taken =
           (subst (λ (c : ℕ). IsPast b'.past s (ws ++ w ∷ []) b.row c) (sym taken.column)
           (subst (λ (x : Past). IsPast x s (ws ++ w ∷ []) b.row b.column) (sym taken.past) (record {
             of_a = h.walks.past.of_a ∙ sym (previous_a_kept s ws w j before);
-            of_b = h.walks.past.of_b ∙ sym (previous_b_kept s ws w j before);
+            of_b = λ other. h.walks.past.of_b other ∙ sym (previous_b_kept s ws w j before);
             carry = λ fills. h.walks.past.carry fills ∙ ap is_carry (sym (ones_kept s ws w b.row b.column before));
           })));
       zero =
-          taken.zero ∙ h.walks.zero ∙ sym (zero_kept s ws w j before)
+          ap (λ (n : ℕ). n == 0) taken.results ∙ h.walks.zero ∙ sym (zero_kept s ws w j before)
           ∙ ap (are_zero s (ws ++ w ∷ [])) (sym j');
     }
 
+pub not_both : true ≡ false → ⊥
+not_both h = cc
+
+-- above its last row's end the present ask is that of its place
+pub asked : (s : BlitRegs) (row place : ℕ) → row < height_of s → ask_in_row s row place ≡ word_ask s place
+asked s row place below = ap (λ (t : Bool). if t then word_ask s place else Rest) (lt_true row (height_of s) below)
+
+pub asked_is : (b : AreaBlit) → b.row < height_of b.start → b.ask ≡ word_ask b.start b.place
+asked_is b below = b.ask_is ∙ asked b.start b.row b.place below
+
+-- an ask of a copy that is not its write is the first
+pub copied_place : (b : AreaBlit) (s : BlitRegs) (ws : List ℕ) → Stands b s ws → code_of b.start ≡ 9 → b.row < height_of b.start → b.ask ≢ D
+    → b.place ≡ 0
+copied_place b s ws h code below reads =
+    let asks : asks_per_word s ≡ 2 = sym (ap asks_per_word h.walks.start) ∙ copied_asks b.start code in
+    let low = h.place in
+    elim (cases_eq b.place 1) [
+      | inl second ↦ absurd (reads (asked_is b below ∙ ap (word_ask b.start) second ∙ copied_write b.start code))
+      | inr other ↦ omega (arith, asks, low, other)
+    ]
+
+-- with its word the copy stands at its write
+pub copied_on : (b b' : AreaBlit) (s : BlitRegs) (ws : List ℕ) (w : ℕ) → Stands b s ws → code_of b.start ≡ 9 → b.row < height_of b.start → b.ask ≢ D
+    → (b.place ≡ 0 → HasTaken b b' w)
+    → b'.place ≡ 1
+    → Stands b' s (ws ++ w ∷ [])
+copied_on b b' s ws w h code below reads taken second =
+    let first = copied_place b s ws h code below reads in
+    let asks : asks_per_word s ≡ 2 = sym (ap asks_per_word h.walks.start) ∙ copied_asks b.start code in
+    let next : b.place + 1 ≡ b'.place = omega (arith, first, second) in
+    record {
+      walks = subst (λ (p : ℕ). Walks b' s (ws ++ w ∷ []) p) next (answered b b' s ws w h (taken first));
+      place = omega (arith, asks, second);
+    }
+
 -- ---- the end of a word
+
+zero_or : (m n : ℕ) → (bit_or m n == 0) ≡ ((m == 0) && (n == 0))
+zero_or zero n = refl
+zero_or (suc m) n = let low = le_or_l (suc m) n in grind (arith, nat_tests)
 
 all_inputs : (b : AreaBlit) (s : BlitRegs) (ws : List ℕ) → Walks b s ws (asks_per_word s) → AreInputs b.words s ws (b.row * width_of s + b.column)
 all_inputs b s ws h =
@@ -267,9 +309,9 @@ pub record HasEnded (b b' : AreaBlit) : Type 0 where
   pub start : b'.start ≡ b.start
   pub words : b'.words ≡ b.words
   pub place : b'.place ≡ 0
-  pub zero : b'.zero ≡ (b.zero && (outcome_now b).word == 0)
+  pub results : b'.results ≡ bit_or b.results (outcome_now b).word
   pub past_a : b'.past.a ≡ (outcome_now b).past.a
-  pub past_b : b'.past.b ≡ (outcome_now b).past.b
+  pub past_b : minterms_of b.start ≢ 240 → b'.past.b ≡ (outcome_now b).past.b
 
 next_holds : (b : AreaBlit) (s : BlitRegs) (ws : List ℕ) → Walks b s ws (asks_per_word s) → Holds b.words s ws (suc (b.row * width_of s + b.column)) 0
 next_holds b s ws h =
@@ -280,6 +322,35 @@ next_holds b s ws h =
       of_b = inputs.of_b ∙ sym (held_first s ws B j);
       of_c = inputs.of_c ∙ sym (held_first s ws C j);
     }
+
+-- what the code leaves of a word, of which the result is ready, and where it was not copied what it leaves
+pub record IsReady (b : AreaBlit) : Type 0 where
+  pub word : b.ready.word ≡ (outcome_now b).word
+  pub past : b.path.copies ≡ false → b.ready.past ≡ (outcome_now b).past
+
+abbrev left_of : AreaBlit → Bool → Past
+left_of b copies = past_after copies b.past b.ready
+
+pub left_a : (b : AreaBlit) → IsReady b → b.past.a < 65536 → b.words.a < 65536 → (left_of b b.path.copies).a ≡ (outcome_now b).past.a
+left_a b is before_low low = elim b.path.copies as (λ (k : Bool). b.path.copies ≡ k → (left_of b k).a ≡ (outcome_now b).past.a) [
+  | true ↦ (λ copies.
+      let alike = copied_alike b.path b.past b.column b.words copies before_low low in
+      let made : outcome_with b.path b.past b.column b.words ≡ outcome_now b = ready_outcome b.path b.start b.past b.column b.words b.path_is in
+      is.word ∙ sym (ap (λ (o : Outcome). o.word) made) ∙ alike.0 ∙ sym alike.1 ∙ ap (λ (o : Outcome). o.past.a) made)
+  | false ↦ (λ mixes. ap (λ (p : Past). p.a) (is.past mixes))
+] refl
+
+pub left_b : (b : AreaBlit) → IsReady b → minterms_of b.start ≢ 240 → (left_of b b.path.copies).b ≡ (outcome_now b).past.b
+left_b b is other = elim b.path.copies as (λ (k : Bool). b.path.copies ≡ k → (left_of b k).b ≡ (outcome_now b).past.b) [
+  | true ↦ (λ copies. absurd (other (sym b.path_is.minterms ∙ (b.path.copies_is copies).minterm)))
+  | false ↦ (λ mixes. ap (λ (p : Past). p.b) (is.past mixes))
+] refl
+
+pub left_carry : (b : AreaBlit) → IsReady b → is_filling b.start ≡ true → (left_of b b.path.copies).carry ≡ (outcome_now b).past.carry
+left_carry b is fills = elim b.path.copies as (λ (k : Bool). b.path.copies ≡ k → (left_of b k).carry ≡ (outcome_now b).past.carry) [
+  | true ↦ (λ copies. absurd (not_both (sym fills ∙ sym b.path_is.fills ∙ b.path.copies_plain copies)))
+  | false ↦ (λ mixes. ap (λ (p : Past). p.carry) (is.past mixes))
+] refl
 
 -- where the next word is word c of row r, the blit stands there
 pub ended_at : (b b' : AreaBlit) (s : BlitRegs) (ws : List ℕ) → Walks b s ws (asks_per_word s) → HasEnded b b'
@@ -298,8 +369,10 @@ ended_at b b' s ws h ended next pointers carry =
     let b_ = ap (λ (o : Outcome). o.past.b) by_s ∙ outcome_b s ws b.row b.column b.words b.past inputs in
     let counted = h.count in
     let n : (b'.row * width_of s + b'.column) * asks_per_word s ≡ suc j * asks_per_word s = ap (λ (x : ℕ). x * asks_per_word s) next in
-    let zero : b'.zero ≡ are_zero s ws (suc j) =
-    ended.zero ∙ ap (λ (z : Bool). z && (outcome_now b).word == 0) h.zero ∙ ap (λ (x : ℕ). are_zero s ws j && x == 0) word in
+    let zero : (b'.results == 0) ≡ are_zero s ws (suc j) =
+    ap (λ (n : ℕ). n == 0) ended.results
+    ∙ zero_or b.results (outcome_now b).word
+    ∙ ap (λ (z : Bool). z && (outcome_now b).word == 0) h.zero ∙ ap (λ (x : ℕ). are_zero s ws j && x == 0) word in
     record {
       walks = record {
         start = ended.start ∙ h.start;
@@ -312,7 +385,7 @@ ended_at b b' s ws h ended next pointers carry =
             (subst (λ (x : Words). Holds x s ws (suc j) 0) (sym ended.words) (next_holds b s ws h)));
         past = record {
           of_a = ended.past_a ∙ a ∙ ap (previous_a s ws) (sym next);
-          of_b = ended.past_b ∙ b_ ∙ ap (previous_b s ws) (sym next);
+          of_b = λ other. ended.past_b (subst (λ (r : BlitRegs). minterms_of r ≢ 240) (sym h.start) other) ∙ b_ ∙ ap (previous_b s ws) (sym next);
           carry = carry;
         };
         zero = zero ∙ ap (are_zero s ws) (sym next);
@@ -324,7 +397,7 @@ pub ended_within : (b b' : AreaBlit) (s : BlitRegs) (ws : List ℕ) → Walks b 
     → b'.row ≡ b.row
     → b'.column ≡ b.column + 1
     → AreAt b'.pointers s b.row (b.column + 1)
-    → b'.past.carry ≡ (outcome_now b).past.carry
+    → (is_filling b.start ≡ true → b'.past.carry ≡ (outcome_now b).past.carry)
     → Stands b' s ws
 ended_within b b' s ws h ended row column pointers carry =
     let inside = column_below b s h.start in
@@ -335,7 +408,7 @@ ended_within b b' s ws h ended row column pointers carry =
     ended_at b b' s ws h ended (omega arith)
     (subst (λ (x : ℕ). AreAt b'.pointers s x b'.column) (sym row) (subst (λ (x : ℕ). AreAt b'.pointers s b.row x) (sym column) pointers))
     (λ fills.
-    carry ∙ ap (λ (o : Outcome). o.past.carry) by_s
+    carry (ap is_filling h.start ∙ fills) ∙ ap (λ (o : Outcome). o.past.carry) by_s
     ∙ outcome_carry s ws b.row b.column b.words b.past inside inputs h.past fills
     ∙ ap (λ (x : ℕ). is_carry (ones_in_row s ws x (suc b.column))) (sym row)
     ∙ ap (λ (x : ℕ). is_carry (ones_in_row s ws b'.row x)) (sym c))
@@ -361,7 +434,7 @@ pub begun : (b : AreaBlit) → is_line b.start ≡ false
     → b.row ≡ 0
     → b.column ≡ 0
     → b.place ≡ 0
-    → b.zero ≡ true
+    → b.results ≡ 0
     → b.words ≡ record { a = b.start.adat; b = b.start.bdat; c = b.start.cdat }
     → b.past.a ≡ 0
     → b.past.b ≡ 0
@@ -369,7 +442,7 @@ pub begun : (b : AreaBlit) → is_line b.start ≡ false
     → AreAt b.pointers b.start 0 0
     → Stands b b.start []
 unfolding are_zero previous_a previous_b ones_in_row
-begun b area row column place all_zero words a b_ carry pointers =
+begun b area row column place no_results words a b_ carry pointers =
     let s = b.start in
     let r : b.row * width_of s ≡ 0 * width_of s = ap (λ (x : ℕ). x * width_of s) row in
     let j : b.row * width_of s + b.column ≡ 0 = omega arith in
@@ -391,12 +464,12 @@ begun b area row column place all_zero words a b_ carry pointers =
             })));
         past = record {
           of_a = a ∙ ap (previous_a s []) (sym j);
-          of_b = b_ ∙ ap (previous_b s []) (sym j);
+          of_b = λ other. b_ ∙ ap (previous_b s []) (sym j);
           carry = λ fills.
               carry ∙ first_carry (is_set s.con1 2)
               ∙ ap (λ (x : ℕ). is_carry (ones_in_row s [] b.row x)) (sym column);
         };
-        zero = all_zero ∙ ap (are_zero s []) (sym j);
+        zero = ap (λ (n : ℕ). n == 0) no_results ∙ ap (are_zero s []) (sym j);
       };
       place = subst (λ (p : ℕ). p < asks_per_word s) (sym place) (some_asks s);
     }
@@ -413,22 +486,12 @@ unfolding shown
 shown_going b below =
     sym (ap (λ (t : Bool). if t then shown_ask b b.start (word_ask b.start b.place) else S.Done) (lt_true b.row (height_of b.start) below))
 
--- above its last row's end the present ask is that of its place
-pub asked : (s : BlitRegs) (row place : ℕ) → row < height_of s → ask_in_row s row place ≡ word_ask s place
-asked s row place below = ap (λ (t : Bool). if t then word_ask s place else Rest) (lt_true row (height_of s) below)
-
-pub asked_is : (b : AreaBlit) → b.row < height_of b.start → b.ask ≡ word_ask b.start b.place
-asked_is b below = b.ask_is ∙ asked b.start b.row b.place below
-
 abbrev is_access : WordAsk → Bool
 is_access A = true
 is_access B = true
 is_access C = true
 is_access D = true
 is_access Rest = false
-
-no_access : true ≡ false → ⊥
-no_access h = cc
 
 -- an ask that makes an access is what it shows, as a rest comes behind the last row
 pub shown_now : (b : AreaBlit) (k : WordAsk) → b.ask ≡ k → is_access k ≡ true → shown_ask b b.start k ≡ shown b
@@ -437,7 +500,7 @@ shown_now b k is access = elim (cases_lt b.row (height_of b.start)) [
   | inr above ↦
       let rests : b.ask ≡ Rest =
       b.ask_is ∙ ap (λ (t : Bool). if t then word_ask b.start b.place else Rest) (lt_false b.row (height_of b.start) above) in
-      absurd (no_access (sym access ∙ ap is_access (sym is ∙ rests)))
+      absurd (not_both (sym access ∙ ap is_access (sym is ∙ rests)))
 ]
 
 -- with no row left an ask becomes a rest, which writes nothing

@@ -45,3 +45,7 @@ outcome_in s past w joined =
 -- the result of a word in column c, and what it leaves for the next in its row
 abbrev pub outcome_of : BlitRegs → Past → ℕ → Words → Outcome
 outcome_of s past c w = outcome_in s past (mask_words s c w) (joined_by s past (mask_words s c w))
+
+-- what is kept of that: of a copied word A alone, which is the result
+abbrev pub past_after : Bool → Past → Outcome → Past
+past_after copied past ready = if copied then record past { a = ready.word } else ready.past

@@ -1,9 +1,9 @@
 -- The data path that a blit keeps ready, and what it makes of a word.
-use Rattle.std.specs.Prelude.{◌≡◌, ℕ, ◌+◌, if◌then◌else◌}
+use Rattle.std.specs.Prelude.{◌≡◌, ℕ, ◌+◌, true, if◌then◌else◌}
 use Rattle.blit_words.specs.declared.blit.BlitRegs.{BlitRegs}
 use Rattle.blit_words.specs.BlitWords.{minterm_of, shifted_input, masked_word}
 use Rattle.blit_words.specs.Blit.{width_of, shift_of_a, shift_of_b, minterms_of}
-use Rattle.blit_words.specs.AreaBlit.{is_descending, is_filling, is_exclusive}
+use Rattle.blit_words.specs.AreaBlit.{is_descending, is_filling, is_exclusive, code_of}
 use Rattle.blitter_area.specs.declared.data_path.DataPath.{DataPath}
 use Rattle.blitter_area.specs.declared.data_path.Words.{Words}
 use Rattle.blitter_area.specs.declared.data_path.Past.{Past}
@@ -21,6 +21,8 @@ pub record IsPathOf (d : DataPath) (s : BlitRegs) : Type 0 where
   pub last_column : d.last_column + 1 ≡ width_of s
   pub fills : d.fills ≡ is_filling s
   pub exclusive : d.exclusive ≡ is_exclusive s
+  -- it copies only from A to D
+  pub copies : d.copies ≡ true → code_of s ≡ 9
 
 -- the minterm of the inputs, with A already masked
 abbrev pub joined_with : DataPath → Past → Words → ℕ

@@ -1,12 +1,12 @@
 -- What an area blit under way stands for: its registers at the start and the answers so far.
-use Rattle.std.specs.Prelude.{◌≡◌, ℕ, ◌+◌, ◌*◌, ◌%◌, ◌<◌, ◌≤◌, ◌↔◌, true, false, nat_lt, if◌then◌else◌, List, length}
+use Rattle.std.specs.Prelude.{◌≡◌, ◌≢◌, ◌==◌, ℕ, ◌+◌, ◌*◌, ◌%◌, ◌<◌, ◌≤◌, ◌↔◌, true, false, nat_lt, if◌then◌else◌, List, length}
 use Rattle.blit_words.specs.declared.blit.BlitRegs.{BlitRegs}
 use Rattle.blit_words.specs.declared.blit.SlotAsk.{SlotAsk}
 use Rattle.blit_words.specs.declared.blit.SlotAsk.TheVariants as S
 use Rattle.blit_words.specs.declared.blit.WordAsk.{WordAsk}
 use Rattle.blit_words.specs.declared.blit.WordAsk.TheVariants.{A, B, C, D, Rest}
 use Rattle.blit_words.specs.BlitWords.{is_set}
-use Rattle.blit_words.specs.Blit.{is_line, height_of, width_of}
+use Rattle.blit_words.specs.Blit.{is_line, height_of, width_of, minterms_of}
 use Rattle.blit_words.specs.AreaBlit.{asks_per_word, word_ask, is_used, is_filling, previous_a, previous_b, ones_in_row, are_zero, held_word}
 use Rattle.blit_words.specs.Parity.{is_carry}
 use Rattle.blitter_area.specs.declared.area.AreaBlit.{AreaBlit}
@@ -22,10 +22,10 @@ pub record Holds (w : Words) (s : BlitRegs) (ws : List ℕ) (j place : ℕ) : Ty
   pub of_b : w.b ≡ held_word s ws B j place
   pub of_c : w.c ≡ held_word s ws C j place
 
--- what the word before word c of row r left
+-- what the word before word c of row r left; its B does not count where the minterm is A
 pub record IsPast (p : Past) (s : BlitRegs) (ws : List ℕ) (r c : ℕ) : Type 0 where
   pub of_a : p.a ≡ previous_a s ws (r * width_of s + c)
-  pub of_b : p.b ≡ previous_b s ws (r * width_of s + c)
+  pub of_b : minterms_of s ≢ 240 → p.b ≡ previous_b s ws (r * width_of s + c)
   pub carry : is_filling s ≡ true → p.carry ≡ is_carry (ones_in_row s ws r c)
 
 -- so many asks of the present word have answers, perhaps all
@@ -36,7 +36,7 @@ pub record Walks (b : AreaBlit) (s : BlitRegs) (ws : List ℕ) (place : ℕ) : T
   pub pointers : AreAt b.pointers s b.row b.column
   pub words : Holds b.words s ws (b.row * width_of s + b.column) place
   pub past : IsPast b.past s ws b.row b.column
-  pub zero : b.zero ≡ are_zero s ws (b.row * width_of s + b.column)
+  pub zero : (b.results == 0) ≡ are_zero s ws (b.row * width_of s + b.column)
 
 pub record Stands (b : AreaBlit) (s : BlitRegs) (ws : List ℕ) : Type 0 where
   pub walks : Walks b s ws b.place
@@ -80,7 +80,7 @@ pub record BeginsRow (old new : AreaBlit) : Type 0 where
   pub start : new.start ≡ old.start
   pub words : new.words ≡ old.words
   pub place : new.place ≡ old.place
-  pub zero : new.zero ≡ old.zero
+  pub results : new.results ≡ old.results
   pub past : new.past ≡ record old.past { carry = is_set old.start.con1 2 }
   pub row : new.row ≡ old.row + 1
   pub column : new.column ≡ 0

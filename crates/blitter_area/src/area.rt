@@ -1,6 +1,6 @@
 //! An area blit from ask to ask.
 
-ghost use Rattle.std.specs.Prelude.{◌≡◌, ◌≢◌, ◌<◌, ◌≤◌, ℕ, List, [], ◌∷◌, ◌++◌, false, nat_lt, if◌then◌else◌, IfSome};
+ghost use Rattle.std.specs.Prelude.{◌≡◌, ◌≢◌, ◌<◌, ◌≤◌, ℕ, List, [], ◌∷◌, ◌++◌, true, false, nat_lt, if◌then◌else◌, IfSome};
 ghost use Rattle.blit_words.specs.declared.blit.BlitRegs.{BlitRegs};
 ghost use Rattle.blit_words.specs.declared.blit.WordAsk.{WordAsk};
 ghost use Rattle.blit_words.specs.declared.blit.WordAsk.TheVariants.{D, Rest};
@@ -21,7 +21,7 @@ use ocs_base::Addr;
 ///
 /// It keeps the present ask, a rest once it has ended, and its place in the row of asks, the column and
 /// the row of the present word, the pointers of that word, the data registers, what the word before
-/// left, and whether all results were 0. The row of asks, the height and the data path are made ready at
+/// left, and all results, joined by OR. The row of asks, the height and the data path are made ready at
 /// the start. The outcome of the present word is ready where its write is the present ask.
 #[derive(Clone, Copy)]
 pub struct AreaBlit {
@@ -33,7 +33,7 @@ pub struct AreaBlit {
     pub(crate) pointers: Pointers,
     pub(crate) words: Words,
     pub(crate) past: Past,
-    pub(crate) zero: bool,
+    pub(crate) results: u16,
     pub(crate) row: u16,
     pub(crate) column: u16,
     pub(crate) place: u16,
@@ -43,7 +43,9 @@ pub struct AreaBlit {
     ghost height_is: { height ≡ height_of start },
     ghost path_is: { IsPathOf path start },
     ghost column_inside: { column < width_of start },
-    ghost ready_is: { ask ≡ D → ready ≡ outcome_of start past column words },
+    ghost word_is: { ask ≡ D → ready.word ≡ (outcome_of start past column words).word },
+    ghost past_is: { ask ≡ D → path.copies ≡ false
+        → ready.past ≡ (outcome_of start past column words).past },
 }
 
 impl AreaBlit {
@@ -73,7 +75,7 @@ impl AreaBlit {
                 c: r.cdat,
             },
             past,
-            zero: true,
+            results: 0,
             row: 0,
             column: 0,
             place: 0,
@@ -173,7 +175,8 @@ impl AreaBlit {
     }
 
     /// Takes the word that answers the present ask, which is not the write. With the last of these the
-    /// outcome of the word is made ready. The answer says whether the blit has ended.
+    /// outcome of the word is made ready; a blit that copies has one alone. The answer says whether the blit
+    /// has ended.
     #[inline(always)]
     fn take(&mut self, word: u16) -> bool
         requires row { self.old.row < height_of self.old.start }
@@ -181,18 +184,34 @@ impl AreaBlit {
         ensures gives { ForWhatItStands self.old (λ s ws. Stands self.new s (ws ++ word ∷ [])) }
         ensures done { result ≡ done_of (shown self.new) }
     {
+        if self.path.copies {
+            self.copy(word);
+            return false;
+        }
         self.words.take(self.ask, word);
         if self.place < self.asks.last_input {
             self.ask = self.asks.at(self.place + 1);
             self.place += 1;
             false
-        } else if self.path.copies {
-            self.path
-                .copy_into(&self.words, &self.past, self.column, &mut self.ready);
-            self.end_inputs()
         } else {
             self.mix_word()
         }
+    }
+
+    /// Takes the word of A that answers the present ask of a blit that copies: it is the result, and its
+    /// write comes next.
+    #[inline(always)]
+    fn copy(&mut self, word: u16)
+        requires row { self.old.row < height_of self.old.start }
+        requires reads { self.old.ask ≢ D }
+        requires copies { self.old.path.copies ≡ true }
+        ensures gives { ForWhatItStands self.old (λ s ws. Stands self.new s (ws ++ word ∷ [])) }
+        ensures going { false ≡ done_of (shown self.new) }
+    {
+        self.words.a = word;
+        self.ready.word = self.path.copied_word(&self.words, &self.past, self.column);
+        self.ask = WordAsk::D;
+        self.place = 1;
     }
 
     /// All inputs of the present word have answers: its outcome is made ready, by whatever path. It stands
@@ -216,7 +235,9 @@ impl AreaBlit {
     fn end_inputs(&mut self) -> bool
         requires row { self.old.row < height_of self.old.start }
         requires inputs { self.old.asks.last_input ≤ self.old.place }
-        requires outcome { self.old.ready ≡ outcome_now self.old }
+        requires word { self.old.ready.word ≡ (outcome_now self.old).word }
+        requires past { self.old.path.copies ≡ false
+            → self.old.ready.past ≡ (outcome_now self.old).past }
         ensures ends { EndsInputs self.old self.new }
         ensures done { result ≡ done_of (shown self.new) }
     {
@@ -234,7 +255,7 @@ impl AreaBlit {
     pub fn zero(&self) -> bool
         ensures { ForWhatItStands self.now (λ s ws. result ≡ blit_zero s ws) }
     {
-        self.zero
+        self.results == 0
     }
 
     /// The registers as they are now; at the end these stay. Pointers are those of the present word, and data
@@ -270,14 +291,15 @@ impl AreaBlit {
     #[inline(always)]
     fn end_word(&mut self) -> bool
         requires row { self.old.row < height_of self.old.start }
-        requires outcome { self.old.ready ≡ outcome_now self.old }
+        requires word { self.old.ready.word ≡ (outcome_now self.old).word }
+        requires past { self.old.path.copies ≡ false
+            → self.old.ready.past ≡ (outcome_now self.old).past }
         ensures ends { EndsWord self.old self.new }
         ensures done { result ≡ done_of (shown self.new) }
     {
-        self.zero &= self.ready.word == 0;
-        self.past.a = self.ready.past.a;
-        self.past.b = self.ready.past.b;
-        self.past.carry = self.ready.past.carry;
+        self.results |= self.ready.word;
+        let ready = self.ready;
+        self.past.follow(self.path.copies, ready);
         self.place = 0;
         self.ask = self.asks.at(0);
         self.pointers.step_word();

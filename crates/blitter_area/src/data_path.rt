@@ -3,7 +3,7 @@
 ghost use Rattle.std.specs.Prelude.{◌≡◌, ◌≤◌, ◌<◌, ◌+◌, ℕ, true, false};
 ghost use Rattle.blit_words.specs.Blit.{width_of, minterms_of, shift_of_a};
 ghost use Rattle.blit_words.specs.BlitWords.{masked_word, minterm_of, shifted_input};
-ghost use Rattle.blit_words.specs.AreaBlit.{is_filling as fills_of};
+ghost use Rattle.blit_words.specs.AreaBlit.{is_filling as fills_of, code_of};
 ghost use Rattle.blitter_area.specs.Copies.{IsCopy};
 
 use blit_words::{BlitRegs, Minterms, WordAsk, fill_word, is_set, shift_input};
@@ -41,6 +41,24 @@ pub(crate) struct Past {
     pub(crate) carry: bool,
 }
 
+impl Past {
+    ghost use Rattle.blitter_area.specs.Data.{past_after};
+
+    /// Goes on to what a word leaves: where it was copied, its A is the result, and nothing else counts.
+    #[inline(always)]
+    pub(crate) fn follow(&mut self, copied: bool, ready: Outcome)
+        ensures { self.new ≡ past_after copied self.old ready }
+    {
+        if copied {
+            self.a = ready.word;
+        } else {
+            self.a = ready.past.a;
+            self.b = ready.past.b;
+            self.carry = ready.past.carry;
+        }
+    }
+}
+
 /// A result, and what its word leaves for the next in the row.
 #[derive(Clone, Copy)]
 pub(crate) struct Outcome {
@@ -49,7 +67,8 @@ pub(crate) struct Outcome {
 }
 
 /// The way of a word, made ready at a blit's start: minterms, direction and shifts, the masks of A with the
-/// column of the second, and the fill; and whether the words of A are the results as they are.
+/// column of the second, and the fill; and whether A and D alone are used and the words of A are the results
+/// as they are.
 #[derive(Clone, Copy)]
 pub(crate) struct DataPath {
     pub(crate) minterms: Minterms,
@@ -91,17 +110,13 @@ impl DataPath {
         }
     }
 
-    /// Puts down the outcome of a word as `mix_into` does, where the words of A are the results as they are.
+    /// The result of a word in a column of its row, where the words of A are the results as they are.
     #[inline(always)]
-    pub(crate) fn copy_into(&self, words: &Words, past: &Past, column: u16, outcome: &mut Outcome)
+    pub(crate) fn copied_word(&self, words: &Words, past: &Past, column: u16) -> u16
         requires { self.now.copies ≡ true }
-        ensures { outcome.new ≡ outcome_with self.now past.now column words.now }
+        ensures { result ≡ (outcome_with self.now past.now column words.now).word }
     {
-        let word = self.copy(past.a, column, words.a);
-        outcome.word = word;
-        outcome.past.a = word;
-        outcome.past.b = words.b;
-        outcome.past.carry = past.carry;
+        self.copy(past.a, column, words.a)
     }
 
     /// A word of A behind the word before it, which is the result as it is.
@@ -177,15 +192,13 @@ fn width(start: &BlitRegs) -> u16
     if words == 0 { 64 } else { words }
 }
 
-/// Whether a word of A is the minterm, and A has neither a shift nor a mask with a 0.
+/// Whether A and D alone are used, a word of A is the minterm, and A has neither a shift nor a mask with a 0.
 fn is_copy(start: &BlitRegs) -> bool
-    ensures { result ≡ true → IsCopy (minterms_of start.now) (shift_of_a start.now)
+    ensures path { result ≡ true → IsCopy (minterms_of start.now) (shift_of_a start.now)
         start.now.afwm start.now.alwm }
+    ensures channels { result ≡ true → code_of start.now ≡ 9 }
 {
-    start.con0 % 256 == 0xf0
-        && start.con0 >> 12 == 0
-        && start.afwm == 0xffff
-        && start.alwm == 0xffff
+    start.con0 == 0x09f0 && start.afwm == 0xffff && start.alwm == 0xffff
 }
 
 /// Whether the blit fills: in descending mode alone, with EFE or IFE. That it does so in descending

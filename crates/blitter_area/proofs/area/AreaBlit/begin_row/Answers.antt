@@ -20,10 +20,15 @@ invariant_of-self-clause-ask_is c =
     ∙ ap (λ (k : WordAsk). if more b.height then k else Rest) (asked_is b c.requires.row)
     ∙ ap (λ (h : ℕ). if more h then word_ask b.start b.place else Rest) b.height_is
 
-pub invariant_of-self-clause-ready_is : goal.invariant_of-self-clause-ready_is
-invariant_of-self-clause-ready_is c =
+pub invariant_of-self-clause-word_is : goal.invariant_of-self-clause-word_is
+invariant_of-self-clause-word_is c =
     let b = c.args.self.now in
     λ writes. absurd (c.requires.reads (before_writes b.ask (nat_lt (b.row + 1) b.height) (sym c.ask_before-self.ensures ∙ writes)))
+
+pub invariant_of-self-clause-past_is : goal.invariant_of-self-clause-past_is
+invariant_of-self-clause-past_is c =
+    let b = c.args.self.now in
+    λ writes mixes. absurd (c.requires.reads (before_writes b.ask (nat_lt (b.row + 1) b.height) (sym c.ask_before-self.ensures ∙ writes)))
 
 pub returns-clause-begins : goal.returns-clause-begins
 returns-clause-begins c =
@@ -32,7 +37,7 @@ returns-clause-begins c =
       start = refl;
       words = refl;
       place = refl;
-      zero = refl;
+      results = refl;
       past = ap (λ (f : Bool). record b.past { carry = f }) c.is_set-fci.ensures;
       row = refl;
       column = refl;

@@ -13,7 +13,8 @@ end_word-requires c =
     let b = c.args.self.now in
     record {
       row = going b c.requires;
-      outcome = b.ready_is c.in-D.is;
+      word = b.word_is c.in-D.is;
+      past = b.past_is c.in-D.is;
     }
 
 pub take-requires-clause-row : goal.take-requires-clause-row
@@ -34,7 +35,7 @@ returns-in-D-clause-gives c = λ s ws h.
       column = refl;
       pointers = refl;
       past = refl;
-      zero = refl;
+      results = refl;
       words = ap (λ (k : WordAsk). words_with k c.args.word b.words) (sym writes);
     })
     (write_ends b.start b.place low writes))

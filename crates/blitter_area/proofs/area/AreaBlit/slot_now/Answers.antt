@@ -3,7 +3,6 @@ use Rattle.ocs_base.specs.declared.addr.Addr.{Addr}
 use Rattle.blit_words.specs.declared.blit.SlotAsk.TheVariants as S
 use Rattle.blit_words.specs.declared.blit.WordAsk.TheVariants.{A, B, C, D}
 use Rattle.blitter_area.specs.Pointing.{lane_d}
-use Rattle.blitter_area.specs.declared.data_path.Outcome.{Outcome}
 use Rattle.blitter_area.proofs.Walking.{shown_now}
 use Rattle.blitter_area.proofs.area.AreaBlit.slot_now.Goals as goal
 
@@ -20,5 +19,5 @@ pub returns-in-D : goal.returns-in-D
 returns-in-D c =
     let b = c.args.self.now in
     ap (λ (x : Addr). S.Write x b.ready.word) c.d.ensures
-    ∙ ap (λ (o : Outcome). S.Write (lane_d b.pointers).at o.word) (b.ready_is c.in-D.is)
+    ∙ ap (S.Write (lane_d b.pointers).at) (b.word_is c.in-D.is)
     ∙ shown_now b D c.in-D.is refl
