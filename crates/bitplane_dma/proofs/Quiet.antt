@@ -7,7 +7,7 @@ use Rattle.serial_model.specs.PlaneFetch.{begins_unit, begins_next, begins_first
 use Rattle.serial_model.specs.PlaneFetch.{fetched_plane, fetches_plane, slot_plane, high_resolution}
 use Rattle.serial_model.specs.Registers.{Registers}
 use Rattle.quiet_clocks.specs.Plan.{unit_on}
-use Rattle.quiet_clocks.specs.QuietClocks.{later_beam}
+use Rattle.serial_model.specs.Beam.{later_beam}
 use Rattle.quiet_clocks.proofs.IdleClocks.{none_begins, unit_stays}
 use Rattle.bitplane_dma.specs.Quiet.{FetchesNothing}
 

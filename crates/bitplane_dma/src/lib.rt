@@ -14,7 +14,7 @@ ghost use Rattle.serial_model.specs.PlaneFetch.{fetch_start as start_of, fetch_e
 ghost use Rattle.serial_model.specs.PlaneFetch.{slot_plane as plane_of_slot, added_bytes as bytes_added, modulo_bytes as bytes_of};
 ghost use Rattle.serial_model.specs.Registers.{kept_word, Registers};
 ghost use Rattle.quiet_clocks.specs.Plan.{unit_on};
-ghost use Rattle.quiet_clocks.specs.QuietClocks.{later_beam};
+ghost use Rattle.serial_model.specs.Beam.{later_beam};
 ghost use Rattle.bitplane_dma.specs.Quiet.{FetchesNothing, IsUnitAt};
 ghost use Rattle.bitplane_dma.specs.RulesCode.{rules_of};
 ghost use Rattle.serial_model.specs.Window.{is_window_line as in_window};

@@ -24,7 +24,7 @@ use Rattle.serial_model.proofs.FetchLaws.{IsFetch, fetched_plane-is}
 use Rattle.std.specs.Option.{option_map}
 use Rattle.sprite_dma.specs.Quiet.{ReadsNothing}
 use Rattle.quiet_clocks.specs.QuietClock.{TurnsTo}
-use Rattle.quiet_clocks.specs.QuietClocks.{later_beam}
+use Rattle.serial_model.specs.Beam.{later_beam}
 use Rattle.quiet_clocks.specs.Ticks.{ticks_in}
 use Rattle.quiet_clocks.specs.FetchClocks.{IsStillBesidePlanes, AreResting, Fetching, fetching_on, fetching_of, planes_on, planes_of_chips, fetched_later}
 use Rattle.quiet_clocks.proofs.FetchClocks.{still_is_at_rest, fetching_later}

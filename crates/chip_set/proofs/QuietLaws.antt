@@ -23,7 +23,8 @@ use Rattle.serial_model.specs.State.{BlitUnderWay, Chips}
 use Rattle.sprite_dma.specs.Quiet.{ReadsNothing}
 use Rattle.quiet_clocks.specs.PlainClock.{AsksNothingNew}
 use Rattle.quiet_clocks.specs.QuietClock.{CopperIsStill, TurnsTo}
-use Rattle.quiet_clocks.specs.QuietClocks.{AreQuiet, later_beam, later_units, later_chips}
+use Rattle.quiet_clocks.specs.QuietClocks.{AreQuiet, later_units, later_chips}
+use Rattle.serial_model.specs.Beam.{later_beam}
 use Rattle.quiet_clocks.specs.IdleClocks.{IsIdle}
 use Rattle.quiet_clocks.specs.Ticks.{ticks_in}
 use Rattle.quiet_clocks.proofs.IdleClocks.{idle_is_calm, last_later}

@@ -5,7 +5,7 @@ use Rattle.bitplane_dma.specs.declared.rules.FetchRules.{FetchRules}
 use Rattle.irq_cia.specs.Cia.{after_tick}
 use Rattle.ocs_base.specs.declared.beam.Beam.{Beam}
 use Rattle.quiet_clocks.specs.PlainClock.{AsksNothingNew}
-use Rattle.quiet_clocks.specs.QuietClocks.{later_beam}
+use Rattle.serial_model.specs.Beam.{later_beam}
 use Rattle.serial_model.specs.Owner.{is_refresh}
 use Rattle.serial_model.specs.PlaneFetch.{begins_unit, is_running, IsLastUnit}
 use Rattle.serial_model.specs.declared.bus.Ask.{Ask}

@@ -13,7 +13,8 @@ use Rattle.serial_model.specs.State.{Chips}
 use Rattle.sprite_dma.specs.Quiet.{ReadsNothing}
 use Rattle.quiet_clocks.specs.Plan.{unit_on}
 use Rattle.quiet_clocks.specs.PlainClock.{AsksNothingNew}
-use Rattle.quiet_clocks.specs.QuietClocks.{AreQuiet, later_beam, later_chips}
+use Rattle.quiet_clocks.specs.QuietClocks.{AreQuiet, later_chips}
+use Rattle.serial_model.specs.Beam.{later_beam}
 use Rattle.quiet_clocks.specs.FetchClocks.{Fetching, fetching_on, fetched_later, AreResting}
 use Rattle.quiet_clocks.specs.Ticks.{ticks_in}
 use Rattle.chip_set.specs.Chips.{WorkingChips, IsChipsOf, plain_chips}

@@ -4,7 +4,7 @@ ghost use Rattle.std.specs.Prelude.{◌≡◌, ◌≤◌, ◌<◌, ◌+◌, ◌&
 ghost use Rattle.ocs_base.specs.declared.beam.Beam.{Beam as BeamOf};
 ghost use Rattle.serial_model.specs.Bus.{blit_owner_ask, processor_ask as processor_ask_of};
 ghost use Rattle.quiet_clocks.specs.PlainClock.{comes_first};
-ghost use Rattle.quiet_clocks.specs.QuietClocks.{later_beam};
+ghost use Rattle.serial_model.specs.Beam.{later_beam};
 ghost use Rattle.serial_model.specs.PlaneFetch.{IsLastUnit};
 ghost use Rattle.serial_model.specs.Side.{IsInTime};
 ghost use Rattle.serial_model.specs.State.{Chips as ChipsOf};

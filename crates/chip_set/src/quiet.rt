@@ -7,7 +7,7 @@ ghost use Rattle.bitplane_dma.specs.RulesCode.{rules_of};
 ghost use Rattle.irq_cia.specs.Ticks.{HasNoUnderflow};
 ghost use Rattle.cpu_bus.specs.Quiet.{RestsFor, CanCount};
 ghost use Rattle.quiet_clocks.specs.PlainClock.{AsksNothingNew};
-ghost use Rattle.quiet_clocks.specs.QuietClocks.{later_beam};
+ghost use Rattle.serial_model.specs.Beam.{later_beam};
 ghost use Rattle.quiet_clocks.specs.Ticks.{ticks_in};
 ghost use Rattle.chip_set.specs.Chips.{IsChipsOf, plain_chips};
 ghost use Rattle.serial_model.specs.PlaneFetch.{IsLastUnit, last_unit_at, is_running, plane_ask, move_planes};

@@ -10,7 +10,7 @@ ghost use Rattle.std.specs.Prelude.{◌≡◌, ◌<◌, ◌≤◌, ◌+◌, ℕ,
 ghost use Rattle.serial_model.specs.Copper.{copper_from, wish_of, step_copper, copper_act, bytes_after};
 ghost use Rattle.serial_model.specs.Copper.{comparison_holds, is_forbidden as forbidden, is_stopped, instruction_of};
 ghost use Rattle.serial_model.specs.Copper.{complete_instruction, phase_after as phase_of, length_of, act_of};
-ghost use Rattle.quiet_clocks.specs.QuietClocks.{later_beam};
+ghost use Rattle.serial_model.specs.Beam.{later_beam};
 ghost use Rattle.copper.specs.Quiet.{DoesNothing, HoldsNot};
 
 use ocs_base::{Addr, Beam, Reg};

@@ -4,7 +4,7 @@ use mathlib.Core.Bool.{beq}
 use Rattle.std.proofs.lemmas.Bool.{false≢true}
 use Rattle.std.proofs.lemmas.List.{append-nil}
 use Rattle.ocs_base.specs.declared.beam.Beam.{Beam}
-use Rattle.quiet_clocks.specs.QuietClocks.{later_beam}
+use Rattle.serial_model.specs.Beam.{later_beam}
 use Rattle.serial_model.specs.Side.{SideValue}
 use Rattle.serial_model.specs.SpriteFetch.{kinds_at}
 use Rattle.bitplane_dma.specs.declared.rules.FetchRules.{FetchRules}

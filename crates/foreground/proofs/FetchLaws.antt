@@ -9,7 +9,7 @@ use Rattle.ocs_base.specs.declared.system.System.{System}
 use Rattle.out_files.specs.OutFiles.{OutFilesValue}
 use Rattle.serial_model.specs.declared.bus.Made.{Made}
 use Rattle.serial_model.specs.declared.fetch.PlaneAsk.{PlaneAsk}
-use Rattle.serial_model.specs.Beam.{IsOnScreen, place_of}
+use Rattle.serial_model.specs.Beam.{IsOnScreen, place_of, later_beam}
 use Rattle.serial_model.specs.Bus.{plane_wish, plane_owner_ask, ask_at}
 use Rattle.serial_model.specs.Cias.{tick_timers}
 use Rattle.serial_model.specs.Events.{due_events, touches_of}
@@ -35,7 +35,7 @@ use Rattle.chip_set.specs.Chips.{IsChipsOf, WorkingChips}
 use Rattle.chip_set.specs.Quiet.{AreAtRest, HaveFetched, PassesFetches, fetching_in}
 use Rattle.chip_set.proofs.FetchLaws.{fetches_pass}
 use Rattle.quiet_clocks.specs.PlainClock.{AsksNothingNew, asked_by_side}
-use Rattle.quiet_clocks.specs.QuietClocks.{clocks, later_beam}
+use Rattle.quiet_clocks.specs.QuietClocks.{clocks}
 use Rattle.quiet_clocks.specs.FetchClocks.{IsAtRest, IsFetchClock, IsFetchSpan, AreResting, made_by_plane, Planes, planes_on, planes_of_chips, ask_of_planes}
 use Rattle.quiet_clocks.specs.FetchClocks.{Fetching, fetching_on, ask_of_fetching, fetched_later, state_fetched_later}
 use Rattle.quiet_clocks.proofs.FetchClocks.{fetch_makes, planes_have, fetch_span, fewer_fetch_clocks, each_is_fetch_clock, fetching_later, kept_on, AreKept}

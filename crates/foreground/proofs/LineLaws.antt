@@ -8,8 +8,7 @@ use Rattle.ocs_base.specs.declared.system.System.{System}
 use Rattle.out_files.specs.OutFiles.{OutFilesValue}
 use Rattle.quiet_clocks.proofs.PlainClock.{else_of}
 use Rattle.quiet_clocks.proofs.QuietClocks.{next_later}
-use Rattle.quiet_clocks.specs.QuietClocks.{later_beam}
-use Rattle.serial_model.specs.Beam.{IsOnScreen, is_line_start, is_field_start, next_place}
+use Rattle.serial_model.specs.Beam.{IsOnScreen, is_line_start, is_field_start, next_place, later_beam}
 use Rattle.serial_model.specs.Events.{due_events, touches_of}
 use Rattle.serial_model.specs.State.{Chips}
 use Rattle.serial_model.specs.Tick.{start_chips, start_clock}

@@ -16,7 +16,7 @@ use Rattle.serial_model.specs.declared.bus.Ask.TheVariants as A
 use Rattle.serial_model.specs.declared.bus.Made.{Made}
 use Rattle.serial_model.specs.declared.bus.Made.TheVariants as M
 use Rattle.serial_model.specs.declared.bus.SideAsk.TheVariants as S
-use Rattle.serial_model.specs.Beam.{IsOnScreen, is_line_start, is_field_start, place_of}
+use Rattle.serial_model.specs.Beam.{IsOnScreen, is_line_start, is_field_start, place_of, later_beam}
 use Rattle.serial_model.specs.Bus.{answer_to, made_by_ask}
 use Rattle.serial_model.specs.Cias.{time_chips}
 use Rattle.serial_model.specs.Events.{due_events, do_events, touches_of, is_due}
@@ -38,7 +38,8 @@ use Rattle.serial_bands.proofs.WholeRun.{frames_rise}
 use Rattle.band_log.specs.Raster.{RasterValue}
 use Rattle.quiet_clocks.specs.PlainClock.{asked_by_side}
 use Rattle.quiet_clocks.specs.QuietClock.{IsCalm}
-use Rattle.quiet_clocks.specs.QuietClocks.{later_beam, later_side, later_units, later_chips, later_state, IsQuietSpan}
+use Rattle.quiet_clocks.specs.QuietClocks.{later_units, later_chips, later_state, IsQuietSpan}
+use Rattle.serial_model.specs.Side.{later_side}
 use Rattle.quiet_clocks.proofs.PlainClock.{else_of}
 use Rattle.quiet_clocks.proofs.QuietClock.{nobody_asks}
 use Rattle.quiet_clocks.proofs.QuietClocks.{quiet_span, fewer_are_quiet, clocks_of_run}

@@ -8,7 +8,7 @@ use Rattle.serial_model.specs.PlaneFetch.{ask_for_plane, plane_ask, move_planes,
 use Rattle.serial_model.specs.Registers.{Registers}
 use Rattle.std.specs.Option.{option_map}
 use Rattle.bitplane_dma.specs.Quiet.{IsUnitAt}
-use Rattle.quiet_clocks.specs.QuietClocks.{later_beam}
+use Rattle.serial_model.specs.Beam.{later_beam}
 use Rattle.quiet_clocks.specs.FetchClocks.{Fetching, fetching_after, fetching_on, ask_of_fetching}
 use Rattle.quiet_clocks.proofs.IdleClocks.{none_begins}
 use Rattle.chip_set.specs.Chips.{WorkingChips}

@@ -4,7 +4,7 @@ use Rattle.ocs_base.specs.declared.beam.Beam.{Beam}
 use Rattle.serial_model.specs.declared.fetch.PlaneAsk.{PlaneAsk}
 use Rattle.serial_model.specs.declared.picture.Touch.TheVariants as T
 use Rattle.quiet_clocks.specs.FetchClocks.{Fetching, fetching_on, ask_of_fetching}
-use Rattle.quiet_clocks.specs.QuietClocks.{later_beam}
+use Rattle.serial_model.specs.Beam.{later_beam}
 use Rattle.chip_set.specs.Quiet.{fetching_in, with_fetching, HaveFetched}
 use Rattle.picture_log.specs.Log.{with_access_touch}
 use Rattle.picture_log.specs.declared.log.Log.{Log}

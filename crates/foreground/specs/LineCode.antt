@@ -1,6 +1,6 @@
 -- Clocks of a line that are made one behind the other.
 use Rattle.std.specs.Prelude.{◌≡◌, ◌≤◌, ◌<◌, ℕ, ◌+◌, false, []}
-use Rattle.quiet_clocks.specs.QuietClocks.{later_beam}
+use Rattle.serial_model.specs.Beam.{later_beam}
 use Rattle.serial_model.specs.Events.{due_events}
 use Rattle.foreground.specs.Fore.{ForeValue, is_done}
 

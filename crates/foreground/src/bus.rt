@@ -3,10 +3,9 @@
 
 ghost use Rattle.std.specs.Prelude.{◌≡◌, ◌<◌, ◌+◌, ◌-◌, ◌^◌, ℕ, Bool, true, false, [], None, IfOk, OnOk, OnErr};
 ghost use Rattle.serial_model.specs.Events.{due_events};
-ghost use Rattle.serial_model.specs.Beam.{next_place};
+ghost use Rattle.serial_model.specs.Beam.{next_place, later_beam};
 ghost use Rattle.serial_model.specs.Side.{no_side};
 ghost use Rattle.serial_bands.specs.BusReads.{bus_reads};
-ghost use Rattle.quiet_clocks.specs.QuietClocks.{later_beam};
 ghost use Rattle.band_log.specs.Raster.{RasterValue};
 ghost use Rattle.chip_set.specs.BusCode.{LeavesToPlanes, LeavesBeside, LeaveBus, KeepsBus, KeepsBeside};
 ghost use Rattle.chip_set.specs.BusCode.{CiasRest, IsClaim, ask_beside_planes};

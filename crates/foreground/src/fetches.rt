@@ -5,7 +5,7 @@ ghost use Rattle.serial_model.specs.Events.{due_events};
 ghost use Rattle.serial_model.specs.PlaneFetch.{IsLastUnit, plane_ask, move_planes};
 ghost use Rattle.serial_model.specs.Side.{no_side};
 ghost use Rattle.quiet_clocks.specs.FetchClocks.{fetching_on};
-ghost use Rattle.quiet_clocks.specs.QuietClocks.{later_beam};
+ghost use Rattle.serial_model.specs.Beam.{later_beam};
 ghost use Rattle.bitplane_dma.specs.Quiet.{IsUnitAt};
 ghost use Rattle.bitplane_dma.specs.RulesCode.{rules_of};
 ghost use Rattle.chip_set.specs.Quiet.{AreAtRest, fetching_in, with_fetching};

@@ -3,7 +3,7 @@
 ghost use Rattle.std.specs.Prelude.{◌≡◌, ◌≤◌, ◌<◌, ◌+◌, ◌-◌, max, ℕ, false, true, [], IfOk, OnOk, OnErr};
 ghost use Rattle.serial_model.specs.Events.{due_events};
 ghost use Rattle.serial_bands.specs.BusReads.{bus_reads};
-ghost use Rattle.quiet_clocks.specs.QuietClocks.{later_beam};
+ghost use Rattle.serial_model.specs.Beam.{later_beam};
 ghost use Rattle.band_log.specs.Raster.{RasterValue};
 ghost use Rattle.foreground.specs.Clock.{Rises};
 ghost use Rattle.machine.specs.Machine.{IsSamePlace};

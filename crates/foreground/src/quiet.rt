@@ -1,10 +1,9 @@
 //! Clocks at which nobody asks for the bus and nothing is due, passed over at once.
 
 ghost use Rattle.std.specs.Prelude.{◌≡◌, ◌≤◌, ◌<◌, ◌+◌, ℕ, true, false, [], IfOk, OnOk, OnErr};
-ghost use Rattle.serial_model.specs.Beam.{IsOnScreen, place_of};
+ghost use Rattle.serial_model.specs.Beam.{IsOnScreen, place_of, later_beam};
 ghost use Rattle.serial_model.specs.Events.{due_events};
 ghost use Rattle.serial_model.specs.Side.{no_side};
-ghost use Rattle.quiet_clocks.specs.QuietClocks.{later_beam};
 ghost use Rattle.band_log.specs.Raster.{RasterValue};
 ghost use Rattle.foreground.specs.Script.{IsLeft};
 ghost use Rattle.foreground.specs.Fore.{over, HasScript, IsUnderway, is_done};

@@ -11,9 +11,8 @@ use Rattle.serial_model.specs.declared.bus.Made.{Made}
 use Rattle.serial_model.specs.declared.bus.Made.TheVariants as M
 use Rattle.serial_model.specs.declared.bus.ProcessorAsk.{ProcessorAsk}
 use Rattle.serial_model.specs.declared.bus.ProcessorAsk.TheVariants as P
-use Rattle.quiet_clocks.specs.QuietClocks.{later_beam}
 use Rattle.quiet_clocks.proofs.QuietClocks.{next_later}
-use Rattle.serial_model.specs.Beam.{next_place}
+use Rattle.serial_model.specs.Beam.{next_place, later_beam}
 use Rattle.serial_model.specs.Made.{chips_after}
 use Rattle.serial_model.specs.Side.{SideValue, answer_side, side_by_made}
 use Rattle.serial_model.specs.State.{Chips, State}

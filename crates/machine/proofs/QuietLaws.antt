@@ -6,13 +6,14 @@ use Rattle.ocs_base.specs.declared.script.At.{At}
 use Rattle.ocs_base.specs.declared.system.System.{System}
 use Rattle.serial_model.specs.Events.{due_events}
 use Rattle.serial_model.specs.Processor.{Processor}
-use Rattle.serial_model.specs.Side.{SideValue, no_side, bits_of_side, ask_of_side}
+use Rattle.serial_model.specs.Side.{SideValue, no_side, bits_of_side, ask_of_side, later_side}
 use Rattle.serial_model.specs.Registers.{dmacon_of}
 use Rattle.serial_model.specs.State.{Chips, State}
 use Rattle.chip_set.specs.Chips.{IsChipsOf, WorkingChips}
 use Rattle.chip_set.specs.Quiet.{PassesQuiet}
 use Rattle.quiet_clocks.specs.PlainClock.{AsksNothingNew}
-use Rattle.quiet_clocks.specs.QuietClocks.{later_beam, later_side, later_chips, later_state, IsQuietSpan, AreQuiet}
+use Rattle.quiet_clocks.specs.QuietClocks.{later_chips, later_state, IsQuietSpan, AreQuiet}
+use Rattle.serial_model.specs.Beam.{later_beam}
 use Rattle.quiet_clocks.proofs.QuietClocks.{quiet_span, no_side_stays}
 use Rattle.machine.specs.Machine.{MachineValue, IsMachineOf}
 use Rattle.machine.specs.QuietCode.{PassesOver}

@@ -5,7 +5,8 @@ use Rattle.ocs_base.specs.declared.system.System.{System}
 use Rattle.serial_model.specs.Events.{due_events}
 use Rattle.serial_model.specs.Processor.{Processor}
 use Rattle.serial_model.specs.State.{State}
-use Rattle.quiet_clocks.specs.QuietClocks.{clocks, later_beam, IsQuietSpan}
+use Rattle.quiet_clocks.specs.QuietClocks.{clocks, IsQuietSpan}
+use Rattle.serial_model.specs.Beam.{later_beam}
 use Rattle.machine.specs.Machine.{MachineValue, IsMachineOf}
 
 -- n clocks from a state on are quiet, and the machine stands for the state behind them

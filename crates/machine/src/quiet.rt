@@ -2,7 +2,7 @@
 
 ghost use Rattle.std.specs.Prelude.{◌≡◌, ◌≤◌, ◌<◌, ◌+◌, ◌^◌};
 ghost use Rattle.serial_model.specs.Side.{no_side};
-ghost use Rattle.quiet_clocks.specs.QuietClocks.{later_beam};
+ghost use Rattle.serial_model.specs.Beam.{later_beam};
 ghost use Rattle.machine.specs.Machine.{machine_over};
 ghost use Rattle.machine.specs.QuietCode.{PassesOver};
 

@@ -15,14 +15,14 @@ use Rattle.serial_model.specs.declared.bus.SideAsk.TheVariants as S
 use Rattle.serial_model.specs.declared.copper.CopperState.{CopperState}
 use Rattle.serial_model.specs.declared.fetch.PlaneAsk.{PlaneAsk}
 use Rattle.serial_model.specs.declared.fetch.SpriteKind.{SpriteKind}
-use Rattle.serial_model.specs.Beam.{next_place}
+use Rattle.serial_model.specs.Beam.{next_place, later_beam}
 use Rattle.serial_model.specs.Bus.{plane_wish, units_now, plane_owner_ask, ask_at, answer_to, made_by_ask, missed_after, ask_of_blit}
 use Rattle.serial_model.specs.Cias.{tick_timers}
 use Rattle.serial_model.specs.Copper.{wish_of, step_copper}
 use Rattle.serial_model.specs.PlaneFetch.{fetched_plane, last_unit, units_at, ask_for_plane, move_planes, move_if_fetched, IsLastUnit}
 use Rattle.serial_model.specs.Processor.{Processor}
 use Rattle.serial_model.specs.Registers.{Registers, dmacon_of, is_interlaced, copper_dma, is_danger}
-use Rattle.serial_model.specs.Side.{SideValue, IsInTime, tick_side, bits_of_side, ask_of_side}
+use Rattle.serial_model.specs.Side.{SideValue, IsInTime, tick_side, bits_of_side, ask_of_side, later_side}
 use Rattle.serial_model.specs.SpriteFetch.{sprite_ask}
 use Rattle.serial_model.specs.State.{Chips, State, is_busy}
 use Rattle.serial_model.specs.Tick.{tick, made_of}
@@ -31,7 +31,7 @@ use Rattle.serial_model.proofs.SlotLaws.{SameForSprites, move_planes-same, kinds
 use Rattle.quiet_clocks.specs.Ticks.{ticks_in}
 use Rattle.quiet_clocks.specs.PlainClock.{AsksNothingNew, asked_by_side, shown_at}
 use Rattle.quiet_clocks.specs.QuietClock.{IsCalm, quiet_chips}
-use Rattle.quiet_clocks.specs.QuietClocks.{clocks, later_beam, later_side, later_units}
+use Rattle.quiet_clocks.specs.QuietClocks.{clocks, later_units}
 use Rattle.quiet_clocks.specs.OwnedClock.{fetched_state}
 use Rattle.quiet_clocks.specs.FetchClocks.{IsAtRest, PlanesHave, IsFetchClock, made_by_plane, state_with_fetch, fetch_state, FetchTick, FetchMakes}
 use Rattle.quiet_clocks.specs.FetchClocks.{Planes, planes_after, planes_on, planes_of_chips, Fetching, fetching_after, fetching_on, fetching_of, FetchingLater}

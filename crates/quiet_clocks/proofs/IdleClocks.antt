@@ -9,7 +9,8 @@ use Rattle.serial_model.specs.PlaneFetch.{ask_for_plane, last_unit_at, begins_un
 use Rattle.serial_model.proofs.FetchLaws.{last_unit-units_at, last_unit_at-else, last_unit_at-is}
 use Rattle.serial_model.specs.Registers.{Registers}
 use Rattle.serial_model.specs.SpriteFetch.{sprite_ask}
-use Rattle.quiet_clocks.specs.QuietClocks.{later_beam, later_units}
+use Rattle.quiet_clocks.specs.QuietClocks.{later_units}
+use Rattle.serial_model.specs.Beam.{later_beam}
 use Rattle.quiet_clocks.specs.IdleClocks.{IdleIsCalm, LastLater, UnitStays, UnitOfTwo, UnitCanBegin, TicksByPlace}
 use Rattle.quiet_clocks.specs.Plan.{unit_on}
 use Rattle.quiet_clocks.proofs.QuietClock.{still_copper, still_steps, still_blit}

@@ -8,7 +8,7 @@ use Rattle.ocs_base.specs.declared.beam.Beam.{Beam}
 use Rattle.priority_ham.specs.PlaneCount.{is_hires, planes_of}
 use Rattle.serial_model.specs.declared.registers.Writing.{Writing}
 use Rattle.serial_model.specs.declared.registers.Writing.TheVariants as W
-use Rattle.serial_model.specs.Beam.{is_line_start}
+use Rattle.serial_model.specs.Beam.{is_line_start, later_beam}
 use Rattle.serial_model.specs.Bus.{plane_wish, units_now}
 use Rattle.serial_model.specs.PlaneFetch.{fetch_start, plane_dma, has_next, is_last_fetch, high_resolution, fetched_plane, last_unit}
 use Rattle.serial_model.specs.PlaneFetch.{is_running, is_in_unit, begins_next, begins_first, begins_unit, slot_plane, plane_ask}
@@ -20,7 +20,7 @@ use Rattle.serial_model.specs.Window.{is_window_line}
 use Rattle.serial_model.proofs.FetchLaws.{last_unit-units_at, kept_word-move_planes}
 use Rattle.serial_model.specs.SpriteFetch.{move_sprites}
 use Rattle.serial_model.proofs.SlotLaws.{kept_word-move_sprites}
-use Rattle.quiet_clocks.specs.QuietClocks.{later_beam, later_units}
+use Rattle.quiet_clocks.specs.QuietClocks.{later_units}
 use Rattle.quiet_clocks.specs.Plan.{Fetch, fetch_of, fetch_at, unit_on, Plan, IsPlanned, IsPlan, PlanNext, SameFetches, PlanKept}
 use Rattle.quiet_clocks.specs.Plan.{IsNoFetchRegister, WriteKeepsFetches, FetchKeepsFetches, SpriteKeepsFetches, move_fetch, SaysClock, PlanSays, PlanSpan}
 

@@ -10,20 +10,20 @@ use Rattle.ocs_base.specs.declared.system.System.{System}
 use Rattle.ocs_base.specs.declared.system.System.TheVariants.{Pal, Ntsc}
 use Rattle.ocs_base.specs.Systems.{lines}
 use Rattle.serial_model.specs.declared.trace.TraceLine.{TraceLine}
-use Rattle.serial_model.specs.Beam.{next_place, is_line_end, is_line_start}
+use Rattle.serial_model.specs.Beam.{next_place, is_line_end, is_line_start, later_beam}
 use Rattle.serial_model.specs.Cias.{tick_timers}
 use Rattle.serial_model.specs.Processor.{Processor}
 use Rattle.serial_model.specs.Registers.{dmacon_of, is_interlaced}
 use Rattle.serial_model.specs.Serial.{state_over}
-use Rattle.serial_model.specs.Side.{SideValue, tick_side}
+use Rattle.serial_model.specs.Side.{SideValue, tick_side, later_side}
 use Rattle.serial_model.specs.State.{Chips, State}
 use Rattle.serial_model.specs.Tick.{tick}
 use Rattle.irq_cia.specs.Ticks.{HasNoUnderflow, ticks_on}
 use Rattle.quiet_clocks.specs.Ticks.{ticks_in}
 use Rattle.quiet_clocks.specs.PlainClock.{AsksNothingNew}
 use Rattle.quiet_clocks.specs.QuietClock.{IsCalm, IsQuiet, quiet_state, quiet_chips}
-use Rattle.quiet_clocks.specs.QuietClocks.{clocks, later_beam, later_side, later_units, later_chips, later_state, IsQuietSpan, QuietSpan}
-use Rattle.quiet_clocks.specs.QuietClocks.{FewerAreQuiet, ClocksOfTwo, ClocksOfRun, NoSideStays}
+use Rattle.quiet_clocks.specs.QuietClocks.{clocks, later_units, later_chips, later_state, IsQuietSpan, QuietSpan}
+use Rattle.quiet_clocks.specs.QuietClocks.{FewerAreQuiet, ClocksOfTwo, ClocksOfRun}
 use Rattle.quiet_clocks.proofs.Ticks.{tick_more, no_ticks, fewer_ticks, one_tick_more, no_tick_more}
 use Rattle.quiet_clocks.proofs.QuietClock.{quiet_tick}
 
@@ -230,8 +230,3 @@ clocks_of_run side image script from (suc n) =
     let e : from + suc n ≡ suc (from + n) = omega arith in
     ap (λ k. state_over side image script k) e
     ∙ ap (λ (x : State). tick script.system script.events x) (clocks_of_run side image script from n)
-
-pub no_side_stays : NoSideStays
-unfolding later_side
-no_side_stays zero b dmacon = refl
-no_side_stays (suc n) b dmacon = ap (λ (side : SideValue). tick_side (later_beam n b) dmacon side) (no_side_stays n b dmacon)

@@ -17,7 +17,7 @@ use Rattle.serial_model.specs.Picture.{step_of, after_step, touch_if_any}
 use Rattle.serial_model.specs.PlaneFetch.{fetched_plane, last_unit, last_unit_at, units_at, ask_for_plane, plane_ask, move_planes, move_if_fetched, IsLastUnit}
 use Rattle.serial_model.specs.Processor.{Processor, processor_wish}
 use Rattle.serial_model.specs.Registers.{Registers, dmacon_of, blitter_dma}
-use Rattle.serial_model.specs.Side.{bits_of_side, ask_of_side}
+use Rattle.serial_model.specs.Side.{bits_of_side, ask_of_side, later_side}
 use Rattle.serial_model.specs.SpriteFetch.{sprite_ask}
 use Rattle.serial_model.specs.State.{Chips, State}
 use Rattle.serial_model.specs.Tick.{tick}
@@ -25,7 +25,8 @@ use Rattle.irq_cia.specs.Ticks.{HasNoUnderflow}
 use Rattle.quiet_clocks.specs.Ticks.{ticks_in}
 use Rattle.quiet_clocks.specs.PlainClock.{IsPlain, AsksNothingNew, asked_by_side}
 use Rattle.quiet_clocks.specs.QuietClock.{TurnsTo, CopperIsStill, quiet_chips, quiet_state}
-use Rattle.quiet_clocks.specs.QuietClocks.{clocks, later_beam, later_side, later_chips}
+use Rattle.quiet_clocks.specs.QuietClocks.{clocks, later_chips}
+use Rattle.serial_model.specs.Beam.{later_beam}
 
 -- ---- one clock
 

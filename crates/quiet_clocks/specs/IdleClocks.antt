@@ -10,7 +10,8 @@ use Rattle.serial_model.specs.State.{Chips}
 use Rattle.quiet_clocks.specs.Plan.{unit_on}
 use Rattle.quiet_clocks.specs.Ticks.{ticks_in}
 use Rattle.quiet_clocks.specs.QuietClock.{IsCalm, CopperIsStill}
-use Rattle.quiet_clocks.specs.QuietClocks.{later_beam, later_units}
+use Rattle.quiet_clocks.specs.QuietClocks.{later_units}
+use Rattle.serial_model.specs.Beam.{later_beam}
 
 -- what sprites read stays and no sprite asks, no plane is fetched, the Copper is still, the blitter is without DMA or blit, and
 -- the processor asks for nothing

@@ -11,7 +11,8 @@ use Rattle.serial_model.specs.Registers.{Registers, kept_word, words_after}
 use Rattle.serial_model.specs.SpriteFetch.{move_sprites}
 use Rattle.serial_model.specs.State.{Chips}
 use Rattle.serial_model.specs.Window.{is_window_line}
-use Rattle.quiet_clocks.specs.QuietClocks.{later_beam, later_units}
+use Rattle.quiet_clocks.specs.QuietClocks.{later_units}
+use Rattle.serial_model.specs.Beam.{later_beam}
 
 -- a fetch: its plane, and whether the plane's modulo is added to its pointer
 pub record Fetch : Type 0 where

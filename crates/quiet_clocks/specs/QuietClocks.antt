@@ -10,7 +10,8 @@ use Rattle.serial_model.specs.PlaneFetch.{units_at}
 use Rattle.serial_model.specs.Processor.{Processor}
 use Rattle.serial_model.specs.Registers.{Registers, dmacon_of}
 use Rattle.serial_model.specs.Serial.{state_over}
-use Rattle.serial_model.specs.Side.{SideValue, no_side, tick_side, bits_of_side, ask_of_side}
+use Rattle.serial_model.specs.Beam.{later_beam}
+use Rattle.serial_model.specs.Side.{SideValue, bits_of_side, ask_of_side, later_side}
 use Rattle.serial_model.specs.State.{Chips, State}
 use Rattle.serial_model.specs.Tick.{tick}
 use Rattle.irq_cia.specs.Ticks.{HasNoUnderflow, ticks_on}
@@ -22,15 +23,6 @@ use Rattle.quiet_clocks.specs.QuietClock.{IsCalm, TurnsTo}
 unfoldable pub clocks : System → List At → ℕ → State → State
 clocks system events zero s = s
 clocks system events (suc n) s = tick system events (clocks system events n s)
-
--- the beam so many clocks on in its line
-abbrev pub later_beam : ℕ → Beam → Beam
-later_beam n b = record b { h = b.h + n }
-
--- a side after so many ticks from this place of the beam on
-unfoldable pub later_side : ℕ → Beam → ℕ → SideValue → SideValue
-later_side zero b dmacon side = side
-later_side (suc n) b dmacon side = tick_side (later_beam n b) dmacon (later_side n b dmacon side)
 
 -- the clocks of the line at which units of bitplane fetch began, so many clocks on
 unfoldable pub later_units : ℕ → Beam → Registers → List ℕ → List ℕ
@@ -108,7 +100,3 @@ ClocksOfTwo = (system : System) (events : List At) (m n : ℕ) (s : State) →
 abbrev pub ClocksOfRun : Type 0
 ClocksOfRun = (side : SideValue) (image : List ℕ) (script : ScriptValue) (from n : ℕ) →
     state_over side image script (from + n) ≡ clocks script.system script.events n (state_over side image script from)
-
--- no side stays no side
-abbrev pub NoSideStays : Type 0
-NoSideStays = (n : ℕ) (b : Beam) (dmacon : ℕ) → later_side n b dmacon no_side ≡ no_side

@@ -6,7 +6,7 @@ ghost use Rattle.quiet_clocks.specs.PlainClock.{OwnedTick};
 ghost use Rattle.quiet_clocks.specs.QuietClock.{QuietTick, QuietMakes, StillIsCalm};
 ghost use Rattle.quiet_clocks.specs.QuietTurns.{WaitsThrough, StaysOff, StaysHalted, StaysStopped, LosesSlot};
 ghost use Rattle.quiet_clocks.specs.QuietClocks.{QuietSpan, FewerAreQuiet, ClocksOfTwo};
-ghost use Rattle.quiet_clocks.specs.QuietClocks.{ClocksOfRun, NoSideStays};
+ghost use Rattle.quiet_clocks.specs.QuietClocks.{ClocksOfRun};
 ghost use Rattle.quiet_clocks.specs.IdleClocks.{IdleIsCalm, LastLater, UnitStays, UnitOfTwo, UnitCanBegin, TicksByPlace};
 ghost use Rattle.quiet_clocks.specs.Plan.{PlanNext, PlanKept, WriteKeepsFetches};
 ghost use Rattle.quiet_clocks.specs.Plan.{FetchKeepsFetches, SpriteKeepsFetches, PlanSays, PlanSpan};
@@ -52,13 +52,12 @@ pub fn quiet_turns()
 
 /// Clocks of a line one behind the other that are all quiet: the state after them in closed form, but for
 /// picture, collisions and pixel bytes, which are those of the clocks one by one. The states of a run are
-/// such clocks, and a machine without a side has none after them.
+/// such clocks.
 pub fn quiet_clocks()
     ensures span { QuietSpan }
     ensures fewer { FewerAreQuiet }
     ensures of_two { ClocksOfTwo }
     ensures of_run { ClocksOfRun }
-    ensures no_side { NoSideStays }
 {}
 
 /// What tells that nobody of the chips asks for the slot, in clocks of sprites too; where the last unit of a

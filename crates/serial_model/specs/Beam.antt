@@ -38,6 +38,10 @@ pub record IsOnScreen (b : Beam) : Type 0 where
   pub line : b.v < 313
   pub clock : b.h < 228
 
+-- so many clocks on in its line
+abbrev pub later_beam : ℕ → Beam → Beam
+later_beam n b = record b { h = b.h + n }
+
 -- its place in the order of time, as one number
 abbrev pub place_of : Beam → ℕ
 place_of b = order_of b.frame b.v b.h

@@ -14,7 +14,7 @@ use Rattle.serial_model.specs.Made.{word_of, memory_after, touch_of, is_clx_read
 use Rattle.serial_model.specs.Picture.{touch_if_any, touch_in_order, clear_line, PictureStep, step_of, after_step}
 use Rattle.serial_model.specs.Registers.{is_interlaced}
 use Rattle.serial_model.specs.Serial.{state_over, IsEndOver}
-use Rattle.serial_model.specs.Side.{Happening, SideValue, side_after, ask_of_side, no_side, IsBelow, FitsSide}
+use Rattle.serial_model.specs.Side.{Happening, SideValue, side_after, ask_of_side, later_side, IsQuietSide, no_side, IsBelow, FitsSide}
 use Rattle.serial_model.specs.State.{State}
 use Rattle.serial_model.specs.Turns.{interrupt_of, taken_lines}
 use Rattle.serial_model.specs.Tick.{start_clock, run_script, before_access, made_of, answer_state, make_access, tick}
@@ -83,6 +83,17 @@ AskOfFitIsBelow = (size : ℕ) (b : Beam) (dmacon : ℕ) (side : SideValue) → 
 -- a machine without a side fits every size
 abbrev pub NoneFitsEach : Type 0
 NoneFitsEach = (size : ℕ) → FitsSide size no_side
+
+-- no side stays no side, and does nothing in any number of clocks
+abbrev pub NoSideStays : Type 0
+NoSideStays = (n : ℕ) (b : Beam) (dmacon : ℕ) → later_side n b dmacon no_side ≡ no_side
+
+abbrev pub NoSideIsQuiet : Type 0
+NoSideIsQuiet = (b : Beam) (dmacon n : ℕ) → IsQuietSide b dmacon n no_side
+
+-- a side that does nothing in so many clocks does nothing in fewer
+abbrev pub FewerOfQuietSide : Type 0
+FewerOfQuietSide = (m n : ℕ) (b : Beam) (dmacon : ℕ) (side : SideValue) → m ≤ n → IsQuietSide b dmacon n side → IsQuietSide b dmacon m side
 
 -- a run of a script has an end, over each side
 abbrev pub HasEnd : Type 0

@@ -1,7 +1,8 @@
 -- A side: what stands beside the chips and takes part in the bus, as a sound channel or a disk does, and how contracts see it.
-use Rattle.std.specs.Prelude.{◌≡◌, ◌<◌, ℕ, ◌+◌, ◌*◌, ◌==◌, ◌||◌, true, List, [], ◌∷◌}
+use Rattle.std.specs.Prelude.{◌≡◌, ◌<◌, ℕ, zero, suc, ◌+◌, ◌*◌, ◌==◌, ◌||◌, true, List, [], ◌∷◌}
 use Rattle.ocs_base.specs.declared.beam.Beam.{Beam}
 use Rattle.ocs_base.specs.declared.reg.Reg.{Reg}
+use Rattle.serial_model.specs.Beam.{later_beam}
 use Rattle.serial_model.specs.declared.bus.Ask.{Ask}
 use Rattle.serial_model.specs.declared.bus.Ask.TheVariants as A
 use Rattle.serial_model.specs.declared.bus.Made.{Made}
@@ -54,6 +55,17 @@ give_side word side = side_after (Given word) side
 -- what it shows now
 abbrev pub shown_by_side : SideValue → List ℕ
 shown_by_side side = side.shows []
+
+-- a side after so many ticks from this place of the beam on
+unfoldable pub later_side : ℕ → Beam → ℕ → SideValue → SideValue
+later_side zero b dmacon side = side
+later_side (suc n) b dmacon side = tick_side (later_beam n b) dmacon (later_side n b dmacon side)
+
+-- in this clock and those behind it, so many in all, a side that is told of nothing but the clocks requests nothing and asks for
+-- nothing
+pub record IsQuietSide (b : Beam) (dmacon n : ℕ) (side : SideValue) : Type 0 where
+  pub bits : (k : ℕ) → k < n → bits_of_side (later_beam k b) dmacon (later_side k b dmacon side) ≡ 0
+  pub ask : (k : ℕ) → k < n → ask_of_side (later_beam k b) dmacon (later_side (suc k) b dmacon side) ≡ S.Nothing
 
 -- A side whose state is one of some type: what a happening makes of the state, and what the side does in it.
 pub record SideRules (S : Type 0) : Type 0 where

@@ -2,6 +2,7 @@
 
 ghost use Rattle.serial_model.specs.Laws.{MemoryNext, PictureNext, ShownNext, ClxNext, TraceNext, BeamNext};
 ghost use Rattle.serial_model.specs.Laws.{FramesAreWhole, HasEnd, FitIsKept, AskOfFitIsBelow, NoneFitsEach};
+ghost use Rattle.serial_model.specs.Laws.{NoSideStays, NoSideIsQuiet, FewerOfQuietSide};
 ghost use Rattle.serial_model.specs.StandsLaws.{StandsForItself, StandsLater, StandsOn, StandsWritten, StandsTouched};
 ghost use Rattle.serial_model.specs.StandsLaws.{StandsTouchedInOrder, StandsCleared, StandsShown, StandsAfter};
 
@@ -23,6 +24,14 @@ pub fn sides_fit()
     ensures kept { FitIsKept }
     ensures below { AskOfFitIsBelow }
     ensures none { NoneFitsEach }
+{}
+
+/// Clocks in which a side requests nothing and asks for nothing: no side is such in each number of them,
+/// and stays none; and of so many the first are such.
+pub fn quiet_sides()
+    ensures stays { NoSideStays }
+    ensures quiet { NoSideIsQuiet }
+    ensures fewer { FewerOfQuietSide }
 {}
 
 /// A run has an end, and has then shown all the bytes of its frames.

@@ -1,7 +1,8 @@
 //! What stands beside the chips and takes part in the bus.
 
-ghost use Rattle.std.specs.Prelude.{◌≡◌, true};
+ghost use Rattle.std.specs.Prelude.{◌≡◌, ◌≤◌, ◌+◌, true};
 ghost use Rattle.serial_model.specs.Side.{SideValue, IsInTime, poke_side, tick_side, bits_of_side, ask_of_side, give_side, no_side};
+ghost use Rattle.serial_model.specs.Side.{later_side, IsQuietSide};
 
 use crate::bus::SideAsk;
 use ocs_base::{Beam, Reg};
@@ -41,6 +42,34 @@ pub trait Side: Drop {
     {
         false
     }
+
+    /// For how many clocks from this one on, in the beam's line and with this kept word of DMACON, at most so
+    /// many, it requests nothing and asks for nothing, as far as it knows. One that cannot tell answers 0, as a
+    /// side does that does not write this call; nothing hangs on it but how fast a run is.
+    #[inline(always)]
+    fn quiet(&self, beam: &Beam, dmacon: u16, most: u16) -> u16
+        ensures most { result ≤ most }
+        ensures quiet { IsQuietSide beam.now dmacon result (seen self.now) }
+    {
+        0
+    }
+
+    /// So many clocks of the line came, from this one on, with this kept word of DMACON: as many ticks, of
+    /// which nobody wants the answers.
+    fn skip(&mut self, beam: &Beam, dmacon: u16, clocks: u16)
+        requires room { beam.now.h + clocks ≤ 226 }
+        ensures { seen self.new ≡ later_side clocks beam.now dmacon (seen self.old) }
+    {
+        let mut passed = 0;
+        while passed < clocks {
+            let place = Beam {
+                h: beam.h + passed,
+                ..*beam
+            };
+            self.tick(&place, dmacon);
+            passed += 1;
+        }
+    }
 }
 
 /// No side: it asks for nothing and requests nothing.
@@ -72,4 +101,12 @@ impl Side for NoSide {
     fn is_nothing(&self) -> bool {
         true
     }
+
+    #[inline(always)]
+    fn quiet(&self, _beam: &Beam, _dmacon: u16, most: u16) -> u16 {
+        most
+    }
+
+    #[inline(always)]
+    fn skip(&mut self, _beam: &Beam, _dmacon: u16, _clocks: u16) {}
 }

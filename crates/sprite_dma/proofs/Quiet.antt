@@ -6,11 +6,10 @@ use Rattle.std.proofs.lemmas.List.{set-get_or}
 use Rattle.ocs_base.specs.declared.beam.Beam.{Beam}
 use Rattle.serial_model.specs.declared.fetch.SpriteKind.{SpriteKind}
 use Rattle.serial_model.specs.declared.fetch.SpriteKind.TheVariants.{Nothing}
-use Rattle.serial_model.specs.Beam.{is_line_start}
+use Rattle.serial_model.specs.Beam.{is_line_start, later_beam}
 use Rattle.serial_model.specs.Registers.{Registers}
 use Rattle.serial_model.specs.SpriteFetch.{kinds_at, sprite_ask, is_sprite_slot, is_second_slot, sprite_of, sprite_dma, no_kinds}
 use Rattle.serial_model.specs.SpriteFetch.{kind_of, kind_by, position_word, control_word, ask_in_slot, ask_by_kind}
-use Rattle.quiet_clocks.specs.QuietClocks.{later_beam}
 use Rattle.sprite_dma.specs.Quiet.{ReadsNothing}
 
 else_of : {X : Type 0} (c : Bool) (x y : X) → c ≡ false → (if c then x else y) ≡ y

@@ -9,7 +9,7 @@ ghost use Rattle.std.specs.Prelude.{◌≡◌, ◌<◌, ◌≤◌, ◌+◌, ◌%
 ghost use Rattle.serial_model.specs.SpriteFetch.{no_kinds, kinds_at, sprite_ask, move_sprites, kind_of, kind_by};
 ghost use Rattle.serial_model.specs.SpriteFetch.{sprite_dma as dma_of, ask_by_kind, move_if_asked, is_sprite_slot};
 ghost use Rattle.serial_model.specs.declared.fetch.SpriteKind.TheVariants.{Nothing};
-ghost use Rattle.quiet_clocks.specs.QuietClocks.{later_beam};
+ghost use Rattle.serial_model.specs.Beam.{later_beam};
 ghost use Rattle.sprite_dma.specs.Quiet.{ReadsNothing};
 
 use ocs_base::offset::DMACON;

@@ -1,6 +1,6 @@
 use Rattle.std.proofs.Common.{◌∙◌, ap, refl, arith}
 use Rattle.quiet_clocks.specs.Plan.{unit_on}
-use Rattle.quiet_clocks.specs.QuietClocks.{later_beam}
+use Rattle.serial_model.specs.Beam.{later_beam}
 use Rattle.quiet_clocks.proofs.IdleClocks.{unit_of_two}
 use Rattle.bitplane_dma.proofs.unit_after.Goals as goal
 

@@ -1,5 +1,5 @@
 use Rattle.std.proofs.Common.{ℕ, ◌≡◌, ◌<◌, ◌%◌, ◌+◌, ◌-◌}
-use Rattle.quiet_clocks.specs.QuietClocks.{later_beam}
+use Rattle.serial_model.specs.Beam.{later_beam}
 use Rattle.copper.specs.Quiet.{HoldsNot}
 use Rattle.copper.proofs.before_hold.Given as goal
 

@@ -1,4 +1,4 @@
-use Rattle.quiet_clocks.specs.QuietClocks.{later_beam}
+use Rattle.serial_model.specs.Beam.{later_beam}
 use Rattle.copper.proofs.Quiet.{never_by_line}
 use Rattle.copper.proofs.is_never_met.Goals as goal
 

@@ -1,5 +1,5 @@
 use Rattle.std.proofs.Common.{arith}
-use Rattle.quiet_clocks.specs.QuietClocks.{later_beam}
+use Rattle.serial_model.specs.Beam.{later_beam}
 use Rattle.sprite_dma.proofs.Quiet.{quiet_between, more_quiet, quiet_after}
 use Rattle.sprite_dma.proofs.SpriteDma.before_read.Goals as goal
 

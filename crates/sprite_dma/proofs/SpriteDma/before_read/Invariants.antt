@@ -1,5 +1,5 @@
 use Rattle.std.proofs.Common.{◌≡◌, ◌<◌, ◌≤◌, ◌+◌, ◌-◌, ◌%◌, ℕ}
-use Rattle.quiet_clocks.specs.QuietClocks.{later_beam}
+use Rattle.serial_model.specs.Beam.{later_beam}
 use Rattle.sprite_dma.specs.Quiet.{ReadsNothing}
 use Rattle.sprite_dma.proofs.SpriteDma.before_read.Given as goal
 

@@ -1,6 +1,6 @@
 use Rattle.std.proofs.Common.{◌≡◌, ◌≤◌, ℕ, ◌+◌, ◌-◌, min, false, arith, subst}
 use Rattle.sprite_dma.specs.Quiet.{ReadsNothing}
-use Rattle.quiet_clocks.specs.QuietClocks.{later_beam}
+use Rattle.serial_model.specs.Beam.{later_beam}
 use Rattle.chip_set.specs.Chips.{WorkingChips}
 use Rattle.chip_set.proofs.BusLaws.{no_refresh}
 use Rattle.chip_set.proofs.chips.Chips.clocks_beside_planes.Goals as goal

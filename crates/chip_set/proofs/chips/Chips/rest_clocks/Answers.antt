@@ -1,6 +1,6 @@
 use Rattle.std.proofs.Common.{◌≤◌, ℕ, arith, subst}
 use Rattle.sprite_dma.specs.Quiet.{ReadsNothing}
-use Rattle.quiet_clocks.specs.QuietClocks.{later_beam}
+use Rattle.serial_model.specs.Beam.{later_beam}
 use Rattle.chip_set.specs.Chips.{WorkingChips}
 use Rattle.chip_set.proofs.QuietLaws.{fewer_rest, fewer_count}
 use Rattle.chip_set.proofs.chips.Chips.rest_clocks.Goals as goal
