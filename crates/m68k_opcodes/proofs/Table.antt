@@ -1,25 +1,70 @@
 -- What is computed for each line of opcodes, that is for each first four bits, and what follows from it: the code's way to
 -- take an opcode apart agrees with the table of instructions, and no opcode is in two rows.
 use Rattle.std.proofs.Common.{◌≡◌, ◌≤◌, ◌<◌, ℕ, suc, zero, ◌+◌, ◌-◌, ◌*◌, ◌/◌, ◌%◌, ◌^◌, ◌==◌, bit_and}
-use Rattle.std.proofs.Common.{Bool, true, false, ◌&&◌, if◌then◌else◌, List, [], ◌∷◌, ◌++◌, length}
+use Rattle.std.proofs.Common.{Bool, true, false, ◌&&◌, ◌||◌, if◌then◌else◌, List, [], ◌∷◌, ◌++◌, length}
 use Rattle.std.proofs.Common.{refl, ap, sym, ◌∙◌, subst, inl, inr, get_or, arith, eqb-true}
 use Rattle.std.proofs.lemmas.Bool.{cases_eq, eqb-false}
 use Rattle.std.proofs.lemmas.Nat.{and_shr, and_mask, shr-shr}
 use Rattle.m68k_opcodes.specs.declared.instr.Instr.{Instr}
 use Rattle.m68k_opcodes.specs.Clocks.{Clocks, Always, Counted, Outcomes, Exception}
-use Rattle.m68k_opcodes.specs.Text.{mask, value, fits}
-use Rattle.m68k_opcodes.specs.Row.{Row, no_row, in_row, joined, taking, first, made, taken}
+use Rattle.m68k_opcodes.specs.Text.{mask, value, fits, digits, space, zero_digit, one_digit}
+use Rattle.m68k_opcodes.specs.Row.{Row, no_row, in_row, size_fits, mode_fits, dest_fits, joined, taking, first, made, taken}
 use Rattle.m68k_opcodes.specs.Table.{groups, rows, decode_of, clocks_at, rows_at}
 use Rattle.m68k_opcodes.specs.Table.{rows_0, rows_move, rows_4, rows_5, rows_6, rows_7, rows_8}
 use Rattle.m68k_opcodes.specs.Table.{rows_9, rows_A, rows_B, rows_C, rows_D, rows_E, rows_F}
 use Rattle.m68k_opcodes.specs.TimingCode.{timing}
 use Rattle.m68k_opcodes.proofs.Keys.{key, same, same_sound, same_key}
 
+-- ---- what a pattern says of an opcode's bits, with one call for each place
+
+-- Both branches of an `if` are computed, so `digits` takes twice as long for each place more. This one does not.
+abbrev pub bits : (ℕ → ℕ) → ℕ → List ℕ → ℕ
+bits d n [] = n
+bits d n (c ∷ cs) = bits d (if c == space then n else 2 * n + d c) cs
+
+bits_are_digits : (d : ℕ → ℕ) (n : ℕ) (cs : List ℕ) → bits d n cs ≡ digits d n cs
+bits_are_digits d n [] = refl
+bits_are_digits d n (c ∷ cs) =
+    let P : Bool → Type 0 = λ b. bits d (if b then n else 2 * n + d c) cs ≡ (if b then digits d n cs else digits d (2 * n + d c) cs) in
+    let split : (b : Bool) → P b = (λ b. elim b as P [ true ↦ bits_are_digits d n cs | false ↦ bits_are_digits d (2 * n + d c) cs ]) in
+    split (c == space)
+
+abbrev pub mask_bits : List ℕ → ℕ
+mask_bits text = bits (λ c. if (c == zero_digit) || (c == one_digit) then 1 else 0) 0 text
+
+abbrev pub value_bits : List ℕ → ℕ
+value_bits text = bits (λ c. if c == one_digit then 1 else 0) 0 text
+
+mask_is : (text : List ℕ) → mask_bits text ≡ mask text
+mask_is text = bits_are_digits _ 0 text
+
+value_is : (text : List ℕ) → value_bits text ≡ value text
+value_is text = bits_are_digits _ 0 text
+
+abbrev pub in_row_by_bits : Row → ℕ → Bool
+in_row_by_bits r n = (bit_and n (mask_bits r.text) == value_bits r.text) && size_fits r.text n && mode_fits r n && dest_fits r.text n
+
+abbrev pub taking_by_bits : List Row → ℕ → List Row
+taking_by_bits [] n = []
+taking_by_bits (r ∷ rs) n = if in_row_by_bits r n then r ∷ taking_by_bits rs n else taking_by_bits rs n
+
+in_row_is : (r : Row) (n : ℕ) → in_row_by_bits r n ≡ in_row r n
+in_row_is r n =
+    ap (λ m. (bit_and n m == value_bits r.text) && size_fits r.text n && mode_fits r n && dest_fits r.text n) (mask_is r.text)
+    ∙ ap (λ v. (bit_and n (mask r.text) == v) && size_fits r.text n && mode_fits r n && dest_fits r.text n) (value_is r.text)
+
+taking_is : (rs : List Row) (n : ℕ) → taking_by_bits rs n ≡ taking rs n
+taking_is [] n = refl
+taking_is (r ∷ rs) n =
+    ap (λ b. if b then r ∷ taking_by_bits rs n else taking_by_bits rs n) (in_row_is r n)
+    ∙ ap (λ l. if in_row r n then r ∷ l else l) (taking_is rs n)
+
 -- ---- the rows of a line
 
 -- A pattern fixes the first digits, and they are those of d: four digits at q = 0, two at q = 2.
 abbrev pub fixes : ℕ → ℕ → Row → Bool
-fixes q d r = if mask r.text / 2 ^ (12 + q) == 65535 / 2 ^ (12 + q) then value r.text / 2 ^ (12 + q) == d else false
+fixes q d r =
+    if mask_bits r.text / 2 ^ (12 + q) == 65535 / 2 ^ (12 + q) then value_bits r.text / 2 ^ (12 + q) == d else false
 
 abbrev pub all_fix : ℕ → ℕ → List Row → Bool
 all_fix q d [] = true
@@ -31,9 +76,9 @@ if_both false b h = cc
 
 first_digits : (q d : ℕ) (r : Row) (n : ℕ) → fixes q d r ≡ true → n < 65536 → fits r.text n ≡ true → n / 4096 / 2 ^ q ≡ d
 first_digits q d r n fixed below here =
-    let p = if_both (mask r.text / 2 ^ (12 + q) == 65535 / 2 ^ (12 + q)) (value r.text / 2 ^ (12 + q) == d) fixed in
-    let digits : mask r.text / 2 ^ (12 + q) ≡ 65535 / 2 ^ (12 + q) = eqb-true _ _ p.0 in
-    let theirs : value r.text / 2 ^ (12 + q) ≡ d = eqb-true _ _ p.1 in
+    let p = if_both (mask_bits r.text / 2 ^ (12 + q) == 65535 / 2 ^ (12 + q)) (value_bits r.text / 2 ^ (12 + q) == d) fixed in
+    let digits : mask r.text / 2 ^ (12 + q) ≡ 65535 / 2 ^ (12 + q) = ap (λ m. m / 2 ^ (12 + q)) (sym (mask_is r.text)) ∙ eqb-true _ _ p.0 in
+    let theirs : value r.text / 2 ^ (12 + q) ≡ d = ap (λ v. v / 2 ^ (12 + q)) (sym (value_is r.text)) ∙ eqb-true _ _ p.1 in
     let whole : bit_and n (mask r.text) ≡ value r.text = eqb-true _ _ here in
     let high : bit_and n (mask r.text) / 2 ^ (12 + q) ≡ bit_and (n / 2 ^ (12 + q)) (mask r.text / 2 ^ (12 + q)) = and_shr n (mask r.text) (12 + q) in
     let all : bit_and n 65535 / 2 ^ (12 + q) ≡ bit_and (n / 2 ^ (12 + q)) (65535 / 2 ^ (12 + q)) = and_shr n 65535 (12 + q) in
@@ -180,7 +225,7 @@ agrees_with i (r ∷ s ∷ rs) n = false
 
 -- all opcodes of a line
 abbrev pub agrees_at : ℕ → (ℕ → Instr) → List Row → ℕ → Bool
-agrees_at base f rs k = agrees_with (f (base + k)) (taking rs (base + k)) (base + k)
+agrees_at base f rs k = agrees_with (f (base + k)) (taking_by_bits rs (base + k)) (base + k)
 
 abbrev pub line_agrees : ℕ → (ℕ → Instr) → List Row → Bool
 line_agrees base f rs = all_below 4096 (agrees_at base f rs)
@@ -217,18 +262,21 @@ at_line line f rs test n h =
     let k : ℕ = n - 4096 * line in
     let e : 4096 * line + k ≡ n = omega arith in
     let below : k < 4096 = omega arith in
+    let m : ℕ = 4096 * line + k in
+    let by_bits : Agrees (f m) (taking_by_bits rs m) m = agrees_sound _ _ _ (from_all 4096 (agrees_at (4096 * line) f rs) test k below) in
     let P : ℕ → Type 0 = λ m. Agrees (f m) (taking rs m) m in
-    subst P e (agrees_sound _ _ _ (from_all 4096 (agrees_at (4096 * line) f rs) test k below))
+    let Q : List Row → Type 0 = λ l. Agrees (f m) l m in
+    subst P e (subst Q (taking_is rs m) by_bits)
 
 -- ---- the table
 
-abbrev pub digits : ℕ → ℕ → Digits
-digits q d = record { q = q; d = d }
+abbrev pub first_are : ℕ → ℕ → Digits
+first_are q d = record { q = q; d = d }
 
 abbrev pub table_digits : List Digits
 table_digits =
-    digits 0 0 ∷ digits 2 0 ∷ digits 0 4 ∷ digits 0 5 ∷ digits 0 6 ∷ digits 0 7 ∷ digits 0 8
-    ∷ digits 0 9 ∷ digits 0 10 ∷ digits 0 11 ∷ digits 0 12 ∷ digits 0 13 ∷ digits 0 14 ∷ digits 0 15 ∷ []
+    first_are 0 0 ∷ first_are 2 0 ∷ first_are 0 4 ∷ first_are 0 5 ∷ first_are 0 6 ∷ first_are 0 7 ∷ first_are 0 8
+    ∷ first_are 0 9 ∷ first_are 0 10 ∷ first_are 0 11 ∷ first_are 0 12 ∷ first_are 0 13 ∷ first_are 0 14 ∷ first_are 0 15 ∷ []
 
 fix_0 : all_fix 0 0 rows_0 ≡ true
 fix_0 = refl
