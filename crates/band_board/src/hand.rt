@@ -20,7 +20,7 @@ pub struct Hand<W: Work> {
 }
 
 /// A look at the word of a place by a claim.
-#[derive(Clone, Copy, PartialEq, Eq, Debug)]
+#[derive(Clone, Copy, PartialEq, Eq)]
 pub struct Look {
     /// The word that was found.
     pub word: u64,

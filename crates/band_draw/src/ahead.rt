@@ -21,7 +21,7 @@ use serial_model::Side;
 const LATCHES: u16 = 0x10e;
 
 /// A fetch of a bitplane, 1 to 6.
-#[derive(Clone, Copy, Debug)]
+#[derive(Clone, Copy)]
 pub struct Fetch {
     pub at: Clock,
     pub plane: u8,

@@ -36,7 +36,7 @@ fn order(frame: u32, v: u16, h: u16) -> u64
 }
 
 /// What of a script is due at a place.
-#[derive(Clone, Copy, Debug)]
+#[derive(Clone, Copy)]
 pub struct Due {
     /// How many events write to one of Denise's registers.
     pub sets: usize,

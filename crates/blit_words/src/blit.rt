@@ -6,7 +6,7 @@ use ocs_base::Addr;
 /// BLTAFWM and BLTALWM, BLTSIZE, the data registers, the modulos and the pointers. `aptl` is
 /// BLTAPTL with all its 16 bits, the accumulator of a line, and `apt` the address in BLTAPTH and
 /// BLTAPTL. The addresses of a channel wrap where its pointer does.
-#[derive(Clone, Copy, Debug)]
+#[derive(Clone, Copy)]
 pub struct BlitRegs {
     pub con0: u16,
     pub con1: u16,
@@ -29,7 +29,7 @@ pub struct BlitRegs {
 
 /// What a blit does with its next slot: it reads a word, writes one, or takes the slot and makes no
 /// access. `Done` is the end, and asks for no slot.
-#[derive(Clone, Copy, Debug)]
+#[derive(Clone, Copy)]
 pub enum SlotAsk {
     Read { at: Addr },
     Write { at: Addr, word: u16 },
@@ -39,7 +39,7 @@ pub enum SlotAsk {
 
 /// One of the asks of a word of an area blit: the read of channel A, B or C, the write of D, or a
 /// slot that is taken without an access.
-#[derive(Clone, Copy, Debug)]
+#[derive(Clone, Copy)]
 pub enum WordAsk {
     A,
     B,
@@ -50,7 +50,7 @@ pub enum WordAsk {
 
 /// A point of a line blit, before it is drawn: the address of its word, its bit as a shift of BLTADAT, the
 /// accumulator, whether that counts as negative, and whether the line already has a point in this row.
-#[derive(Clone, Copy, Debug)]
+#[derive(Clone, Copy)]
 pub struct LinePoint {
     pub at: Addr,
     pub shift: u16,

@@ -12,7 +12,7 @@ use band_board::{Board, Front, Hand};
 use std::sync::Arc;
 
 /// How many bands of a run were drawn, and by whom.
-#[derive(Clone, Copy, PartialEq, Eq, Debug)]
+#[derive(Clone, Copy, PartialEq, Eq)]
 pub struct Totals {
     /// By the hands of the workers.
     pub by_hands: u64,

@@ -4,7 +4,7 @@ ghost use Rattle.std.specs.Prelude.{◌≡◌, [], ◌∷◌, ◌++◌, length, 
 ghost use Rattle.disk_dma.specs.QueueCode.{words_in};
 
 /// At most three words, the first to leave first (the queue's length is this project's profile).
-#[derive(Clone, Copy, Debug)]
+#[derive(Clone, Copy)]
 pub enum Queue {
     Empty,
     One(u16),

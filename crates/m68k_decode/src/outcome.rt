@@ -1,7 +1,7 @@
 //! What an operation gives.
 
 /// The condition codes: extend, negative, zero, overflow, carry.
-#[derive(Clone, Copy, PartialEq, Eq, Debug)]
+#[derive(Clone, Copy, PartialEq, Eq)]
 pub struct Flags {
     pub x: bool,
     pub n: bool,
@@ -11,7 +11,7 @@ pub struct Flags {
 }
 
 /// The result of an operation and the condition codes after it.
-#[derive(Clone, Copy, PartialEq, Eq, Debug)]
+#[derive(Clone, Copy, PartialEq, Eq)]
 pub struct Outcome {
     pub value: u32,
     pub flags: Flags,

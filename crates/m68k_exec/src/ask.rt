@@ -1,7 +1,7 @@
 //! What the processor asks for.
 
 /// What the processor does next.
-#[derive(Clone, Copy, PartialEq, Eq, Debug)]
+#[derive(Clone, Copy, PartialEq, Eq)]
 pub enum Ask {
     /// It reads the word at `at`, of which it takes one half where `byte` is set: the high one at
     /// an even address.

@@ -10,7 +10,7 @@ use crate::chip_size::ChipSize;
 /// The address of a word of chip memory: an even number of bytes below the size of the memory that it is an
 /// address of, which is the span that it wraps at.
 /// Agnus drops bit 0 and what is above its address bits (Hardware Reference Manual, pointer registers).
-#[derive(Clone, Copy, PartialEq, Eq, Debug)]
+#[derive(Clone, Copy, PartialEq, Eq)]
 pub struct Addr {
     pub value: u32,
     pub size: ChipSize,

@@ -5,7 +5,7 @@ ghost use Rattle.ocs_base.specs.Sizes.{bytes_of, size_of_bytes, is_chip_size};
 
 /// The size of chip memory: 512 KiB, or 1 MiB as the later Agnus addresses it (this project's profile: beam,
 /// slots and all else are those of the first).
-#[derive(Clone, Copy, PartialEq, Eq, Debug)]
+#[derive(Clone, Copy, PartialEq, Eq)]
 pub enum ChipSize {
     Kib512,
     Mib1,

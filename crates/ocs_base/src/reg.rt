@@ -4,7 +4,7 @@ ghost use Rattle.std.specs.Prelude.{◌≡◌, ◌<◌, ◌%◌, ◌↔◌, IsSo
 ghost use Rattle.ocs_base.specs.Addr.{even_address};
 
 /// The offset of a custom register from DFF000: an even number, 000 to 1FE.
-#[derive(Clone, Copy, PartialEq, Eq, Debug)]
+#[derive(Clone, Copy, PartialEq, Eq)]
 pub struct Reg {
     pub offset: u16,
     pub ghost even: { offset % 2 ≡ 0 },

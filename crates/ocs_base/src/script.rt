@@ -13,7 +13,7 @@ use std::marker::Model;
 
 /// What happens at a time of the script. `port` is 0 or 1; `word` of `Joy` is what JOY0DAT or
 /// JOY1DAT reads afterwards; `code` is what the keyboard sends to CIA A.
-#[derive(Clone, Copy, PartialEq, Eq, Debug)]
+#[derive(Clone, Copy, PartialEq, Eq)]
 pub enum Act {
     Poke { reg: Reg, word: u16 },
     Peek { reg: Reg },
@@ -24,7 +24,7 @@ pub enum Act {
 
 /// An act and the place of the beam at which it happens: a frame from 0, a line, 0 to 311 with PAL and
 /// to 261 with NTSC, and a colour clock of the line, 0 to 226.
-#[derive(Clone, Copy, PartialEq, Eq, Debug)]
+#[derive(Clone, Copy, PartialEq, Eq)]
 pub struct At {
     pub frame: u32,
     pub v: u16,

@@ -7,7 +7,7 @@ ghost use Rattle.ocs_base.specs.Systems.{lines, last_clock, top_line, shown_line
 /// pictures of 720 by 286 pixels; an NTSC machine has lines of 227 and 228 colour clocks by turns, fields of
 /// 263 and 262 lines and pictures of 720 by 242 (Hardware Reference Manual, interlaced display; that the odd
 /// lines are the long ones, and what a picture shows, is this project's profile).
-#[derive(Clone, Copy, PartialEq, Eq, Debug)]
+#[derive(Clone, Copy, PartialEq, Eq)]
 pub enum System {
     Pal,
     Ntsc,

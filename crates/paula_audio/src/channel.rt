@@ -14,7 +14,7 @@ use ocs_base::{Addr, ChipSize};
 /// `sample` is the byte that sounds, in two's complement. Then come the words of its five registers
 /// AUDxLCH, AUDxLCL, AUDxLEN, AUDxPER and AUDxVOL; and `due` says that the next tick requests its
 /// interrupt.
-#[derive(Clone, Copy, Debug)]
+#[derive(Clone, Copy)]
 pub struct Channel {
     pub on: bool,
     pub at: Addr,

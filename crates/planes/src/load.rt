@@ -3,7 +3,7 @@
 ghost use Rattle.std.specs.Prelude.{◌≡◌, ◌+◌, ◌*◌, ◌≤◌};
 
 /// What a write to BPL1DAT hands to the six planes.
-#[derive(Clone, Copy, Default, Debug)]
+#[derive(Clone, Copy, Default)]
 pub struct Load {
     /// The position, in high-resolution pixels, from which planes 1, 3 and 5 show the words.
     pub odd: u32,

@@ -10,7 +10,7 @@ use ocs_base::Colour;
 use sprites::SpritePixel;
 
 /// What is shown at a pixel, and the held colour for the next one.
-#[derive(Clone, Copy, PartialEq, Eq, Debug)]
+#[derive(Clone, Copy, PartialEq, Eq)]
 pub struct Pixel {
     /// The colour that is shown.
     pub shown: Colour,

@@ -3,7 +3,7 @@
 use ocs_base::Beam;
 
 /// The state of a run at a clock that was gone to, and the clock from which it was reached.
-#[derive(Clone, Copy, Debug)]
+#[derive(Clone, Copy)]
 pub struct Arrived {
     /// The clock: the one that was asked for, or the run's last.
     pub at: u64,

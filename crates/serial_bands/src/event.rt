@@ -6,7 +6,7 @@ use ocs_base::{Addr, Clock, Reg};
 /// word of memory that fills the latch of a bitplane, 1 to 6, or SPRxDATA or, `second`, SPRxDATB of a
 /// sprite, 0 to 7. Of that word it names the address alone. The clock of a write is that of the first
 /// picture step that sees it, and the clock of a fetch that of its access.
-#[derive(Clone, Copy, Debug)]
+#[derive(Clone, Copy)]
 pub enum Event {
     Set {
         at: Clock,

@@ -4,7 +4,7 @@ use ocs_base::{Addr, Clock};
 
 /// What a data register of Denise's was last filled with: a word, or the word that stood at an address
 /// of memory at the start of a clock.
-#[derive(Clone, Copy, Debug)]
+#[derive(Clone, Copy)]
 pub enum Filling {
     Word { word: u16 },
     Fetched { at: Clock, addr: Addr },
@@ -12,7 +12,7 @@ pub enum Filling {
 
 /// The picture state without what a line alone has, which is its loads, the sprites' words that run and
 /// the held colour, and with the fillings of its data registers in place of their words.
-#[derive(Clone, Copy, Debug)]
+#[derive(Clone, Copy)]
 pub struct Shadow {
     pub palette: [u16; 32],
     pub con0: u16,

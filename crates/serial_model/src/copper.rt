@@ -4,7 +4,7 @@ use ocs_base::{Addr, Reg};
 
 /// What the Copper does at its next even clock: read the first or the second word of an instruction,
 /// compare the beam with the WAIT that it has read, or nothing until its next start or jump.
-#[derive(Clone, Copy, Debug)]
+#[derive(Clone, Copy)]
 pub enum CopperPhase {
     First,
     Second,
@@ -14,7 +14,7 @@ pub enum CopperPhase {
 
 /// The phase, the address of the next word that the Copper reads, and the two words of the
 /// instruction that it reads or waits in.
-#[derive(Clone, Copy, Debug)]
+#[derive(Clone, Copy)]
 pub struct CopperState {
     pub phase: CopperPhase,
     pub at: Addr,
@@ -24,7 +24,7 @@ pub struct CopperState {
 
 /// An instruction: a MOVE of a word to a register, a MOVE that is forbidden, a WAIT or a SKIP. The
 /// comparison of the last two is in the two words.
-#[derive(Clone, Copy, Debug)]
+#[derive(Clone, Copy)]
 pub enum CopperInstruction {
     Move { reg: Reg, word: u16 },
     ForbiddenMove,
@@ -33,7 +33,7 @@ pub enum CopperInstruction {
 }
 
 /// What a step of the Copper makes: nothing, or the write of a completed MOVE.
-#[derive(Clone, Copy, Debug)]
+#[derive(Clone, Copy)]
 pub enum CopperAct {
     None,
     Move { reg: Reg, word: u16 },

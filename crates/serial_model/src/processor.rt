@@ -7,14 +7,14 @@ use ocs_base::{Addr, Reg};
 
 /// One of the two CIAs. CIA A answers at the odd bytes of BFE000 to BFEFFF, CIA B at the even bytes
 /// of BFD000 to BFDFFF (profile).
-#[derive(Clone, Copy, PartialEq, Eq, Debug)]
+#[derive(Clone, Copy)]
 pub enum CiaName {
     A,
     B,
 }
 
 /// The number of a register of a CIA, 0 to 15.
-#[derive(Clone, Copy, PartialEq, Eq, Debug)]
+#[derive(Clone, Copy)]
 pub struct CiaRegister {
     pub number: u8,
     pub ghost below: { number < 16 },
@@ -22,7 +22,7 @@ pub struct CiaRegister {
 
 /// Where an access of the processor goes: to a word of chip memory, a custom register, a register of a CIA,
 /// or nowhere.
-#[derive(Clone, Copy, Debug)]
+#[derive(Clone, Copy)]
 pub enum Target {
     Memory { at: Addr },
     Register { reg: Reg },
@@ -33,7 +33,7 @@ pub enum Target {
 /// What the processor waits for: the slot for an access, the end of an access to a CIA, which
 /// writes a `byte` or reads, the end of an access that goes nowhere, the end of so many idle
 /// clocks, or nothing any more.
-#[derive(Clone, Copy, Debug)]
+#[derive(Clone, Copy)]
 pub enum Wait {
     Slot {
         ask: ProcessorAsk,
@@ -53,7 +53,7 @@ pub enum Wait {
 /// What a clock makes of the processor once the slot was given: nothing; one more clock passes of
 /// what it waits for; it goes on with the word of an answer; or it makes its access to a CIA and
 /// goes on.
-#[derive(Clone, Copy, Debug)]
+#[derive(Clone, Copy)]
 pub enum Turn {
     Rests,
     Waits {

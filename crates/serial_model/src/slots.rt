@@ -3,7 +3,7 @@
 /// Who asks for the slot of clock `h` of a line: the disk, an audio channel, a bitplane, a sprite, the
 /// Copper, the blitter, the processor. Refresh asks by the clock alone. `missed` is for how many clocks in a
 /// row the processor asked and another got the slot, at most 3; `nasty` is BLTPRI of DMACON.
-#[derive(Clone, Copy, Debug)]
+#[derive(Clone, Copy)]
 pub struct SlotState {
     pub h: u16,
     pub disk: bool,
@@ -18,7 +18,7 @@ pub struct SlotState {
 }
 
 /// Who has the slot of a colour clock.
-#[derive(Clone, Copy, PartialEq, Eq, Debug)]
+#[derive(Clone, Copy, PartialEq, Eq)]
 pub enum Owner {
     Refresh,
     Disk,

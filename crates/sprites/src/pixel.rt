@@ -5,7 +5,7 @@ ghost use Rattle.std.specs.List.{All};
 ghost use Rattle.sprites.specs.SpriteFront.{pixel_of, pair_pixel, front_pixel};
 
 /// A visible pixel of a pair of sprites.
-#[derive(Clone, Copy, PartialEq, Eq, Debug)]
+#[derive(Clone, Copy, PartialEq, Eq)]
 pub struct SpritePixel {
     /// The pair, 0 to 3, of sprites 2p and 2p + 1.
     pub pair: u8,

@@ -5,7 +5,7 @@ ghost use Rattle.std.specs.Prelude.{◌≡◌, ◌<◌, ◌≤◌, Option, None,
 use std::marker::Model;
 
 /// A start of a sprite's two words at a position of the line.
-#[derive(Clone, Copy, Debug)]
+#[derive(Clone, Copy)]
 pub struct Start {
     /// The position in low-resolution pixels from the line's begin.
     pub x: u16,
