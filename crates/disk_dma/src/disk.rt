@@ -1,6 +1,6 @@
 //! The disk, and the side that it is.
 
-ghost use Rattle.std.specs.Prelude.{◌≡◌, true, IfOk};
+ghost use Rattle.std.specs.Prelude.{◌≡◌, ◌≤◌, ◌<◌, ◌+◌, ℕ, true, false, IfOk};
 ghost use Rattle.disk_dma.specs.Disk.{new_disk, disk_write, disk_tick, disk_bits, disk_ask, disk_given, disk_side};
 ghost use Rattle.disk_dma.specs.Disk.{after_end, after_begin, after_length, with_high_half, with_low_half};
 ghost use Rattle.disk_dma.specs.Disk.{is_end as ends_transfer, is_taken as takes_word, join_if_taken, after_arrival};
@@ -11,7 +11,7 @@ ghost use Rattle.disk_dma.specs.Track.{is_track};
 ghost use Rattle.irq_cia.specs.Bits.{set_or_clear as set_or_clear_of};
 ghost use Rattle.ocs_base.specs.Sizes.{is_chip_size, size_of_bytes};
 ghost use Rattle.serial_model.specs.Registers.{bit_worth};
-ghost use Rattle.serial_model.specs.Side.{FitsSide, IsInTime};
+ghost use Rattle.serial_model.specs.Side.{FitsSide, IsInTime, IsQuietSide};
 
 use crate::queue::Queue;
 use crate::track::{next_place, word_at};
@@ -40,6 +40,9 @@ const WORDSYNC: u16 = 0x400;
 
 /// DMAEN and DSKEN of DMACON.
 const DISK_DMA: u16 = 0x210;
+
+/// The last of the disk's three clocks of a line.
+const LAST_CLOCK: u16 = 11;
 
 /// DSKSYN of INTREQ.
 const DSKSYN: u16 = 0x1000;
@@ -260,6 +263,25 @@ impl Disk {
         }
     }
 
+    /// For how many clocks of the line it requests nothing and asks for nothing: where no transfer is over, up to
+    /// the next word that arrives, and where words wait behind its three clocks alone.
+    fn still(&self, beam: &Beam, dmacon: u16, most: u16) -> u16
+        ensures most { result ≤ most }
+        ensures quiet { IsQuietSide beam.now dmacon result (disk_side self.now) }
+    {
+        if self.due {
+            return 0;
+        }
+        let clocks = before_arrival(beam.h, most);
+        if self.queue.is_empty() {
+            return clocks;
+        }
+        if beam.h <= LAST_CLOCK {
+            return 0;
+        }
+        clocks
+    }
+
     /// The queue's first word was stored, where there is one, and leaves.
     fn take(&mut self)
         ensures { self.new ≡ disk_given self.old }
@@ -305,6 +327,10 @@ impl Side for Disk {
     fn give(&mut self, _word: u16) {
         self.take();
     }
+
+    fn quiet(&self, beam: &Beam, dmacon: u16, most: u16) -> u16 {
+        self.still(beam, dmacon, most)
+    }
 }
 
 /// Whether a word of DSKLEN ends a transfer: its bit 15 is clear, or its bit 14 is set.
@@ -319,6 +345,20 @@ fn is_arrival(h: u16) -> bool
     ensures { result ≡ arrives h }
 {
     h == 6 || h == 120
+}
+
+/// How many clocks of a line, from this one on and at most so many, come before a word of the track arrives.
+fn before_arrival(h: u16, most: u16) -> u16
+    ensures most { result ≤ most }
+    ensures none { (k : ℕ) → k < result → arrives (h + k) ≡ false }
+{
+    if h <= 6 {
+        most.min(6 - h)
+    } else if h <= 120 {
+        most.min(120 - h)
+    } else {
+        most
+    }
 }
 
 /// Whether this clock of a line is one of the disk's three.

@@ -1,6 +1,6 @@
 //! The words that wait for a slot.
 
-ghost use Rattle.std.specs.Prelude.{◌≡◌, [], ◌∷◌, ◌++◌, length, nat_lt, if◌then◌else◌};
+ghost use Rattle.std.specs.Prelude.{◌≡◌, true, [], ◌∷◌, ◌++◌, length, nat_lt, if◌then◌else◌};
 ghost use Rattle.disk_dma.specs.QueueCode.{words_in};
 
 /// At most three words, the first to leave first (the queue's length is this project's profile).
@@ -13,6 +13,13 @@ pub enum Queue {
 }
 
 impl Queue {
+    /// Whether no word waits.
+    pub fn is_empty(&self) -> bool
+        ensures { result ≡ true → words_in self.now ≡ [] }
+    {
+        matches!(self, Queue::Empty)
+    }
+
     /// Whether a word can join.
     pub fn has_room(&self) -> bool
         ensures { result ≡ nat_lt (length (words_in self.now)) 3 }

@@ -1,9 +1,10 @@
 //! One audio channel.
 
-ghost use Rattle.std.specs.Prelude.{◌≡◌, ◌≤ℤ◌, pos, negsuc};
+ghost use Rattle.std.specs.Prelude.{◌≡◌, ◌≤◌, ◌<◌, ◌+◌, ◌≤ℤ◌, pos, negsuc, true, is_some};
 ghost use Rattle.paula_audio.specs.Channel.{or_most as most_of, reset_channel, after_load, after_start, after_stop, after_switch};
 ghost use Rattle.paula_audio.specs.Channel.{next_half as half_after, after_tick, is_requested, wants_word, after_fetch, after_word};
 ghost use Rattle.paula_audio.specs.Channel.{after_count, after_write};
+ghost use Rattle.paula_audio.specs.Quiet.{ticked, counted, IsQuietChannel};
 ghost use Rattle.paula_audio.specs.Sound.{level_of, volume_of, signed_byte};
 
 use ocs_base::{Addr, ChipSize};
@@ -75,7 +76,7 @@ impl Channel {
         ensures state { self.new ≡ after_tick dma self.old }
         ensures request { result ≡ is_requested dma self.old }
     {
-        let requested = self.due || (dma && !self.on);
+        let requested = self.requests(dma);
         self.due = false;
         self.switch(dma);
         if self.on {
@@ -150,6 +151,88 @@ impl Channel {
             self.second = true;
             self.counter = or_most(self.period);
         }
+    }
+
+    /// For how many clocks from clock `h` of a line on, at most so many, it requests no interrupt, and asks for
+    /// no word at its own clock `slot`; nothing hangs on it but how fast a run is. `dma` says that its bits of
+    /// DMACON are set in them.
+    pub fn quiet(&self, h: u16, slot: u16, dma: bool, most: u16) -> u16
+        ensures most { result ≤ most }
+        ensures quiet { IsQuietChannel h slot dma result self.now }
+    {
+        if self.requests(dma) {
+            return 0;
+        }
+        if !dma {
+            return most;
+        }
+        if slot < h {
+            return most;
+        }
+        let before = slot - h;
+        if most <= before {
+            return most;
+        }
+        if self.holds_for(before) {
+            return most;
+        }
+        before
+    }
+
+    /// Whether the next tick requests its interrupt.
+    fn requests(&self, dma: bool) -> bool
+        ensures { result ≡ is_requested dma self.now }
+    {
+        self.due || (dma && !self.on)
+    }
+
+    /// Whether it holds a word still at the tick behind so many.
+    fn holds_for(&self, ticks: u16) -> bool
+        ensures held { result ≡ true → is_some (self.now).held ≡ true }
+        ensures far { result ≡ true → ticks + 1 < (self.now).counter }
+    {
+        self.held.is_some() && self.counter > u32::from(ticks) + 1
+    }
+
+    /// So many colour clocks came, in each of which `dma` says the same: as many ticks.
+    pub fn skip(&mut self, dma: bool, clocks: u16)
+        ensures { self.new ≡ ticked dma clocks self.old }
+    {
+        if clocks == 0 {
+            return;
+        }
+        self.tick(dma);
+        if dma {
+            self.count_for(clocks - 1);
+        }
+    }
+
+    /// So many clocks of a channel that is on.
+    fn count_for(&mut self, clocks: u16)
+        ensures { self.new ≡ counted clocks self.old }
+    {
+        let mut left = u32::from(clocks);
+        while left > 0 {
+            left -= self.count_to_half(left);
+        }
+    }
+
+    /// The clocks up to that at which its counter comes to 0 and the next half begins, or as many as these.
+    /// The answer is how many.
+    fn count_to_half(&mut self, most: u32) -> u32
+        requires { 0 < most }
+        ensures some { 0 < result }
+        ensures most { result ≤ most }
+        ensures counted { self.new ≡ counted result self.old }
+    {
+        if most < self.counter {
+            self.counter -= most;
+            return most;
+        }
+        let clocks = self.counter.max(1);
+        self.counter = 0;
+        self.next_half();
+        clocks
     }
 
     /// Whether it asks for a word at its clock: while it is on and holds none.

@@ -1,13 +1,14 @@
 //! The four channels together, and the side that they are.
 
-ghost use Rattle.std.specs.Prelude.{◌≡◌, true, ◌+◌, ◌*◌, ◌^◌, ◌<◌};
+ghost use Rattle.std.specs.Prelude.{◌≡◌, true, ◌+◌, ◌*◌, ◌^◌, ◌<◌, ◌≤◌};
 ghost use Rattle.irq_cia.specs.Bits.{has_bits};
 ghost use Rattle.ocs_base.specs.Sizes.{is_chip_size, size_of_bytes};
 ghost use Rattle.paula_audio.specs.Paula.{reset_paula, paula_write, paula_tick, paula_bits, paula_ask, paula_word, left_of, right_of};
 ghost use Rattle.paula_audio.specs.Paula.{paula_side, channel_ask as ask_of_channel};
+ghost use Rattle.paula_audio.specs.Quiet.{paula_later, last_tick as last_clock};
 ghost use Rattle.paula_audio.specs.Sound.{side_byte};
 ghost use Rattle.serial_model.specs.Registers.{bit_worth};
-ghost use Rattle.serial_model.specs.Side.{FitsSide, IsInTime};
+ghost use Rattle.serial_model.specs.Side.{FitsSide, IsInTime, IsQuietSide};
 
 use crate::channel::Channel;
 use ocs_base::{Beam, ChipSize, Reg};
@@ -108,6 +109,29 @@ impl Paula {
         }
     }
 
+    /// For how many clocks of the line no channel requests or asks for anything.
+    fn still(&self, beam: &Beam, dmacon: u16, most: u16) -> u16
+        ensures most { result ≤ most }
+        ensures quiet { IsQuietSide beam.now dmacon result (paula_side self.now) }
+    {
+        let first = self.zero.quiet(beam.h, 13, has_dma(dmacon, 1), most);
+        let second = self.one.quiet(beam.h, 15, has_dma(dmacon, 2), first);
+        let third = self.two.quiet(beam.h, 17, has_dma(dmacon, 4), second);
+        self.three.quiet(beam.h, 19, has_dma(dmacon, 8), third)
+    }
+
+    /// So many colour clocks of the line came.
+    fn pass(&mut self, beam: &Beam, dmacon: u16, clocks: u16)
+        requires room { beam.now.h + clocks ≤ 226 }
+        ensures { self.new ≡ paula_later clocks beam.now dmacon self.old }
+    {
+        self.h = last_tick(self.h, beam, clocks);
+        self.zero.skip(has_dma(dmacon, 1), clocks);
+        self.one.skip(has_dma(dmacon, 2), clocks);
+        self.two.skip(has_dma(dmacon, 4), clocks);
+        self.three.skip(has_dma(dmacon, 8), clocks);
+    }
+
     /// The channel whose clock it is was given a word.
     fn take(&mut self, word: u16)
         ensures { self.new ≡ paula_word word self.old }
@@ -140,6 +164,14 @@ impl Side for Paula {
     fn give(&mut self, word: u16) {
         self.take(word);
     }
+
+    fn quiet(&self, beam: &Beam, dmacon: u16, most: u16) -> u16 {
+        self.still(beam, dmacon, most)
+    }
+
+    fn skip(&mut self, beam: &Beam, dmacon: u16, clocks: u16) {
+        self.pass(beam, dmacon, clocks);
+    }
 }
 
 /// Whether DMAEN and a channel's bit of DMACON are set.
@@ -148,6 +180,18 @@ fn has_dma(dmacon: u16, channel: u16) -> bool
     ensures { result ≡ has_bits dmacon (512 + channel) }
 {
     dmacon & (DMAEN + channel) == DMAEN + channel
+}
+
+/// The clock of the last of so many ticks, the first of which comes with the beam there; of none it is that of
+/// the last one before, clock `h`.
+fn last_tick(h: u16, beam: &Beam, clocks: u16) -> u16
+    requires room { beam.now.h + clocks ≤ 226 }
+    ensures { result ≡ last_clock clocks beam.now h }
+{
+    if clocks == 0 {
+        return h;
+    }
+    beam.h + clocks - 1
 }
 
 /// A bit's worth where it is set.

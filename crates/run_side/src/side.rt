@@ -1,9 +1,10 @@
 //! The sides of the program, as one type.
 
-ghost use Rattle.std.specs.Prelude.{◌≡◌};
+ghost use Rattle.std.specs.Prelude.{◌≡◌, ◌≤◌, ◌+◌};
 ghost use Rattle.disk_dma.specs.Disk.{disk_side};
 ghost use Rattle.paula_audio.specs.Paula.{paula_side};
 ghost use Rattle.serial_model.specs.Side.{shown_by_side, IsInTime, poke_side, tick_side, bits_of_side, ask_of_side, give_side};
+ghost use Rattle.serial_model.specs.Side.{later_side, IsQuietSide};
 ghost use Rattle.run_side.specs.Side.{side_of, bytes_of_pair};
 
 use disk_dma::Disk;
@@ -78,6 +79,24 @@ impl Side for RunSide {
     fn is_nothing(&self) -> bool {
         matches!(self, RunSide::Nothing)
     }
+
+    #[inline(always)]
+    fn quiet(&self, beam: &Beam, dmacon: u16, most: u16) -> u16 {
+        match self {
+            RunSide::Nothing => most,
+            RunSide::Sound(paula) => quiet_of_sound(paula, beam, dmacon, most),
+            RunSide::Reading(disk) => quiet_of_disk(disk, beam, dmacon, most),
+        }
+    }
+
+    #[inline(always)]
+    fn skip(&mut self, beam: &Beam, dmacon: u16, clocks: u16) {
+        match self {
+            RunSide::Nothing => {}
+            RunSide::Sound(paula) => skip_sound(paula, beam, dmacon, clocks),
+            RunSide::Reading(disk) => skip_disk(disk, beam, dmacon, clocks),
+        }
+    }
 }
 
 // The calls of sound and disk stand apart, so that the clocks of a run without them have nothing of theirs
@@ -149,4 +168,40 @@ fn give_disk(disk: &mut Disk, word: u16)
     ensures { disk_side disk.new ≡ give_side word (disk_side disk.old) }
 {
     disk.give(word);
+}
+
+#[cold]
+#[inline(never)]
+fn quiet_of_sound(paula: &Paula, beam: &Beam, dmacon: u16, most: u16) -> u16
+    ensures most { result ≤ most }
+    ensures quiet { IsQuietSide beam.now dmacon result (paula_side paula.now) }
+{
+    paula.quiet(beam, dmacon, most)
+}
+
+#[cold]
+#[inline(never)]
+fn quiet_of_disk(disk: &Disk, beam: &Beam, dmacon: u16, most: u16) -> u16
+    ensures most { result ≤ most }
+    ensures quiet { IsQuietSide beam.now dmacon result (disk_side disk.now) }
+{
+    disk.quiet(beam, dmacon, most)
+}
+
+#[cold]
+#[inline(never)]
+fn skip_sound(paula: &mut Paula, beam: &Beam, dmacon: u16, clocks: u16)
+    requires { beam.now.h + clocks ≤ 226 }
+    ensures { paula_side paula.new ≡ later_side clocks beam.now dmacon (paula_side paula.old) }
+{
+    paula.skip(beam, dmacon, clocks);
+}
+
+#[cold]
+#[inline(never)]
+fn skip_disk(disk: &mut Disk, beam: &Beam, dmacon: u16, clocks: u16)
+    requires { beam.now.h + clocks ≤ 226 }
+    ensures { disk_side disk.new ≡ later_side clocks beam.now dmacon (disk_side disk.old) }
+{
+    disk.skip(beam, dmacon, clocks);
 }
