@@ -116,13 +116,15 @@ pub counted_less : (n : ℕ) (c : Channel) → n < c.counter → record c { coun
 counted_less n c few = sym (counted_down n c (omega (arith, few)))
 
 -- the next half begins with the clock at which it comes to 0
-pub counted_half : (n : ℕ) (c : Channel) → n ≡ max c.counter 1 → next_half (record c { counter = 0 }) ≡ counted n c
+pub counted_half : (n : ℕ) (c : Channel) → n ≡ max c.counter 1 → next_half (record c { counter = c.counter - n }) ≡ counted n c
 unfolding counted
 counted_half n c is =
     let m = c.counter - 1 in
     let e : n ≡ suc m = omega (arith, is) in
+    let all : c.counter - n ≡ 0 = omega (arith, is) in
     let none : c.counter - m - 1 ≡ 0 = omega arith in
-    sym (ap (λ k. counted k c) e
+    ap (λ k. next_half (record c { counter = k })) all
+    ∙ sym (ap (λ k. counted k c) e
     ∙ ap (λ (x : Channel). after_count x) (counted_down m c (omega arith))
     ∙ ap (λ k. next_half_at_zero (record c { counter = k })) none)
 

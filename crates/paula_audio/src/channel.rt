@@ -230,7 +230,7 @@ impl Channel {
             return most;
         }
         let clocks = self.counter.max(1);
-        self.counter = 0;
+        self.counter = self.counter.saturating_sub(clocks);
         self.next_half();
         clocks
     }
