@@ -13,7 +13,8 @@ pub const ALL: u16 = 0x020f;
 
 /// What happens to a side, and what it answers: a register is written; a tick of a clock of a line
 /// requests these bits; so many ticks request nothing; it asks at a clock for the slot at an address, or for
-/// none; it is given a word.
+/// none; it is given a word; from a clock on it is quiet for so many clocks, of a hundred; so many clocks from
+/// one on are passed over at once, each of the two up to 100.
 #[derive(Clone, Copy)]
 pub enum Step {
     Poke {
@@ -36,6 +37,16 @@ pub enum Step {
     },
     Give {
         word: u16,
+    },
+    Still {
+        h: u16,
+        dmacon: u16,
+        clocks: u16,
+    },
+    Skip {
+        h: u16,
+        dmacon: u16,
+        clocks: u16,
     },
 }
 
@@ -71,6 +82,14 @@ pub fn give(word: u16) -> Step {
     Step::Give { word }
 }
 
+pub fn still(h: u16, dmacon: u16, clocks: u16) -> Step {
+    Step::Still { h, dmacon, clocks }
+}
+
+pub fn skip(h: u16, dmacon: u16, clocks: u16) -> Step {
+    Step::Skip { h, dmacon, clocks }
+}
+
 /// A clock of line 0.
 fn beam(h: u16) -> Beam {
     Beam {
@@ -104,7 +123,19 @@ fn answers<S: Side>(side: &mut S, step: Step) -> bool {
             side.give(word);
             true
         }
+        Step::Still { h, dmacon, clocks } => side.quiet(&beam(h), dmacon, 100) == clocks,
+        Step::Skip { h, dmacon, clocks } => skips(side, h, dmacon, clocks),
     }
+}
+
+/// Passes over so many clocks from clock `h` on, where both are 100 at most.
+fn skips<S: Side>(side: &mut S, h: u16, dmacon: u16, clocks: u16) -> bool {
+    let place = beam(h);
+    if place.h > 100 || clocks > 100 {
+        return false;
+    }
+    side.skip(&place, dmacon, clocks);
+    true
 }
 
 /// Whether so many ticks request nothing, at a clock at which nothing is asked for.

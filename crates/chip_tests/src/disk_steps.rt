@@ -1,6 +1,6 @@
 //! Disk reading step by step.
 
-use crate::bench::{DISK, Step, ask, ask_nothing, give, passes, poke, tick};
+use crate::bench::{DISK, Step, ask, ask_nothing, give, passes, poke, skip, still, tick};
 use disk_dma::Disk;
 use ocs_base::{ChipSize, OutOfMemory};
 use std::alloc::Global;
@@ -42,6 +42,30 @@ fn the_second_write_starts(rt: HostRuntime) -> Result<(), Fail> {
     ];
     let starts = answers(rt.alloc(), ChipSize::Kib512, &two)?;
     assert!(rt; arms && starts);
+    Ok(())
+}
+
+/// It is quiet up to the next word that arrives, at clocks 6 and 120; where a word waits behind its three clocks
+/// alone, and never where a transfer is over. The word that arrives among clocks passed over joins.
+#[test]
+fn a_disk_is_quiet_between_words(rt: HostRuntime) -> Result<(), Fail> {
+    let steps = [
+        still(1, DISK, 5),
+        still(6, DISK, 0),
+        still(7, DISK, 100),
+        still(100, DISK, 20),
+        poke(LEN, 0x8001),
+        poke(LEN, 0x8001),
+        skip(100, DISK, 21),
+        still(7, DISK, 0),
+        still(12, DISK, 100),
+        ask(7, DISK, 0),
+        give(0),
+        still(12, DISK, 0),
+        tick(13, DISK, 2),
+        still(1, DISK, 5),
+    ];
+    assert!(rt; answers(rt.alloc(), ChipSize::Kib512, &steps)?);
     Ok(())
 }
 

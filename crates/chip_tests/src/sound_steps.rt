@@ -1,6 +1,8 @@
 //! Audio channels step by step.
 
-use crate::bench::{ALL, Step, ZERO, ask, ask_nothing, give, passes, poke, quiet, tick};
+use crate::bench::{
+    ALL, Step, ZERO, ask, ask_nothing, give, passes, poke, quiet, skip, still, tick,
+};
 use ocs_base::ChipSize;
 use paula_audio::Paula;
 
@@ -64,6 +66,54 @@ fn a_word_begins_behind_its_slot(rt: HostRuntime) {
         byte_at(0x4000, 64),
     ];
     assert!(rt; found == [Some((0, 0)), Some((0, 0)), Some((0x20, 0))]);
+}
+
+/// What is heard of the word 40C0, each half of which sounds for nine clocks, so many clocks behind the first
+/// that it sounds, passed over at once.
+fn heard_past(clocks: u16) -> Option<(u8, u8)> {
+    heard(&[
+        poke(VOL, 64),
+        poke(LEN, 2),
+        poke(PER, 9),
+        tick(13, ZERO, 0x80),
+        give(0x40c0),
+        tick(14, ZERO, 0),
+        skip(20, ZERO, clocks),
+    ])
+}
+
+/// The next half begins with the clock at which nine have passed, and sounds on where no word is held then.
+#[test]
+fn halves_begin_among_clocks_passed_over(rt: HostRuntime) {
+    let found = [heard_past(0), heard_past(8), heard_past(9), heard_past(100)];
+    let high = Some((0x20, 0));
+    let low = Some((0xe0, 0));
+    assert!(rt; found == [high, high, low, low]);
+}
+
+/// It is quiet up to its own clock where it holds no word, and past it where it holds one up to there; behind
+/// it always, and never where a request is due or it begins.
+#[test]
+fn a_channel_is_quiet_but_for_its_own_clock(rt: HostRuntime) {
+    let steps = [
+        poke(LEN, 2),
+        poke(PER, 90),
+        still(1, 0, 100),
+        still(1, ZERO, 0),
+        tick(13, ZERO, 0x80),
+        still(1, ZERO, 12),
+        still(14, ZERO, 100),
+        give(1),
+        tick(14, ZERO, 0),
+        tick(13, ZERO, 0),
+        give(2),
+        still(1, ZERO, 0),
+        tick(14, ZERO, 0x80),
+        still(1, ZERO, 100),
+        skip(20, ZERO, 80),
+        still(1, ZERO, 12),
+    ];
+    assert!(rt; answers(ChipSize::Kib512, &steps));
 }
 
 /// A request that is due is made as the channel goes off; then the channel begins anew.

@@ -18,7 +18,7 @@ use Rattle.serial_model.specs.Made.{touch_of, is_clx_read}
 use Rattle.serial_model.specs.PlaneFetch.{fetched_plane, last_unit, units_at, ask_for_plane, plane_ask, IsLastUnit}
 use Rattle.serial_model.specs.Processor.{Processor}
 use Rattle.serial_model.specs.Registers.{Registers, dmacon_of}
-use Rattle.serial_model.specs.Side.{SideValue, no_side, bits_of_side, ask_of_side}
+use Rattle.serial_model.specs.Side.{SideValue, later_side, no_side, bits_of_side, ask_of_side}
 use Rattle.serial_model.specs.State.{Chips, State}
 use Rattle.serial_model.specs.Tick.{before_access, ask_of}
 use Rattle.serial_model.proofs.FetchLaws.{IsFetch, fetched_plane-is, last_unit-units_at, units_at-is}
@@ -53,7 +53,7 @@ use Rattle.machine.specs.declared.machine.Machine.{Machine}
 use Rattle.foreground.proofs.AdvanceLaws.{going}
 use Rattle.foreground.proofs.CutLaws.{gives_none}
 use Rattle.picture_log.proofs.Logging.{log_starts, log_shown, log_accessed}
-use Rattle.machine.proofs.QuietLaws.{none_later, moved}
+use Rattle.machine.proofs.QuietLaws.{none_later}
 use Rattle.foreground.proofs.QuietLaws.{none_of, no_place, reads_no_bits, not_touched, not_both, IsKept, kept_next}
 use Rattle.foreground.proofs.QuietLaws.{waits_no_more, on_later, script_later, kept_of, unread_before}
 use Rattle.foreground.proofs.ReadingLaws.{fits_least}
@@ -268,6 +268,12 @@ kept_later run c (suc n) first b f chip log clx seen is made =
 
 -- ---- the machine
 
+abbrev moved : MachineValue → WorkingChips → ℕ → MachineValue
+moved m chips n = record m { t = m.t + n; beam = later_beam n m.beam; chips = chips }
+
+stays_none : (n : ℕ) (b : Beam) (dmacon : ℕ) (side : SideValue) → side ≡ no_side → later_side n b dmacon side ≡ no_side
+stays_none n b dmacon side none = sym (none_later n b dmacon side none) ∙ none
+
 span_of_chips : (events : List At) (s : State) (n : ℕ) (processors : ℕ → Processor) → 0 < s.beam.h → s.beam.h + n ≤ 226 → s.side ≡ no_side
     → ((k : ℕ) → k < n → due_events (later_beam k s.beam) events ≡ []) → AreResting s.beam s.t n processors s.chips
     → IsFetchSpan events s n processors
@@ -280,8 +286,8 @@ span_of_chips events s n processors inner last none due are =
       unit = are.unit;
       due = due;
       lines = λ k low. subst (λ (x : SideValue). AsksNothingNew (bits_of_side (later_beam k s.beam) dmacon x) s.chips)
-          (sym (none_later k s.beam dmacon s.side none)) are.lines;
-      side = λ k low. ap (λ (x : SideValue). ask_of_side (later_beam k s.beam) dmacon x) (none_later (suc k) s.beam dmacon s.side none);
+          (sym (stays_none k s.beam dmacon s.side none)) are.lines;
+      side = λ k low. ap (λ (x : SideValue). ask_of_side (later_beam k s.beam) dmacon x) (stays_none (suc k) s.beam dmacon s.side none);
       rest = are.rest;
       turns = are.turns;
       timers_a = are.timers_a;
@@ -297,7 +303,7 @@ stands_later system events m chips n s processors is none stands = record {
   beam = ap (λ b. later_beam n b) is.beam;
   memory = is.memory;
   chips = stands;
-  side = none_later n s.beam (dmacon_of s.chips.registers) s.side (is.side ∙ none) ∙ sym none;
+  side = stays_none n s.beam (dmacon_of s.chips.registers) s.side (is.side ∙ none) ∙ sym none;
 }
 
 -- a machine without a side, with n more clocks of its line at which no event of the script is due

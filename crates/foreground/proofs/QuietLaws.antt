@@ -436,7 +436,7 @@ passes_some f m limit n first seen is not before passes due t beam chip most =
 pub passes_now : (f g : ForeValue) (m : MachineValue) (log : Log) (limit n first : ℕ) (seen : RasterValue) → g ≡ f → IsUnderway f first seen
     → is_done f ≡ false → f.log.band.from < f.machine.t → 0 < n → PassesOver n g.machine m
     → ((k : ℕ) → k < n → due_events (later_beam k f.machine.beam) f.run.script.events ≡ [])
-    → m ≡ record g.machine { t = g.machine.t + n; beam = later_beam n g.machine.beam; chips = m.chips } → f.machine.t + n ≤ limit
+    → m ≡ record g.machine { t = g.machine.t + n; beam = later_beam n g.machine.beam; chips = m.chips; side = m.side } → f.machine.t + n ≤ limit
     → log ≡ with_waiting g.log → HasPassed limit f (record g { machine = m; log = log })
 passes_now f g m log limit zero first seen view is not before some passes due same most waits = absurd (omega (arith, some))
 passes_now f g m log limit (suc n) first seen view is not before some passes due same most waits =

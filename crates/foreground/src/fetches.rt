@@ -3,7 +3,6 @@
 ghost use Rattle.std.specs.Prelude.{◌≡◌, ◌≤◌, ◌<◌, ◌+◌, ◌^◌, ℕ, true, false, Some, [], IfOk, OnOk, OnErr};
 ghost use Rattle.serial_model.specs.Events.{due_events};
 ghost use Rattle.serial_model.specs.PlaneFetch.{IsLastUnit, plane_ask, move_planes};
-ghost use Rattle.serial_model.specs.Side.{no_side};
 ghost use Rattle.quiet_clocks.specs.FetchClocks.{fetching_on};
 ghost use Rattle.serial_model.specs.Beam.{later_beam};
 ghost use Rattle.bitplane_dma.specs.Quiet.{IsUnitAt};
@@ -23,9 +22,9 @@ use picture_log::Log;
 use serial_model::{PlaneAsk, Side, Touch};
 
 impl<S: Side> Fore<S> {
-    /// Passes over at most so many clocks of this line, of a run without a side, if a unit of bitplane fetch
-    /// runs and everybody else is known to rest: as many calls of `advance` would log as much. The answer
-    /// says whether there were any. Memory may be wanted.
+    /// Passes over at most so many clocks of this line, if there is no side, a unit of bitplane fetch runs and
+    /// everybody else is known to rest: as many calls of `advance` would log as much. The answer says whether
+    /// there were any. Memory may be wanted.
     #[inline(never)]
     pub(crate) fn pass_fetches(&mut self, limit: u64, most: u16) -> Result<bool, OutOfMemory>
         requires underway { (first : ℕ) × (seen : RasterValue) × IsUnderway
@@ -34,7 +33,6 @@ impl<S: Side> Fore<S> {
         requires before { self.old.machine.t < limit }
         requires inner { 0 < self.old.machine.beam.h }
         requires open { self.old.log.band.from < self.old.machine.t }
-        requires side { S.seen self.old.machine.side ≡ no_side }
         requires line { self.old.machine.beam.h + most ≤ 226 }
         requires limit { self.old.machine.t + most ≤ limit }
         requires due { (k : ℕ) → k < most → due_events (later_beam k self.old.machine.beam)
@@ -47,6 +45,11 @@ impl<S: Side> Fore<S> {
         ensures reads { self.new.machine.chip.reads ≡ self.old.machine.chip.reads }
         ensures spent { OnErr result (self.new.spent ≡ true) }
     {
+        if !self.machine.side.is_nothing() {
+            self.lookout
+                .note(self.machine.t, self.machine.beam.h, false);
+            return Ok(false);
+        }
         let machine = &self.machine;
         let clocks = machine.chips.fetch_clocks(&machine.beam, machine.t, most);
         let until = machine.t.saturating_add(clocks as u64);

@@ -3,7 +3,6 @@
 ghost use Rattle.std.specs.Prelude.{◌≡◌, ◌≤◌, ◌<◌, ◌+◌, ℕ, true, false, [], IfOk, OnOk, OnErr};
 ghost use Rattle.serial_model.specs.Beam.{IsOnScreen, place_of, later_beam};
 ghost use Rattle.serial_model.specs.Events.{due_events};
-ghost use Rattle.serial_model.specs.Side.{no_side};
 ghost use Rattle.band_log.specs.Raster.{RasterValue};
 ghost use Rattle.foreground.specs.Script.{IsLeft};
 ghost use Rattle.foreground.specs.Fore.{over, HasScript, IsUnderway, is_done};
@@ -37,18 +36,26 @@ impl<S: Side> Fore<S> {
         if !due || h == 0 || 226 <= h || self.machine.t <= self.log.band.from {
             return Ok(false);
         }
-        if !self.machine.side.is_nothing() {
-            self.lookout.note(self.machine.t, h, false);
-            return Ok(false);
-        }
         if self.machine.chips.is_busy() {
+            self.pause_with_side(h);
             return Ok(false);
         }
         self.pass_in_line(limit)
     }
 
-    /// The same within a line of a run without a side, where the open band goes on with this clock unless the
-    /// script reads CLXDAT in it.
+    /// While chips are busy beside a side, clock `h` of a line is followed by a pause: clocks on the bus, which
+    /// are looked for in place of quiet ones, have no side.
+    #[inline(always)]
+    fn pause_with_side(&mut self, h: u16)
+        ensures { self.new ≡ self.old }
+    {
+        if !self.machine.side.is_nothing() {
+            self.lookout.note(self.machine.t, h, false);
+        }
+    }
+
+    /// The same within a line, where the open band goes on with this clock unless the script reads CLXDAT in
+    /// it.
     #[inline(never)]
     fn pass_in_line(&mut self, limit: u64) -> Result<bool, OutOfMemory>
         requires underway { (first : ℕ) × (seen : RasterValue) × IsUnderway
@@ -58,7 +65,6 @@ impl<S: Side> Fore<S> {
         requires inner { 0 < self.old.machine.beam.h }
         requires last { self.old.machine.beam.h < 226 }
         requires open { self.old.log.band.from < self.old.machine.t }
-        requires side { S.seen self.old.machine.side ≡ no_side }
         ensures passed { OnOk result (HasPassed limit (over S.seen self.old)
             (over S.seen self.new)) }
         ensures some { IfOk result (λ some. some ≡ true → self.old.machine.t < self.new.machine.t) }
@@ -73,7 +79,7 @@ impl<S: Side> Fore<S> {
             return self.pass_fetches(limit, most);
         }
         let h = self.machine.beam.h;
-        let pays = passed >= WORTH || h >= BEHIND_SPRITES;
+        let pays = passed >= WORTH || h >= BEHIND_SPRITES && self.machine.side.is_nothing();
         self.lookout.note(self.machine.t, h, pays);
         match self.log.take_waiting() {
             Ok(()) => Ok(true),

@@ -1,10 +1,15 @@
-use Rattle.std.proofs.Common.{ap, arith, subst, sym}
-use Rattle.foreground.specs.Fore.{over}
+use Rattle.std.proofs.Common.{ap, arith, subst, sym, ◌∙◌}
+use Rattle.foreground.specs.Fore.{ForeOf, over}
 use Rattle.machine.specs.Machine.{machine_over}
 use Rattle.foreground.specs.QuietCode.{HasPassed}
 use Rattle.foreground.proofs.FetchLaws.{fetches_now}
 use Rattle.foreground.proofs.QuietLaws.{passes_none}
 use Rattle.foreground.proofs.fore.Fore.pass_fetches.Goals as goal
+
+pub returns-then-not-is_nothing-clause-passed : goal.returns-then-not-is_nothing-clause-passed
+returns-then-not-is_nothing-clause-passed g c =
+    subst (λ f. HasPassed c.args.limit (over g.S.Side.seen c.args.self.now) f) (sym (ap (over g.S.Side.seen) c.self.view_is))
+    (passes_none (over g.S.Side.seen c.args.self.now) c.args.limit c.requires.before)
 
 pub returns-then-clocks-eq0-clause-passed : goal.returns-then-clocks-eq0-clause-passed
 returns-then-clocks-eq0-clause-passed g c =
@@ -18,7 +23,7 @@ returns-in-Ok-clause-passed g c =
     (record {
       inner = c.requires.inner;
       last = omega (arith, c.requires.line, c.fetch_clocks-clocks.ensures.most);
-      side = c.requires.side;
+      side = ap (λ (f : ForeOf _). g.S.Side.seen f.machine.side) (sym c.self.view_is) ∙ c.is_nothing.ensures c.if-not-is_nothing.false;
       due = λ k low. c.requires.due k (omega (arith, low, c.fetch_clocks-clocks.ensures.most));
     })
     c.fetch_clocks-clocks.ensures.begun (c.fetch_clocks-clocks.ensures.rest (omega (arith, c.if-clocks-eq0.false)))

@@ -1,4 +1,4 @@
-use Rattle.std.proofs.Common.{ap, subst, sym}
+use Rattle.std.proofs.Common.{subst, sym}
 use Rattle.foreground.specs.Fore.{over}
 use Rattle.foreground.specs.QuietCode.{HasPassed}
 use Rattle.foreground.proofs.QuietLaws.{passes_none}
@@ -7,10 +7,7 @@ use Rattle.foreground.proofs.fore.Fore.pass_quiet.Goals as goal
 pub returns-then-not-due-clause-passed : goal.returns-then-not-due-clause-passed
 returns-then-not-due-clause-passed g c = passes_none (over g.S.Side.seen c.args.self.now) c.args.limit c.requires.before
 
-pub returns-then-not-is_nothing-clause-passed : goal.returns-then-not-is_nothing-clause-passed
-returns-then-not-is_nothing-clause-passed g c =
-    subst (λ f. HasPassed c.args.limit (over g.S.Side.seen c.args.self.now) f) (sym (ap (over g.S.Side.seen) c.self.view_is))
-    (passes_none (over g.S.Side.seen c.args.self.now) c.args.limit c.requires.before)
-
 pub returns-then-is_busy-clause-passed : goal.returns-then-is_busy-clause-passed
-returns-then-is_busy-clause-passed g c = passes_none (over g.S.Side.seen c.args.self.now) c.args.limit c.requires.before
+returns-then-is_busy-clause-passed g c =
+    subst (λ f. HasPassed c.args.limit (over g.S.Side.seen c.args.self.now) (over g.S.Side.seen f)) (sym c.pause_with_side.ensures)
+    (passes_none (over g.S.Side.seen c.args.self.now) c.args.limit c.requires.before)
