@@ -11,3 +11,4 @@ mod LateLaws
 mod StartLaws
 pub mod FetchLaws
 pub mod BusLaws
+pub mod AheadLaws

@@ -1,6 +1,7 @@
 //! The chips on the chip bus: what they do at each clock, and the access of the slot's owner.
 #![tactic(auto)]
 
+mod ahead;
 mod asks;
 mod blit_registers;
 mod bus;
@@ -15,5 +16,6 @@ pub use asks::is_clx_ask;
 pub use bitplane_dma::FetchRules;
 pub use bus::BlitterClaim;
 pub use chips::Chips;
+pub use cpu_bus::Progress;
 pub use fetches::is_fetch_ask;
 pub use late::LateOwner;

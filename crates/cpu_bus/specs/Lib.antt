@@ -1,2 +1,3 @@
 pub mod Bus
+pub mod Progress
 pub mod Quiet

@@ -8,6 +8,7 @@ ghost use Rattle.m68k_decode.specs.declared.regs.CpuRegs.{CpuRegs};
 ghost use Rattle.m68k_decode.specs.declared.under.Under.{Under};
 ghost use Rattle.m68k_decode.specs.Walk.{next};
 ghost use Rattle.m68k_exec.specs.Stands.{Stands, Reaches, interrupt_if, settled_at};
+ghost use Rattle.serial_model.specs.declared.processor.Wait.TheVariants as W;
 ghost use Rattle.serial_model.specs.Processor.{Processor, wait_of, reset_processor, processor_wish, slot_wish, give_processor, turn_of, turn_by, after_clocks};
 
 mod quiet;
@@ -17,13 +18,24 @@ pub use crate::quiet::waits_of_none;
 use crate::target::{look_ahead, look_for_word, look_for_write, look_further};
 use irq_cia::Irq;
 use m68k_exec::{Ask as Access, Cpu};
-use ocs_base::ChipSize;
+use ocs_base::{Addr, ChipSize};
 use serial_model::{ProcessorAsk, Turn, Wait};
 
 /// The clocks of an access that goes nowhere, and of one to a CIA (profile).
 const UNMAPPED_CLOCKS: u32 = 2;
 
 const CIA_CLOCKS: u32 = 5;
+
+/// How far the processor is with an access to memory or to a register.
+#[derive(Clone, Copy)]
+pub enum Progress {
+    /// Its first clock is to come, in which it does not ask for the slot yet.
+    Begins,
+    /// It asks for the slot, to read the word of memory at this address.
+    Reads { at: Addr },
+    /// Anything else.
+    Other,
+}
 
 /// The processor, and how far it is with what it waits for. `spent` are the colour clocks that have
 /// passed of that, and `given` is the word of the access that it has just made in its slot.
@@ -165,6 +177,63 @@ impl BusCpu {
 
 impl BusCpu {
     ghost use Rattle.cpu_bus.specs.Bus.{IsProcessorOf, IsAnswered, GoesOn, is_slot};
+    ghost use Rattle.cpu_bus.specs.Progress.{IsProgress};
+
+    /// How far it is with an access. Nothing hangs on `Other` but how fast a run is.
+    #[inline(always)]
+    pub fn progress(&self) -> Progress
+        ensures { IsProgress result self.now }
+    {
+        if !self.on {
+            return Progress::Other;
+        }
+        match self.wait {
+            Wait::Slot { ask } => self.progress_with(ask),
+            _ => Progress::Other,
+        }
+    }
+
+    /// The same, where it is on and waits for a slot with this.
+    #[inline(always)]
+    fn progress_with(&self, ask: ProcessorAsk) -> Progress
+        requires on { self.now.on ≡ true }
+        requires waits { self.now.wait ≡ W.Slot ask }
+        ensures { IsProgress result self.now }
+    {
+        if self.spent == 0 {
+            if self.given.is_none() {
+                return Progress::Begins;
+            }
+            return Progress::Other;
+        }
+        if let ProcessorAsk::Read { at } = ask {
+            return Progress::Reads { at };
+        }
+        Progress::Other
+    }
+
+    /// The first clock of an access passes, in which it does not ask for it yet.
+    #[inline(always)]
+    pub fn pass_first_clock(&mut self)
+        ensures { self.new ≡ record self.old { spent = 1 } }
+    {
+        self.spent = 1;
+    }
+
+    /// It has its slot, with this word for the answer, and goes on with it in the same clock; the interrupts are
+    /// these. The answer is the level of an interrupt that begins with it.
+    #[inline(always)]
+    pub fn take_word(&mut self, word: u16, irq: &Irq) -> Option<u8>
+        requires { is_slot self.old.wait ≡ true }
+        ensures { (p : Processor) → IsProcessorOf self.old p
+            → GoesOn word (level_of irq.now) p result self.new }
+    {
+        self.complete(word);
+        if self.settle(irq) {
+            return Some(irq.level());
+        }
+        None
+    }
 
     /// As `go_on`, with the level of these interrupts. An access that was made in a slot, which is most of what
     /// it waits for, is looked for first.

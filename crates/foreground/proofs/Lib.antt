@@ -23,3 +23,4 @@ pub mod UnitLaws
 pub mod LineLaws
 pub mod SlotLaws
 pub mod BusLaws
+pub mod AheadLaws

@@ -1,27 +1,24 @@
 //! Clocks of a line that refresh, sprites and the Copper leave to the planes, the blitter and the processor,
 //! made one behind the other.
 
-ghost use Rattle.std.specs.Prelude.{◌≡◌, ◌<◌, ◌+◌, ◌-◌, ◌^◌, ℕ, Bool, true, false, [], None, IfOk, OnOk, OnErr};
-ghost use Rattle.serial_model.specs.Events.{due_events};
-ghost use Rattle.serial_model.specs.Beam.{next_place, later_beam};
+ghost use Rattle.std.specs.Prelude.{◌≡◌, ◌<◌, ◌+◌, ◌-◌, ◌^◌, ℕ, Bool, true, false, None, IfOk, OnOk, OnErr};
+ghost use Rattle.serial_model.specs.Beam.{next_place};
 ghost use Rattle.serial_model.specs.Side.{no_side};
-ghost use Rattle.serial_bands.specs.BusReads.{bus_reads};
 ghost use Rattle.band_log.specs.Raster.{RasterValue};
 ghost use Rattle.chip_set.specs.BusCode.{LeavesToPlanes, LeavesBeside, LeaveBus, KeepsBus, KeepsBeside};
 ghost use Rattle.chip_set.specs.BusCode.{CiasRest, IsClaim, ask_beside_planes};
 ghost use Rattle.chip_set.specs.Chips.{CanAsk, IsBlitAsk, kept_wish};
 ghost use Rattle.foreground.specs.AccessCode.{CanAccess, MakesAccessWith};
 ghost use Rattle.foreground.specs.BusRun.{IsOpenForBus, StaysOnBus, GoesOnBus, AreOnBus, HasRunOnBus, HasRunInPart};
-ghost use Rattle.foreground.specs.Clock.{Rises};
-ghost use Rattle.machine.specs.Machine.{IsSamePlace};
+ghost use Rattle.foreground.specs.BusRun.{CanMakeClock, HasMadeClock, HasMadeClockInPart};
 ghost use Rattle.machine.specs.MachineStepsCode.{AsksInTime};
-ghost use Rattle.foreground.specs.Fore.{over, CanGo, IsUnderway, Advances, GivesPart, is_done, looked_up};
+ghost use Rattle.foreground.specs.Fore.{over, CanGo, IsUnderway};
 ghost use Rattle.foreground.specs.LineCode.{AreInLine};
 ghost use Rattle.foreground.specs.Steps.{EndsClock};
 
 use crate::fore::Fore;
 use crate::lookout::{WORTH, is_beside_refresh};
-use crate::turn::{AnyTurn, BlitterTurn, ProcessorTurn, Turn};
+use crate::turn::{AnyTurn, BlitterTurn, Clocks, ProcessorTurn, Turn};
 use band_log::Raster;
 use chip_set::{BlitterClaim, FetchRules};
 use ocs_base::OutOfMemory;
@@ -159,7 +156,7 @@ impl<S: Side> Fore<S> {
 
     /// So many of them, one behind the other.
     #[inline(always)]
-    fn clocks_on_bus<Q: Raster<S>, T: Turn<S, Q>>(
+    fn clocks_on_bus<Q: Raster<S>, T: Clocks<S, Q>>(
         &mut self,
         turn: &T,
         rules: &Option<FetchRules>,
@@ -185,7 +182,7 @@ impl<S: Side> Fore<S> {
         let mut rest = 0;
         let mut left = clocks;
         while left > 0 {
-            match self.clock_on_bus(turn, rules, claim, &mut rest, raster, out) {
+            match turn.clock(self, rules, claim, &mut rest, raster, out) {
                 Ok(on) => left = if on { left - 1 } else { 0 },
                 Err(refused) => {
                     self.spent = true;
@@ -240,7 +237,7 @@ impl<S: Side> Fore<S> {
     /// wanted is the caller's to note. In `rest` clocks from this one on nothing is to be done for the CIAs,
     /// and then in how many from the next one on.
     #[inline(always)]
-    fn clock_on_bus<Q: Raster<S>, T: Turn<S, Q>>(
+    pub(crate) fn clock_on_bus<Q: Raster<S>, T: Turn<S, Q>>(
         &mut self,
         turn: &T,
         rules: &Option<FetchRules>,
@@ -249,33 +246,13 @@ impl<S: Side> Fore<S> {
         raster: &mut Q,
         out: &mut OutFiles,
     ) -> Result<bool, OutOfMemory>
-        requires underway { (first : ℕ) × IsUnderway (over S.seen self.old) first
+        requires can { CanMakeClock rules.now rest.old claim.now (over S.seen self.old)
             (Q.seen raster.old) }
-        requires running { is_done (over S.seen self.old) ≡ false }
-        requires inner { 0 < self.old.machine.beam.h }
-        requires last { self.old.machine.beam.h < 226 }
-        requires due { due_events self.old.machine.beam self.old.run.script.events ≡ [] }
-        requires ready { IsOpenForBus (over S.seen self.old) }
-        requires leaves { LeavesBeside rules.now self.old.machine.beam self.old.machine.chips }
-        requires claim { IsClaim claim.now self.old.machine.chips }
-        requires rest { CiasRest self.old.machine.t rest.old self.old.machine.chips }
-        ensures clock { OnOk result (Advances (over S.seen self.old) (over S.seen self.new)
+        ensures made { OnOk result (HasMadeClock (over S.seen self.old) (over S.seen self.new)
             (Q.seen raster.old) (Q.seen raster.new) out.old out.new) }
-        ensures place { OnOk result (IsSamePlace (later_beam 1 self.old.machine.beam)
-            self.new.machine.beam) }
-        ensures part { OnErr result (GivesPart (over S.seen self.old)
-            (Q.seen raster.old) (Q.seen raster.new) out.old out.new) }
-        ensures count { OnOk result (self.new.machine.t ≡ self.old.machine.t + 1) }
+        ensures part { OnErr result (HasMadeClockInPart (over S.seen self.old)
+            (over S.seen self.new) (Q.seen raster.old) (Q.seen raster.new) out.old out.new) }
         ensures run { (over S.seen self.new).run ≡ (over S.seen self.old).run }
-        ensures spent { OnOk result (self.new.spent ≡ self.old.spent) }
-        ensures reads { OnOk result (Rises (bus_reads (over S.seen self.old).run self.old.machine.t)
-            (bus_reads (over S.seen self.old).run self.old.machine.t + looked_up
-            (over S.seen self.old))
-            self.old.machine.chip.reads self.new.machine.chip.reads) }
-        ensures few { OnErr result (Rises 0
-            (bus_reads (over S.seen self.old).run self.old.machine.t + looked_up
-            (over S.seen self.old))
-            self.old.machine.chip.reads self.new.machine.chip.reads) }
         ensures bus { IfOk result (λ on. on ≡ true
             → GoesOnBus rules.now rest.new (over S.seen self.old) (over S.seen self.new)) }
     {

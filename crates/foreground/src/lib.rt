@@ -5,6 +5,7 @@
 
 mod access;
 mod advance;
+mod ahead;
 mod begin;
 mod bus;
 mod checkpoint;

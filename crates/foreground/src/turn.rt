@@ -11,14 +11,14 @@ ghost use Rattle.cpu_bus.specs.Bus.{wish_shown};
 ghost use Rattle.chip_set.specs.BusCode.{LeavesToPlanes, IsClaim, is_bus_ask};
 ghost use Rattle.chip_set.specs.Chips.{kept_wish, late_ask};
 ghost use Rattle.foreground.specs.AccessCode.{CanAccess, MakesAccessWith};
-ghost use Rattle.foreground.specs.BusRun.{StaysOnBus};
+ghost use Rattle.foreground.specs.BusRun.{StaysOnBus, CanMakeClock, HasMadeClock, HasMadeClockInPart, GoesOnBus};
 ghost use Rattle.foreground.specs.Fore.{over};
 ghost use Rattle.foreground.specs.Steps.{MakesAskedAccess, AccessesPart, KeepsClock, reads_more};
 
 use crate::fore::Fore;
 use band_log::Raster;
 use blit_words::SlotAsk;
-use chip_set::BlitterClaim;
+use chip_set::{BlitterClaim, FetchRules, Progress};
 use machine::touch_of;
 use ocs_base::OutOfMemory;
 use out_files::OutFiles;
@@ -47,6 +47,31 @@ pub(crate) trait Turn<S: Side, Q: Raster<S>> {
             (Q.seen raster.old) (Q.seen raster.new) out.old out.new result }
         ensures bus { IfOk result (λ on. on ≡ true
             → StaysOnBus (over S.seen fore.old) (over S.seen fore.new)) };
+}
+
+/// How a loop of clocks makes each of them.
+pub(crate) trait Clocks<S: Side, Q: Raster<S>> {
+    /// Makes one, in which a plane may have the slot. The answer says whether the bus is known to be
+    /// left in further clocks. That memory was wanted is the caller's to note. In `rest` clocks from this one on
+    /// nothing is to be done for the CIAs, and then in how many from the next one on.
+    fn clock(
+        &self,
+        fore: &mut Fore<S>,
+        rules: &Option<FetchRules>,
+        claim: &BlitterClaim,
+        rest: &mut u16,
+        raster: &mut Q,
+        out: &mut OutFiles,
+    ) -> Result<bool, OutOfMemory>
+        requires can { CanMakeClock rules.now rest.old claim.now (over S.seen fore.old)
+            (Q.seen raster.old) }
+        ensures made { OnOk result (HasMadeClock (over S.seen fore.old) (over S.seen fore.new)
+            (Q.seen raster.old) (Q.seen raster.new) out.old out.new) }
+        ensures part { OnErr result (HasMadeClockInPart (over S.seen fore.old)
+            (over S.seen fore.new) (Q.seen raster.old) (Q.seen raster.new) out.old out.new) }
+        ensures run { (over S.seen fore.new).run ≡ (over S.seen fore.old).run }
+        ensures bus { IfOk result (λ on. on ≡ true
+            → GoesOnBus rules.now rest.new (over S.seen fore.old) (over S.seen fore.new)) };
 }
 
 /// Where planes have slots too: no owner's in line.
@@ -106,6 +131,64 @@ impl<S: Side, Q: Raster<S>> Turn<S, Q> for ProcessorTurn {
         } else {
             fore.process_or_leave(raster, out)
         }
+    }
+}
+
+impl<S: Side, Q: Raster<S>> Clocks<S, Q> for AnyTurn {
+    #[inline(always)]
+    fn clock(
+        &self,
+        fore: &mut Fore<S>,
+        rules: &Option<FetchRules>,
+        claim: &BlitterClaim,
+        rest: &mut u16,
+        raster: &mut Q,
+        out: &mut OutFiles,
+    ) -> Result<bool, OutOfMemory> {
+        fore.clock_on_bus(self, rules, claim, rest, raster, out)
+    }
+}
+
+impl<S: Side, Q: Raster<S>> Clocks<S, Q> for BlitterTurn {
+    #[inline(always)]
+    fn clock(
+        &self,
+        fore: &mut Fore<S>,
+        rules: &Option<FetchRules>,
+        claim: &BlitterClaim,
+        rest: &mut u16,
+        raster: &mut Q,
+        out: &mut OutFiles,
+    ) -> Result<bool, OutOfMemory> {
+        fore.clock_on_bus(self, rules, claim, rest, raster, out)
+    }
+}
+
+impl<S: Side, Q: Raster<S>> Clocks<S, Q> for ProcessorTurn {
+    #[inline(always)]
+    fn clock(
+        &self,
+        fore: &mut Fore<S>,
+        rules: &Option<FetchRules>,
+        claim: &BlitterClaim,
+        rest: &mut u16,
+        raster: &mut Q,
+        out: &mut OutFiles,
+    ) -> Result<bool, OutOfMemory> {
+        if rules.is_none() && !claim.asks() && *rest > 0 {
+            match fore.machine.chips.progress() {
+                Progress::Begins => {
+                    fore.pass_first_clock(claim, rest);
+                    return Ok(true);
+                }
+                Progress::Reads { at } => {
+                    fore.read_at_once(claim, at, rest, out)?;
+                    return Ok(true);
+                }
+                Progress::Other => {}
+            }
+        }
+        fore.clock_on_bus(self, rules, claim, rest, raster, out)
     }
 }
 

@@ -9,4 +9,5 @@ pub mod Sizes
 pub mod QuietLaws
 pub mod AskedLaws
 pub mod BusLaws
+pub mod AheadLaws
 pub mod WordLaws

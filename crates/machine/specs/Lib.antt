@@ -1,4 +1,5 @@
 pub mod Out
+pub mod AheadCode
 pub mod Machine
 pub mod MachineStepsCode
 pub mod QuietCode

@@ -2,6 +2,7 @@
 //! what each step of a colour clock but the picture's does to them.
 #![tactic(auto)]
 
+mod ahead;
 mod bus;
 mod fetches;
 mod machine;

@@ -1,5 +1,5 @@
 -- A clock within a line: what it need not look at does nothing.
-use Rattle.std.proofs.Common.{ap, refl, ◌∙◌}
+use Rattle.std.proofs.Common.{◌+◌, ap, refl, ◌∙◌}
 use Rattle.chip_set.proofs.BusLaws.{claim_kept}
 use Rattle.machine.specs.Machine.{MachineValue}
 use Rattle.mem_versions.specs.Chip.{ChipValue}
@@ -15,99 +15,74 @@ use Rattle.foreground.proofs.fore.Fore.clock_on_bus.Goals as goal
 pub access_on_bus-requires-clause-can : goal.access_on_bus-requires-clause-can
 access_on_bus-requires-clause-can g c =
     let f0 = over g.S.Side.seen c.args.self.now in
-    let begins = begins_on_bus f0 _ _ (g.Q.Raster.seen c.args.raster.now) c.args.out.now c.requires.underway.1 c.requires.ready c.requires.running
-    c.requires.inner c.requires.due in
-    let runs = runs_none_behind f0 f0 _ _ c.args.out.now refl c.requires.underway.1 c.requires.inner c.requires.due in
+    let begins = begins_on_bus f0 _ _ (g.Q.Raster.seen c.args.raster.now) c.args.out.now c.requires.can.underway.1 c.requires.can.ready
+    c.requires.can.running c.requires.can.inner c.requires.can.due in
+    let runs = runs_none_behind f0 f0 _ _ c.args.out.now refl c.requires.can.underway.1 c.requires.can.inner c.requires.can.due in
     let reaches = reaches_ask _ _ _ _ _ _ _ runs c.ask_on_bus-plane.ensures.asks (ap (over g.S.Side.seen) c.ask_on_bus-plane.ensures.same) in
-    let at = at_ask _ _ _ _ _ _ _ _ _ _ _ c.requires.underway.1 begins reaches in
+    let at = at_ask _ _ _ _ _ _ _ _ _ _ _ c.requires.can.underway.1 begins reaches in
     record { logged = at.1; asked = at.0; able = c.ask_on_bus-plane.ensures.able; wish = c.ask_on_bus-plane.ensures.wish }
 
 pub access_on_bus-requires-clause-waits : goal.access_on_bus-requires-clause-waits
-access_on_bus-requires-clause-waits g c = ap (λ (f : ForeOf _). f.log.waiting) c.ask_on_bus-plane.ensures.same ∙ c.requires.ready.waits
+access_on_bus-requires-clause-waits g c = ap (λ (f : ForeOf _). f.log.waiting) c.ask_on_bus-plane.ensures.same ∙ c.requires.can.ready.waits
 
 pub access_on_bus-requires-clause-claim : goal.access_on_bus-requires-clause-claim
 access_on_bus-requires-clause-claim g c =
     claim_kept _ c.args.rules.now c.args.self.now.machine.chips c.ask_on_bus-plane.new.self.machine.chips c.ask_on_bus-plane.ensures.bus
-    c.requires.claim
+    c.requires.can.claims
 
 pub returns-in_err-on-clause-part : goal.returns-in_err-on-clause-part
 returns-in_err-on-clause-part g c =
     let f0 = over g.S.Side.seen c.args.self.now in
-    let begins = begins_on_bus f0 _ _ (g.Q.Raster.seen c.args.raster.now) c.args.out.now c.requires.underway.1 c.requires.ready c.requires.running
-    c.requires.inner c.requires.due in
-    let runs = runs_none_behind f0 f0 _ _ c.args.out.now refl c.requires.underway.1 c.requires.inner c.requires.due in
+    let begins = begins_on_bus f0 _ _ (g.Q.Raster.seen c.args.raster.now) c.args.out.now c.requires.can.underway.1 c.requires.can.ready
+    c.requires.can.running c.requires.can.inner c.requires.can.due in
+    let runs = runs_none_behind f0 f0 _ _ c.args.out.now refl c.requires.can.underway.1 c.requires.can.inner c.requires.can.due in
     let reaches = reaches_ask _ _ _ _ _ _ _ runs c.ask_on_bus-plane.ensures.asks (ap (over g.S.Side.seen) c.ask_on_bus-plane.ensures.same) in
-    on_err c.from_residual.result
-    (part_accessing _ _ _ _ _ _ _ _ _ _ _ begins reaches.reaches (part_from_ask _ _ _ _ _ _ _ _ _ reaches c.in_err-on.ensures.access.part))
-
-pub returns-in_err-on-clause-few : goal.returns-in_err-on-clause-few
-returns-in_err-on-clause-few g c =
-    let f0 = over g.S.Side.seen c.args.self.now in
-    let begins = begins_on_bus f0 _ _ (g.Q.Raster.seen c.args.raster.now) c.args.out.now c.requires.underway.1 c.requires.ready c.requires.running
-    c.requires.inner c.requires.due in
-    let runs = runs_none_behind f0 f0 _ _ c.args.out.now refl c.requires.underway.1 c.requires.inner c.requires.due in
-    let reaches = reaches_ask _ _ _ _ _ _ _ runs c.ask_on_bus-plane.ensures.asks (ap (over g.S.Side.seen) c.ask_on_bus-plane.ensures.same) in
-    on_err c.from_residual.result (rises_from_ask f0 f0 _ _ _ _ (looked_up f0) _ _ _ _ _ _ _ c.requires.underway.1 begins
-    (rises_same (looked_up f0) _ _ refl) reaches
-    c.in_err-on.ensures.access.reads refl).1
+    on_err c.from_residual.result (record {
+      part = part_accessing _ _ _ _ _ _ _ _ _ _ _ begins reaches.reaches
+          (part_from_ask _ _ _ _ _ _ _ _ _ reaches c.in_err-on.ensures.access.part);
+      few = (rises_from_ask f0 f0 _ _ _ _ (looked_up f0) _ _ _ _ _ _ _ c.requires.can.underway.1 begins
+          (rises_same (looked_up f0) _ _ refl) reaches c.in_err-on.ensures.access.reads refl).1;
+    })
 
 pub returns-in_err-end_on_bus-clause-part : goal.returns-in_err-end_on_bus-clause-part
 returns-in_err-end_on_bus-clause-part g c =
     let f0 = over g.S.Side.seen c.args.self.now in
-    let begins = begins_on_bus f0 _ _ (g.Q.Raster.seen c.args.raster.now) c.args.out.now c.requires.underway.1 c.requires.ready c.requires.running
-    c.requires.inner c.requires.due in
-    let runs = runs_none_behind f0 f0 _ _ c.args.out.now refl c.requires.underway.1 c.requires.inner c.requires.due in
+    let begins = begins_on_bus f0 _ _ (g.Q.Raster.seen c.args.raster.now) c.args.out.now c.requires.can.underway.1 c.requires.can.ready
+    c.requires.can.running c.requires.can.inner c.requires.can.due in
+    let runs = runs_none_behind f0 f0 _ _ c.args.out.now refl c.requires.can.underway.1 c.requires.can.inner c.requires.can.due in
     let reaches = reaches_ask _ _ _ _ _ _ _ runs c.ask_on_bus-plane.ensures.asks (ap (over g.S.Side.seen) c.ask_on_bus-plane.ensures.same) in
-    on_err c.from_residual-in_err-end_on_bus.result (part_ending _ _ _ _ _ _ _ _ _ _ _ _ _ begins
-    reaches.reaches (makes_from_ask _ _ _ _ _ _ _ _ _ _ reaches c.in_ok-on.ensures.access.makes)
-    (kept_from_ask _ _ _ _ _ _ _ reaches c.in_ok-on.ensures.access.kept) c.in_err-end_on_bus.ensures.refused)
+    on_err c.from_residual-in_err-end_on_bus.result (record {
+      part = part_ending _ _ _ _ _ _ _ _ _ _ _ _ _ begins
+          reaches.reaches (makes_from_ask _ _ _ _ _ _ _ _ _ _ reaches c.in_ok-on.ensures.access.makes)
+          (kept_from_ask _ _ _ _ _ _ _ reaches c.in_ok-on.ensures.access.kept) c.in_err-end_on_bus.ensures.refused;
+      few = (rises_from_ask f0 f0 _ _ _ _ (looked_up f0) _ _ _ _ _ _ _ c.requires.can.underway.1 begins
+          (rises_same (looked_up f0) _ _ refl) reaches
+          c.in_ok-on.ensures.access.reads (ap (λ (x : ChipValue). x.reads) c.end_on_bus.ensures.chip)).1;
+    })
 
-pub returns-in_err-end_on_bus-clause-few : goal.returns-in_err-end_on_bus-clause-few
-returns-in_err-end_on_bus-clause-few g c =
+pub returns-clause-made : goal.returns-clause-made
+returns-clause-made g c =
     let f0 = over g.S.Side.seen c.args.self.now in
-    let begins = begins_on_bus f0 _ _ (g.Q.Raster.seen c.args.raster.now) c.args.out.now c.requires.underway.1 c.requires.ready c.requires.running
-    c.requires.inner c.requires.due in
-    let runs = runs_none_behind f0 f0 _ _ c.args.out.now refl c.requires.underway.1 c.requires.inner c.requires.due in
-    let reaches = reaches_ask _ _ _ _ _ _ _ runs c.ask_on_bus-plane.ensures.asks (ap (over g.S.Side.seen) c.ask_on_bus-plane.ensures.same) in
-    on_err c.from_residual-in_err-end_on_bus.result (rises_from_ask f0 f0 _ _ _ _ (looked_up f0) _ _ _ _ _ _ _ c.requires.underway.1 begins
-    (rises_same (looked_up f0) _ _ refl) reaches
-    c.in_ok-on.ensures.access.reads (ap (λ (x : ChipValue). x.reads) c.end_on_bus.ensures.chip)).1
-
-pub returns-clause-clock : goal.returns-clause-clock
-returns-clause-clock g c =
-    let f0 = over g.S.Side.seen c.args.self.now in
-    let begins = begins_on_bus f0 _ _ (g.Q.Raster.seen c.args.raster.now) c.args.out.now c.requires.underway.1 c.requires.ready c.requires.running
-    c.requires.inner c.requires.due in
-    let runs = runs_none_behind f0 f0 _ _ c.args.out.now refl c.requires.underway.1 c.requires.inner c.requires.due in
+    let begins = begins_on_bus f0 _ _ (g.Q.Raster.seen c.args.raster.now) c.args.out.now c.requires.can.underway.1 c.requires.can.ready
+    c.requires.can.running c.requires.can.inner c.requires.can.due in
+    let runs = runs_none_behind f0 f0 _ _ c.args.out.now refl c.requires.can.underway.1 c.requires.can.inner c.requires.can.due in
     let reaches = reaches_ask _ _ _ _ _ _ _ runs c.ask_on_bus-plane.ensures.asks (ap (over g.S.Side.seen) c.ask_on_bus-plane.ensures.same) in
     let place = c.in_ok-end_on_bus.ensures.place in
-    advances _ _ _ _ _ _ place.0 _ _ _ _ _ _ _ _ c.requires.running begins
-    reaches.reaches (makes_from_ask _ _ _ _ _ _ _ _ _ _ reaches c.in_ok-on.ensures.access.makes)
-    (kept_from_ask _ _ _ _ _ _ _ reaches c.in_ok-on.ensures.access.kept) c.in_ok-end_on_bus.ensures.ends place.1
-
-pub returns-clause-place : goal.returns-clause-place
-returns-clause-place g c =
-    let f0 = over g.S.Side.seen c.args.self.now in
-    let begins = begins_on_bus f0 _ _ (g.Q.Raster.seen c.args.raster.now) c.args.out.now c.requires.underway.1 c.requires.ready c.requires.running
-    c.requires.inner c.requires.due in
-    let runs = runs_none_behind f0 f0 _ _ c.args.out.now refl c.requires.underway.1 c.requires.inner c.requires.due in
-    let reaches = reaches_ask _ _ _ _ _ _ _ runs c.ask_on_bus-plane.ensures.asks (ap (over g.S.Side.seen) c.ask_on_bus-plane.ensures.same) in
-    let place = c.in_ok-end_on_bus.ensures.place in
-    let there = place_made f0 f0 _ _ _ _ _ _ _ _ _ c.requires.underway.1 begins reaches.reaches
-    (kept_from_ask _ _ _ _ _ _ _ reaches c.in_ok-on.ensures.access.kept) in
-    place_behind _ place.0 c.args.self.now.machine.beam c.access_on_bus.new.self.machine.beam c.end_on_bus.new.self.machine.beam c.requires.last there.0
-    place.1
-
-pub returns-clause-reads : goal.returns-clause-reads
-returns-clause-reads g c =
-    let f0 = over g.S.Side.seen c.args.self.now in
-    let begins = begins_on_bus f0 _ _ (g.Q.Raster.seen c.args.raster.now) c.args.out.now c.requires.underway.1 c.requires.ready c.requires.running
-    c.requires.inner c.requires.due in
-    let runs = runs_none_behind f0 f0 _ _ c.args.out.now refl c.requires.underway.1 c.requires.inner c.requires.due in
-    let reaches = reaches_ask _ _ _ _ _ _ _ runs c.ask_on_bus-plane.ensures.asks (ap (over g.S.Side.seen) c.ask_on_bus-plane.ensures.same) in
-    (rises_from_ask f0 f0 _ _ _ _ (looked_up f0) _ _ _ _ _ _ _ c.requires.underway.1 begins
-    (rises_same (looked_up f0) _ _ refl) reaches
-    c.in_ok-on.ensures.access.reads (ap (λ (x : ChipValue). x.reads) c.end_on_bus.ensures.chip)).0
+    let ends = c.in_ok-end_on_bus.ensures.ends in
+    let kept = c.in_ok-on.ensures.access.kept in
+    let there = place_made f0 f0 _ _ _ _ _ _ _ _ _ c.requires.can.underway.1 begins reaches.reaches (kept_from_ask _ _ _ _ _ _ _ reaches kept) in
+    record {
+      clock = advances _ _ _ _ _ _ place.0 _ _ _ _ _ _ _ _ c.requires.can.running begins
+          reaches.reaches (makes_from_ask _ _ _ _ _ _ _ _ _ _ reaches c.in_ok-on.ensures.access.makes)
+          (kept_from_ask _ _ _ _ _ _ _ reaches kept) ends place.1;
+      place = place_behind _ place.0 c.args.self.now.machine.beam c.access_on_bus.new.self.machine.beam c.end_on_bus.new.self.machine.beam
+          c.requires.can.last there.0 place.1;
+      count = ends.t ∙ ap (λ t. t + 1) there.1;
+      spent = ends.spent ∙ kept.spent ∙ ap (λ (f : ForeOf _). f.spent) c.ask_on_bus-plane.ensures.same;
+      reads = (rises_from_ask f0 f0 _ _ _ _ (looked_up f0) _ _ _ _ _ _ _ c.requires.can.underway.1 begins
+          (rises_same (looked_up f0) _ _ refl) reaches
+          c.in_ok-on.ensures.access.reads (ap (λ (x : ChipValue). x.reads) c.end_on_bus.ensures.chip)).0;
+    }
 
 pub returns-clause-bus : goal.returns-clause-bus
 returns-clause-bus g c on =
@@ -120,10 +95,10 @@ returns-clause-bus g c on =
     (ap g.S.Side.seen c.ask_on_bus-plane.ensures.side) c.in_ok-on.ensures.access.kept (c.in_ok-on.ensures.bus on) c.in_ok-end_on_bus.ensures.ends
     c.end_on_bus.ensures.bus (ap g.S.Side.seen c.end_on_bus.ensures.side)
     (ap (λ (m : MachineValue). m.t) c.ask_on_bus-plane.ensures.asks.same ∙ ap (λ (m : MachineValue). m.t) c.ask_on_bus-plane.ensures.asks.kept)
-    c.requires.ready
+    c.requires.can.ready
     (c.in_ok-end_on_bus.ensures.rest (rest_left _ f1 f2 c.in_ok-on.ensures.access.kept.t (c.in_ok-on.ensures.bus on) c.ask_on_bus-plane.ensures.rest))
 
 pub end_on_bus-requires-clause-line : goal.end_on_bus-requires-clause-line
 end_on_bus-requires-clause-line g c =
-    line_left c.args.self.now.machine.beam c.ask_on_bus-plane.new.self.machine.beam c.access_on_bus.new.self.machine.beam c.requires.last
+    line_left c.args.self.now.machine.beam c.ask_on_bus-plane.new.self.machine.beam c.access_on_bus.new.self.machine.beam c.requires.can.last
     c.ask_on_bus-plane.ensures.beam c.in_ok-on.ensures.access.kept.beam

@@ -27,21 +27,23 @@ loop-left-init g c = record {
   rest = λ some. no_rest c.args.self.now.machine.t c.args.self.now.machine.chips;
 }
 
-pub clock_on_bus-requires : goal.clock_on_bus-requires
-clock_on_bus-requires g c =
+pub clock-requires : goal.clock-requires
+clock-requires g c =
     let f = over g.S.Side.seen c.loop-left.self in
     let some : 0 < c.loop-left.left = c.loop-left-test.true in
     let are : AreInLine c.args.limit c.loop-left.left f = c.loop-left.invariant.line some in
     record {
-      underway = c.loop-left.invariant.able c.loop-left.invariant.fresh;
-      running = are.running;
-      inner = are.inner;
-      last = omega (arith, are.line, some);
-      due = first_due c.args.limit c.loop-left.left f some are;
-      ready = c.loop-left.invariant.ready some;
-      leaves = first_leaves c.args.rules.now c.loop-left.left f.machine.beam f.machine.chips some (c.loop-left.invariant.leave some);
-      claim = c.loop-left.invariant.claim some;
-      rest = c.loop-left.invariant.rest some;
+      can = record {
+        underway = c.loop-left.invariant.able c.loop-left.invariant.fresh;
+        running = are.running;
+        inner = are.inner;
+        last = omega (arith, are.line, some);
+        due = first_due c.args.limit c.loop-left.left f some are;
+        ready = c.loop-left.invariant.ready some;
+        leaves = first_leaves c.args.rules.now c.loop-left.left f.machine.beam f.machine.chips some (c.loop-left.invariant.leave some);
+        claims = c.loop-left.invariant.claim some;
+        rests = c.loop-left.invariant.rest some;
+      };
     }
 
 pub loop-left-preserved : goal.loop-left-preserved
@@ -49,30 +51,30 @@ loop-left-preserved g c =
     let of = over g.S.Side.seen in
     let f0 = of c.args.self.now in
     let f = of c.loop-left.self in
-    let next = of c.clock_on_bus.new.self in
+    let next = of c.clock.new.fore in
     let rules = c.args.rules.now in
     let some : 0 < c.loop-left.left = c.loop-left-test.true in
     let are : AreInLine c.args.limit c.loop-left.left f = c.loop-left.invariant.line some in
     let one = c.in-Ok.ensures in
     record {
-      able = can_go_on f next _ _ _ _ one.clock c.loop-left.invariant.fresh c.loop-left.invariant.able;
-      runs = runs_then f0 f next _ _ _ _ _ _ c.loop-left.invariant.runs one.clock c.loop-left.invariant.run one.count;
-      run = c.clock_on_bus.ensures.run ∙ c.loop-left.invariant.run;
-      on = omega (arith, c.loop-left.invariant.on, one.count);
-      most = omega (arith, are.before, one.count, some);
+      able = can_go_on f next _ _ _ _ one.made.clock c.loop-left.invariant.fresh c.loop-left.invariant.able;
+      runs = runs_then f0 f next _ _ _ _ _ _ c.loop-left.invariant.runs one.made.clock c.loop-left.invariant.run one.made.count;
+      run = c.clock.ensures.run ∙ c.loop-left.invariant.run;
+      on = omega (arith, c.loop-left.invariant.on, one.made.count);
+      most = omega (arith, are.before, one.made.count, some);
       reads = reads_then f0 f next _ c.loop-left.invariant.run c.loop-left.invariant.on c.loop-left.invariant.fresh c.loop-left.invariant.able
-          c.loop-left.invariant.reads one.reads one.count;
-      fresh = one.spent ∙ c.loop-left.invariant.fresh;
-      still = λ same. absurd (omega (arith, c.loop-left.invariant.on, one.count, same));
+          c.loop-left.invariant.reads one.made.reads one.made.count;
+      fresh = one.made.spent ∙ c.loop-left.invariant.fresh;
+      still = λ same. absurd (omega (arith, c.loop-left.invariant.on, one.made.count, same));
       line = λ more. elim c.if-on.branch [
         | then-on w ↦ subst (λ n. AreInLine c.args.limit n next) (sym w.left-is)
-            (in_line_next c.args.limit c.loop-left.left f next some are c.clock_on_bus.ensures.run one.count one.place)
+            (in_line_next c.args.limit c.loop-left.left f next some are c.clock.ensures.run one.made.count one.made.place)
         | else-on w ↦ absurd (omega (arith, more, w.left-is))
       ];
       leave = λ more. elim c.if-on.branch [
         | then-on w ↦ subst (λ n. LeaveBus rules next.machine.beam n next.machine.chips) (sym w.left-is)
             (leave_next rules c.loop-left.left f.machine.beam next.machine.beam f.machine.chips next.machine.chips some
-            (c.loop-left.invariant.leave some) one.place (one.bus w.if-on.true).chips)
+            (c.loop-left.invariant.leave some) one.made.place (one.bus w.if-on.true).chips)
         | else-on w ↦ absurd (omega (arith, more, w.left-is))
       ];
       claim = λ more. elim c.if-on.branch [
@@ -97,11 +99,11 @@ returns-in-Err-clause-part g c =
     let are : AreInLine c.args.limit c.loop-left.left (of c.loop-left.self) = c.loop-left.invariant.line some in
     let same = ap (λ f. f.machine.chip.reads) c.self.view_is in
     record {
-      part = part_behind (of f0) (of c.loop-left.self) _ _ _ _ _ _ c.loop-left.invariant.runs c.in-Err.ensures.part c.loop-left.invariant.run;
+      part = part_behind (of f0) (of c.loop-left.self) _ _ _ _ _ _ c.loop-left.invariant.runs c.in-Err.ensures.part.part c.loop-left.invariant.run;
       few = subst (λ reads. RisesInSome c.args.limit (of f0).run f0.machine.t f0.machine.chip.reads reads) (sym same)
-          (few_behind (of f0) (of c.loop-left.self) (of c.clock_on_bus.new.self) _ c.args.limit c.loop-left.invariant.run
+          (few_behind (of f0) (of c.loop-left.self) (of c.clock.new.fore) _ c.args.limit c.loop-left.invariant.run
           c.loop-left.invariant.on (omega (arith, are.before, some)) c.loop-left.invariant.fresh c.loop-left.invariant.able
-          c.loop-left.invariant.reads c.in-Err.ensures.few);
+          c.loop-left.invariant.reads c.in-Err.ensures.part.few);
     }
 
 pub returns-clause-runs : goal.returns-clause-runs

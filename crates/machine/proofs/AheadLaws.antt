@@ -1,0 +1,160 @@
+-- Clocks that everybody else leaves to the processor, made at once.
+use Rattle.std.proofs.Common.{◌≡◌, ◌+◌, ◌<◌, ℕ, [], Option, Some, None, refl, subst, sym, ◌∙◌}
+use Rattle.irq_cia.specs.Interrupts.{level_of}
+use Rattle.mem_versions.specs.Chip.{ChipValue, after_reads, word_at}
+use Rattle.ocs_base.specs.declared.addr.Addr.{Addr}
+use Rattle.ocs_base.specs.declared.system.System.{System}
+use Rattle.out_files.specs.OutFiles.{OutFilesValue}
+use Rattle.serial_model.specs.declared.bus.Ask.{Ask}
+use Rattle.serial_model.specs.declared.bus.Ask.TheVariants as A
+use Rattle.serial_model.specs.declared.bus.Made.TheVariants as M
+use Rattle.serial_model.specs.declared.bus.ProcessorAsk.TheVariants as P
+use Rattle.serial_model.specs.Processor.{Processor}
+use Rattle.serial_model.specs.Tick.{advance_beam}
+use Rattle.serial_model.specs.Turns.{taken_lines}
+use Rattle.serial_model.specs.Beam.{later_beam}
+use Rattle.cpu_bus.specs.declared.BusCpu.{BusCpu}
+use Rattle.cpu_bus.specs.Bus.{IsProcessorOf, GoesOn, wish_shown}
+use Rattle.cpu_bus.specs.Progress.{BeginsAccess}
+use Rattle.chip_set.specs.Chips.{WorkingChips, CanAsk, IsBlitAsk, kept_wish, late_ask}
+use Rattle.chip_set.proofs.BusLaws.{HasAskedOnBus, asked_without_planes}
+use Rattle.chip_set.proofs.TurnLaws.{rested}
+use Rattle.chip_set.proofs.AheadLaws.{asked_alone, no_wish, left, passed, nobody_answered, first_passes, first_begins_none}
+use Rattle.chip_set.proofs.AheadLaws.{given, gone, read_answered, word_runs, word_begins}
+use Rattle.machine.specs.Machine.{MachineValue, MakesQuietly}
+use Rattle.machine.specs.MachineStepsCode.{AsksInTime}
+use Rattle.machine.specs.AheadCode.{IsLeftToProcessor, IsClockAtOnce}
+use Rattle.machine.specs.Out.{Gives}
+use Rattle.machine.proofs.AccessLaws.{MakesAccess-by, StoresMade-by, reads_done}
+use Rattle.machine.proofs.AskedLaws.{asks_alone}
+use Rattle.machine.proofs.BusLaws.{place_in_line}
+use Rattle.machine.proofs.OutLaws.{gives_nothing}
+use Rattle.machine.proofs.StepLaws.{Makes-processed, Makes-advanced}
+
+-- the chips ask as they stand
+record AsksAsItStands (ask : Ask) (m : MachineValue) : Type 0 where
+  asks : AsksInTime ask m m
+  able : CanAsk ask
+  wish : IsBlitAsk ask (kept_wish m.chips)
+
+asks_as_it_stands : (rest : ℕ) (m : MachineValue) (ask : Ask) → IsLeftToProcessor rest m → late_ask m.beam m.chips ≡ ask → AsksAsItStands ask m
+asks_as_it_stands rest m ask alone is =
+    let asked : HasAskedOnBus m.beam m.chips m.chips None = asked_without_planes m.beam m.chips alone.leaves in
+    record {
+      asks = asks_alone m m m.chips ask alone.side (λ c stands. rested m.t rest m.chips c alone.rests alone.some stands)
+          (λ c stands. sym is ∙ asked.ask c stands) asked.chips refl;
+      able = subst CanAsk is asked.able;
+      wish = subst (λ a. IsBlitAsk a (kept_wish m.chips)) is asked.wish;
+    }
+
+abbrev pub advanced : MachineValue → MachineValue
+advanced m = record m { t = m.t + 1; beam = later_beam 1 m.beam }
+
+advances_in_line : (m : MachineValue) → m.beam.h < 226 → (system : System) → MakesQuietly (advance_beam system) m (advanced m)
+advances_in_line m low system = Makes-advanced system m (advanced m) refl (sym (place_in_line system _ m.beam low)) refl
+
+-- ---- the first clock of an access
+
+abbrev pub with_chips : WorkingChips → MachineValue → MachineValue
+with_chips chips m = record m { chips = chips }
+
+pub first_clock : (rest : ℕ) (m : MachineValue) (out : OutFilesValue) → IsLeftToProcessor rest m → BeginsAccess m.chips.processor
+    → IsClockAtOnce A.Free m out (advanced (with_chips (passed (left m.chips)) m)) out
+first_clock rest m out alone begins =
+    let accessed : MachineValue = with_chips (left m.chips) m in
+    let processed : MachineValue = with_chips (passed (left m.chips)) m in
+    let stands : AsksAsItStands A.Free m =
+    asks_as_it_stands rest m A.Free alone (asked_alone m.beam m.chips None alone.leaves.others alone.alone (no_wish m.chips.processor begins)) in
+    record {
+      accessed = accessed;
+      processed = processed;
+      asks = stands.asks;
+      able = stands.able;
+      wish = stands.wish;
+      access = MakesAccess-by A.Free 0 M.Nothing m accessed m.chip (left m.chips) m.side out out refl refl
+          (nobody_answered m.beam 0 m.chip.words m.chips alone.leaves.others begins)
+          (record { t = refl; beam = refl; chip = refl; chips = λ c is. is; side = refl; lines = λ c is. gives_nothing out });
+      place = record { t = refl; beam = refl };
+      stores = StoresMade-by m.t A.Free M.Nothing m.chip m.chip m.chip refl refl;
+      reads = refl;
+      turns = Makes-processed accessed processed out out None refl (λ c is. first_passes (left m.chips) c begins is)
+          (λ c is. first_begins_none (left m.chips) c begins is) (gives_nothing out);
+      same = refl;
+      advances = advances_in_line processed alone.line;
+      beam = refl;
+      count = refl;
+      chip = refl;
+      side = refl;
+      keeps = (
+        record { registers = refl; last = refl; kinds = refl; copper = refl; busy = refl },
+        record { irq = refl; cia_a = refl; cia_b = refl },
+      );
+    }
+
+-- whatever these chips are called
+pub first_made : (rest : ℕ) (m : MachineValue) (chips : WorkingChips) (out : OutFilesValue) → IsLeftToProcessor rest m → BeginsAccess m.chips.processor
+    → chips ≡ passed (left m.chips) → IsClockAtOnce A.Free m out (advanced (with_chips chips m)) out
+first_made rest m chips out alone begins is =
+    subst (λ x. IsClockAtOnce A.Free m out (advanced (with_chips x m)) out) (sym is) (first_clock rest m out alone begins)
+
+-- ---- the read of a word
+
+pub read_asks : (rest : ℕ) (at : Addr) (m : MachineValue) → IsLeftToProcessor rest m → wish_shown m.chips.processor ≡ Some (P.Read at)
+    → AsksInTime (A.Processor (P.Read at)) m m
+read_asks rest at m alone asks =
+    (asks_as_it_stands rest m (A.Processor (P.Read at)) alone
+    (asked_alone m.beam m.chips (Some (P.Read at)) alone.leaves.others alone.alone asks)).asks
+
+abbrev pub read_and : WorkingChips → MachineValue → MachineValue
+read_and chips m = record m { chip = after_reads m.chip 1; chips = chips }
+
+pub read_clock : (rest : ℕ) (at : Addr) (m : MachineValue) (begins : Option ℕ) (new : BusCpu) (out after : OutFilesValue) → IsLeftToProcessor rest m
+    → wish_shown m.chips.processor ≡ Some (P.Read at)
+    → ((p : Processor) → IsProcessorOf m.chips.processor p → GoesOn (word_at m.chip at) (level_of m.chips.irq) p begins new)
+    → Gives out after [] (taken_lines m.beam begins)
+    → IsClockAtOnce (A.Processor (P.Read at)) m out (advanced (read_and (gone new m.chips) m)) after
+read_clock rest at m begins new out after alone asks goes lines =
+    let word : ℕ = word_at m.chip at in
+    let ask : Ask = A.Processor (P.Read at) in
+    let chip : ChipValue = after_reads m.chip 1 in
+    let accessed : MachineValue = read_and (given word m.chips) m in
+    let processed : MachineValue = read_and (gone new m.chips) m in
+    let stands : AsksAsItStands ask m =
+    asks_as_it_stands rest m ask alone (asked_alone m.beam m.chips (Some (P.Read at)) alone.leaves.others alone.alone asks) in
+    record {
+      accessed = accessed;
+      processed = processed;
+      asks = stands.asks;
+      able = stands.able;
+      wish = stands.wish;
+      access = MakesAccess-by ask 0 M.Nothing m accessed chip (given word m.chips) m.side out out refl refl
+          (read_answered at m.beam 0 m.chip.words m.chips alone.leaves.others)
+          (record { t = refl; beam = refl; chip = refl; chips = λ c is. is; side = refl; lines = λ c is. gives_nothing out });
+      place = record { t = refl; beam = refl };
+      stores = StoresMade-by m.t ask M.Nothing m.chip chip chip refl refl;
+      reads = reads_done m.t ask M.Nothing m.chip chip chip refl refl;
+      turns = Makes-processed accessed processed out after begins refl (λ c is. word_runs word begins (P.Read at) m.chips new c asks goes is)
+          (λ c is. word_begins word begins (P.Read at) m.chips new c asks goes is) lines;
+      same = refl;
+      advances = advances_in_line processed alone.line;
+      beam = refl;
+      count = refl;
+      chip = refl;
+      side = refl;
+      keeps = (
+        record { registers = refl; last = refl; kinds = refl; copper = refl; busy = refl },
+        record { irq = refl; cia_a = refl; cia_b = refl },
+      );
+    }
+
+pub read_made : (rest : ℕ) (at : Addr) (m : MachineValue) (begins : Option ℕ) (word : ℕ) (chip : ChipValue) (chips : WorkingChips)
+    (out after : OutFilesValue) → IsLeftToProcessor rest m → wish_shown m.chips.processor ≡ Some (P.Read at) → word ≡ word_at m.chip at
+    → chip ≡ after_reads m.chip 1 → chips ≡ gone chips.processor m.chips
+    → ((p : Processor) → IsProcessorOf m.chips.processor p → GoesOn word (level_of m.chips.irq) p begins chips.processor)
+    → Gives out after [] (taken_lines m.beam begins)
+    → IsClockAtOnce (A.Processor (P.Read at)) m out (advanced (record m { chip = chip; chips = chips })) after
+read_made rest at m begins word chip chips out after alone asks read count kept goes lines =
+    subst (λ x. IsClockAtOnce (A.Processor (P.Read at)) m out (advanced (record m { chip = x; chips = chips })) after) (sym count)
+    (subst (λ x. IsClockAtOnce (A.Processor (P.Read at)) m out (advanced (read_and x m)) after) (sym kept)
+    (read_clock rest at m begins chips.processor out after alone asks
+    (λ p is. subst (λ w. GoesOn w (level_of m.chips.irq) p begins chips.processor) read (goes p is)) lines))
