@@ -11,6 +11,7 @@ ghost use Rattle.ocs_run.specs.UnderwayCode.{fore_of, run_of, CanRun};
 use crate::bars::{BANDS, SCRIPT, image, shows_bars};
 use crate::told::{Told, Watch};
 use band_log::{Raster, Run};
+use clock_loop::run_to;
 use crew::{Crew, CrewSide, Totals, with_crew};
 use foreground::Fore;
 use ocs_base::{OutOfMemory, Script};
@@ -53,7 +54,7 @@ fn run_clocks<Q: Raster<CrewSide>>(
 {
     while !fore.done() {
         let limit = fore.next_line();
-        fore.run_to(limit, raster, out)?;
+        run_to(fore, limit, raster, out)?;
         wait_if_outstanding(raster, told, waits);
     }
     fore.settle(raster, out)?;

@@ -3,7 +3,6 @@ pub mod ScriptLaws
 pub mod ReachLaws
 pub mod MadeLaws
 pub mod AdvanceLaws
-pub mod RunToLaws
 pub mod ReadingLaws
 pub mod BeginLaws
 pub mod KeptLaws
@@ -15,12 +14,5 @@ pub mod EmptyLaws
 pub mod ShownLaws
 pub mod SaveLaws
 pub mod SumLaws
-pub mod QuietLaws
-pub mod QuietRuns
 pub mod AskedLaws
-pub mod FetchLaws
-pub mod UnitLaws
-pub mod LineLaws
 pub mod SlotLaws
-pub mod BusLaws
-pub mod AheadLaws

@@ -6,10 +6,5 @@ pub mod Fore
 pub mod CutsCode
 pub mod Steps
 pub mod AccessCode
-pub mod BusRun
-pub mod RunTo
 pub mod Checkpoint
 pub mod Save
-pub mod QuietCode
-pub mod FetchesCode
-pub mod LineCode

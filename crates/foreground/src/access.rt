@@ -23,7 +23,7 @@ use serial_model::{Ask, Side};
 impl<S: Side> Fore<S> {
     /// Fifth step: the access, once the chips have asked. Who asks late has a way of its own.
     #[inline(always)]
-    pub(crate) fn access<Q: Raster<S>>(
+    pub fn access<Q: Raster<S>>(
         &mut self,
         ask: Option<Ask>,
         raster: &mut Q,
@@ -179,7 +179,7 @@ impl<S: Side> Fore<S> {
     /// The access of an owner that asks for this, whoever it is: out of line, for those that
     /// seldom come. The owners of most clocks stand apart: what follows is then that of the one owner.
     #[inline(never)]
-    pub(crate) fn access_by<Q: Raster<S>>(
+    pub fn access_by<Q: Raster<S>>(
         &mut self,
         ask: &Ask,
         raster: &mut Q,

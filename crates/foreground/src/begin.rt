@@ -106,7 +106,7 @@ impl<S: Side> Fore<S> {
 
     /// The open band goes on with this clock: the write that waited is an event of it.
     #[inline(always)]
-    pub(crate) fn go_on(&mut self) -> Result<(), OutOfMemory>
+    pub fn go_on(&mut self) -> Result<(), OutOfMemory>
         requires running { is_done (over S.seen self.old) ≡ false }
         requires unread { has_clx_read (due_at (over S.seen self.old).run self.old.machine.t) ≡
             false }

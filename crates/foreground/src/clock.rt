@@ -94,7 +94,7 @@ impl<S: Side> Fore<S> {
 
     /// The third and the fourth, and the ask of the slot's owner.
     #[inline(always)]
-    pub(crate) fn ask(&mut self) -> Option<Ask>
+    pub fn ask(&mut self) -> Option<Ask>
         ensures asks { AsksInTime (ask_or_late result self.new.machine.beam self.new.machine.chips)
             (over S.seen self.old).machine (over S.seen self.new).machine }
         ensures able { CanAsk
@@ -176,7 +176,7 @@ impl<S: Side> Fore<S> {
 
     /// The last two steps.
     #[inline(always)]
-    pub(crate) fn end_clock(&mut self, out: &mut OutFiles) -> Result<(), OutOfMemory>
+    pub fn end_clock(&mut self, out: &mut OutFiles) -> Result<(), OutOfMemory>
         requires screen { IsOnScreen self.old.machine.beam }
         requires frame { self.old.machine.beam.frame + 1 < 2 ^ 32 }
         requires count { self.old.machine.t + 1 < 2 ^ 64 }

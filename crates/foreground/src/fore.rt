@@ -22,17 +22,20 @@ use std::sync::Arc;
 /// call. After a refusal for want of memory each later call refuses too, and adds nothing.
 #[derive(Drop)]
 pub struct Fore<S> {
-    pub(crate) run: Arc<Run<S>>,
-    pub(crate) machine: Machine<S>,
-    pub(crate) log: Log,
+    /// The run, which is shared with the jobs of its bands.
+    pub run: Arc<Run<S>>,
+    /// The machine without its picture.
+    pub machine: Machine<S>,
+    /// What is logged of the open band.
+    pub log: Log,
     /// How far the script is: the events before it have happened.
-    pub(crate) cursor: Cursor,
+    pub cursor: Cursor,
     /// The collision bits of the bands that were gathered since CLXDAT was last read.
     pub(crate) clx: u16,
     /// Whether memory was wanted before.
-    pub(crate) spent: bool,
+    pub spent: bool,
     /// When quiet clocks are looked for.
-    pub(crate) lookout: Lookout,
+    pub lookout: Lookout,
     /// What is left of a band that was gathered.
     pub(crate) spare: Spare,
 }

@@ -1,23 +1,7 @@
-//! When the foreground looks for quiet clocks and for such as it makes on the bus. What a run gives does not
-//! hang on it, but how fast it is.
+//! When quiet clocks are looked for, and such as are made on the bus. What a run gives does not hang on it, but
+//! how fast it is.
 
-ghost use Rattle.std.specs.Prelude.{◌≡◌, ◌≤◌, nat_le};
-
-/// So many clocks passed at once, or made on the bus, are worth the look.
-pub const WORTH: u16 = 4;
-
-/// The clock of a line behind the last slot of a sprite: the Copper is done by then too as a rule.
-pub const BEHIND_SPRITES: u16 = 0x34;
-
-/// The clocks of refresh are before this one and from that one on, of so many in a line.
-const BEHIND_REFRESH: u16 = 6;
-
-const LAST_REFRESH: u16 = 225;
-
-const LINE: u16 = 227;
-
-/// The longest pause between two looks, in colour clocks.
-const LONGEST: u8 = 63;
+ghost use Rattle.std.specs.Prelude.{◌≡◌};
 
 /// The clock from which on they are looked for, as a number of colour clocks since reset, and how long the
 /// last pause was: each look that finds few makes the next pause twice as long.
@@ -35,41 +19,4 @@ impl Lookout {
     {
         Lookout { from: 0, pause: 0 }
     }
-
-    /// Whether it looks at this clock.
-    #[inline(always)]
-    pub fn is_due(&self, now: u64) -> bool
-        ensures { result ≡ nat_le self.now.from now }
-    {
-        self.from <= now
-    }
-
-    /// It has looked at clock `h` of a line, and did so up to the clock `now`; `pays` says whether enough
-    /// clocks were found. A pause does not go on behind the last slot of a sprite.
-    pub fn note(&mut self, now: u64, h: u16, pays: bool)
-        ensures { self.new.pause ≤ 63 }
-    {
-        self.pause = if pays {
-            0
-        } else {
-            (self.pause.min(LONGEST / 2) * 2 + 1).min(LONGEST)
-        };
-        let mut pause = self.pause as u16;
-        if h < BEHIND_SPRITES {
-            pause = pause.min(BEHIND_SPRITES - h);
-        }
-        self.from = now.saturating_add(pause as u64);
-    }
-
-    /// At clock `h` of a line, beside the slots of refresh: it looks again behind them.
-    pub fn wait_for_refresh(&mut self, now: u64, h: u16) {
-        let line = if h < BEHIND_REFRESH { 0 } else { LINE };
-        self.from = now.saturating_add((line + BEHIND_REFRESH).saturating_sub(h) as u64);
-    }
-}
-
-/// Whether clock `h` of a line is among those of refresh, at a line's ends.
-#[inline(always)]
-pub fn is_beside_refresh(h: u16) -> bool {
-    h < BEHIND_REFRESH || LAST_REFRESH <= h
 }

@@ -8,6 +8,7 @@ use crate::runs::run_of;
 use band_draw::Direct;
 use band_log::{Raster, Run};
 use chip_set::Chips;
+use clock_loop::run_to;
 use foreground::Fore;
 use ocs_base::{Beam, ChipSize, OutOfMemory, Reg};
 use out_files::OutFiles;
@@ -136,7 +137,7 @@ fn run_clocks<Q: Raster<NoSide>>(
     if singly {
         run_singly(&mut fore, raster, &mut out)?;
     } else {
-        fore.run_to(300, raster, &mut out)?;
+        run_to(&mut fore, 300, raster, &mut out)?;
     }
     Ok(fore)
 }

@@ -22,7 +22,7 @@ use Rattle.serial_model.specs.TraceText.{trace_text}
 use Rattle.serial_bands.specs.Run.{RunValue, state_of, beam_at, IsEndOf}
 use Rattle.band_log.specs.Raster.{RasterValue}
 use Rattle.foreground.specs.Fore.{ForeValue, IsNew}
-use Rattle.foreground.specs.RunTo.{HasRunOn, RunsOn, HasCome}
+use Rattle.clock_loop.specs.RunTo.{HasRunOn, RunsOn, HasCome}
 use Rattle.rewind_loop.proofs.LineLaws.{IsLater, clocks_on, least_last}
 use Rattle.ocs_run.specs.Audio.{audio_text, is_sampled, sampled, IsHeard, with_audio, grown_audio, MayHaveMade, MayHaveGrown, IsFourth, IsFourthName}
 use Rattle.ocs_run.specs.Prefix.{IsPartOf, LeavesPrefixesOver, LeavesFiles}

@@ -28,7 +28,7 @@ use Rattle.band_log.specs.Raster.{RasterValue, Takes}
 use Rattle.foreground.specs.Clock.{HasGivenPart}
 use Rattle.std.proofs.lemmas.Bool.Decides.{nat_tests}
 use Rattle.foreground.specs.Fore.{ForeValue, IsNew, is_done, HasSettled, Settles, GivesPart, IsUnderway as IsForeUnderway}
-use Rattle.foreground.specs.RunTo.{HasRunOn, RunsOn, HasCome}
+use Rattle.clock_loop.specs.RunTo.{HasRunOn, RunsOn, HasCome}
 use Rattle.foreground.specs.Gathered.{tinted_range}
 use Rattle.ocs_run.specs.Prefix.{LeavesPrefixesOver}
 use Rattle.ocs_run.specs.Run.{HasFilesOver, HasRun, HasParts, HasEndParts}

@@ -9,7 +9,7 @@ ghost use Rattle.out_files.specs.Together.{Completes, LeavesParts, StayTogether}
 ghost use Rattle.serial_model.specs.MemoryText.{memory_text};
 ghost use Rattle.crew.specs.Crew.{crew_seen};
 ghost use Rattle.foreground.specs.Fore.{is_done, IsNew};
-ghost use Rattle.foreground.specs.RunTo.{RunsOn};
+ghost use Rattle.clock_loop.specs.RunTo.{RunsOn};
 ghost use Rattle.crew.specs.Crew.{side_seen};
 ghost use Rattle.ocs_run.specs.Audio.{is_sampled, IsHeard, IsFourthName};
 ghost use Rattle.out_files.specs.Places.{LeavesPlace, WritesFiles};
@@ -21,6 +21,7 @@ ghost use Rattle.ocs_run.specs.UnderwayCode.{AreUnsampled, fore_of, run_of, CanR
 use crate::audio::{Recording, clocks_to_sample, create_audio, listen, write_audio};
 use crate::fault::Fault;
 use band_log::{Raster, Run};
+use clock_loop::run_to;
 use crew::{Crew, CrewSide, Gate, with_crew};
 use foreground::Fore;
 use ocs_base::{Beam, OutOfMemory, Script};
@@ -283,7 +284,7 @@ fn run_some<Q: Raster<CrewSide>>(
 {
     let beam = fore.beam();
     let limit = next_limit(fore, audio.on);
-    fore.run_to(limit, raster, out)?;
+    run_to(fore, limit, raster, out)?;
     listen(&beam, fore.side(), audio)
 }
 

@@ -18,7 +18,7 @@ use Rattle.serial_model.proofs.NextLaws.{beam_next}
 use Rattle.serial_bands.specs.Run.{RunValue, state_of, beam_at}
 use Rattle.band_log.specs.Raster.{RasterValue}
 use Rattle.foreground.specs.Fore.{ForeValue, IsUnderway, is_done}
-use Rattle.foreground.specs.RunTo.{RunsOn, HasRunOn, HasCome}
+use Rattle.clock_loop.specs.RunTo.{RunsOn, HasRunOn, HasCome}
 use Rattle.rewind_loop.specs.Places.{Place, is_due, due_in}
 use Rattle.rewind_loop.specs.Present.{Checkpoint, clock_of, AreAt}
 use Rattle.rewind_loop.specs.StepsCode.{line_limit}

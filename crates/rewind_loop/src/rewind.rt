@@ -12,6 +12,7 @@ ghost use Rattle.rewind_loop.specs.StepsCode.{GoesOn, line_limit};
 use crate::arrived::Arrived;
 use band_draw::Direct;
 use band_log::Run;
+use clock_loop::run_to;
 use foreground::{Checkpoint, Fore};
 use ocs_base::offset::{COLOR00, DMACON};
 use ocs_base::{Beam, Clock, OutOfMemory, Reg};
@@ -194,7 +195,7 @@ impl Rewind {
     {
         renew_at_frame(self.alloc, &self.fore.beam(), &mut self.out)?;
         let limit = clock.min(self.clock_in_line());
-        self.fore.run_to(limit, &mut self.raster, &mut self.out)?;
+        run_to(&mut self.fore, limit, &mut self.raster, &mut self.out)?;
         Ok(())
     }
 

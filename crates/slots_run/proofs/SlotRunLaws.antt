@@ -15,7 +15,7 @@ use Rattle.serial_bands.specs.Run.{RunValue, beam_at}
 use Rattle.picture_log.specs.declared.log.Log.{Log}
 use Rattle.picture_log.specs.Log.{IsBandOf}
 use Rattle.foreground.specs.Fore.{ForeOf, ForeValue, IsNew, IsUnderway, is_done}
-use Rattle.foreground.specs.RunTo.{HasRunOn, RunsOn, HasCome}
+use Rattle.clock_loop.specs.RunTo.{HasRunOn, RunsOn, HasCome}
 use Rattle.ocs_base.specs.declared.system.System.{System}
 use Rattle.slot_log.specs.Entry.{SlotClock}
 use Rattle.slot_log.specs.SlotLog.{SlotLogValue, log_of}

@@ -12,6 +12,7 @@ ghost use Rattle.slots_run.specs.SlotRunCode.{run_in, frame_in, Stands, GoesOn, 
 
 use band_draw::Direct;
 use band_log::Run;
+use clock_loop::run_to;
 use foreground::Fore;
 use ocs_base::{Beam, OutOfMemory};
 use out_files::OutFiles;
@@ -66,7 +67,7 @@ impl SlotRun {
     {
         renew_at_frame(self.alloc, &self.fore.beam(), &mut self.out)?;
         let limit = self.fore.next_line();
-        self.fore.run_to(limit, &mut self.raster, &mut self.out)?;
+        run_to(&mut self.fore, limit, &mut self.raster, &mut self.out)?;
         Ok(())
     }
 

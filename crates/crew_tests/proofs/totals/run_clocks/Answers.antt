@@ -10,7 +10,7 @@ returns-in_err-run_to-clause-mark g c =
 
 pub loop-fore-smaller : goal.loop-fore-smaller
 loop-fore-smaller g c =
-    fewer_clocks (fore_of c.loop-fore.fore) (fore_of c.run_to.new.self) _ _ _ _ _ _ c.loop-fore.invariant.able c.done.ensures c.loop-fore-test.true
+    fewer_clocks (fore_of c.loop-fore.fore) (fore_of c.run_to.new.fore) _ _ _ _ _ _ c.loop-fore.invariant.able c.done.ensures c.loop-fore-test.true
     c.in_ok-run_to.ensures.clocks c.in_ok-run_to.ensures.come
     (line_is_later (fore_of c.loop-fore.fore) _ _ c.next_line-limit.ensures) c.run_to.ensures.run
 

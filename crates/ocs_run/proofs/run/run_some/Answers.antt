@@ -14,7 +14,7 @@ returns-in_err-run_to-clause-mark g c = mark_part _ _ _ _ _ (c.in_err-run_to.ens
 
 pub returns-clause-later : goal.returns-clause-later
 returns-clause-later g c =
-    on_ok _ _ (later_clock (fore_of c.args.fore.now) (fore_of c.run_to.new.self) _ _ _ _ _ c.requires.able c.requires.running
+    on_ok _ _ (later_clock (fore_of c.args.fore.now) (fore_of c.run_to.new.fore) _ _ _ _ _ c.requires.able c.requires.running
     c.in_ok-run_to.ensures.clocks c.in_ok-run_to.ensures.come c.next_limit-limit.ensures.later c.run_to.ensures.run)
 
 pub returns-clause-mark : goal.returns-clause-mark
@@ -23,9 +23,9 @@ returns-clause-mark g c = mark_ran _ _ _ _ _ _ c.in_ok-run_to.ensures.clocks c.r
 pub returns-clause-heard : goal.returns-clause-heard
 returns-clause-heard g c =
     ok_then _ _ _ c.listen.ensures.taken (λ taken.
-    IsHeard-next c.args.audio.now c.listen.new.audio (fore_of c.args.fore.now) (fore_of c.run_to.new.self) _ _ _ _ _ c.requires.able
+    IsHeard-next c.args.audio.now c.listen.new.audio (fore_of c.args.fore.now) (fore_of c.run_to.new.fore) _ _ _ _ _ c.requires.able
     c.in_ok-run_to.ensures.clocks c.run_to.ensures.run c.in_ok-run_to.ensures.come
-    (later_clock (fore_of c.args.fore.now) (fore_of c.run_to.new.self) _ _ _ _ _ c.requires.able c.requires.running
+    (later_clock (fore_of c.args.fore.now) (fore_of c.run_to.new.fore) _ _ _ _ _ c.requires.able c.requires.running
     c.in_ok-run_to.ensures.clocks c.in_ok-run_to.ensures.come c.next_limit-limit.ensures.later c.run_to.ensures.run)
     c.next_limit-limit.ensures.sampled c.next_limit-limit.ensures.between
     (λ on. taken on

@@ -12,7 +12,7 @@ pub returns-clause-goes : goal.returns-clause-goes
 returns-clause-goes c =
     let self = c.args.self.now in
     let old : ForeValue = fore_of self.fore in
-    let new : ForeValue = fore_of c.run_to.new.self in
+    let new : ForeValue = fore_of c.run_to.new.fore in
     let ran = c.in_ok-run_to.ensures in
     let limit : c.min-limit.result ≡ min c.args.clock (line_limit old.machine.t old.machine.beam.h) =
     c.min-limit.ensures ∙ ap (λ n. min c.args.clock n) c.clock_in_line.ensures in

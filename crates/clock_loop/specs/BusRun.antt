@@ -1,0 +1,81 @@
+-- Clocks on the bus one behind the other.
+use Rattle.std.specs.Prelude.{◌≡◌, ◌≤◌, ◌<◌, ◌+◌, ◌-◌, ℕ, max, false, [], Option, None}
+use Rattle.band_log.specs.Raster.{RasterValue}
+use Rattle.out_files.specs.OutFiles.{OutFilesValue}
+use Rattle.serial_model.specs.Side.{no_side}
+use Rattle.bitplane_dma.specs.declared.rules.FetchRules.{FetchRules}
+use Rattle.chip_set.specs.BusCode.{LeaveBus, LeavesBeside, IsClaim, KeepsBeside, KeepsOnBus, CiasRest}
+use Rattle.chip_set.specs.declared.bus.BlitterClaim.{BlitterClaim}
+use Rattle.machine.specs.Machine.{IsSamePlace}
+use Rattle.serial_model.specs.Beam.{later_beam}
+use Rattle.serial_bands.specs.BusReads.{bus_reads}
+use Rattle.serial_model.specs.Events.{due_events}
+use Rattle.foreground.specs.Clock.{Rises}
+use Rattle.foreground.specs.Fore.{ForeValue, IsUnderway, Advances, GivesPart, is_done, looked_up}
+use Rattle.clock_loop.specs.LineCode.{AreInLine}
+use Rattle.clock_loop.specs.RunTo.{RunsOn, RisesIn, RisesInSome}
+
+-- no write waits for the next picture step, the open band has begun before this clock, and there is no side
+pub record IsOpenForBus (fore : ForeValue) : Type 0 where
+  pub waits : fore.log.waiting ≡ None
+  pub before : fore.log.band.from < fore.machine.t
+  pub side : fore.machine.side ≡ no_side
+
+-- behind an access all that stays as it is, and no write waits
+pub record StaysOnBus (old new : ForeValue) : Type 0 where
+  pub chips : KeepsOnBus old.machine.chips new.machine.chips
+  pub waits : new.log.waiting ≡ None
+  pub from : new.log.band.from ≡ old.log.band.from
+  pub side : new.machine.side ≡ old.machine.side
+
+-- behind a clock further ones may come, in so many of which nothing is to be done for the CIAs
+pub record GoesOnBus (rules : Option FetchRules) (rest : ℕ) (old new : ForeValue) : Type 0 where
+  pub chips : KeepsBeside rules old.machine.chips new.machine.chips
+  pub ready : IsOpenForBus new
+  pub rests : CiasRest new.machine.t rest new.machine.chips
+
+-- what is told of a clock of a line that is made on the bus: the open band goes on with it, no event is due in it, and in so many
+-- clocks from it on nothing is to be done for the CIAs
+pub record CanMakeClock (rules : Option FetchRules) (rest : ℕ) (claim : BlitterClaim) (fore : ForeValue) (seen : RasterValue) : Type 0 where
+  pub underway : (first : ℕ) × IsUnderway fore first seen
+  pub running : is_done fore ≡ false
+  pub inner : 0 < fore.machine.beam.h
+  pub last : fore.machine.beam.h < 226
+  pub due : due_events fore.machine.beam fore.run.script.events ≡ []
+  pub ready : IsOpenForBus fore
+  pub leaves : LeavesBeside rules fore.machine.beam fore.machine.chips
+  pub claims : IsClaim claim fore.machine.chips
+  pub rests : CiasRest fore.machine.t rest fore.machine.chips
+
+-- it was made, and memory was read as often as it needs
+pub record HasMadeClock (old new : ForeValue) (seen after : RasterValue) (out given : OutFilesValue) : Type 0 where
+  pub clock : Advances old new seen after out given
+  pub place : IsSamePlace (later_beam 1 old.machine.beam) new.machine.beam
+  pub count : new.machine.t ≡ old.machine.t + 1
+  pub spent : new.spent ≡ old.spent
+  pub reads : Rises (bus_reads old.run old.machine.t) (bus_reads old.run old.machine.t + looked_up old) old.machine.chip.reads new.machine.chip.reads
+
+-- where memory was wanted
+pub record HasMadeClockInPart (old new : ForeValue) (seen after : RasterValue) (out given : OutFilesValue) : Type 0 where
+  pub part : GivesPart old seen after out given
+  pub few : Rises 0 (bus_reads old.run old.machine.t + looked_up old) old.machine.chip.reads new.machine.chip.reads
+
+-- the next n clocks are in this line, before the clock `limit`, and leave the bus to the planes by these rules, to the blitter,
+-- which asks so, and to the processor
+pub record AreOnBus (limit n : ℕ) (rules : Option FetchRules) (claim : BlitterClaim) (fore : ForeValue) : Type 0 where
+  pub line : 0 < n → AreInLine limit n fore
+  pub leave : 0 < n → LeaveBus rules fore.machine.beam n fore.machine.chips
+  pub ready : 0 < n → IsOpenForBus fore
+  pub asks : IsClaim claim fore.machine.chips
+
+-- clocks before the limit were made, and memory was read as often as they need
+pub record HasRunOnBus (limit : ℕ) (old new : ForeValue) (seen after : RasterValue) (out given : OutFilesValue) : Type 0 where
+  pub clocks : RunsOn old new seen after out given
+  pub on : old.machine.t ≤ new.machine.t
+  pub most : new.machine.t ≤ max old.machine.t limit
+  pub reads : RisesIn old.run old.machine.t (new.machine.t - old.machine.t) old.machine.chip.reads new.machine.chip.reads
+
+-- where memory was wanted some of them were
+pub record HasRunInPart (limit : ℕ) (old new : ForeValue) (seen after : RasterValue) (out given : OutFilesValue) : Type 0 where
+  pub part : GivesPart old seen after out given
+  pub few : RisesInSome limit old.run old.machine.t old.machine.chip.reads new.machine.chip.reads

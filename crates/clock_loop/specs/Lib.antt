@@ -1,0 +1,5 @@
+pub mod BusRun
+pub mod RunTo
+pub mod QuietCode
+pub mod FetchesCode
+pub mod LineCode

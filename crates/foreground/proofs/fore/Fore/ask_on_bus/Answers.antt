@@ -1,8 +1,0 @@
-use Rattle.std.proofs.Common.{subst, sym}
-use Rattle.chip_set.specs.BusCode.{CiasRest}
-use Rattle.foreground.specs.Fore.{ForeOf}
-use Rattle.foreground.proofs.fore.Fore.ask_on_bus.Goals as goal
-
-pub ask_on_bus-requires-clause-rest : goal.ask_on_bus-requires-clause-rest
-ask_on_bus-requires-clause-rest g c =
-    subst (λ (f : ForeOf _). CiasRest f.machine.t c.args.rest.now f.machine.chips) (sym c.self.view_is) c.requires.rest

@@ -1,5 +1,0 @@
-use Rattle.foreground.proofs.BusLaws.{none_made}
-use Rattle.foreground.proofs.fore.Fore.clocks_of_blit.Goals as goal
-
-pub returns-else-asks-clause-runs : goal.returns-else-asks-clause-runs
-returns-else-asks-clause-runs g c = none_made _ _ _ _

@@ -1,5 +1,0 @@
-use Rattle.foreground.proofs.BusLaws.{none_made}
-use Rattle.foreground.proofs.fore.Fore.clocks_of_processor.Goals as goal
-
-pub returns-then-asks-clause-runs : goal.returns-then-asks-clause-runs
-returns-then-asks-clause-runs g c = none_made _ _ _ _
