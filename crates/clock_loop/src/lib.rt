@@ -1,5 +1,5 @@
-//! The loop over many clocks: it makes as many calls of `Fore::advance` would, and looks for such clocks as it can
-//! pass over, or make at once or with less.
+//! The loop over many clocks of a foreground. It gives what as many calls of `Fore::advance` give, and looks for
+//! clocks that it can pass over, and for such as it can make at once or with less.
 #![tactic(auto)]
 
 mod ahead;

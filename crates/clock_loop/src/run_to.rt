@@ -1,4 +1,4 @@
-//! The foreground's call for many clocks.
+//! The call for many clocks.
 
 ghost use Rattle.std.specs.Prelude.{◌≡◌, ◌-◌, true, false, IsErr, OnOk, OnErr};
 ghost use Rattle.foreground.specs.Fore.{over, CanGo, GivesPart};
