@@ -8,7 +8,7 @@ mod fetches;
 mod line;
 mod lookout;
 mod quiet;
-mod run_to;
+mod run;
 mod turn;
 
-pub use run_to::run_to;
+pub use run::run_to;

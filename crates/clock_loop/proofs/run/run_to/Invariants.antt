@@ -1,7 +1,7 @@
 use Rattle.std.proofs.Common.{◌≡◌, ◌≤◌, ◌-◌, max, false}
 use Rattle.foreground.specs.Fore.{over, CanGo}
 use Rattle.clock_loop.specs.RunTo.{RunsOn, RisesIn}
-use Rattle.clock_loop.proofs.run_to.run_to.Given as goal
+use Rattle.clock_loop.proofs.run.run_to.Given as goal
 
 abbrev pub invariant-loop-fore : goal.invariant-loop-fore
 invariant-loop-fore g l =

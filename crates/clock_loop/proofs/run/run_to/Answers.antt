@@ -6,7 +6,7 @@ use Rattle.clock_loop.specs.RunTo.{RisesInSome}
 use Rattle.clock_loop.proofs.RunToLaws.{runs_none, runs_then, part_behind, can_go_on, no_reads, reads_then, few_behind, below_view, fresh_view}
 use Rattle.clock_loop.proofs.LineLaws.{can_go_then, reads_twice, few_twice}
 use Rattle.clock_loop.proofs.QuietRuns.{runs_more, runs_passed, can_go_behind, reads_passed, part_passed, few_passed}
-use Rattle.clock_loop.proofs.run_to.run_to.Goals as goal
+use Rattle.clock_loop.proofs.run.run_to.Goals as goal
 
 pub loop-fore-init : goal.loop-fore-init
 loop-fore-init g c = record {
