@@ -24,7 +24,8 @@ use Rattle.band_log.specs.Raster.{RasterValue}
 use Rattle.foreground.specs.Fore.{ForeValue, IsNew}
 use Rattle.clock_loop.specs.RunTo.{HasRunOn, RunsOn, HasCome}
 use Rattle.rewind_loop.proofs.LineLaws.{IsLater, clocks_on, least_last}
-use Rattle.ocs_run.specs.Audio.{audio_text, is_sampled, sampled, IsHeard, with_audio, grown_audio, MayHaveMade, MayHaveGrown, IsFourth, IsFourthName}
+use Rattle.ocs_run.specs.Audio.{audio_text, is_sampled, sampled, IsHeard, with_audio, grown_audio, MayHaveMade, MayHaveGrown}
+use Rattle.ocs_words.specs.Order.{IsFourth, IsFourthName}
 use Rattle.ocs_run.specs.Prefix.{IsPartOf, LeavesPrefixesOver, LeavesFiles}
 use Rattle.ocs_run.specs.Run.{HasFilesOver, HasAllFiles}
 use Rattle.ocs_run.specs.UnderwayCode.{AreUnsampled, CanRun, IsFresh, IsWritten, EndsFromStart}

@@ -12,11 +12,11 @@ use Rattle.serial_model.proofs.EndLaws.{has_end}
 use Rattle.disk_dma.specs.Disk.{disk_side, new_disk}
 use Rattle.disk_dma.specs.Track.{is_track}
 use Rattle.paula_audio.specs.Paula.{paula_side, reset_paula}
-use Rattle.ocs_run.specs.Order.{OrderValue, ExtraValue, NoFile, AudioFile, TrackFile}
+use Rattle.ocs_words.specs.Order.{OrderValue, ExtraValue, NoFile, AudioFile, TrackFile}
 use Rattle.ocs_run.specs.Top.{HasRunEnd}
-use Rattle.ocs_run.specs.RewindOrder.{RewindOrderValue}
+use Rattle.ocs_words.specs.RewindOrder.{RewindOrderValue}
 use Rattle.ocs_run.specs.Verdict.{Verdict, Rewind, of_track, of_extra, of_order, of_rewind, of_command}
-use Rattle.ocs_run.specs.Words.{CommandValue, Run, Gen, Rewind as GoTo}
+use Rattle.ocs_words.specs.Words.{CommandValue, Run, Gen, Rewind as GoTo}
 use Rattle.ocs_run.proofs.VerdictLaws.{inputs_are}
 
 if_ends : (good : Bool) (v w : Verdict) → HasRunEnd v → HasRunEnd w → HasRunEnd (if good then v else w)

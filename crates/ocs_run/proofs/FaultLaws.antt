@@ -5,11 +5,11 @@ use Rattle.out_files.specs.Answers.{NamesFile}
 use Rattle.out_files.specs.declared.fault.WriteFault.{WriteFault}
 use Rattle.out_files.specs.declared.fault.WriteFault.TheVariants.{Failed, OutOfMemory as NoRoomToWrite}
 use Rattle.ocs_run.specs.Audio.{IsAudioGrowable}
-use Rattle.ocs_run.specs.Fault.{IsRunFault, of_write}
+use Rattle.ocs_words.specs.Fault.{IsRunFault, of_write}
 use Rattle.out_files.specs.Places.{WritesFiles}
 use Rattle.ocs_run.specs.PlaceCode.{WritesRun}
-use Rattle.ocs_run.specs.declared.fault.Fault.{Fault}
-use Rattle.ocs_run.specs.declared.fault.Fault.TheVariants.{Usage, Inputs, BadTrack, UnreadTrack, Unwritten, Unsaid, OutOfMemory}
+use Rattle.ocs_words.specs.declared.fault.Fault.{Fault}
+use Rattle.ocs_words.specs.declared.fault.Fault.TheVariants.{Usage, Inputs, BadTrack, UnreadTrack, Unwritten, Unsaid, OutOfMemory}
 use Rattle.ocs_run.proofs.KeptLaws.{OnlyWrites-more}
 
 rose_since : (a b c : ℕ) → a ≤ b → Rose b c → Rose a c

@@ -3,7 +3,6 @@ pub mod CrewLaws
 pub mod EndLaws
 pub mod FaultLaws
 pub mod KeptLaws
-pub mod NameLaws
 pub mod OrderLaws
 pub mod ReadableLaws
 pub mod RunLaws

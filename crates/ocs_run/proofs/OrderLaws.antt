@@ -9,10 +9,10 @@ use Rattle.ocs_io.specs.Answers.{WhereTold}
 use Rattle.ocs_io.specs.Place.{Files, Outside, file}
 use Rattle.serial_model.specs.Side.{SideValue}
 use Rattle.ocs_run.specs.Command.{OrderAnswers, IsDone, IsUnwritten, IsWanting, HasOrdered, LeavesOrdered, out_names}
-use Rattle.ocs_run.specs.Fault.{IsRunFault}
+use Rattle.ocs_words.specs.Fault.{IsRunFault}
 use Rattle.run_inputs.specs.Inputs.{Holds, HoldsRun, AreInputsOf}
 use Rattle.run_inputs.proofs.VerdictLaws.{told_all, at_told}
-use Rattle.ocs_run.specs.Order.{OrderValue, ExtraValue, NoFile, AudioFile, TrackFile, HasTrack, audio_of}
+use Rattle.ocs_words.specs.Order.{OrderValue, ExtraValue, NoFile, AudioFile, TrackFile, HasTrack, audio_of}
 use Rattle.out_files.specs.OutFiles.{OutNames}
 use Rattle.ocs_run.specs.Run.{HasAllFiles}
 use Rattle.ocs_run.specs.Prefix.{LeavesFiles}
@@ -20,8 +20,8 @@ use Rattle.ocs_run.specs.SetupCode.{IsSetupOf}
 use Rattle.ocs_run.specs.Sides.{HoldsNoTrack, IsTrackFault, IsSideOf, IsSideFault}
 use Rattle.ocs_run.specs.Verdict.{Verdict, Usage as UsageVerdict, Absent, BadImage as BadImageVerdict, BadScript as BadScriptVerdict}
 use Rattle.ocs_run.specs.Verdict.{BadTrack as BadTrackVerdict, Good, Scene, Rewind, of_order, of_extra, of_track}
-use Rattle.ocs_run.specs.declared.fault.Fault.{Fault}
-use Rattle.ocs_run.specs.declared.fault.Fault.TheVariants.{Usage, Inputs, BadTrack, UnreadTrack, Unwritten, Unsaid, OutOfMemory}
+use Rattle.ocs_words.specs.declared.fault.Fault.{Fault}
+use Rattle.ocs_words.specs.declared.fault.Fault.TheVariants.{Usage, Inputs, BadTrack, UnreadTrack, Unwritten, Unsaid, OutOfMemory}
 use Rattle.ocs_run.specs.declared.run.Setup.{Setup}
 use Rattle.ocs_run.proofs.AudioLaws.{LeavesFiles-none}
 use Rattle.ocs_run.proofs.PrefixLaws.{prefixes_kept}

@@ -8,10 +8,10 @@ use Rattle.run_inputs.specs.Texts.{KeepsSaid}
 use Rattle.run_inputs.specs.declared.fault.InputFault.{InputFault}
 use Rattle.run_inputs.proofs.VerdictLaws.{told_all}
 use Rattle.ocs_run.specs.RewindAnswers.{RewindAnswers, AreLinesOf, SaysLines, SaysLinesPart}
-use Rattle.ocs_run.specs.RewindOrder.{RewindOrderValue}
+use Rattle.ocs_words.specs.RewindOrder.{RewindOrderValue}
 use Rattle.ocs_run.specs.RewindText.{AreLines}
 use Rattle.ocs_run.specs.Verdict.{Verdict, Rewind, of_rewind}
-use Rattle.ocs_run.specs.declared.fault.Fault.TheVariants.{Inputs}
+use Rattle.ocs_words.specs.declared.fault.Fault.TheVariants.{Inputs}
 use Rattle.ocs_run.proofs.VerdictLaws.{inputs_good}
 
 -- what is asked of good inputs

@@ -4,14 +4,14 @@ use Rattle.ocs_io.specs.Answers.{WhereTold}
 use Rattle.ocs_io.specs.Place.{Files, Outside, Rose, OnlySays}
 use Rattle.ocs_run.specs.Command.{IsDone, IsUnwritten, IsWanting}
 use Rattle.run_inputs.specs.Texts.{KeepsSaid}
-use Rattle.ocs_run.specs.Fault.{status_of}
+use Rattle.ocs_words.specs.Fault.{status_of}
 use Rattle.ocs_run.specs.RewindAnswers.{RewindAnswers, AreLinesOf, SaysLines, SaysLinesPart}
-use Rattle.ocs_run.specs.RewindOrder.{RewindOrderValue}
+use Rattle.ocs_words.specs.RewindOrder.{RewindOrderValue}
 use Rattle.ocs_run.specs.Top.{HasBadImage, HasBadScript, Completed, IsToldOfRewind}
 use Rattle.ocs_run.specs.Verdict.{Verdict, Usage as UsageVerdict, Absent, BadImage as BadImageVerdict}
 use Rattle.ocs_run.specs.Verdict.{BadScript as BadScriptVerdict, BadTrack as BadTrackVerdict, Good, Scene, Rewind, of_rewind}
-use Rattle.ocs_run.specs.declared.fault.Fault.{Fault}
-use Rattle.ocs_run.specs.declared.fault.Fault.TheVariants.{Usage, Inputs, BadTrack, UnreadTrack, Unwritten, Unsaid, OutOfMemory}
+use Rattle.ocs_words.specs.declared.fault.Fault.{Fault}
+use Rattle.ocs_words.specs.declared.fault.Fault.TheVariants.{Usage, Inputs, BadTrack, UnreadTrack, Unwritten, Unsaid, OutOfMemory}
 use Rattle.run_inputs.specs.declared.fault.InputFault.TheVariants.{BadImage, BadScript, Unread, OutOfMemory as NoRoomForInputs}
 use Rattle.run_inputs.proofs.FaultLaws.{not_two, not_six, not_nine, image_cause, script_cause, unread_cause, told_of_inputs}
 use Rattle.ocs_run.proofs.RewindOrderLaws.{asked_by}

@@ -6,19 +6,19 @@ use Rattle.ocs_io.specs.Answers.{WhereTold}
 use Rattle.ocs_io.specs.Place.{Files, Outside, Rose, OnlySays, said_more}
 use Rattle.run_inputs.specs.Texts.{Says, SaysSurely, KeepsSaid}
 use Rattle.ocs_run.specs.Command.{OrderAnswers, IsDone, IsUnwritten, IsWanting}
-use Rattle.ocs_run.specs.Fault.{status_of}
-use Rattle.ocs_run.specs.Order.{OrderValue}
+use Rattle.ocs_words.specs.Fault.{status_of}
+use Rattle.ocs_words.specs.Order.{OrderValue}
 use Rattle.ocs_run.specs.SceneAnswers.{SceneAnswers, SaysSummaryPart}
-use Rattle.ocs_run.specs.Texts.{usage_text, fault_text, text_of}
+use Rattle.ocs_words.specs.Texts.{usage_text, fault_text, text_of}
 use Rattle.ocs_run.specs.RewindAnswers.{SaysLinesPart}
-use Rattle.ocs_run.specs.RewindOrder.{RewindOrderValue}
+use Rattle.ocs_words.specs.RewindOrder.{RewindOrderValue}
 use Rattle.ocs_run.specs.Top.{UsageAnswers, CommandAnswers, SaysNothingElse, IsEarly, WritesNoFile, IsRefused}
 use Rattle.ocs_run.specs.Top.{HasBadImage, HasBadScript, HasBadTrack, Completed, IsToldOfRun, IsToldOfRewind, IsTold, SaysFault, SaysOwn, SaysStatus}
 use Rattle.ocs_run.specs.Verdict.{Verdict, Usage as UsageVerdict, Absent, BadImage as BadImageVerdict, of_extra}
 use Rattle.ocs_run.specs.Verdict.{BadScript as BadScriptVerdict, BadTrack as BadTrackVerdict, Good, Scene, Rewind as RewindVerdict, of_order, of_command}
-use Rattle.ocs_run.specs.Words.{CommandValue, Run, Gen, Rewind, command_of}
-use Rattle.ocs_run.specs.declared.fault.Fault.{Fault}
-use Rattle.ocs_run.specs.declared.fault.Fault.TheVariants.{Usage, Inputs, BadTrack, UnreadTrack, Unwritten, Unsaid, OutOfMemory}
+use Rattle.ocs_words.specs.Words.{CommandValue, Run, Gen, Rewind, command_of}
+use Rattle.ocs_words.specs.declared.fault.Fault.{Fault}
+use Rattle.ocs_words.specs.declared.fault.Fault.TheVariants.{Usage, Inputs, BadTrack, UnreadTrack, Unwritten, Unsaid, OutOfMemory}
 use Rattle.run_inputs.specs.declared.fault.InputFault.TheVariants.{BadImage, BadScript, Unread, OutOfMemory as NoRoomForInputs}
 use Rattle.run_inputs.proofs.FaultLaws.{told_more, not_two, not_six, not_nine, image_cause, script_cause, unread_cause, told_of_inputs}
 use Rattle.ocs_run.proofs.OrderLaws.{IsOfRun, of_run, wants}

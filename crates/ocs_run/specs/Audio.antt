@@ -1,10 +1,9 @@
 -- What a run sounds, as the audio file has it.
-use Rattle.std.specs.Prelude.{◌≡◌, ◌≢◌, ℕ, zero, suc, ◌==◌, ◌||◌, ◌⊎◌, Bool, true, if◌then◌else◌, List, [], ◌++◌, take, Option, Some, None}
+use Rattle.std.specs.Prelude.{◌≡◌, ℕ, zero, suc, ◌==◌, ◌||◌, ◌⊎◌, Bool, true, if◌then◌else◌, List, [], ◌++◌, take, Option, Some, None}
 use Rattle.ocs_base.specs.Script.{ScriptValue}
 use Rattle.ocs_base.specs.declared.beam.Beam.{Beam}
 use Rattle.foreground.specs.Fore.{ForeValue}
 use Rattle.ocs_io.specs.Place.{Files, with_file, grown}
-use Rattle.out_files.specs.OutFiles.{OutNames}
 use Rattle.serial_model.specs.Serial.{state_over}
 use Rattle.serial_model.specs.Side.{SideValue, shown_by_side}
 use Rattle.ocs_run.specs.declared.audio.Recording.{Recording}
@@ -49,13 +48,3 @@ MayHaveMade audio old new = (new ≡ old) ⊎ (new ≡ with_audio audio old [])
 
 abbrev pub MayHaveGrown : Option (List ℕ) → List ℕ → Option Files → Option Files → Type 0
 MayHaveGrown audio piece old new = (new ≡ old) ⊎ ((count : ℕ) × (new ≡ grown_audio audio old (take count piece)))
-
--- the name of the audio file, where there is one, is none of the three
-pub record IsFourth (names : OutNames) (name : List ℕ) : Type 0 where
-  pub frames : names.frames ≢ name
-  pub trace : names.trace ≢ name
-  pub memory : names.memory ≢ name
-
-abbrev pub IsFourthName : OutNames → Option (List ℕ) → Type 0
-IsFourthName names None = Unit {0}
-IsFourthName names (Some name) = IsFourth names name

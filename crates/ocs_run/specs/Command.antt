@@ -5,11 +5,11 @@ use Rattle.ocs_base.specs.declared.system.System.{System}
 use Rattle.ocs_io.specs.Answers.{WhereTold}
 use Rattle.ocs_io.specs.Place.{Files, Outside, Rose}
 use Rattle.out_files.specs.OutFiles.{OutNames, OutFilesValue}
-use Rattle.ocs_run.specs.declared.fault.Fault.{Fault}
-use Rattle.ocs_run.specs.declared.fault.Fault.TheVariants.{Usage, Inputs, BadTrack, UnreadTrack, Unwritten, Unsaid, OutOfMemory}
-use Rattle.ocs_run.specs.Fault.{IsOutputOf}
+use Rattle.ocs_words.specs.declared.fault.Fault.{Fault}
+use Rattle.ocs_words.specs.declared.fault.Fault.TheVariants.{Usage, Inputs, BadTrack, UnreadTrack, Unwritten, Unsaid, OutOfMemory}
+use Rattle.ocs_words.specs.Fault.{IsOutputOf}
 use Rattle.run_inputs.specs.Inputs.{HoldsRun, IsInputFault}
-use Rattle.ocs_run.specs.Order.{OrderValue, HasTrack, audio_of}
+use Rattle.ocs_words.specs.Order.{OrderValue, HasTrack, audio_of}
 use Rattle.ocs_run.specs.Run.{HasAllFiles}
 use Rattle.ocs_run.specs.Prefix.{LeavesFiles}
 use Rattle.ocs_run.specs.Verdict.{Verdict, Usage as UsageVerdict, Absent, BadImage as BadImageVerdict, BadScript as BadScriptVerdict}

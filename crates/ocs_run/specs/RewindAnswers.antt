@@ -4,12 +4,12 @@ use Rattle.ocs_io.specs.Answers.{WhereTold}
 use Rattle.ocs_io.specs.Place.{Outside, Rose, said_more}
 use Rattle.run_inputs.specs.Inputs.{IsInputFault}
 use Rattle.run_inputs.specs.Texts.{KeepsSaid}
-use Rattle.ocs_run.specs.RewindOrder.{RewindOrderValue}
+use Rattle.ocs_words.specs.RewindOrder.{RewindOrderValue}
 use Rattle.ocs_run.specs.RewindText.{AreLines}
 use Rattle.ocs_run.specs.Verdict.{Verdict, Usage as UsageVerdict, Absent, BadImage as BadImageVerdict, BadScript as BadScriptVerdict}
 use Rattle.ocs_run.specs.Verdict.{BadTrack as BadTrackVerdict, Good, Scene, Rewind, of_rewind}
-use Rattle.ocs_run.specs.declared.fault.Fault.{Fault}
-use Rattle.ocs_run.specs.declared.fault.Fault.TheVariants.{Usage, Inputs, BadTrack, UnreadTrack, Unwritten, Unsaid, OutOfMemory}
+use Rattle.ocs_words.specs.declared.fault.Fault.{Fault}
+use Rattle.ocs_words.specs.declared.fault.Fault.TheVariants.{Usage, Inputs, BadTrack, UnreadTrack, Unwritten, Unsaid, OutOfMemory}
 
 -- the text is the lines that a verdict asks for, which only that of a rewind does
 abbrev pub AreLinesOf : List ℕ → Verdict → Type 0

@@ -7,8 +7,8 @@ use Rattle.scene_gen.specs.Scene.{scene_image, scene_script}
 use Rattle.run_inputs.specs.Texts.{KeepsSaid}
 use Rattle.ocs_run.specs.Run.{HasFiles}
 use Rattle.ocs_run.specs.SceneSummary.{IsSummary}
-use Rattle.ocs_run.specs.declared.fault.Fault.{Fault}
-use Rattle.ocs_run.specs.declared.fault.Fault.TheVariants.{Usage, Inputs, BadTrack, UnreadTrack, Unwritten, Unsaid, OutOfMemory}
+use Rattle.ocs_words.specs.declared.fault.Fault.{Fault}
+use Rattle.ocs_words.specs.declared.fault.Fault.TheVariants.{Usage, Inputs, BadTrack, UnreadTrack, Unwritten, Unsaid, OutOfMemory}
 
 -- the summary was said, whole
 pub record SaysSummary (number : ℕ) (old new : Outside) : Type 0 where

@@ -7,9 +7,9 @@ use Rattle.ocs_io.specs.Place.{Files, Outside, Rose, file}
 use Rattle.ocs_base.specs.declared.chip_size.ChipSize.{ChipSize}
 use Rattle.paula_audio.specs.Paula.{paula_side, reset_paula}
 use Rattle.run_inputs.specs.Inputs.{Holds}
-use Rattle.ocs_run.specs.declared.fault.Fault.{Fault}
-use Rattle.ocs_run.specs.declared.fault.Fault.TheVariants.{Usage, Inputs, BadTrack, UnreadTrack, Unwritten, Unsaid, OutOfMemory}
-use Rattle.ocs_run.specs.Order.{ExtraValue, NoFile, AudioFile, TrackFile}
+use Rattle.ocs_words.specs.declared.fault.Fault.{Fault}
+use Rattle.ocs_words.specs.declared.fault.Fault.TheVariants.{Usage, Inputs, BadTrack, UnreadTrack, Unwritten, Unsaid, OutOfMemory}
+use Rattle.ocs_words.specs.Order.{ExtraValue, NoFile, AudioFile, TrackFile}
 use Rattle.serial_model.specs.Side.{SideValue, no_side}
 
 -- the file is there, and has not the form of a track

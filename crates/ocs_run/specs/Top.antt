@@ -8,18 +8,18 @@ use Rattle.serial_model.specs.Serial.{IsEnd, IsEndOver}
 use Rattle.run_inputs.specs.Inputs.{HoldsRun, IsToldOfInputs}
 use Rattle.run_inputs.specs.Texts.{Says, KeepsSaid}
 use Rattle.ocs_run.specs.Command.{OrderAnswers}
-use Rattle.ocs_run.specs.Fault.{IsOutputOf, status_of}
-use Rattle.ocs_run.specs.Order.{OrderValue, HasTrack, audio_of}
+use Rattle.ocs_words.specs.Fault.{IsOutputOf, status_of}
+use Rattle.ocs_words.specs.Order.{OrderValue, HasTrack, audio_of}
 use Rattle.ocs_run.specs.SceneAnswers.{SceneAnswers, SaysSummary, SaysSummaryPart}
 use Rattle.ocs_run.specs.Sides.{ReadableTrack}
-use Rattle.ocs_run.specs.Texts.{text_of}
+use Rattle.ocs_words.specs.Texts.{text_of}
 use Rattle.ocs_run.specs.Verdict.{Verdict, Usage as UsageVerdict, Absent, BadImage as BadImageVerdict, BadScript as BadScriptVerdict}
 use Rattle.ocs_run.specs.Verdict.{BadTrack as BadTrackVerdict, Good, Scene, Rewind as RewindVerdict}
 use Rattle.ocs_run.specs.RewindAnswers.{RewindAnswers, SaysLines, SaysLinesPart}
-use Rattle.ocs_run.specs.RewindOrder.{RewindOrderValue}
-use Rattle.ocs_run.specs.Words.{CommandValue, Run, Gen, Rewind, command_of}
-use Rattle.ocs_run.specs.declared.fault.Fault.{Fault}
-use Rattle.ocs_run.specs.declared.fault.Fault.TheVariants.{Usage, Inputs, BadTrack, UnreadTrack, Unwritten, Unsaid, OutOfMemory}
+use Rattle.ocs_words.specs.RewindOrder.{RewindOrderValue}
+use Rattle.ocs_words.specs.Words.{CommandValue, Run, Gen, Rewind, command_of}
+use Rattle.ocs_words.specs.declared.fault.Fault.{Fault}
+use Rattle.ocs_words.specs.declared.fault.Fault.TheVariants.{Usage, Inputs, BadTrack, UnreadTrack, Unwritten, Unsaid, OutOfMemory}
 
 -- the place lets the input files of an order be read
 pub record ReadableOrder (readable : List ℕ → Type 0) (order : OrderValue) : Type 0 where

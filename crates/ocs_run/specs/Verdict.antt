@@ -8,9 +8,9 @@ use Rattle.paula_audio.specs.Paula.{paula_side, reset_paula}
 use Rattle.run_inputs.specs.Verdict.{InputsVerdict, Absent as NoInput, BadImage as NoImage, BadScript as NoScript, Good as GoodInputs, inputs_verdict}
 use Rattle.script_read.specs.declared.fault.BadKind.{BadKind}
 use Rattle.serial_model.specs.Side.{SideValue, no_side}
-use Rattle.ocs_run.specs.Order.{OrderValue, ExtraValue, NoFile, AudioFile, TrackFile}
-use Rattle.ocs_run.specs.RewindOrder.{RewindOrderValue}
-use Rattle.ocs_run.specs.Words.{CommandValue, Run, Gen, Rewind as GoTo}
+use Rattle.ocs_words.specs.Order.{OrderValue, ExtraValue, NoFile, AudioFile, TrackFile}
+use Rattle.ocs_words.specs.RewindOrder.{RewindOrderValue}
+use Rattle.ocs_words.specs.Words.{CommandValue, Run, Gen, Rewind as GoTo}
 
 -- the first of these that applies, in the order in which the command does its work
 pub data Verdict : Type 0 where

@@ -6,10 +6,10 @@ ghost use Rattle.ocs_run.specs.Audio.{is_sampled as is_sample_place, sampled, wi
 ghost use Rattle.out_files.specs.Places.{LeavesPlace};
 ghost use Rattle.ocs_run.specs.PlaceCode.{WritesRun};
 
-use crate::fault::{Fault, Output};
 use crew::CrewSide;
 use ocs_base::{Beam, OutOfMemory};
 use ocs_io::{Place, WriteRefusal};
+use ocs_words::{Fault, Output};
 
 /// What was taken of a run's clocks so far, `bytes`, where it is taken, `on`.
 #[derive(Drop)]

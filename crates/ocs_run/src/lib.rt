@@ -3,17 +3,12 @@
 
 mod audio;
 mod command;
-mod fault;
-mod order;
 mod rewind;
-mod rewind_order;
 mod rewind_text;
 mod run;
 mod scene;
 mod sides;
-mod texts;
 mod top;
-mod words;
 
 pub use crew::{Gate, NoGate};
 pub use top::ocs_main;

@@ -3,16 +3,15 @@
 ghost use Rattle.std.specs.Prelude.{◌≡◌, ◌≤◌, true, IfOk};
 ghost use Rattle.ocs_base.specs.Image.{is_image, fits_chip};
 ghost use Rattle.ocs_base.specs.Limits.{IsRunnable};
-ghost use Rattle.ocs_run.specs.AskedCode.{rewind_value, HasRanges};
+ghost use Rattle.ocs_words.specs.AskedCode.{rewind_value, HasRanges};
 ghost use Rattle.ocs_run.specs.RewindAnswers.{RewindAnswers};
 ghost use Rattle.ocs_run.specs.RewindText.{AreLines};
 
-use crate::fault::Fault;
-use crate::rewind_order::RewindOrder;
 use crate::rewind_text::make_lines;
 use band_log::Run;
 use ocs_base::{OutOfMemory, Script};
 use ocs_io::{Place, WriteRefusal};
+use ocs_words::{Fault, RewindOrder};
 use rewind_loop::Rewind;
 use run_inputs::{Inputs, read_inputs};
 use serial_model::NoSide;

@@ -4,19 +4,18 @@
 ghost use Rattle.std.specs.Prelude.{◌≡◌, ◌++◌, ◌^◌, ◌<◌, ◌≤◌, ◌==◌, [], length, sum, decimal, codes, unwrap_or, IfOk, IfErr, OnOk};
 ghost use Rattle.std.specs.FinMap.{get};
 ghost use Rattle.ocs_io.specs.Place.{OnlySays};
-ghost use Rattle.ocs_run.specs.AskedCode.{IsHeight};
+ghost use Rattle.ocs_words.specs.AskedCode.{IsHeight};
 ghost use Rattle.ocs_run.specs.Command.{IsOutOf};
 ghost use Rattle.ocs_run.specs.SceneAnswers.{SceneAnswers, HasSceneFiles, scene_names};
 ghost use Rattle.ocs_run.specs.SceneSummary.{IsSummary, summary_text, number_line, line_count};
 
 use crate::command::owned;
-use crate::fault::Fault;
 use crate::run::{Drawing, Setup, run_files};
-use crate::words::SceneOrder;
 use band_log::Run;
 use crew::{CrewSide, Gate};
 use ocs_base::{OutOfMemory, System};
 use ocs_io::{Place, SureShelf, WriteRefusal, put_dec};
+use ocs_words::{Fault, SceneOrder};
 use out_files::OutFiles;
 use scene_gen::scene;
 use std::alloc::Global;

@@ -5,17 +5,16 @@ ghost use Rattle.crew.specs.Crew.{side_seen};
 ghost use Rattle.disk_dma.specs.Track.{is_track as good_track};
 ghost use Rattle.ocs_base.specs.Sizes.{bytes_of};
 ghost use Rattle.ocs_io.specs.Place.{OnlyReads};
-ghost use Rattle.ocs_run.specs.AskedCode.{extra_value};
+ghost use Rattle.ocs_words.specs.AskedCode.{extra_value};
 ghost use Rattle.ocs_run.specs.Sides.{ReadableTrack, IsSideOf, IsSideFault, IsTrackOf, IsTrackFault};
 ghost use Rattle.out_files.specs.Places.{LeavesPlace};
 ghost use Rattle.serial_model.specs.Side.{FitsSide};
 
-use crate::fault::Fault;
-use crate::order::Extra;
 use crew::CrewSide;
 use disk_dma::Disk;
 use ocs_base::ChipSize;
 use ocs_io::{Place, ReadRefusal};
+use ocs_words::{Extra, Fault};
 use paula_audio::Paula;
 use std::alloc::Global;
 

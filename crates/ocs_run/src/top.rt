@@ -3,22 +3,20 @@
 ghost use Rattle.std.specs.Prelude.{◌≡◌, ◌⊎◌, ◌↔◌, map, string_bytes, None};
 ghost use Rattle.ocs_io.specs.Answers.{WhereTold};
 ghost use Rattle.ocs_io.specs.Place.{Rose};
-ghost use Rattle.ocs_run.specs.Words.{command_of};
+ghost use Rattle.ocs_words.specs.Words.{command_of};
 ghost use Rattle.ocs_run.specs.Verdict.{of_command};
 ghost use Rattle.ocs_run.specs.Command.{IsDone, IsUnwritten, IsWanting};
 ghost use Rattle.ocs_run.specs.Top.{ReadableInputs, ReadableCommand, CommandAnswers, SaysNothingElse, SaysStatus, IsEarly};
 ghost use Rattle.ocs_run.specs.Top.{WritesNoFile, IsRefused, HasBadImage, HasBadScript, HasBadTrack, Completed, HasRunEnd};
-ghost use Rattle.ocs_run.specs.Texts.{usage_text};
+ghost use Rattle.ocs_words.specs.Texts.{usage_text};
 ghost use Rattle.run_inputs.specs.Texts.{SaysSurely};
 
 use crate::command::run_order;
-use crate::fault::Fault;
 use crate::rewind::run_rewind;
 use crate::scene::run_scene;
-use crate::texts::say_fault;
-use crate::words::{Command, read_command};
 use crew::Gate;
 use ocs_io::Place;
+use ocs_words::{Command, Fault, read_command, say_fault};
 use std::alloc::Global;
 use std::sync::Wait;
 use std::thread::Threads;

@@ -1,9 +1,9 @@
 use Rattle.std.proofs.Common.{arith, subst, ◌∙◌}
 use Rattle.crew.specs.Crew.{side_seen}
-use Rattle.ocs_run.specs.AskedCode.{value_of, extra_value}
+use Rattle.ocs_words.specs.AskedCode.{value_of, extra_value}
 use Rattle.ocs_run.specs.Command.{OrderAnswers}
 use Rattle.ocs_run.specs.Sides.{IsSideOf}
-use Rattle.ocs_run.specs.declared.fault.Fault.TheVariants.{Inputs}
+use Rattle.ocs_words.specs.declared.fault.Fault.TheVariants.{Inputs}
 use Rattle.ocs_run.proofs.OrderLaws.{side_fault, order_ended, order_wanting}
 use Rattle.ocs_run.proofs.VerdictLaws.{by_err}
 use Rattle.ocs_run.proofs.command.run_order.Goals as goal

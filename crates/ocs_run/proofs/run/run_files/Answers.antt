@@ -6,7 +6,7 @@ use Rattle.run_side.specs.declared.side.RunSide.{RunSide}
 use Rattle.serial_bands.specs.Run.{RunOf}
 use Rattle.foreground.specs.Fore.{IsNew}
 use Rattle.out_files.specs.OutFiles.{OutFilesValue}
-use Rattle.ocs_run.specs.Audio.{IsFourthName}
+use Rattle.ocs_words.specs.Order.{IsFourthName}
 use Rattle.ocs_run.specs.Prefix.{LeavesFiles}
 use Rattle.ocs_run.specs.Run.{HasAllFiles}
 use Rattle.ocs_run.specs.UnderwayCode.{run_of, fore_of, IsFresh}

@@ -1,5 +1,5 @@
 use Rattle.std.proofs.Common.{map, string_bytes}
-use Rattle.ocs_run.specs.Words.{command_of}
+use Rattle.ocs_words.specs.Words.{command_of}
 use Rattle.ocs_run.proofs.EndLaws.{ends_where_told}
 use Rattle.ocs_run.proofs.ReadableLaws.{readable_command}
 use Rattle.ocs_run.proofs.TopLaws.{done_clause, complete_done_clause, usage_iff_clause, image_clause, wanting_clause}

@@ -2,8 +2,8 @@
 use Rattle.std.specs.Prelude.{ℕ, Bool, false, if◌then◌else◌, List, [], ◌∷◌, codes, bytes_eq, Option, Some, None, option_map}
 use Rattle.ocs_io.specs.Numbers.{dec_of}
 use Rattle.run_inputs.specs.Names.{kept_within}
-use Rattle.ocs_run.specs.Order.{OrderValue, order_of, band_of, workers_of}
-use Rattle.ocs_run.specs.RewindOrder.{RewindOrderValue, rewind_order_of}
+use Rattle.ocs_words.specs.Order.{OrderValue, order_of, band_of, workers_of}
+use Rattle.ocs_words.specs.RewindOrder.{RewindOrderValue, rewind_order_of}
 
 -- what the words of `gen` ask for
 pub record SceneOrderValue : Type 0 where

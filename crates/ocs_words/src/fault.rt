@@ -27,7 +27,7 @@ pub enum Fault {
 
 impl From<OutOfMemory> for Fault {
     ghost use Rattle.std.specs.Prelude.{◌≡◌};
-    ghost use Rattle.ocs_run.specs.declared.fault.Fault.{Fault};
+    ghost use Rattle.ocs_words.specs.declared.fault.Fault.{Fault};
 
     ghost from_gives = { λ refused fault. fault ≡ Fault.OutOfMemory };
 
@@ -38,7 +38,7 @@ impl From<OutOfMemory> for Fault {
 
 impl From<InputFault> for Fault {
     ghost use Rattle.std.specs.Prelude.{◌≡◌};
-    ghost use Rattle.ocs_run.specs.declared.fault.Fault.{Fault};
+    ghost use Rattle.ocs_words.specs.declared.fault.Fault.{Fault};
 
     ghost from_gives = { λ from fault. fault ≡ Fault.Inputs from };
 
@@ -49,7 +49,7 @@ impl From<InputFault> for Fault {
 
 impl From<WriteFault> for Fault {
     ghost use Rattle.std.specs.Prelude.{◌≡◌};
-    ghost use Rattle.ocs_run.specs.Fault.{of_write};
+    ghost use Rattle.ocs_words.specs.Fault.{of_write};
 
     ghost from_gives = { λ from fault. fault ≡ of_write from };
 
@@ -65,7 +65,7 @@ impl From<WriteFault> for Fault {
 
 impl Fault {
     ghost use Rattle.std.specs.Prelude.{◌≡◌};
-    ghost use Rattle.ocs_run.specs.Fault.{status_of};
+    ghost use Rattle.ocs_words.specs.Fault.{status_of};
 
     /// The exit status of the command.
     pub fn status(self) -> u8

@@ -2,12 +2,12 @@
 use Rattle.std.specs.Prelude.{ℕ, if◌then◌else◌, List, [], ◌++◌, codes, Option, Some, None, unwrap_or}
 use Rattle.out_files.specs.declared.fault.OutFile.TheVariants.{Frames, Trace as TraceOut, Memory}
 use Rattle.run_inputs.specs.Texts.{input_fault_text}
-use Rattle.ocs_run.specs.declared.fault.Fault.{Fault}
-use Rattle.ocs_run.specs.declared.fault.Fault.TheVariants.{Usage, Inputs, BadTrack, UnreadTrack, Unwritten, Unsaid, OutOfMemory}
-use Rattle.ocs_run.specs.declared.fault.Output.{Output}
-use Rattle.ocs_run.specs.declared.fault.Output.TheVariants.{File, Audio}
-use Rattle.ocs_run.specs.Order.{OrderValue, NoFile, audio_of, track_of}
-use Rattle.ocs_run.specs.Words.{CommandValue, Run, Gen, Rewind, command_of, begins_with}
+use Rattle.ocs_words.specs.declared.fault.Fault.{Fault}
+use Rattle.ocs_words.specs.declared.fault.Fault.TheVariants.{Usage, Inputs, BadTrack, UnreadTrack, Unwritten, Unsaid, OutOfMemory}
+use Rattle.ocs_words.specs.declared.fault.Output.{Output}
+use Rattle.ocs_words.specs.declared.fault.Output.TheVariants.{File, Audio}
+use Rattle.ocs_words.specs.Order.{OrderValue, NoFile, audio_of, track_of}
+use Rattle.ocs_words.specs.Words.{CommandValue, Run, Gen, Rewind, command_of, begins_with}
 
 abbrev pub track_name : OrderValue → List ℕ
 track_name order = unwrap_or (track_of order.extra) []

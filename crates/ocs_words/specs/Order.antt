@@ -1,6 +1,7 @@
 -- The words of the command line.
-use Rattle.std.specs.Prelude.{ℕ, if◌then◌else◌, List, [], ◌∷◌, codes, bytes_eq, Option, Some, None}
+use Rattle.std.specs.Prelude.{◌≢◌, ℕ, if◌then◌else◌, List, [], ◌∷◌, codes, bytes_eq, Option, Some, None}
 use Rattle.ocs_io.specs.Numbers.{dec_of}
+use Rattle.out_files.specs.OutFiles.{OutNames}
 use Rattle.run_inputs.specs.Names.{are_names, kept_within}
 
 -- the file that a run has besides the two that every run reads and the three that it writes
@@ -121,3 +122,13 @@ order_in_words (Some w) = order_from w
 
 abbrev pub order_of : List (List ℕ) → Option OrderValue
 order_of words = order_in_words (run_words_of words)
+
+-- the name of the audio file, where there is one, is none of the three
+pub record IsFourth (names : OutNames) (name : List ℕ) : Type 0 where
+  pub frames : names.frames ≢ name
+  pub trace : names.trace ≢ name
+  pub memory : names.memory ≢ name
+
+abbrev pub IsFourthName : OutNames → Option (List ℕ) → Type 0
+IsFourthName names None = Unit {0}
+IsFourthName names (Some name) = IsFourth names name

@@ -3,10 +3,10 @@ use Rattle.out_files.specs.declared.fault.WriteFault.{WriteFault}
 use Rattle.out_files.specs.declared.fault.WriteFault.TheVariants.{Failed, OutOfMemory as NoRoomToWrite}
 use Rattle.std.specs.Prelude.{ℕ, List, Option, Some, None}
 use Rattle.ocs_io.specs.Place.{Outside, Rose}
-use Rattle.ocs_run.specs.declared.fault.Fault.{Fault}
-use Rattle.ocs_run.specs.declared.fault.Fault.TheVariants.{Usage, Inputs, BadTrack, UnreadTrack, Unwritten, Unsaid, OutOfMemory as NoRoom}
-use Rattle.ocs_run.specs.declared.fault.Output.{Output}
-use Rattle.ocs_run.specs.declared.fault.Output.TheVariants.{File, Audio}
+use Rattle.ocs_words.specs.declared.fault.Fault.{Fault}
+use Rattle.ocs_words.specs.declared.fault.Fault.TheVariants.{Usage, Inputs, BadTrack, UnreadTrack, Unwritten, Unsaid, OutOfMemory as NoRoom}
+use Rattle.ocs_words.specs.declared.fault.Output.{Output}
+use Rattle.ocs_words.specs.declared.fault.Output.TheVariants.{File, Audio}
 use Rattle.run_inputs.specs.Fault.{status_of as status_of_inputs}
 
 -- that of a run, whose files could not be written or which wanted memory

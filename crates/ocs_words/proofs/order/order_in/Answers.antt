@@ -1,10 +1,10 @@
 use Rattle.std.proofs.Common.{◌≡◌, ◌∷◌, true, arith, rules}
 use Rattle.std.proofs.lemmas.Grind.{common_steps}
-use Rattle.ocs_run.specs.AskedCode.{extra_value}
+use Rattle.ocs_words.specs.AskedCode.{extra_value}
 use Rattle.run_inputs.specs.Names.{are_names}
-use Rattle.ocs_run.specs.Order.{extra_names}
-use Rattle.ocs_run.proofs.NameLaws.{three_apart, audio_apart}
-use Rattle.ocs_run.proofs.order.order_in.Goals as goal
+use Rattle.ocs_words.specs.Order.{extra_names}
+use Rattle.ocs_words.proofs.NameLaws.{three_apart, audio_apart}
+use Rattle.ocs_words.proofs.order.order_in.Goals as goal
 
 pub returns-clause-apart : goal.returns-clause-apart
 returns-clause-apart c =

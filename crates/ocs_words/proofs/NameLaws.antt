@@ -1,9 +1,8 @@
 -- Names that are new are others.
 use Rattle.std.proofs.Common.{◌≡◌, ◌≢◌, ℕ, Bool, true, false, not, ◌&&◌, List, [], ◌∷◌, bytes_eq, Some, refl, subst}
 use Rattle.std.proofs.lemmas.Slice.Eq.{bytes_eq-Decides}
-use Rattle.ocs_run.specs.Audio.{IsFourthName}
 use Rattle.run_inputs.specs.Names.{is_new, are_names}
-use Rattle.ocs_run.specs.Order.{ExtraValue, NoFile, AudioFile, TrackFile, extra_names, audio_of}
+use Rattle.ocs_words.specs.Order.{ExtraValue, NoFile, AudioFile, TrackFile, extra_names, audio_of, IsFourthName}
 
 both_first : (a b : Bool) → (a && b) ≡ true → a ≡ true
 both_first true b e = refl

@@ -2,8 +2,8 @@
 
 ghost use Rattle.std.specs.Prelude.{◌≡◌, ◌++◌, [], map, option_map, unwrap_or, string_bytes, codes};
 ghost use Rattle.ocs_io.specs.Place.{OnlySays};
-ghost use Rattle.ocs_run.specs.Words.{command_of};
-ghost use Rattle.ocs_run.specs.Texts.{text_of, usage_text, order_or_none, track_name as name_of_track, output_name as name_of_output};
+ghost use Rattle.ocs_words.specs.Words.{command_of};
+ghost use Rattle.ocs_words.specs.Texts.{text_of, usage_text, order_or_none, track_name as name_of_track, output_name as name_of_output};
 ghost use Rattle.run_inputs.specs.Texts.{Says, SaysSurely, name_of_input};
 
 use crate::fault::{Fault, Output};

@@ -1,8 +1,8 @@
 use Rattle.std.proofs.Common.{◌++◌, codes, map, string_bytes, sym, subst}
 use Rattle.run_inputs.specs.Texts.{Says, input_fault_text}
-use Rattle.ocs_run.specs.Texts.{fault_text, text_of, order_or_none}
-use Rattle.ocs_run.specs.Words.{command_of}
-use Rattle.ocs_run.proofs.texts.say_fault.Goals as goal
+use Rattle.ocs_words.specs.Texts.{fault_text, text_of, order_or_none}
+use Rattle.ocs_words.specs.Words.{command_of}
+use Rattle.ocs_words.proofs.texts.say_fault.Goals as goal
 
 pub returns-in-Usage-clause-says : goal.returns-in-Usage-clause-says
 unfolding fault_text

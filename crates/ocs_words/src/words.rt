@@ -1,8 +1,8 @@
 //! The commands of the command line, by its first word.
 
 ghost use Rattle.std.specs.Prelude.{◌≡◌, ◌≤◌, map, string_bytes, IfSome};
-ghost use Rattle.ocs_run.specs.Words.{command_of, scene_order_of, number_of, begins_with as first_is};
-ghost use Rattle.ocs_run.specs.AskedCode.{IsCommand, IsSceneOrder, WritesApart, IsHeight, HasHeight, HasFewWorkers, IsInRange};
+ghost use Rattle.ocs_words.specs.Words.{command_of, scene_order_of, number_of, begins_with as first_is};
+ghost use Rattle.ocs_words.specs.AskedCode.{IsCommand, IsSceneOrder, WritesApart, IsHeight, HasHeight, HasFewWorkers, IsInRange};
 
 use crate::order::{Order, read_band, read_order, read_workers};
 use crate::rewind_order::{RewindOrder, read_rewind_order};

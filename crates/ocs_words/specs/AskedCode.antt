@@ -1,17 +1,16 @@
 -- What a reader of the command line answers.
 use Rattle.std.specs.Prelude.{◌≡◌, ◌≤◌, ℕ, ◌≢◌, Option, Some, None}
-use Rattle.ocs_run.specs.Audio.{IsFourthName}
-use Rattle.ocs_run.specs.Order.{OrderValue, RunWordsValue, ExtraValue, NoFile, AudioFile, TrackFile, audio_of}
-use Rattle.ocs_run.specs.RewindOrder.{RewindOrderValue}
-use Rattle.ocs_run.specs.Words.{SceneOrderValue, CommandValue, Run as RunValue, Gen as GenValue, Rewind as RewindValue}
-use Rattle.ocs_run.specs.declared.order.Extra.{Extra}
-use Rattle.ocs_run.specs.declared.order.Extra.TheVariants.{None as Neither, Audio, Track}
-use Rattle.ocs_run.specs.declared.order.Order.{Order}
-use Rattle.ocs_run.specs.declared.order.RunWords.{RunWords}
-use Rattle.ocs_run.specs.declared.rewind_order.RewindOrder.{RewindOrder}
-use Rattle.ocs_run.specs.declared.words.Command.{Command}
-use Rattle.ocs_run.specs.declared.words.Command.TheVariants.{Run, Gen, Rewind}
-use Rattle.ocs_run.specs.declared.words.SceneOrder.{SceneOrder}
+use Rattle.ocs_words.specs.Order.{OrderValue, RunWordsValue, ExtraValue, NoFile, AudioFile, TrackFile, audio_of, IsFourthName}
+use Rattle.ocs_words.specs.RewindOrder.{RewindOrderValue}
+use Rattle.ocs_words.specs.Words.{SceneOrderValue, CommandValue, Run as RunValue, Gen as GenValue, Rewind as RewindValue}
+use Rattle.ocs_words.specs.declared.order.Extra.{Extra}
+use Rattle.ocs_words.specs.declared.order.Extra.TheVariants.{None as Neither, Audio, Track}
+use Rattle.ocs_words.specs.declared.order.Order.{Order}
+use Rattle.ocs_words.specs.declared.order.RunWords.{RunWords}
+use Rattle.ocs_words.specs.declared.rewind_order.RewindOrder.{RewindOrder}
+use Rattle.ocs_words.specs.declared.words.Command.{Command}
+use Rattle.ocs_words.specs.declared.words.Command.TheVariants.{Run, Gen, Rewind}
+use Rattle.ocs_words.specs.declared.words.SceneOrder.{SceneOrder}
 
 -- the file that a run has besides, as a value
 abbrev pub extra_value : Extra → ExtraValue

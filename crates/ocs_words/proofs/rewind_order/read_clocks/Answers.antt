@@ -1,9 +1,9 @@
 -- A word is a clock more, or is none.
 use Rattle.std.proofs.Common.{◌≡◌, string_bytes, Some, None, arith, rules}
 use Rattle.std.proofs.lemmas.Grind.{common_steps}
-use Rattle.ocs_run.specs.RewindOrder.{clock_of}
-use Rattle.ocs_run.proofs.RewindLaws.{read_more, read_bad, none_of}
-use Rattle.ocs_run.proofs.rewind_order.read_clocks.Goals as goal
+use Rattle.ocs_words.specs.RewindOrder.{clock_of}
+use Rattle.ocs_words.proofs.RewindLaws.{read_more, read_bad, none_of}
+use Rattle.ocs_words.proofs.rewind_order.read_clocks.Goals as goal
 
 pub returns-in_default : goal.returns-in_default
 returns-in_default c =

@@ -1,0 +1,6 @@
+pub mod AskedCode
+pub mod Fault
+pub mod Order
+pub mod RewindOrder
+pub mod Texts
+pub mod Words
