@@ -2,6 +2,7 @@
 
 ghost use Rattle.std.specs.Prelude.{◌≡◌, ◌∷◌, [], IfOk};
 
+use crate::answers::is_so;
 use ocs_base::{Clock, OutOfMemory};
 use ocs_rewind::Ring;
 use std::alloc::Global;
@@ -30,30 +31,43 @@ fn best_of(ring: &Ring<u32>, clock: u64) -> (u64, u32) {
     }
 }
 
-/// The oldest entry of a full ring went.
-#[test]
-fn the_best_for_a_clock(rt: HostRuntime) -> Result<(), OutOfMemory> {
-    let ring = after_three_pushes(rt.alloc())?;
+/// Whether the ring has the best entries for clocks from before its first to behind its last.
+fn has_best(ring: &Ring<u32>) -> bool {
     let found = [
-        best_of(&ring, 1),
-        best_of(&ring, 2),
-        best_of(&ring, 3),
-        best_of(&ring, 9),
+        best_of(ring, 1),
+        best_of(ring, 2),
+        best_of(ring, 3),
+        best_of(ring, 9),
     ];
-    assert!(rt; found == [(0, 0), (2, 20), (3, 30), (3, 30)]);
-    Ok(())
+    found == [(0, 0), (2, 20), (3, 30), (3, 30)]
 }
 
-/// It is cut behind clock 2, then pushed to at clock 7, and then cut behind clock 0.
+/// Whether it has after three pushes.
+fn pushed_ring_has_best(alloc: Global) -> Result<bool, OutOfMemory> {
+    let ring = after_three_pushes(alloc)?;
+    Ok(has_best(&ring))
+}
+
+/// The oldest entry of a full ring went.
 #[test]
-fn a_ring_is_cut(rt: HostRuntime) -> Result<(), OutOfMemory> {
-    let mut ring = after_three_pushes(rt.alloc())?;
+fn the_best_for_a_clock(rt: HostRuntime) {
+    assert!(rt; is_so(pushed_ring_has_best(rt.alloc())));
+}
+
+/// Whether a ring is as it should be where it is cut behind clock 2, then pushed to at clock 7, and then cut
+/// behind clock 0.
+fn ring_is_cut_well(alloc: Global) -> Result<bool, OutOfMemory> {
+    let mut ring = after_three_pushes(alloc)?;
     ring.cut_after(Clock(2));
     let cut = best_of(&ring, 9);
     ring.push(Clock(7), 70);
     let pushed = [best_of(&ring, 6), best_of(&ring, 9)];
     ring.cut_after(Clock(0));
     let emptied = best_of(&ring, 9);
-    assert!(rt; [cut, pushed[0], pushed[1], emptied] == [(2, 20), (2, 20), (7, 70), (0, 0)]);
-    Ok(())
+    Ok([cut, pushed[0], pushed[1], emptied] == [(2, 20), (2, 20), (7, 70), (0, 0)])
+}
+
+#[test]
+fn a_ring_is_cut(rt: HostRuntime) {
+    assert!(rt; is_so(ring_is_cut_well(rt.alloc())));
 }

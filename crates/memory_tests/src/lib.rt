@@ -6,6 +6,8 @@
 #![tactic(auto)]
 
 #[cfg(test)]
+mod answers;
+#[cfg(test)]
 mod kept_memory;
 #[cfg(test)]
 mod latest_states;

@@ -4,6 +4,7 @@ ghost use Rattle.std.specs.Prelude.{◌≡◌, ◌+◌, ◌/◌, ◌%◌, ◌≤
 ghost use Rattle.ocs_base.specs.Sizes.{is_chip_size};
 ghost use Rattle.mem_versions.specs.MemView.{Covers, word_then};
 
+use crate::answers::is_so;
 use mem_versions::{Chip, MemView, Steps};
 use ocs_base::{Addr, Clock, OutOfMemory};
 use std::alloc::Global;
@@ -25,30 +26,36 @@ fn made(alloc: Global, image: &[u8], bytes: u32) -> Result<Chip, OutOfMemory>
     Ok(chip)
 }
 
-/// A word after a write of its high half, and then of its low half; and how many words were read.
-fn halves_written(chip: &mut Chip) -> Result<([u16; 2], u64), OutOfMemory>
+/// Whether a word is 1200 after a write of its high half, and 1234 after one of its low half; and whether two
+/// words were read.
+fn halves_are_written(chip: &mut Chip) -> Result<bool, OutOfMemory>
     requires { chip.old.newest ≡ 0 }
 {
     let at = Addr::at(4);
     chip.write_half(Clock(0), at, true, 0x12)?;
     let high = chip.read(at);
     chip.write_half(Clock(3), at, false, 0x34)?;
-    Ok(([high, chip.read(at)], chip.reads()))
+    Ok([high, chip.read(at)] == [0x1200, 0x1234] && chip.reads() == 2)
+}
+
+/// Whether it is so of the smaller memory.
+fn has_halves(alloc: Global) -> Result<bool, OutOfMemory> {
+    let mut chip = made(alloc, &[0; 8], 524_288)?;
+    halves_are_written(&mut chip)
 }
 
 #[test]
-fn a_half_of_a_word(rt: HostRuntime) -> Result<(), OutOfMemory> {
-    let mut chip = made(rt.alloc(), &[0; 8], 524_288)?;
-    assert!(rt; halves_written(&mut chip)? == ([0x1200, 0x1234], 2));
-    Ok(())
+fn a_half_of_a_word(rt: HostRuntime) {
+    assert!(rt; is_so(has_halves(rt.alloc())));
 }
 
-/// After a write to word 1 of page 1: words at the edges of the image and of the memory, and that of the
-/// page; the length of the page; and how many words were read.
-fn words_and_page(chip: &mut Chip) -> Result<([u16; 5], usize, u64), OutOfMemory>
+/// Whether, after a write to word 1 of page 1, the words at the edges of the image and of the memory are as they
+/// should be, and that of the page; the length of the page; and how many words were read.
+fn has_words_and_page(chip: &mut Chip) -> Result<bool, OutOfMemory>
     requires newest { chip.old.newest ≡ 0 }
     requires size { length chip.old.words ≡ 262144 }
 {
+    let pages = chip.pages();
     chip.write(Clock(9), Addr::at(0x202), 0xabcd)?;
     let first = chip.read(Addr::at(0));
     let second = chip.read(Addr::at(2));
@@ -56,64 +63,91 @@ fn words_and_page(chip: &mut Chip) -> Result<([u16; 5], usize, u64), OutOfMemory
     let last = chip.read(Addr::at(0x7_fffe));
     let page = chip.page(1);
     let (written, length) = (page[1], page.len());
-    Ok(([first, second, fourth, last, written], length, chip.reads()))
+    let words = [first, second, fourth, last, written];
+    Ok(
+        words == [0x1234, 0x5678, 0xfffe, 0, 0xabcd]
+            && length == 256
+            && chip.reads() == 260
+            && pages == 1024,
+    )
+}
+
+/// Whether it is so of an image of four words.
+fn image_has_words_and_page(alloc: Global) -> Result<bool, OutOfMemory> {
+    let image = [0x12, 0x34, 0x56, 0x78, 0, 0, 0xff, 0xfe];
+    let mut chip = made(alloc, &image, 524_288)?;
+    has_words_and_page(&mut chip)
 }
 
 #[test]
-fn pages_and_words(rt: HostRuntime) -> Result<(), OutOfMemory> {
-    let image = [0x12, 0x34, 0x56, 0x78, 0, 0, 0xff, 0xfe];
-    let mut chip = made(rt.alloc(), &image, 524_288)?;
-    let pages = chip.pages();
-    let words = [0x1234, 0x5678, 0xfffe, 0, 0xabcd];
-    assert!(rt; words_and_page(&mut chip)? == (words, 256, 260) && pages == 1024);
-    Ok(())
+fn pages_and_words(rt: HostRuntime) {
+    assert!(rt; is_so(image_has_words_and_page(rt.alloc())));
 }
 
-/// After a write to an address of the upper half: its word, that 512 KiB lower, and its word in its page.
-fn words_of_both_halves(chip: &mut Chip) -> Result<[u16; 3], OutOfMemory>
+/// Whether of 2048 pages, after a write to an address of the upper half, its word is there, that 512 KiB lower
+/// is 0, and its word is in its page.
+fn has_words_of_both_halves(chip: &mut Chip) -> Result<bool, OutOfMemory>
     requires newest { chip.old.newest ≡ 0 }
     requires size { length chip.old.words ≡ 524288 }
 {
+    let pages = chip.pages();
     chip.write(Clock(5), Addr::wide(0x8_0010), 0x1234)?;
     let high = chip.read(Addr::wide(0x8_0010));
     let low = chip.read(Addr::wide(0x10));
-    Ok([high, low, chip.page(1024)[8]])
+    Ok([high, low, chip.page(1024)[8]] == [0x1234, 0, 0x1234] && pages == 2048)
+}
+
+/// Whether it is so of the greater memory.
+fn greater_memory_has_both(alloc: Global) -> Result<bool, OutOfMemory> {
+    let mut chip = made(alloc, &[0; 8], 1_048_576)?;
+    has_words_of_both_halves(&mut chip)
 }
 
 /// The upper half of the greater memory has words of its own.
 #[test]
-fn one_mebibyte(rt: HostRuntime) -> Result<(), OutOfMemory> {
-    let mut chip = made(rt.alloc(), &[0; 8], 1_048_576)?;
-    let pages = chip.pages();
-    assert!(rt; words_of_both_halves(&mut chip)? == [0x1234, 0, 0x1234] && pages == 2048);
-    Ok(())
+fn one_mebibyte(rt: HostRuntime) {
+    assert!(rt; is_so(greater_memory_has_both(rt.alloc())));
 }
 
-/// In a view, after a write at clock 5 to the upper half: its word at clocks 5 and 6, and that 512 KiB lower.
-fn view_of_both_halves(chip: &mut Chip) -> Result<[u16; 3], OutOfMemory>
+/// Whether a view, after a write at clock 5 to the upper half, has 0 there at clock 5, 56 at clock 6, and 0
+/// 512 KiB lower.
+fn views_both_halves(chip: &mut Chip) -> Result<bool, OutOfMemory>
     requires newest { chip.old.newest ≡ 0 }
     requires last { chip.old.last ≡ 0 }
 {
     let (high, low) = (Addr::wide(0x8_0010), Addr::wide(0x10));
     chip.write_half(Clock(5), high, false, 0x56)?;
     let view = chip.cut(Clock(10))?;
-    Ok([
+    Ok(has_0_and_56(&view, high, low))
+}
+
+/// Whether it has.
+fn has_0_and_56(view: &MemView, high: Addr, low: Addr) -> bool
+    requires at_5 { Covers view.now 5 }
+    requires at_6 { Covers view.now 6 }
+{
+    let words = [
         view.at(Clock(5), high),
         view.at(Clock(6), high),
         view.at(Clock(6), low),
-    ])
+    ];
+    words == [0, 0x56, 0]
+}
+
+/// Whether it is so of the greater memory.
+fn greater_memory_views_both(alloc: Global) -> Result<bool, OutOfMemory> {
+    let mut chip = made(alloc, &[0; 8], 1_048_576)?;
+    views_both_halves(&mut chip)
 }
 
 #[test]
-fn a_view_of_one_mebibyte(rt: HostRuntime) -> Result<(), OutOfMemory> {
-    let mut chip = made(rt.alloc(), &[0; 8], 1_048_576)?;
-    assert!(rt; view_of_both_halves(&mut chip)? == [0, 0x56, 0]);
-    Ok(())
+fn a_view_of_one_mebibyte(rt: HostRuntime) {
+    assert!(rt; is_so(greater_memory_views_both(rt.alloc())));
 }
 
-/// After a write above the smaller memory: the words of its first address and of the first above it, of the
-/// memory, of a view, and the latter once more; and how many words were read.
-fn words_around_the_end(chip: &mut Chip) -> Result<([u16; 5], u64), OutOfMemory>
+/// Whether, after a write above the smaller memory, its first word is as it was and the first above it is 0,
+/// of the memory, of a view, and the latter once more; and whether three words were read.
+fn ends(chip: &mut Chip) -> Result<bool, OutOfMemory>
     requires newest { chip.old.newest ≡ 0 }
     requires last { chip.old.last ≡ 0 }
 {
@@ -121,49 +155,71 @@ fn words_around_the_end(chip: &mut Chip) -> Result<([u16; 5], u64), OutOfMemory>
     chip.write(Clock(0), above, 0x5678)?;
     let present = [chip.read(first), chip.read(above)];
     let view = chip.cut(Clock(0))?;
+    Ok(view_ends(chip, &view, first, above) && present == [0x1234, 0] && chip.reads() == 3)
+}
+
+/// Whether the words of two addresses in a view are so, and the latter once more.
+fn view_ends(chip: &mut Chip, view: &MemView, first: Addr, above: Addr) -> bool
+    requires { Covers view.now 0 }
+{
     let viewed = [view.at(Clock(0), first), view.at(Clock(0), above)];
-    let resolved = chip.resolve(&view, Clock(0), above);
-    let words = [present[0], present[1], viewed[0], viewed[1], resolved];
-    Ok((words, chip.reads()))
+    let resolved = chip.resolve(view, Clock(0), above);
+    viewed == [0x1234, 0] && resolved == 0
+}
+
+/// Whether it is so of an image that begins with 1234.
+fn memory_ends(alloc: Global) -> Result<bool, OutOfMemory> {
+    let mut chip = Chip::new(alloc, &[0x12, 0x34, 0, 0, 0, 0, 0, 0])?;
+    ends(&mut chip)
 }
 
 /// Above 512 KiB the smaller memory is 0, whatever is written there, and not what stands 512 KiB lower.
 #[test]
-fn above_the_memory(rt: HostRuntime) -> Result<(), OutOfMemory> {
-    let mut chip = Chip::new(rt.alloc(), &[0x12, 0x34, 0, 0, 0, 0, 0, 0])?;
-    let words = [0x1234, 0, 0x1234, 0, 0];
-    assert!(rt; words_around_the_end(&mut chip)? == (words, 3));
-    Ok(())
+fn above_the_memory(rt: HostRuntime) {
+    assert!(rt; is_so(memory_ends(rt.alloc())));
 }
 
-/// Writes of 7 at clock 5 and of 9 at clock 12, of which a view from a cut at clock 10 on sees the first: its
-/// word at clocks 5 and 6, that at clock 10 once the other is written, the present word, and the view's at
-/// clock 5 once more; and how many words were read.
-fn words_beside_a_view(chip: &mut Chip) -> Result<([u16; 5], u64), OutOfMemory>
+/// Writes of 7 at clock 5 and of 9 at clock 12, of which a view from a cut at clock 10 on sees the first: whether
+/// its words at clocks 5 and 6 are right, that at clock 10 once the other is written, the present word, and the
+/// view's at clock 5 once more; and whether two words were read.
+fn view_stays(chip: &mut Chip) -> Result<bool, OutOfMemory>
     requires newest { chip.old.newest ≡ 0 }
     requires last { chip.old.last ≡ 0 }
 {
     let at = Addr::at(2);
     chip.write(Clock(5), at, 7)?;
     let view = chip.cut(Clock(10))?;
+    stays_while_written(chip, &view, at)
+}
+
+/// Whether they are, in the view.
+fn stays_while_written(chip: &mut Chip, view: &MemView, at: Addr) -> Result<bool, OutOfMemory>
+    requires newest { chip.old.newest ≤ 12 }
+    requires from { view.now.from ≡ 0 }
+    requires to { view.now.to ≡ 10 }
+{
     let [before, behind] = [view.at(Clock(5), at), view.at(Clock(6), at)];
     chip.write(Clock(12), at, 9)?;
     let later = view.at(Clock(10), at);
     let present = chip.read(at);
-    let resolved = chip.resolve(&view, Clock(5), at);
-    Ok(([before, behind, later, present, resolved], chip.reads()))
+    let resolved = chip.resolve(view, Clock(5), at);
+    Ok([before, behind, later, present, resolved] == [0, 7, 7, 9, 0] && chip.reads() == 2)
+}
+
+/// Whether it is so of the smaller memory.
+fn memory_has_a_view_that_stays(alloc: Global) -> Result<bool, OutOfMemory> {
+    let mut chip = made(alloc, &[0; 8], 524_288)?;
+    view_stays(&mut chip)
 }
 
 #[test]
-fn a_view_stays_as_it_was(rt: HostRuntime) -> Result<(), OutOfMemory> {
-    let mut chip = made(rt.alloc(), &[0; 8], 524_288)?;
-    assert!(rt; words_beside_a_view(&mut chip)? == ([0, 7, 7, 9, 0], 2));
-    Ok(())
+fn a_view_stays_as_it_was(rt: HostRuntime) {
+    assert!(rt; is_so(memory_has_a_view_that_stays(rt.alloc())));
 }
 
-/// Writes at clock 3 and, of 1 and then 2, at clock 8, and views of cuts at the clocks 8 and 9: the words
-/// that each sees.
-fn words_at_a_cut(chip: &mut Chip) -> Result<[u16; 5], OutOfMemory>
+/// Writes at clock 3 and, of 1 and then 2, at clock 8, and views of cuts at the clocks 8 and 9: whether each sees
+/// the right words.
+fn is_cut_well(chip: &mut Chip) -> Result<bool, OutOfMemory>
     requires newest { chip.old.newest ≡ 0 }
     requires last { chip.old.last ≡ 0 }
 {
@@ -173,45 +229,75 @@ fn words_at_a_cut(chip: &mut Chip) -> Result<[u16; 5], OutOfMemory>
     chip.write(Clock(8), at, 2)?;
     let first = chip.cut(Clock(8))?;
     let second = chip.cut(Clock(9))?;
-    Ok([
+    Ok(are_right_views(&first, &second, at, other))
+}
+
+/// Whether each view sees them.
+fn are_right_views(first: &MemView, second: &MemView, at: Addr, other: Addr) -> bool
+    requires first { Covers first.now 8 }
+    requires second_at_8 { Covers second.now 8 }
+    requires second_at_9 { Covers second.now 9 }
+{
+    let words = [
         first.at(Clock(8), at),
         first.at(Clock(8), other),
         second.at(Clock(8), at),
         second.at(Clock(9), at),
         second.at(Clock(8), other),
-    ])
+    ];
+    words == [0, 6, 0, 2, 6]
+}
+
+/// Whether it is so of the smaller memory.
+fn memory_is_cut_well(alloc: Global) -> Result<bool, OutOfMemory> {
+    let mut chip = made(alloc, &[0; 8], 524_288)?;
+    is_cut_well(&mut chip)
 }
 
 /// A write of the cut's own clock belongs to the next view.
 #[test]
-fn a_write_at_the_cut(rt: HostRuntime) -> Result<(), OutOfMemory> {
-    let mut chip = made(rt.alloc(), &[0; 8], 524_288)?;
-    assert!(rt; words_at_a_cut(&mut chip)? == [0, 6, 0, 2, 6]);
-    Ok(())
+fn a_write_at_the_cut(rt: HostRuntime) {
+    assert!(rt; is_so(memory_is_cut_well(rt.alloc())));
+}
+
+/// Whether it is so of the smaller memory.
+fn memory_shares_a_view(alloc: Global) -> Result<bool, OutOfMemory> {
+    let mut chip = made(alloc, &[0; 8], 524_288)?;
+    view_is_shared(&mut chip)
 }
 
 /// Views may go to other threads.
 #[test]
-fn views_are_sent(rt: HostRuntime) -> Result<(), OutOfMemory> {
-    let mut chip = made(rt.alloc(), &[0; 8], 524_288)?;
-    assert!(rt; is_shared(&chip.cut(Clock(0))?));
-    Ok(())
+fn views_are_sent(rt: HostRuntime) {
+    assert!(rt; is_so(memory_shares_a_view(rt.alloc())));
+}
+
+/// Whether its view is one that threads may share.
+fn view_is_shared(chip: &mut Chip) -> Result<bool, OutOfMemory>
+    requires { chip.old.newest ≡ 0 }
+{
+    let view = chip.cut(Clock(0))?;
+    Ok(is_shared(&view))
 }
 
 fn is_shared<T: Send + Sync>(_value: &T) -> bool {
     true
 }
 
-#[test]
-fn the_last_of_a_hundred_writes(rt: HostRuntime) -> Result<(), OutOfMemory> {
-    let view = hundred_writes(rt.alloc())?;
+/// Whether the view of a hundred writes has, at the clocks 50, 1 and 200, the last one before each.
+fn last_writes_are_seen(alloc: Global) -> Result<bool, OutOfMemory> {
+    let view = hundred_writes(alloc)?;
     let found = [
         counted_word::<Brand>(&view, Clock(50), Addr::at(2), Blank::new(1)),
         view.at(Clock(1), Addr::at(2)),
         view.at(Clock(200), Addr::at(2)),
     ];
-    assert!(rt; found == [49, 0, 100]);
-    Ok(())
+    Ok(found == [49, 0, 100])
+}
+
+#[test]
+fn the_last_of_a_hundred_writes(rt: HostRuntime) {
+    assert!(rt; is_so(last_writes_are_seen(rt.alloc())));
 }
 
 /// A view of a write of k at clock k for k from 1 to 100, all to one address.
