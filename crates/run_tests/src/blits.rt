@@ -1,7 +1,7 @@
 //! Blits: while a picture is shown, over frames, filled, and lines; and the words of the interrupts.
 
+use run_cases::CaseFault;
 use run_cases::case::check;
-use std::test::Fail;
 
 fn blits_in_a_picture() -> [&'static str; 3] {
     [
@@ -115,36 +115,36 @@ at 1 0 0: 01e?0060",
 }
 
 #[test]
-fn in_a_picture(rt: HostRuntime) -> Result<(), Fail> {
-    Ok(check(&rt, rt.alloc(), &blits_in_a_picture())?)
+fn in_a_picture(rt: HostRuntime) -> Result<(), CaseFault> {
+    check(&rt, rt.alloc(), &blits_in_a_picture())
 }
 
 #[test]
-fn over_frames(rt: HostRuntime) -> Result<(), Fail> {
-    Ok(check(&rt, rt.alloc(), &blits_over_frames())?)
+fn over_frames(rt: HostRuntime) -> Result<(), CaseFault> {
+    check(&rt, rt.alloc(), &blits_over_frames())
 }
 
 #[test]
-fn fills(rt: HostRuntime) -> Result<(), Fail> {
-    Ok(check(&rt, rt.alloc(), &filled_blits())?)
+fn fills(rt: HostRuntime) -> Result<(), CaseFault> {
+    check(&rt, rt.alloc(), &filled_blits())
 }
 
 #[test]
-fn lines(rt: HostRuntime) -> Result<(), Fail> {
-    Ok(check(&rt, rt.alloc(), &line_blits())?)
+fn lines(rt: HostRuntime) -> Result<(), CaseFault> {
+    check(&rt, rt.alloc(), &line_blits())
 }
 
 #[test]
-fn busy(rt: HostRuntime) -> Result<(), Fail> {
-    Ok(check(&rt, rt.alloc(), &busy_blits())?)
+fn busy(rt: HostRuntime) -> Result<(), CaseFault> {
+    check(&rt, rt.alloc(), &busy_blits())
 }
 
 #[test]
-fn copper_waits(rt: HostRuntime) -> Result<(), Fail> {
-    Ok(check(&rt, rt.alloc(), &waits_for_the_blitter())?)
+fn copper_waits(rt: HostRuntime) -> Result<(), CaseFault> {
+    check(&rt, rt.alloc(), &waits_for_the_blitter())
 }
 
 #[test]
-fn interrupts(rt: HostRuntime) -> Result<(), Fail> {
-    Ok(check(&rt, rt.alloc(), &interrupt_words())?)
+fn interrupts(rt: HostRuntime) -> Result<(), CaseFault> {
+    check(&rt, rt.alloc(), &interrupt_words())
 }

@@ -1,8 +1,8 @@
 //! Runs of machines with 512 KiB and with 1 MiB of chip memory: a blit of two words, without an input and of
 //! the minterms FF, to the address 80010.
 
+use run_cases::CaseFault;
 use run_cases::case::check;
-use std::test::Fail;
 
 fn sizes_told() -> [&'static str; 4] {
     [
@@ -46,11 +46,11 @@ left 80010 ffff ffff",
 }
 
 #[test]
-fn sizes(rt: HostRuntime) -> Result<(), Fail> {
-    Ok(check(&rt, rt.alloc(), &sizes_told())?)
+fn sizes(rt: HostRuntime) -> Result<(), CaseFault> {
+    check(&rt, rt.alloc(), &sizes_told())
 }
 
 #[test]
-fn long_images(rt: HostRuntime) -> Result<(), Fail> {
-    Ok(check(&rt, rt.alloc(), &long_images_told())?)
+fn long_images(rt: HostRuntime) -> Result<(), CaseFault> {
+    check(&rt, rt.alloc(), &long_images_told())
 }

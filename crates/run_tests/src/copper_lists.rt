@@ -1,8 +1,8 @@
 //! Copper lists at address 8.
 
 use case_texts::bars::bars_told;
+use run_cases::CaseFault;
 use run_cases::case::check;
-use std::test::Fail;
 
 fn lists_told() -> [&'static str; 6] {
     [
@@ -41,11 +41,11 @@ ground 0000ff",
 }
 
 #[test]
-fn bars(rt: HostRuntime) -> Result<(), Fail> {
-    Ok(check(&rt, rt.alloc(), &[bars_told()])?)
+fn bars(rt: HostRuntime) -> Result<(), CaseFault> {
+    check(&rt, rt.alloc(), &[bars_told()])
 }
 
 #[test]
-fn lists(rt: HostRuntime) -> Result<(), Fail> {
-    Ok(check(&rt, rt.alloc(), &lists_told())?)
+fn lists(rt: HostRuntime) -> Result<(), CaseFault> {
+    check(&rt, rt.alloc(), &lists_told())
 }

@@ -2,8 +2,8 @@
 //! `examples/instructions`. What it leaves was worked out by `tools/instructions-check`, a processor that
 //! shares nothing with this one.
 
+use run_cases::CaseFault;
 use run_cases::case::check;
-use std::test::Fail;
 
 /// The program lies from address 0 on. From 1e00 on it leaves the words that it works on, the user's stack
 /// below 1f00, the supervisor's below 2000, and from there on what the handlers of its exceptions append,
@@ -113,6 +113,6 @@ pixels 123836 bb3344"
 }
 
 #[test]
-fn all_instructions(rt: HostRuntime) -> Result<(), Fail> {
-    Ok(check(&rt, rt.alloc(), &[program_told()])?)
+fn all_instructions(rt: HostRuntime) -> Result<(), CaseFault> {
+    check(&rt, rt.alloc(), &[program_told()])
 }

@@ -1,7 +1,7 @@
 //! Runs of an NTSC machine: its frames, its last lines, and its fields.
 
+use run_cases::CaseFault;
 use run_cases::case::check;
-use std::test::Fail;
 
 fn frames_told() -> [&'static str; 2] {
     [
@@ -47,11 +47,11 @@ part 75 285 0 719 ff0000",
 }
 
 #[test]
-fn frames_of_ntsc(rt: HostRuntime) -> Result<(), Fail> {
-    Ok(check(&rt, rt.alloc(), &frames_told())?)
+fn frames_of_ntsc(rt: HostRuntime) -> Result<(), CaseFault> {
+    check(&rt, rt.alloc(), &frames_told())
 }
 
 #[test]
-fn places_of_ntsc(rt: HostRuntime) -> Result<(), Fail> {
-    Ok(check(&rt, rt.alloc(), &places_told())?)
+fn places_of_ntsc(rt: HostRuntime) -> Result<(), CaseFault> {
+    check(&rt, rt.alloc(), &places_told())
 }

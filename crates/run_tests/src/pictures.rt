@@ -1,7 +1,7 @@
 //! Pictures with bitplanes: fetched and poked words, scrolls, the window, and the colour modes.
 
+use run_cases::CaseFault;
 use run_cases::case::check;
-use std::test::Fail;
 
 fn fetched_planes() -> [&'static str; 4] {
     [
@@ -62,11 +62,11 @@ part 74 74 74 81 ff0000",
 }
 
 #[test]
-fn fetched(rt: HostRuntime) -> Result<(), Fail> {
-    Ok(check(&rt, rt.alloc(), &fetched_planes())?)
+fn fetched(rt: HostRuntime) -> Result<(), CaseFault> {
+    check(&rt, rt.alloc(), &fetched_planes())
 }
 
 #[test]
-fn colour_modes(rt: HostRuntime) -> Result<(), Fail> {
-    Ok(check(&rt, rt.alloc(), &modes_of_colour())?)
+fn colour_modes(rt: HostRuntime) -> Result<(), CaseFault> {
+    check(&rt, rt.alloc(), &modes_of_colour())
 }

@@ -1,7 +1,7 @@
 //! Pokes of a script, peeks of the beam, and inputs.
 
+use run_cases::CaseFault;
 use run_cases::case::check;
-use std::test::Fail;
 
 fn pokes_told() -> [&'static str; 3] {
     [
@@ -63,16 +63,16 @@ input 0 0 0 key 45",
 }
 
 #[test]
-fn pokes(rt: HostRuntime) -> Result<(), Fail> {
-    Ok(check(&rt, rt.alloc(), &pokes_told())?)
+fn pokes(rt: HostRuntime) -> Result<(), CaseFault> {
+    check(&rt, rt.alloc(), &pokes_told())
 }
 
 #[test]
-fn peeks(rt: HostRuntime) -> Result<(), Fail> {
-    Ok(check(&rt, rt.alloc(), &peeks_told())?)
+fn peeks(rt: HostRuntime) -> Result<(), CaseFault> {
+    check(&rt, rt.alloc(), &peeks_told())
 }
 
 #[test]
-fn inputs(rt: HostRuntime) -> Result<(), Fail> {
-    Ok(check(&rt, rt.alloc(), &inputs_told())?)
+fn inputs(rt: HostRuntime) -> Result<(), CaseFault> {
+    check(&rt, rt.alloc(), &inputs_told())
 }

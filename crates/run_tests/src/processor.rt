@@ -1,9 +1,14 @@
 //! Programs of the processor, with exceptions, a CIA and inputs.
 
+use crate::answers::{ends, is_true};
 use case_texts::inputs::bytes;
+use ocs_io::Shelf;
+use run_cases::CaseFault;
 use run_cases::case::check;
 use run_cases::place::{run_words, shelf, status};
-use std::test::Fail;
+use std::alloc::Global;
+use std::sync::Wait;
+use std::thread::Threads;
 
 fn programs_told() -> [&'static str; 8] {
     [
@@ -57,24 +62,44 @@ left 100 0100",
 }
 
 #[test]
-fn programs(rt: HostRuntime) -> Result<(), Fail> {
-    Ok(check(&rt, rt.alloc(), &programs_told())?)
+fn programs(rt: HostRuntime) -> Result<(), CaseFault> {
+    check(&rt, rt.alloc(), &programs_told())
+}
+
+/// A shelf with an image of these words.
+fn shelf_with(alloc: Global, words: &str) -> Result<Shelf, CaseFault> {
+    let image = bytes(alloc, words)?;
+    shelf(alloc, &image, "ocs 1\ncpu on\nframes 1\nend\n")
+}
+
+/// Whether the run of an image of these words is done, and says nothing.
+fn is_done<R: Threads + Wait + Clone + Drop + Send + Sync + 'static>(
+    rt: &R,
+    alloc: Global,
+    words: &str,
+) -> Result<bool, CaseFault> {
+    let mut shelf = shelf_with(alloc, words)?;
+    Ok(is_done_on(rt, alloc, &mut shelf))
+}
+
+/// Whether it is on this shelf.
+fn is_done_on<R: Threads + Wait + Clone + Drop + Send + Sync + 'static>(
+    rt: &R,
+    alloc: Global,
+    shelf: &mut Shelf,
+) -> bool {
+    ends(status(rt, alloc, &run_words("313", "2"), shelf), 0) && shelf.said().is_empty()
 }
 
 /// Instructions that begin an exception whose handler is at 0: a shift of a register by an immediate count,
 /// which runs on, and an illegal one.
 #[test]
-fn exceptions_end_no_run(rt: HostRuntime) -> Result<(), Fail> {
-    for opcode in ["e348", "4afc"] {
-        let told = format!(in rt.alloc(); "0000 1000 0000 0008 {opcode} 60fe")?;
-        let image = bytes(rt.alloc(), told.as_str())?;
-        let mut shelf = shelf(rt.alloc(), &image, "ocs 1\ncpu on\nframes 1\nend\n")?;
-        assert_eq!(rt;
-            status(&rt, rt.alloc(), &run_words("313", "2"), &mut shelf)?,
-            0,
-            "{opcode}"
-        );
-        assert!(rt; shelf.said().is_empty(), "{opcode}");
-    }
-    Ok(())
+fn exceptions_end_no_run(rt: HostRuntime) {
+    let shift = "0000 1000 0000 0008 e348 60fe";
+    let illegal = "0000 1000 0000 0008 4afc 60fe";
+    let are_done = [
+        is_true(is_done(&rt, rt.alloc(), shift)),
+        is_true(is_done(&rt, rt.alloc(), illegal)),
+    ];
+    assert!(rt; are_done == [true; 2]);
 }

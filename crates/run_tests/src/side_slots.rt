@@ -3,13 +3,14 @@
 //! A blit of D alone has sixty asks from clock 0 of line 100 on, of which refresh holds off three. The Copper
 //! waits for its end and then writes COLOR00, four clocks after the clock at which it sees the end.
 
-use crate::sides::{is_as_told, run_told};
+use crate::answers::{ends, is_true};
+use crate::sides::{is_as_told, run_told, shelf_of};
 use case_texts::outputs::frames;
+use ocs_io::Shelf;
 use run_cases::CaseFault;
 use run_cases::place::holds;
 use std::alloc::Global;
 use std::sync::Wait;
-use std::test::Fail;
 use std::thread::Threads;
 
 /// The last ask is at clock 62, which the Copper sees at 64.
@@ -51,35 +52,48 @@ part 75 285 0 719 ff0000
 left 0200 4444 1111 2222"
 }
 
-/// Whether status, trace, memory and frames of a run are as they are told.
+/// Whether the frames are as they are told.
+fn has_frames(alloc: Global, run: &str, shelf: &Shelf) -> Result<bool, CaseFault> {
+    let told = frames(alloc, run)?;
+    Ok(holds(shelf, "frames", &told))
+}
+
+/// Whether the status, the trace, the memory and the frames of a run are as they are told, on a shelf with its
+/// files.
+fn is_so_on<R: Threads + Wait + Clone + Drop + Send + Sync + 'static>(
+    rt: &R,
+    alloc: Global,
+    command: &str,
+    run: &str,
+    shelf: &mut Shelf,
+) -> bool {
+    ends(run_told(rt, alloc, command, run, shelf), 0)
+        && is_as_told(alloc, run, shelf)
+        && is_true(has_frames(alloc, run, shelf))
+}
+
+/// The same of a shelf of its own.
 fn is_so<R: Threads + Wait + Clone + Drop + Send + Sync + 'static>(
     rt: &R,
     alloc: Global,
     command: &str,
     run: &str,
 ) -> Result<bool, CaseFault> {
-    let (answer, shelf) = run_told(rt, alloc, command, run)?;
-    Ok(
-        answer == 0
-            && is_as_told(alloc, run, &shelf)?
-            && holds(&shelf, "frames", &frames(alloc, run)?),
-    )
+    let mut shelf = shelf_of(alloc, run)?;
+    Ok(is_so_on(rt, alloc, command, run, &mut shelf))
 }
 
 #[test]
-fn a_blit_has_the_bus_alone(rt: HostRuntime) -> Result<(), Fail> {
-    assert!(rt; is_so(&rt, rt.alloc(), "sound", alone_told())?);
-    Ok(())
+fn a_blit_has_the_bus_alone(rt: HostRuntime) {
+    assert!(rt; is_true(is_so(&rt, rt.alloc(), "sound", alone_told())));
 }
 
 #[test]
-fn channels_hold_off_a_blit(rt: HostRuntime) -> Result<(), Fail> {
-    assert!(rt; is_so(&rt, rt.alloc(), "sound", channels_told())?);
-    Ok(())
+fn channels_hold_off_a_blit(rt: HostRuntime) {
+    assert!(rt; is_true(is_so(&rt, rt.alloc(), "sound", channels_told())));
 }
 
 #[test]
-fn a_disk_holds_off_a_blit(rt: HostRuntime) -> Result<(), Fail> {
-    assert!(rt; is_so(&rt, rt.alloc(), "disk", disk_told())?);
-    Ok(())
+fn a_disk_holds_off_a_blit(rt: HostRuntime) {
+    assert!(rt; is_true(is_so(&rt, rt.alloc(), "disk", disk_told())));
 }

@@ -1,7 +1,7 @@
 //! Pictures with sprites: by register and by DMA, attached, before and behind a playfield; and collisions.
 
+use run_cases::CaseFault;
 use run_cases::case::check;
-use std::test::Fail;
 
 fn sprites_told() -> [&'static str; 3] {
     [
@@ -58,16 +58,16 @@ at 0 50 62: 00e?0001 00e?0000",
 }
 
 #[test]
-fn shown(rt: HostRuntime) -> Result<(), Fail> {
-    Ok(check(&rt, rt.alloc(), &sprites_told())?)
+fn shown(rt: HostRuntime) -> Result<(), CaseFault> {
+    check(&rt, rt.alloc(), &sprites_told())
 }
 
 #[test]
-fn priorities(rt: HostRuntime) -> Result<(), Fail> {
-    Ok(check(&rt, rt.alloc(), &priorities_told())?)
+fn priorities(rt: HostRuntime) -> Result<(), CaseFault> {
+    check(&rt, rt.alloc(), &priorities_told())
 }
 
 #[test]
-fn collisions(rt: HostRuntime) -> Result<(), Fail> {
-    Ok(check(&rt, rt.alloc(), &collisions_told())?)
+fn collisions(rt: HostRuntime) -> Result<(), CaseFault> {
+    check(&rt, rt.alloc(), &collisions_told())
 }
