@@ -1,12 +1,12 @@
 //! How much of an input is read at the most: the longest good image, script and track, and no more.
 
+use crate::answers::is_true;
 use ocs_io::{Place, ReadRefusal, Shelf, WriteRefusal};
 use ocs_run::{NoGate, ocs_main};
+use run_cases::CaseFault;
 use run_cases::place::shelf;
 use std::alloc::Global;
-use std::process::Abort;
 use std::sync::Wait;
-use std::test::Fail;
 use std::thread::Threads;
 
 /// The shelf that it is, and the caps with which it was asked to read, in order.
@@ -48,64 +48,78 @@ impl Place for NotingShelf {
     }
 }
 
-/// The status of the words of a text, over an image of 8 zeros, this script and a track of three bytes, and
-/// the caps of its reads.
-fn caps_of<R: Threads + Wait + Abort + Clone + Drop + Send + Sync + 'static>(
-    rt: &R,
-    alloc: Global,
-    text: &str,
-    script: &str,
-) -> Result<(u8, Vec<usize>), Fail> {
-    let words = words_of(alloc, text)?;
-    let mut place = NotingShelf {
-        shelf: inputs(alloc, script)?,
-        caps: Vec::new(alloc),
-    };
-    let ended = ocs_main(rt, alloc, &words, &mut place, NoGate);
-    Ok((ended, place.caps))
-}
-
 /// The words of a text.
-fn words_of(alloc: Global, text: &str) -> Result<Vec<String>, Fail> {
+fn words_of(alloc: Global, text: &str) -> Result<Vec<String>, CaseFault> {
     let mut words = Vec::new(alloc);
-    for word in text.split(' ') {
-        words.push(String::from_str(alloc, word)?)?;
-    }
+    push_words(alloc, text, &mut words)?;
     Ok(words)
 }
 
-/// A shelf with an image, this script and a track.
-fn inputs(alloc: Global, script: &str) -> Result<Shelf, Fail> {
+/// Appends the words of a text.
+fn push_words(alloc: Global, text: &str, words: &mut Vec<String>) -> Result<(), CaseFault> {
+    for word in text.split(' ') {
+        words.push(String::from_str(alloc, word)?)?;
+    }
+    Ok(())
+}
+
+/// A shelf with an image of 8 zeros, this script and a track of three bytes.
+fn inputs(alloc: Global, script: &str) -> Result<Shelf, CaseFault> {
     let mut shelf = shelf(alloc, &[0; 8], script)?;
     shelf.put("track", &[0; 3])?;
     Ok(shelf)
 }
 
+/// Whether the words of a text answer this status and read up to these caps.
+fn reads<R: Threads + Wait + Clone + Drop + Send + Sync + 'static>(
+    rt: &R,
+    alloc: Global,
+    text: &str,
+    script: &str,
+    wanted: u8,
+    caps: &[usize],
+) -> Result<bool, CaseFault> {
+    let mut place = NotingShelf {
+        shelf: inputs(alloc, script)?,
+        caps: Vec::new(alloc),
+    };
+    reads_on(rt, alloc, text, wanted, caps, &mut place)
+}
+
+/// Whether they do on a shelf that was not read yet.
+fn reads_on<R: Threads + Wait + Clone + Drop + Send + Sync + 'static>(
+    rt: &R,
+    alloc: Global,
+    text: &str,
+    wanted: u8,
+    caps: &[usize],
+    place: &mut NotingShelf,
+) -> Result<bool, CaseFault> {
+    let words = words_of(alloc, text)?;
+    let ended = ocs_main(rt, alloc, &words, place, NoGate);
+    Ok(ended == wanted && place.caps.as_slice() == caps)
+}
+
 /// A script that is bad at its third line, so that nothing runs: image and script are read.
 #[test]
-fn an_image_and_a_script_are_read_up_to_their_greatest_lengths(
-    rt: HostRuntime,
-) -> Result<(), Fail> {
+fn an_image_and_a_script_are_read_up_to_their_greatest_lengths(rt: HostRuntime) {
     let alloc = rt.alloc();
     let bad = "ocs 1\ncpu off\nframes 0\nend\n";
-    for text in [
-        "run image script frames trace memory 313 0",
-        "rewind image script 1 1 9",
-    ] {
-        let (ended, caps) = caps_of(&rt, alloc, text, bad)?;
-        let is_read = ended == 4 && caps.as_slice() == [1_048_576, 4_194_304].as_slice();
-        assert!(rt; is_read, "{text}");
-    }
-    Ok(())
+    let run = "run image script frames trace memory 313 0";
+    let rewind = "rewind image script 1 1 9";
+    let found = [
+        is_true(reads(&rt, alloc, run, bad, 4, &[1_048_576, 4_194_304])),
+        is_true(reads(&rt, alloc, rewind, bad, 4, &[1_048_576, 4_194_304])),
+    ];
+    assert!(rt; found == [true; 2]);
 }
 
 /// The track is the third file that is read, and is bad.
 #[test]
-fn a_track_is_read_up_to_its_greatest_length(rt: HostRuntime) -> Result<(), Fail> {
+fn a_track_is_read_up_to_its_greatest_length(rt: HostRuntime) {
     let alloc = rt.alloc();
     let good = "ocs 1\ncpu off\nframes 1\nend\n";
     let text = "disk image script frames trace memory track 313 0";
-    let (ended, caps) = caps_of(&rt, alloc, text, good)?;
-    assert!(rt; ended == 9 && caps.as_slice() == [1_048_576, 4_194_304, 32_768].as_slice());
-    Ok(())
+    let caps = [1_048_576, 4_194_304, 32_768];
+    assert!(rt; is_true(reads(&rt, alloc, text, good, 9, &caps)));
 }

@@ -4,11 +4,10 @@ use case_texts::inputs::{image, script};
 use case_texts::outputs::{frames, memory, trace};
 use case_texts::told::number;
 use ocs_io::Shelf;
+use run_cases::CaseFault;
 use run_cases::place::{run_words, shelf, status};
 use std::alloc::Global;
-use std::process::Abort;
 use std::sync::Wait;
-use std::test::Fail;
 use std::thread::Threads;
 
 /// COLOR00 becomes red in line 100.
@@ -62,7 +61,7 @@ fn faults_in_bands_of_1() -> &'static str {
 }
 
 /// The words of a line, and what is behind them.
-#[derive(Drop)]
+#[derive(Clone, Copy)]
 struct Fault<'a> {
     call: &'a str,
     status: &'a str,
@@ -86,7 +85,7 @@ fn read_fault(line: &str) -> Option<Fault<'_>> {
 }
 
 /// Whether the file has so many bytes, the first of the whole, or is not there where no number is told.
-fn has_part(shelf: &Shelf, name: &str, whole: &[u8], count: &str) -> Result<bool, Fail> {
+fn has_part(shelf: &Shelf, name: &str, whole: &[u8], count: &str) -> Result<bool, CaseFault> {
     let Some(file) = shelf.file(name) else {
         return Ok(count == "-");
     };
@@ -98,7 +97,7 @@ fn wrong_file(
     alloc: Global,
     shelf: &Shelf,
     counts: &[&str; 3],
-) -> Result<Option<&'static str>, Fail> {
+) -> Result<Option<&'static str>, CaseFault> {
     let [frames_count, trace_count, memory_count] = counts;
     if !has_frames(alloc, shelf, frames_count)? {
         return Ok(Some("frames"));
@@ -113,47 +112,58 @@ fn wrong_file(
 }
 
 /// Whether so many bytes of the frames are there.
-fn has_frames(alloc: Global, shelf: &Shelf, count: &str) -> Result<bool, Fail> {
+fn has_frames(alloc: Global, shelf: &Shelf, count: &str) -> Result<bool, CaseFault> {
     let whole = frames(alloc, run_told())?;
     has_part(shelf, "frames", &whole, count)
 }
 
 /// Whether so many bytes of the trace are there.
-fn has_trace(alloc: Global, shelf: &Shelf, count: &str) -> Result<bool, Fail> {
+fn has_trace(alloc: Global, shelf: &Shelf, count: &str) -> Result<bool, CaseFault> {
     let whole = trace(alloc, run_told())?;
     has_part(shelf, "trace", whole.as_bytes(), count)
 }
 
 /// Whether so many bytes of the memory are there.
-fn has_memory(alloc: Global, shelf: &Shelf, count: &str) -> Result<bool, Fail> {
+fn has_memory(alloc: Global, shelf: &Shelf, count: &str) -> Result<bool, CaseFault> {
     let whole = memory(alloc, run_told())?;
     has_part(shelf, "memory", &whole, count)
 }
 
 /// What of the run with the failing call of a line is not as it should be.
-fn wrong<R: Threads + Wait + Abort + Clone + Drop + Send + Sync + 'static>(
+fn wrong<R: Threads + Wait + Clone + Drop + Send + Sync + 'static>(
     rt: &R,
     alloc: Global,
     band: &str,
     fault: &Fault<'_>,
-) -> Result<Option<&'static str>, Fail> {
+) -> Result<Option<&'static str>, CaseFault> {
     let mut shelf = failing_shelf(alloc, number(fault.call)?)?;
-    let ended = status(rt, alloc, &run_words(band, "2"), &mut shelf)?;
-    wrong_part(alloc, ended, &shelf, fault)
+    wrong_on(rt, alloc, band, fault, &mut shelf)
+}
+
+/// What is not of the run on that shelf.
+fn wrong_on<R: Threads + Wait + Clone + Drop + Send + Sync + 'static>(
+    rt: &R,
+    alloc: Global,
+    band: &str,
+    fault: &Fault<'_>,
+    shelf: &mut Shelf,
+) -> Result<Option<&'static str>, CaseFault> {
+    let ended = status(rt, alloc, &run_words(band, "2"), shelf)?;
+    wrong_part(alloc, ended, shelf, fault)
 }
 
 /// A shelf with the image and the script, whose call of this number fails.
-fn failing_shelf(alloc: Global, call: u64) -> Result<Shelf, Fail> {
+fn failing_shelf(alloc: Global, call: u64) -> Result<Shelf, CaseFault> {
     let mut shelf = inputs(alloc)?;
     shelf.fail_at(call)?;
     Ok(shelf)
 }
 
 /// A shelf with the image and the script.
-fn inputs(alloc: Global) -> Result<Shelf, Fail> {
+fn inputs(alloc: Global) -> Result<Shelf, CaseFault> {
     let image = image(alloc, run_told())?;
     let script = script(alloc, run_told())?;
-    Ok(shelf(alloc, &image, script.as_str())?)
+    shelf(alloc, &image, script.as_str())
 }
 
 /// What of a run that ended with this status is not as a line tells.
@@ -162,7 +172,7 @@ fn wrong_part(
     ended: u8,
     shelf: &Shelf,
     fault: &Fault<'_>,
-) -> Result<Option<&'static str>, Fail> {
+) -> Result<Option<&'static str>, CaseFault> {
     if ended as u64 != number(fault.status)? {
         return Ok(Some("status"));
     }
@@ -180,28 +190,47 @@ fn said_line(said: &[u8]) -> &[u8] {
     }
 }
 
-/// Each line of a table is as it is told, and they are in order.
-fn check_faults<R: Threads + Wait + Abort + Clone + Drop + Send + Sync + 'static>(
+/// What of a line is not as it is told, where its call is to have this number.
+fn wrong_line<R: Threads + Wait + Clone + Drop + Send + Sync + 'static>(
     rt: &R,
     alloc: Global,
     band: &str,
-    table: &str,
-) -> Result<(), Fail> {
+    fault: &Fault<'_>,
+    calls: u64,
+) -> Result<Option<&'static str>, CaseFault> {
+    if number(fault.call)? != calls {
+        return Ok(Some("order"));
+    }
+    wrong(rt, alloc, band, fault)
+}
+
+/// What of the first line of a table is not as it is told that is not, and that line. The lines are in order,
+/// and more than eight.
+fn first_wrong<'a, R: Threads + Wait + Clone + Drop + Send + Sync + 'static>(
+    rt: &R,
+    alloc: Global,
+    band: &str,
+    table: &'a str,
+) -> Result<Option<(&'static str, &'a str)>, CaseFault> {
     let mut calls = 0u64;
     for line in table.lines() {
         if let Some(fault) = read_fault(line) {
-            let found = (number(fault.call)?, wrong(rt, alloc, band, &fault)?);
-            assert_eq!(rt; found, (calls, None), "bands of {band}: {line}");
+            if let Some(part) = wrong_line(rt, alloc, band, &fault, calls)? {
+                return Ok(Some((part, line)));
+            }
             calls = calls.saturating_add(1);
         }
     }
-    assert!(rt; calls > 8);
-    Ok(())
+    Ok(if calls > 8 { None } else { Some(("lines", "")) })
 }
 
 #[test]
-fn each_call_fails_once(rt: HostRuntime) -> Result<(), Fail> {
+fn each_call_fails_once(rt: HostRuntime) -> Result<(), CaseFault> {
     let alloc = rt.alloc();
-    check_faults(&rt, alloc, "313", faults_in_bands_of_313())?;
-    check_faults(&rt, alloc, "1", faults_in_bands_of_1())
+    let wrong = [
+        first_wrong(&rt, alloc, "313", faults_in_bands_of_313())?,
+        first_wrong(&rt, alloc, "1", faults_in_bands_of_1())?,
+    ];
+    assert_eq!(rt; wrong, [None; 2]);
+    Ok(())
 }

@@ -1,11 +1,11 @@
 //! Words of the command line that are of no form.
 
+use crate::answers::{ends, is_true};
 use ocs_io::Shelf;
+use run_cases::CaseFault;
 use run_cases::place::{shelf, status};
 use std::alloc::Global;
-use std::process::Abort;
 use std::sync::Wait;
-use std::test::Fail;
 use std::thread::Threads;
 
 fn usage() -> &'static [u8] {
@@ -96,80 +96,104 @@ fn no_rewind() -> [&'static str; 12] {
     ]
 }
 
-/// The status of the words of a text.
-fn status_of<R: Threads + Wait + Abort + Clone + Drop + Send + Sync + 'static>(
-    rt: &R,
-    alloc: Global,
-    text: &str,
-    shelf: &mut Shelf,
-) -> Result<u8, Fail> {
+/// The words of a text.
+fn words_of(alloc: Global, text: &str) -> Result<Vec<&str>, CaseFault> {
     let mut words = Vec::new(alloc);
+    push_words(&mut words, text)?;
+    Ok(words)
+}
+
+/// Appends the words of a text.
+fn push_words<'a>(words: &mut Vec<&'a str>, text: &'a str) -> Result<(), CaseFault> {
     for word in text.split(' ') {
         words.push(word)?;
     }
-    Ok(status(rt, alloc, &words, shelf)?)
+    Ok(())
 }
 
 /// A shelf with a good image and a good script.
-fn good_shelf(alloc: Global) -> Result<Shelf, Fail> {
-    Ok(shelf(alloc, &[0; 8], "ocs 1\ncpu off\nframes 1\nend\n")?)
+fn good_shelf(alloc: Global) -> Result<Shelf, CaseFault> {
+    shelf(alloc, &[0; 8], "ocs 1\ncpu off\nframes 1\nend\n")
 }
 
 /// Whether words answer status 2 and say this text, and no file is made.
-fn says_usage<R: Threads + Wait + Abort + Clone + Drop + Send + Sync + 'static>(
+fn says_usage<R: Threads + Wait + Clone + Drop + Send + Sync + 'static>(
     rt: &R,
     alloc: Global,
-    text: &str,
+    words: &[&str],
     usage: &[u8],
-) -> Result<bool, Fail> {
-    let mut place = good_shelf(alloc)?;
-    let ended = status_of(rt, alloc, text, &mut place)?;
-    Ok(ended == 2 && place.said() == usage && place.file("frames").is_none())
+    place: &mut Shelf,
+) -> bool {
+    let is_ended = ends(status(rt, alloc, words, place), 2);
+    is_ended && place.said() == usage && place.file("frames").is_none()
 }
 
 /// Whether words answer status 2 and say half of this text, where the place refuses it.
-fn says_half<R: Threads + Wait + Abort + Clone + Drop + Send + Sync + 'static>(
+fn says_half<R: Threads + Wait + Clone + Drop + Send + Sync + 'static>(
     rt: &R,
     alloc: Global,
-    text: &str,
+    words: &[&str],
     usage: &[u8],
-) -> Result<bool, Fail> {
-    let mut place = good_shelf(alloc)?;
+    place: &mut Shelf,
+) -> Result<bool, CaseFault> {
     place.fail_at(0)?;
-    let ended = status_of(rt, alloc, text, &mut place)?;
+    let is_ended = ends(status(rt, alloc, words, place), 2);
     let said = place.said();
-    Ok(ended == 2 && said.len() == usage.len() / 2 && usage.starts_with(said))
+    Ok(is_ended && said.len() == usage.len() / 2 && usage.starts_with(said))
 }
 
-/// Words of no form have their usage said.
-fn check_usage<R: Threads + Wait + Abort + Clone + Drop + Send + Sync + 'static>(
+/// Whether words have this usage said, or half of it, each on a shelf of its own.
+fn says<R: Threads + Wait + Clone + Drop + Send + Sync + 'static>(
+    rt: &R,
+    alloc: Global,
+    words: &[&str],
+    usage: &[u8],
+    is_half: bool,
+) -> Result<bool, CaseFault> {
+    let mut place = good_shelf(alloc)?;
+    if is_half {
+        says_half(rt, alloc, words, usage, &mut place)
+    } else {
+        Ok(says_usage(rt, alloc, words, usage, &mut place))
+    }
+}
+
+/// Whether the words of a text have both.
+fn says_both<R: Threads + Wait + Clone + Drop + Send + Sync + 'static>(
     rt: &R,
     alloc: Global,
     text: &str,
     usage: &[u8],
-) -> Result<(), Fail> {
-    assert!(rt; says_usage(rt, alloc, text, usage)?, "{text}");
-    assert!(rt; says_half(rt, alloc, text, usage)?, "{text}");
-    Ok(())
+) -> Result<bool, CaseFault> {
+    let words = words_of(alloc, text)?;
+    let is_said = is_true(says(rt, alloc, &words, usage, false));
+    Ok(is_said && is_true(says(rt, alloc, &words, usage, true)))
+}
+
+/// The first text of no form that does not have its usage said.
+fn first_wrong<'a, R: Threads + Wait + Clone + Drop + Send + Sync + 'static>(
+    rt: &R,
+    alloc: Global,
+    texts: &[&'a str],
+    usage: &[u8],
+) -> Option<&'a str> {
+    for text in texts {
+        if !is_true(says_both(rt, alloc, text, usage)) {
+            return Some(*text);
+        }
+    }
+    None
 }
 
 #[test]
-fn words_of_no_form(rt: HostRuntime) -> Result<(), Fail> {
+fn words_of_no_form(rt: HostRuntime) {
     let alloc = rt.alloc();
-    for text in no_run() {
-        check_usage(&rt, alloc, text, usage())?;
-    }
-    for text in no_scene() {
-        check_usage(&rt, alloc, text, usage_of_gen())?;
-    }
-    for text in no_sound() {
-        check_usage(&rt, alloc, text, usage_of_sound())?;
-    }
-    for text in no_disk() {
-        check_usage(&rt, alloc, text, usage_of_disk())?;
-    }
-    for text in no_rewind() {
-        check_usage(&rt, alloc, text, usage_of_rewind())?;
-    }
-    Ok(())
+    let wrong = [
+        first_wrong(&rt, alloc, &no_run(), usage()),
+        first_wrong(&rt, alloc, &no_scene(), usage_of_gen()),
+        first_wrong(&rt, alloc, &no_sound(), usage_of_sound()),
+        first_wrong(&rt, alloc, &no_disk(), usage_of_disk()),
+        first_wrong(&rt, alloc, &no_rewind(), usage_of_rewind()),
+    ];
+    assert_eq!(rt; wrong, [None; 5]);
 }
