@@ -18,54 +18,102 @@ fn name(rt: &HostRuntime, file: &str) -> Result<String, Fail> {
 /// The words of a run of the five files in bands of 20 lines with two workers.
 fn words(rt: &HostRuntime) -> Result<Vec<String>, Fail> {
     let mut words = Vec::new(rt.alloc());
+    push_words(rt, &mut words)?;
+    Ok(words)
+}
+
+/// Appends these words.
+fn push_words(rt: &HostRuntime, words: &mut Vec<String>) -> Result<(), Fail> {
     words.push(String::from_str(rt.alloc(), "run")?)?;
     for file in &["image", "script", "frames", "trace", "memory"] {
         words.push(name(rt, file)?)?;
     }
     words.push(String::from_str(rt.alloc(), "20")?)?;
     words.push(String::from_str(rt.alloc(), "2")?)?;
-    Ok(words)
+    Ok(())
 }
 
 /// Writes a file.
 fn write(rt: &HostRuntime, file: &str, bytes: &[u8]) -> Result<(), Fail> {
     let name = name(rt, file)?;
+    write_named(rt, name.as_str(), bytes)
+}
+
+/// Writes the file of this name.
+fn write_named(rt: &HostRuntime, name: &str, bytes: &[u8]) -> Result<(), Fail> {
     let mut folder = Folder::new(rt);
-    folder.create(&name)?;
-    folder.append(&name, bytes)?;
+    folder.create(name)?;
+    folder.append(name, bytes)?;
     Ok(())
 }
 
 /// The bytes of a file, which is then removed.
 fn take(rt: &HostRuntime, file: &str) -> Result<Vec<u8>, Fail> {
     let name = name(rt, file)?;
-    let bytes = fs::read(rt, &name)?;
-    fs::remove_file(rt, &name)?;
+    take_named(rt, name.as_str())
+}
+
+/// Those of the file of this name.
+fn take_named(rt: &HostRuntime, name: &str) -> Result<Vec<u8>, Fail> {
+    let bytes = fs::read(rt, name)?;
+    fs::remove_file(rt, name)?;
     Ok(bytes)
+}
+
+/// Removes a file that can be read.
+fn remove(rt: &HostRuntime, file: &str) -> Result<(), Fail> {
+    let _bytes = take(rt, file)?;
+    Ok(())
+}
+
+/// Whether a file has these bytes; it is then removed.
+fn has(rt: &HostRuntime, file: &str, told: &[u8]) -> Result<bool, Fail> {
+    let written = take(rt, file)?;
+    Ok(written.as_slice() == told)
 }
 
 /// Writes the image and the script of the bars.
 fn write_inputs(rt: &HostRuntime) -> Result<(), Fail> {
-    write(rt, "image", &image(rt.alloc(), bars_told())?)?;
-    write(rt, "script", script(rt.alloc(), bars_told())?.as_bytes())
+    write_image(rt)?;
+    write_script(rt)
+}
+
+/// Writes the image.
+fn write_image(rt: &HostRuntime) -> Result<(), Fail> {
+    let image = image(rt.alloc(), bars_told())?;
+    write(rt, "image", &image)
+}
+
+/// Writes the script.
+fn write_script(rt: &HostRuntime) -> Result<(), Fail> {
+    let script = script(rt.alloc(), bars_told())?;
+    write(rt, "script", script.as_bytes())
 }
 
 /// Whether the file of frames is that of the bars.
 fn has_frames(rt: &HostRuntime) -> Result<bool, Fail> {
-    let written = take(rt, "frames")?;
-    Ok(written.as_slice() == frames(rt.alloc(), bars_told())?.as_slice())
+    let told = frames(rt.alloc(), bars_told())?;
+    has(rt, "frames", &told)
 }
 
 /// Whether the trace is that of the bars.
 fn has_trace(rt: &HostRuntime) -> Result<bool, Fail> {
-    let written = take(rt, "trace")?;
-    Ok(written.as_slice() == trace(rt.alloc(), bars_told())?.as_bytes())
+    let told = trace(rt.alloc(), bars_told())?;
+    has(rt, "trace", told.as_bytes())
 }
 
 /// Whether the memory is that of the bars.
 fn has_memory(rt: &HostRuntime) -> Result<bool, Fail> {
-    let written = take(rt, "memory")?;
-    Ok(written.as_slice() == memory(rt.alloc(), bars_told())?.as_slice())
+    let told = memory(rt.alloc(), bars_told())?;
+    has(rt, "memory", &told)
+}
+
+/// Whether the three files are those of the bars; all five are then removed.
+fn are_bars(rt: &HostRuntime) -> Result<bool, Fail> {
+    remove(rt, "image")?;
+    remove(rt, "script")?;
+    let found = [has_frames(rt)?, has_trace(rt)?, has_memory(rt)?];
+    Ok(found == [true; 3])
 }
 
 #[test]
@@ -73,9 +121,7 @@ fn bars_on_real_files(rt: HostRuntime) -> Result<(), Fail> {
     write_inputs(&rt)?;
     let words = words(&rt)?;
     let status = ocs_main(&rt, rt.alloc(), &words, &mut Folder::new(&rt), NoGate);
-    let _image = take(&rt, "image")?;
-    let _script = take(&rt, "script")?;
-    let found = [has_frames(&rt)?, has_trace(&rt)?, has_memory(&rt)?];
-    assert!(rt; status == 0 && found == [true; 3]);
+    let are_bars = are_bars(&rt)?;
+    assert!(rt; status == 0 && are_bars);
     Ok(())
 }

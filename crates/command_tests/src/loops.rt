@@ -1,13 +1,13 @@
 //! Programs of the processor that go on for long: one that waits for interrupts, and one that reads CLXDAT
 //! again and again.
 
+use crate::answers::{ends, is_true};
 use case_texts::inputs::{image, script};
 use ocs_io::Shelf;
+use run_cases::CaseFault;
 use run_cases::place::{holds, run_words, shelf, status};
 use std::alloc::Global;
-use std::process::Abort;
 use std::sync::Wait;
-use std::test::Fail;
 use std::thread::Threads;
 
 /// A program at 100 that waits for each vertical blanking with STOP; its handler at 140 reads CLXDAT, clears
@@ -31,20 +31,22 @@ fn trace_of_counter() -> &'static str {
 "
 }
 
-/// The shelf with the files of a run.
-fn files_of<R: Threads + Wait + Abort + Clone + Drop + Send + Sync + 'static>(
+/// A shelf with the image and the script of a run.
+fn inputs(alloc: Global, run: &str) -> Result<Shelf, CaseFault> {
+    let image = image(alloc, run)?;
+    let script = script(alloc, run)?;
+    shelf(alloc, &image, script.as_str())
+}
+
+/// Whether that run is done and says nothing, on this shelf.
+fn is_done<R: Threads + Wait + Clone + Drop + Send + Sync + 'static>(
     rt: &R,
     alloc: Global,
-    run: &str,
     band: &str,
     workers: &str,
-) -> Result<Shelf, Fail> {
-    let mut shelf = shelf(alloc, &image(alloc, run)?, script(alloc, run)?.as_str())?;
-    let status = status(rt, alloc, &run_words(band, workers), &mut shelf)?;
-    if status != 0 || !shelf.said().is_empty() {
-        return Err(Fail::from("it is done and says nothing"));
-    }
-    Ok(shelf)
+    shelf: &mut Shelf,
+) -> bool {
+    ends(status(rt, alloc, &run_words(band, workers), shelf), 0) && shelf.said().is_empty()
 }
 
 /// How many lines a text has.
@@ -70,25 +72,48 @@ fn counts_fifty(shelf: &Shelf) -> bool {
     count.starts_with(&[0x00, 0x32]) && begins && lines_in(trace) == 201
 }
 
+/// Whether the run of the counter is done and leaves them, on a shelf with its files.
+fn is_counted<R: Threads + Wait + Clone + Drop + Send + Sync + 'static>(
+    rt: &R,
+    alloc: Global,
+    shelf: &mut Shelf,
+) -> bool {
+    let is_done = is_done(rt, alloc, "313", "2", shelf);
+    let has_grounds = has_grounds(alloc, shelf.file("frames").unwrap_or(&[]));
+    is_done && is_true(has_grounds) && counts_fifty(shelf)
+}
+
+/// The same of a shelf of its own.
+fn interrupts_are_counted<R: Threads + Wait + Clone + Drop + Send + Sync + 'static>(
+    rt: &R,
+    alloc: Global,
+) -> Result<bool, CaseFault> {
+    let mut shelf = inputs(alloc, counter())?;
+    Ok(is_counted(rt, alloc, &mut shelf))
+}
+
 #[test]
-fn fifty_interrupts(rt: HostRuntime) -> Result<(), Fail> {
-    let shelf = files_of(&rt, rt.alloc(), counter(), "313", "2")?;
-    let has_grounds = has_grounds(rt.alloc(), shelf.file("frames").unwrap_or(&[]))?;
-    assert!(rt; has_grounds && counts_fifty(&shelf));
-    Ok(())
+fn fifty_interrupts(rt: HostRuntime) {
+    assert!(rt; is_true(interrupts_are_counted(&rt, rt.alloc())));
 }
 
 /// Whether a frame is wholly of one colour, of four bits each of green and blue.
-fn has_ground(alloc: Global, frame: &[u8], green: u8, blue: u8) -> Result<bool, Fail> {
+fn has_ground(alloc: Global, frame: &[u8], green: u8, blue: u8) -> Result<bool, CaseFault> {
     let mut wanted = Vec::from_slice(alloc, b"P6\n720 286\n255\n")?;
-    for _ in 0..205_920 {
-        wanted.extend_from_slice(&[0, 17 * (green % 16), 17 * (blue % 16)])?;
-    }
+    push_ground(&mut wanted, green, blue)?;
     Ok(frame == wanted.as_slice())
 }
 
+/// Appends the pixels of such a frame.
+fn push_ground(frame: &mut Vec<u8>, green: u8, blue: u8) -> Result<(), CaseFault> {
+    for _ in 0..205_920 {
+        frame.extend_from_slice(&[0, 17 * (green % 16), 17 * (blue % 16)])?;
+    }
+    Ok(())
+}
+
 /// Whether frame k of 50, from 0, is wholly the colour k + 1.
-fn has_grounds(alloc: Global, frames: &[u8]) -> Result<bool, Fail> {
+fn has_grounds(alloc: Global, frames: &[u8]) -> Result<bool, CaseFault> {
     for (k, frame) in frames.chunks(617_775).enumerate() {
         let (green, blue) = ((k + 1) / 16 % 16, (k + 1) % 16);
         if !has_ground(alloc, frame, green as u8, blue as u8)? {
@@ -113,49 +138,82 @@ fn share(one: &Shelf, other: &Shelf, name: &str) -> bool {
     }
 }
 
-/// Whether the loop's files are those of another run of it, in bands of this height and with so many workers.
-fn is_same<R: Threads + Wait + Abort + Clone + Drop + Send + Sync + 'static>(
+/// Whether the loop is done and its files are those of another run of it, in bands of this height and with so
+/// many workers, on a shelf with the loop.
+fn is_same_on<R: Threads + Wait + Clone + Drop + Send + Sync + 'static>(
     rt: &R,
     alloc: Global,
     first: &Shelf,
     band: &str,
     workers: &str,
-) -> Result<bool, Fail> {
-    let other = files_of(rt, alloc, collision_loop(), band, workers)?;
-    Ok(
-        share(first, &other, "frames")
-            && share(first, &other, "trace")
-            && share(first, &other, "memory"),
-    )
+    other: &mut Shelf,
+) -> bool {
+    is_done(rt, alloc, band, workers, other)
+        && share(first, other, "frames")
+        && share(first, other, "trace")
+        && share(first, other, "memory")
 }
 
-/// Whether they are with 0, 4 and 32 workers.
-fn is_same_by_workers<R: Threads + Wait + Abort + Clone + Drop + Send + Sync + 'static>(
+/// The same of a shelf of its own.
+fn is_same<R: Threads + Wait + Clone + Drop + Send + Sync + 'static>(
     rt: &R,
     alloc: Global,
     first: &Shelf,
     band: &str,
-) -> Result<bool, Fail> {
+    workers: &str,
+) -> Result<bool, CaseFault> {
+    let mut other = inputs(alloc, collision_loop())?;
+    Ok(is_same_on(rt, alloc, first, band, workers, &mut other))
+}
+
+/// Whether they are with 0, 4 and 32 workers.
+fn is_same_by_workers<R: Threads + Wait + Clone + Drop + Send + Sync + 'static>(
+    rt: &R,
+    alloc: Global,
+    first: &Shelf,
+    band: &str,
+) -> bool {
     let found = [
-        is_same(rt, alloc, first, band, "0")?,
-        is_same(rt, alloc, first, band, "4")?,
-        is_same(rt, alloc, first, band, "32")?,
+        is_true(is_same(rt, alloc, first, band, "0")),
+        is_true(is_same(rt, alloc, first, band, "4")),
+        is_true(is_same(rt, alloc, first, band, "32")),
     ];
-    Ok(found == [true; 3])
+    found == [true; 3]
+}
+
+/// Whether the first two reads of the loop are 13 clocks apart.
+fn begins(shelf: &Shelf) -> bool {
+    let trace = shelf.file("trace").unwrap_or(&[]);
+    trace.starts_with(b"0 0 28 R 00e 0001 M\n0 0 41 R 00e 0001 M\n")
+}
+
+/// Whether the loop is done and begins so, and its files depend neither on bands nor on workers, on a shelf with
+/// the loop.
+fn is_one_run<R: Threads + Wait + Clone + Drop + Send + Sync + 'static>(
+    rt: &R,
+    alloc: Global,
+    first: &mut Shelf,
+) -> bool {
+    let is_done = is_done(rt, alloc, "313", "0", first);
+    let found = [
+        is_same_by_workers(rt, alloc, first, "1"),
+        is_same_by_workers(rt, alloc, first, "20"),
+        is_same_by_workers(rt, alloc, first, "313"),
+    ];
+    is_done && begins(first) && found == [true; 3]
+}
+
+/// The same of a shelf of its own.
+fn loop_is_one_run<R: Threads + Wait + Clone + Drop + Send + Sync + 'static>(
+    rt: &R,
+    alloc: Global,
+) -> Result<bool, CaseFault> {
+    let mut first = inputs(alloc, collision_loop())?;
+    Ok(is_one_run(rt, alloc, &mut first))
 }
 
 /// The first two reads are 13 clocks apart; of the files none depends on bands and workers.
 #[test]
-fn a_loop_that_reads_collisions(rt: HostRuntime) -> Result<(), Fail> {
-    let alloc = rt.alloc();
-    let first = files_of(&rt, alloc, collision_loop(), "313", "0")?;
-    let trace = first.file("trace").unwrap_or(&[]);
-    let begins = trace.starts_with(b"0 0 28 R 00e 0001 M\n0 0 41 R 00e 0001 M\n");
-    let found = [
-        is_same_by_workers(&rt, alloc, &first, "1")?,
-        is_same_by_workers(&rt, alloc, &first, "20")?,
-        is_same_by_workers(&rt, alloc, &first, "313")?,
-    ];
-    assert!(rt; begins && found == [true; 3]);
-    Ok(())
+fn a_loop_that_reads_collisions(rt: HostRuntime) {
+    assert!(rt; is_true(loop_is_one_run(&rt, rt.alloc())));
 }
