@@ -1,10 +1,10 @@
 //! Programs of the processor that go on for long: one that waits for interrupts, and one that reads CLXDAT
 //! again and again.
 
-use crate::answers::{ends, is_true};
 use case_texts::inputs::{image, script};
 use ocs_io::Shelf;
 use run_cases::CaseFault;
+use run_cases::answers::{ends, is_true};
 use run_cases::place::{holds, run_words, shelf, status};
 use std::alloc::Global;
 use std::sync::Wait;

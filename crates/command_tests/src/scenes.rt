@@ -1,8 +1,8 @@
 //! What `gen` says of a scene.
 
-use crate::answers::{ends, is_true};
 use ocs_io::Shelf;
 use run_cases::CaseFault;
+use run_cases::answers::{ends, is_true};
 use run_cases::place::{run_words, status};
 use scene_gen::scene;
 use script_read::print_script;

@@ -1,9 +1,9 @@
 //! How much of an input is read at the most: the longest good image, script and track, and no more.
 
-use crate::answers::is_true;
 use ocs_io::{Place, ReadRefusal, Shelf, WriteRefusal};
 use ocs_run::{NoGate, ocs_main};
 use run_cases::CaseFault;
+use run_cases::answers::is_true;
 use run_cases::place::shelf;
 use std::alloc::Global;
 use std::sync::Wait;

@@ -1,8 +1,8 @@
 //! Images and scripts that are refused, or just good.
 
-use crate::answers::{ends, is_true};
 use ocs_io::Shelf;
 use run_cases::CaseFault;
+use run_cases::answers::{ends, is_true};
 use run_cases::place::{holds, run_words, shelf, status};
 use std::alloc::Global;
 use std::sync::Wait;

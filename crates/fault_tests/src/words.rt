@@ -1,8 +1,8 @@
 //! Words of the command line that are of no form.
 
-use crate::answers::{ends, is_true};
 use ocs_io::Shelf;
 use run_cases::CaseFault;
+use run_cases::answers::{ends, is_true};
 use run_cases::place::{shelf, status};
 use std::alloc::Global;
 use std::sync::Wait;

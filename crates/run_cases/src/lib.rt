@@ -2,6 +2,7 @@
 //! of a run is not as it is told. Nothing of it is part of the program.
 #![tactic(auto)]
 
+pub mod answers;
 pub mod case;
 pub mod fault;
 pub mod place;

@@ -1,9 +1,9 @@
 //! Programs of the processor, with exceptions, a CIA and inputs.
 
-use crate::answers::{ends, is_true};
 use case_texts::inputs::bytes;
 use ocs_io::Shelf;
 use run_cases::CaseFault;
+use run_cases::answers::{ends, is_true};
 use run_cases::case::check;
 use run_cases::place::{run_words, shelf, status};
 use std::alloc::Global;

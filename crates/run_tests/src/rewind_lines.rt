@@ -1,8 +1,8 @@
 //! The lines of clocks.
 
-use crate::answers::is_true;
 use crate::rewinds::{Inputs, red_inputs, says};
 use run_cases::CaseFault;
+use run_cases::answers::is_true;
 use std::alloc::Global;
 use std::sync::Wait;
 use std::thread::Threads;

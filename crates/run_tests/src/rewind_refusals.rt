@@ -1,9 +1,9 @@
 //! What is refused of a rewind: inputs, and calls of the place that fail.
 
-use crate::answers::{ends, is_true};
 use crate::rewinds::{Inputs, red_script, says, status_of};
 use ocs_io::Shelf;
 use run_cases::CaseFault;
+use run_cases::answers::{ends, is_true};
 use run_cases::place::shelf;
 use std::alloc::Global;
 use std::sync::Wait;

@@ -1,8 +1,8 @@
 //! A rewind of files in memory.
 
-use crate::answers::ends;
 use ocs_io::Shelf;
 use run_cases::CaseFault;
+use run_cases::answers::ends;
 use run_cases::place::{holds, shelf, status};
 use std::alloc::Global;
 use std::sync::Wait;

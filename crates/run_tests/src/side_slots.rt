@@ -3,11 +3,11 @@
 //! A blit of D alone has sixty asks from clock 0 of line 100 on, of which refresh holds off three. The Copper
 //! waits for its end and then writes COLOR00, four clocks after the clock at which it sees the end.
 
-use crate::answers::{ends, is_true};
 use crate::sides::{is_as_told, run_told, shelf_of};
 use case_texts::outputs::frames;
 use ocs_io::Shelf;
 use run_cases::CaseFault;
+use run_cases::answers::{ends, is_true};
 use run_cases::place::holds;
 use std::alloc::Global;
 use std::sync::Wait;

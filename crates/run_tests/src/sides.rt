@@ -1,12 +1,12 @@
 //! Runs with a sixth file that are told as texts, as other runs are. Further lines tell the words of the
 //! `track` that is read, and the words with which the `audio` begins.
 
-use crate::answers::is_true;
 use case_texts::inputs::{bytes, image, script};
 use case_texts::outputs::{memory, trace};
 use case_texts::told::first;
 use ocs_io::Shelf;
 use run_cases::CaseFault;
+use run_cases::answers::is_true;
 use run_cases::place::{holds, shelf, status};
 use std::alloc::Global;
 use std::sync::Wait;

@@ -1,9 +1,9 @@
 //! What the audio channels sound.
 
-use crate::answers::{ends, is_true};
 use crate::sides::{is_as_told, run_told, shelf_of, sounds_as_told};
 use ocs_io::Shelf;
 use run_cases::CaseFault;
+use run_cases::answers::{ends, is_true};
 use std::alloc::Global;
 use std::sync::Wait;
 use std::thread::Threads;

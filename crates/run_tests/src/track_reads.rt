@@ -1,9 +1,9 @@
 //! What is read of a track.
 
-use crate::answers::{ends, is_true};
 use crate::sides::{is_as_told, run_told, shelf_of};
 use ocs_io::Shelf;
 use run_cases::CaseFault;
+use run_cases::answers::{ends, is_true};
 use run_cases::place::{shelf, status};
 use std::alloc::Global;
 use std::sync::Wait;

@@ -1,6 +1,6 @@
 //! What a test asks that may fail. A `?` in a test is proved more dearly than these calls.
 
-use run_cases::CaseFault;
+use crate::fault::CaseFault;
 
 /// Whether a command was run, and ended with this status.
 pub fn ends(answer: Result<u8, CaseFault>, wanted: u8) -> bool {
