@@ -1,7 +1,7 @@
 //! Clocks that everybody else leaves to the processor, made at once: nothing is to be done for side and CIAs in
 //! them.
 
-ghost use Rattle.std.specs.Prelude.{◌≡◌, ◌<◌, ◌+◌, ◌^◌, ℕ, true, [], Some, OnOk, OnErr};
+ghost use Rattle.std.specs.Prelude.{◌≡◌, ◌<◌, ◌≤◌, ◌+◌, ◌^◌, ℕ, true, [], Some, OnOk, OnErr};
 ghost use Rattle.out_files.specs.OutFiles.{OutFilesValue};
 ghost use Rattle.serial_model.specs.declared.bus.Ask.TheVariants as A;
 ghost use Rattle.serial_model.specs.declared.bus.ProcessorAsk.TheVariants as P;
@@ -15,7 +15,7 @@ ghost use Rattle.machine.specs.AheadCode.{IsLeftToProcessor, IsClockAtOnce};
 use crate::machine::Machine;
 use ocs_base::{Addr, Beam, OutOfMemory};
 use out_files::OutFiles;
-use serial_model::{Side, TraceLine};
+use serial_model::{Half, Side, TraceLine};
 
 impl<S: Side> Machine<S> {
     /// The first clock of an access of the processor, in which it does not ask yet: nobody has the slot.
@@ -47,6 +47,34 @@ impl<S: Side> Machine<S> {
     {
         let word = self.chip.read(at);
         let begins = self.chips.take_word(word);
+        tell_interrupt(&self.beam, begins, out)?;
+        self.beam.h += 1;
+        self.t += 1;
+        Ok(())
+    }
+
+    /// A clock in which the processor writes this word, or its low byte as one half of a word, at this address, and
+    /// goes on.
+    #[inline(always)]
+    pub fn write_at_once(
+        &mut self,
+        at: Addr,
+        half: Half,
+        word: u16,
+        out: &mut OutFiles,
+    ) -> Result<(), OutOfMemory>
+        requires alone { (rest : ℕ) × IsLeftToProcessor rest (machine_over S.seen self.old) }
+        requires waits { is_slot self.old.chips.processor.wait ≡ true }
+        requires asks { wish_shown self.old.chips.processor ≡ Some (P.Write at half word) }
+        requires time { self.old.chip.newest ≤ self.old.t }
+        requires count { self.old.t + 1 < 2 ^ 64 }
+        ensures clock { OnOk result (IsClockAtOnce (A.Processor (P.Write at half word))
+            (machine_over S.seen self.old) out.old (machine_over S.seen self.new) out.new) }
+        ensures reads { self.new.chip.reads ≡ self.old.chip.reads }
+        ensures refused { OnErr result (out.new ≡ out.old) }
+    {
+        self.store(at, half, word)?;
+        let begins = self.chips.take_word(0);
         tell_interrupt(&self.beam, begins, out)?;
         self.beam.h += 1;
         self.t += 1;

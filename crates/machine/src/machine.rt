@@ -356,11 +356,12 @@ impl<S: Side> Machine<S> {
 
     /// A word, or its low byte as one half of a word, is stored in memory.
     #[inline(always)]
-    fn store(&mut self, at: Addr, half: Half, word: u16) -> Result<(), OutOfMemory>
+    pub(crate) fn store(&mut self, at: Addr, half: Half, word: u16) -> Result<(), OutOfMemory>
         requires { self.old.chip.newest ≤ self.old.t }
         ensures does { (clx : ℕ) (out : OutFilesValue) → OnOk result
             (Does (M.Stored at half word) clx (machine_over S.seen self.old) out
             (machine_over S.seen self.new) out) }
+        ensures same { self.new ≡ record self.old { chip = self.new.chip } }
         ensures kept { OnErr result (self.new ≡ self.old) }
     {
         let now = Clock(self.t);
