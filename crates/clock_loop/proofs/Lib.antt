@@ -5,4 +5,5 @@ pub mod FetchLaws
 pub mod UnitLaws
 pub mod LineLaws
 pub mod BusLaws
+pub mod ClockLaws
 pub mod AheadLaws

@@ -1,17 +1,23 @@
 -- Clocks on the bus one behind the other.
-use Rattle.std.specs.Prelude.{◌≡◌, ◌≤◌, ◌<◌, ◌+◌, ◌-◌, ℕ, max, false, [], Option, None}
+use Rattle.std.specs.Prelude.{◌≡◌, ◌≤◌, ◌<◌, ◌+◌, ◌-◌, ℕ, max, Bool, true, false, [], Option, None, Result, IfOk, OnErr}
 use Rattle.band_log.specs.Raster.{RasterValue}
 use Rattle.out_files.specs.OutFiles.{OutFilesValue}
+use Rattle.serial_model.specs.declared.bus.Ask.{Ask}
 use Rattle.serial_model.specs.Side.{no_side}
 use Rattle.bitplane_dma.specs.declared.rules.FetchRules.{FetchRules}
 use Rattle.chip_set.specs.BusCode.{LeaveBus, LeavesBeside, IsClaim, KeepsBeside, KeepsOnBus, CiasRest}
 use Rattle.chip_set.specs.declared.bus.BlitterClaim.{BlitterClaim}
+use Rattle.chip_set.specs.Chips.{CanAsk, IsBlitAsk, kept_wish, late_ask}
 use Rattle.machine.specs.Machine.{IsSamePlace}
+use Rattle.machine.specs.MachineStepsCode.{AsksInTime}
 use Rattle.serial_model.specs.Beam.{later_beam}
-use Rattle.serial_bands.specs.BusReads.{bus_reads}
+use Rattle.serial_bands.specs.BusReads.{bus_reads, reads_of_ask}
 use Rattle.serial_model.specs.Events.{due_events}
 use Rattle.foreground.specs.Clock.{Rises}
 use Rattle.foreground.specs.Fore.{ForeValue, IsUnderway, Advances, GivesPart, is_done, looked_up}
+use Rattle.foreground.specs.Steps.{MakesAskedAccess, AccessesPart, KeepsClock, reads_more}
+use Rattle.clock_loop.specs.declared.turn.Access.{Access}
+use Rattle.clock_loop.specs.declared.turn.Access.TheVariants as X
 use Rattle.clock_loop.specs.LineCode.{AreInLine}
 use Rattle.clock_loop.specs.RunTo.{RunsOn, RisesIn, RisesInSome}
 
@@ -34,18 +40,51 @@ pub record GoesOnBus (rules : Option FetchRules) (rest : ℕ) (old new : ForeVal
   pub ready : IsOpenForBus new
   pub rests : CiasRest new.machine.t rest new.machine.chips
 
--- what is told of a clock of a line that is made on the bus: the open band goes on with it, no event is due in it, and in so many
--- clocks from it on nothing is to be done for the CIAs
-pub record CanMakeClock (rules : Option FetchRules) (rest : ℕ) (claim : BlitterClaim) (fore : ForeValue) (seen : RasterValue) : Type 0 where
+-- a clock within a line with which the open band goes on; no event is due in it
+pub record IsWithinLine (fore : ForeValue) (seen : RasterValue) : Type 0 where
   pub underway : (first : ℕ) × IsUnderway fore first seen
   pub running : is_done fore ≡ false
   pub inner : 0 < fore.machine.beam.h
   pub last : fore.machine.beam.h < 226
   pub due : due_events fore.machine.beam fore.run.script.events ≡ []
   pub ready : IsOpenForBus fore
+
+-- what is told of such a clock that is made on the bus: in so many clocks from it on nothing is to be done for the CIAs
+pub record CanMakeClock (rules : Option FetchRules) (rest : ℕ) (claim : BlitterClaim) (fore : ForeValue) (seen : RasterValue) : Type 0 where
+  pub within : IsWithinLine fore seen
   pub leaves : LeavesBeside rules fore.machine.beam fore.machine.chips
   pub claims : IsClaim claim fore.machine.chips
   pub rests : CiasRest fore.machine.t rest fore.machine.chips
+
+-- the access of a clock was made, or not
+abbrev pub is_made : Access → Bool
+is_made X.Stays = true
+is_made X.Ends = true
+is_made X.Other = false
+
+-- and the bus is known to be left in further clocks
+abbrev pub stays_left : Access → Bool
+stays_left X.Stays = true
+stays_left X.Ends = false
+stays_left X.Other = false
+
+-- what came of the access with this ask, whatever raster there is: where it was not made all is as it was
+pub record ServesAsk {E : Type 0} (ask : Ask) (old new : ForeValue) (out given : OutFilesValue) (result : Result Access E) : Type 0 where
+  pub makes : IfOk result (λ access. is_made access ≡ true → (seen : RasterValue) → MakesAskedAccess old new seen seen out given)
+  pub part : OnErr result ((seen : RasterValue) → AccessesPart old seen seen out given)
+  pub kept : KeepsClock old new
+  pub reads : IfOk result (λ access. is_made access ≡ true → new.machine.chip.reads ≡ reads_more (reads_of_ask ask) old.machine.chip.reads)
+  pub few : OnErr result (new.machine.chip.reads ≡ reads_more (reads_of_ask ask) old.machine.chip.reads)
+  pub bus : IfOk result (λ access. stays_left access ≡ true → StaysOnBus old new)
+  pub same : IfOk result (λ access. is_made access ≡ false → new ≡ old)
+  pub untold : IfOk result (λ access. is_made access ≡ false → given ≡ out)
+
+-- the chips have asked for the slot of a clock, and nobody but the Copper, the blitter and the processor may have it
+pub record HasAskedLate (old new : ForeValue) : Type 0 where
+  pub asks : AsksInTime (late_ask new.machine.beam new.machine.chips) old.machine new.machine
+  pub able : CanAsk (late_ask new.machine.beam new.machine.chips)
+  pub wish : IsBlitAsk (late_ask new.machine.beam new.machine.chips) (kept_wish new.machine.chips)
+  pub same : new ≡ record old { machine = new.machine }
 
 -- it was made, and memory was read as often as it needs
 pub record HasMadeClock (old new : ForeValue) (seen after : RasterValue) (out given : OutFilesValue) : Type 0 where
@@ -67,6 +106,14 @@ pub record AreOnBus (limit n : ℕ) (rules : Option FetchRules) (claim : Blitter
   pub leave : 0 < n → LeaveBus rules fore.machine.beam n fore.machine.chips
   pub ready : 0 < n → IsOpenForBus fore
   pub asks : IsClaim claim fore.machine.chips
+
+-- what is told of the next n clocks, as far as there are some: they are such clocks, before the clock `limit`
+pub record CanMakeClocks (limit n : ℕ) (rules : Option FetchRules) (rest : ℕ) (claim : BlitterClaim) (fore : ForeValue) : Type 0 where
+  pub line : 0 < n → AreInLine limit n fore
+  pub leave : 0 < n → LeaveBus rules fore.machine.beam n fore.machine.chips
+  pub ready : 0 < n → IsOpenForBus fore
+  pub claims : 0 < n → IsClaim claim fore.machine.chips
+  pub rests : 0 < n → CiasRest fore.machine.t rest fore.machine.chips
 
 -- clocks before the limit were made, and memory was read as often as they need
 pub record HasRunOnBus (limit : ℕ) (old new : ForeValue) (seen after : RasterValue) (out given : OutFilesValue) : Type 0 where

@@ -1,53 +1,131 @@
 //! Clocks on the bus that everybody else leaves to the processor, made at once: the first of an access, in which
-//! it does not ask yet, and the read of a word of memory.
+//! it does not ask yet, and the read or the write of a word of memory.
 
-ghost use Rattle.std.specs.Prelude.{◌≡◌, ◌<◌, true, false, Some, None, OnOk, OnErr};
+ghost use Rattle.std.specs.Prelude.{◌≡◌, ◌≤◌, ◌<◌, ◌-◌, true, false, Some, None, IfOk, OnOk, OnErr};
 ghost use Rattle.out_files.specs.OutFiles.{OutFilesValue};
 ghost use Rattle.serial_model.specs.declared.bus.ProcessorAsk.TheVariants as P;
 ghost use Rattle.band_log.specs.Raster.{RasterValue};
 ghost use Rattle.cpu_bus.specs.Bus.{is_slot, wish_shown};
 ghost use Rattle.cpu_bus.specs.Progress.{BeginsAccess};
 ghost use Rattle.clock_loop.specs.BusRun.{CanMakeClock, HasMadeClock, HasMadeClockInPart, GoesOnBus};
-ghost use Rattle.foreground.specs.Fore.{over};
+ghost use Rattle.clock_loop.specs.BusRun.{CanMakeClocks, HasRunOnBus, HasRunInPart};
+ghost use Rattle.foreground.specs.Fore.{over, CanGo};
 
-use chip_set::BlitterClaim;
+use chip_set::{BlitterClaim, Progress};
 use foreground::Fore;
 use ocs_base::{Addr, OutOfMemory};
 use out_files::OutFiles;
-use serial_model::Side;
+use serial_model::{Half, ProcessorAsk, Side};
+
+/// The first of the next `left` clocks, as far as the processor begins or makes an access to memory in each. The
+/// planes have no slot in them, the blitter does not ask for one, and the clock `limit` comes behind them; in
+/// `rest` clocks nothing is to be done for the CIAs. The answer is how many were made.
+#[inline(never)]
+pub(crate) fn clocks_alone<S: Side>(
+    fore: &mut Fore<S>,
+    claim: &BlitterClaim,
+    left: u16,
+    rest: u16,
+    limit: u64,
+    out: &mut OutFiles,
+) -> Result<u16, OutOfMemory>
+    requires fits { (seen : RasterValue) × CanGo (over S.seen fore.old) seen }
+    requires fresh { fore.old.spent ≡ false }
+    requires can { CanMakeClocks limit left None rest claim.now (over S.seen fore.old) }
+    requires alone { claim.now.asks ≡ false }
+    ensures most { IfOk result (λ made. made ≤ left) }
+    ensures rest { IfOk result (λ made. made ≤ rest) }
+    ensures runs { OnOk result ((seen : RasterValue) → HasRunOnBus limit (over S.seen fore.old)
+        (over S.seen fore.new) seen seen out.old out.new) }
+    ensures can { IfOk result (λ made. CanMakeClocks limit (left - made) None (rest - made) claim.now
+        (over S.seen fore.new)) }
+    ensures part { OnErr result ((seen : RasterValue) → HasRunInPart limit (over S.seen fore.old)
+        (over S.seen fore.new) seen seen out.old out.new) }
+    ensures run { (over S.seen fore.new).run ≡ (over S.seen fore.old).run }
+    ensures fresh { OnOk result (fore.new.spent ≡ false) }
+    ensures still { OnOk result (fore.new.machine.t ≡ fore.old.machine.t
+        → fore.new ≡ fore.old) }
+{
+    let most = left.min(rest);
+    let mut made = 0;
+    while made < most {
+        if !clock_alone(fore, claim, rest - made, out)? {
+            return Ok(made);
+        }
+        made += 1;
+    }
+    Ok(made)
+}
+
+/// One of them. The answer is whether it was made.
+#[inline(always)]
+fn clock_alone<S: Side>(
+    fore: &mut Fore<S>,
+    claim: &BlitterClaim,
+    rest: u16,
+    out: &mut OutFiles,
+) -> Result<bool, OutOfMemory>
+    requires can { (seen : RasterValue) × CanMakeClock None rest claim.now
+        (over S.seen fore.old) seen }
+    requires some { 0 < rest }
+    requires alone { claim.now.asks ≡ false }
+    ensures made { IfOk result (λ made. made ≡ true → (seen : RasterValue) → HasMadeClock
+        (over S.seen fore.old) (over S.seen fore.new) seen seen out.old out.new) }
+    ensures part { OnErr result ((seen : RasterValue) → HasMadeClockInPart
+        (over S.seen fore.old) (over S.seen fore.new) seen seen out.old out.new) }
+    ensures run { (over S.seen fore.new).run ≡ (over S.seen fore.old).run }
+    ensures bus { IfOk result (λ made. made ≡ true
+        → GoesOnBus None (rest - 1) (over S.seen fore.old) (over S.seen fore.new)) }
+    ensures none { IfOk result (λ made. made ≡ false → fore.new ≡ fore.old) }
+    ensures given { IfOk result (λ made. made ≡ false → out.new ≡ out.old) }
+{
+    if let Progress::Begins = fore.machine.chips.progress() {
+        pass_first_clock(fore, claim, rest);
+        return Ok(true);
+    }
+    match fore.machine.chips.processor_wish() {
+        Some(ProcessorAsk::Read { at }) => {
+            read_at_once(fore, claim, at, rest, out)?;
+            Ok(true)
+        }
+        Some(ProcessorAsk::Write { at, half, word }) => {
+            write_at_once(fore, claim, at, half, word, rest, out)?;
+            Ok(true)
+        }
+        _ => Ok(false),
+    }
+}
 
 /// The first clock of an access of the processor, where the planes have no slot and the blitter does not ask
 /// for one. In `rest` clocks from it on nothing is to be done for the CIAs.
 #[inline(always)]
-pub(crate) fn pass_first_clock<S: Side>(fore: &mut Fore<S>, claim: &BlitterClaim, rest: &mut u16)
-    requires can { (seen : RasterValue) × CanMakeClock None rest.old claim.now
+fn pass_first_clock<S: Side>(fore: &mut Fore<S>, claim: &BlitterClaim, rest: u16)
+    requires can { (seen : RasterValue) × CanMakeClock None rest claim.now
         (over S.seen fore.old) seen }
-    requires some { 0 < rest.old }
+    requires some { 0 < rest }
     requires alone { claim.now.asks ≡ false }
     requires begins { BeginsAccess fore.old.machine.chips.processor }
     ensures made { (seen : RasterValue) (out : OutFilesValue) → HasMadeClock
         (over S.seen fore.old) (over S.seen fore.new) seen seen out out }
     ensures run { (over S.seen fore.new).run ≡ (over S.seen fore.old).run }
-    ensures bus { GoesOnBus None rest.new (over S.seen fore.old) (over S.seen fore.new) }
+    ensures bus { GoesOnBus None (rest - 1) (over S.seen fore.old) (over S.seen fore.new) }
 {
-    *rest -= 1;
     fore.machine.pass_first_clock();
 }
 
 /// A clock in which the processor reads the word at this address, where the same holds.
 #[inline(always)]
-pub(crate) fn read_at_once<S: Side>(
+fn read_at_once<S: Side>(
     fore: &mut Fore<S>,
     claim: &BlitterClaim,
     at: Addr,
-    rest: &mut u16,
+    rest: u16,
     out: &mut OutFiles,
 ) -> Result<(), OutOfMemory>
-    requires can { (seen : RasterValue) × CanMakeClock None rest.old claim.now
+    requires can { (seen : RasterValue) × CanMakeClock None rest claim.now
         (over S.seen fore.old) seen }
-    requires some { 0 < rest.old }
+    requires some { 0 < rest }
     requires alone { claim.now.asks ≡ false }
-    requires waits { is_slot fore.old.machine.chips.processor.wait ≡ true }
     requires asks { wish_shown fore.old.machine.chips.processor ≡ Some (P.Read at) }
     ensures made { OnOk result ((seen : RasterValue) → HasMadeClock
         (over S.seen fore.old) (over S.seen fore.new) seen seen out.old out.new) }
@@ -55,8 +133,34 @@ pub(crate) fn read_at_once<S: Side>(
         (over S.seen fore.old) (over S.seen fore.new) seen seen out.old out.new) }
     ensures run { (over S.seen fore.new).run ≡ (over S.seen fore.old).run }
     ensures bus { OnOk result
-        (GoesOnBus None rest.new (over S.seen fore.old) (over S.seen fore.new)) }
+        (GoesOnBus None (rest - 1) (over S.seen fore.old) (over S.seen fore.new)) }
 {
-    *rest -= 1;
     fore.machine.read_at_once(at, out)
+}
+
+/// A clock in which it writes this word, or its low byte as one half of a word, at this address.
+#[inline(always)]
+fn write_at_once<S: Side>(
+    fore: &mut Fore<S>,
+    claim: &BlitterClaim,
+    at: Addr,
+    half: Half,
+    word: u16,
+    rest: u16,
+    out: &mut OutFiles,
+) -> Result<(), OutOfMemory>
+    requires can { (seen : RasterValue) × CanMakeClock None rest claim.now
+        (over S.seen fore.old) seen }
+    requires some { 0 < rest }
+    requires alone { claim.now.asks ≡ false }
+    requires asks { wish_shown fore.old.machine.chips.processor ≡ Some (P.Write at half word) }
+    ensures made { OnOk result ((seen : RasterValue) → HasMadeClock
+        (over S.seen fore.old) (over S.seen fore.new) seen seen out.old out.new) }
+    ensures part { OnErr result ((seen : RasterValue) → HasMadeClockInPart
+        (over S.seen fore.old) (over S.seen fore.new) seen seen out.old out.new) }
+    ensures run { (over S.seen fore.new).run ≡ (over S.seen fore.old).run }
+    ensures bus { OnOk result
+        (GoesOnBus None (rest - 1) (over S.seen fore.old) (over S.seen fore.new)) }
+{
+    fore.machine.write_at_once(at, half, word, out)
 }

@@ -9,25 +9,23 @@ ghost use Rattle.chip_set.specs.BusCode.{LeavesToPlanes, LeavesBeside, LeaveBus,
 ghost use Rattle.chip_set.specs.BusCode.{CiasRest, IsClaim, ask_beside_planes};
 ghost use Rattle.chip_set.specs.Chips.{CanAsk, IsBlitAsk, kept_wish};
 ghost use Rattle.foreground.specs.AccessCode.{CanAccess, MakesAccessWith};
-ghost use Rattle.clock_loop.specs.BusRun.{IsOpenForBus, StaysOnBus, GoesOnBus, AreOnBus, HasRunOnBus, HasRunInPart};
-ghost use Rattle.clock_loop.specs.BusRun.{CanMakeClock, HasMadeClock, HasMadeClockInPart};
+ghost use Rattle.clock_loop.specs.BusRun.{IsOpenForBus, GoesOnBus, AreOnBus, HasRunOnBus, HasRunInPart};
+ghost use Rattle.clock_loop.specs.BusRun.{CanMakeClock, HasMadeClock, HasMadeClockInPart, IsWithinLine};
+ghost use Rattle.clock_loop.specs.BusRun.{HasAskedLate, ServesAsk, is_made, stays_left};
 ghost use Rattle.machine.specs.MachineStepsCode.{AsksInTime};
-ghost use Rattle.foreground.specs.Fore.{over, CanGo, IsUnderway};
+ghost use Rattle.foreground.specs.Fore.{ForeValue, over, CanGo, IsUnderway};
 ghost use Rattle.clock_loop.specs.LineCode.{AreInLine};
 ghost use Rattle.foreground.specs.Steps.{EndsClock};
 
 use crate::line::clocks_before;
 use crate::lookout::{WORTH, is_beside_refresh, is_due, note_look, wait_for_refresh};
-use crate::turn::{AnyTurn, BlitterTurn, Clocks, ProcessorTurn, Turn, serve_on_bus};
+use crate::turn::{Access, AnyTurn, BlitterTurn, ProcessorTurn, Turn, serve_on_bus};
 use band_log::Raster;
 use chip_set::{BlitterClaim, FetchRules};
 use foreground::Fore;
 use ocs_base::OutOfMemory;
 use out_files::OutFiles;
 use serial_model::{Ask, PlaneAsk, Side};
-
-/// The most clocks that are made without a look for quiet ones.
-const LONGEST_RUN: u16 = 128;
 
 /// The clocks of this line that come before the clock `limit`, before the next event of the script and
 /// before quiet clocks are looked for again, as far as nobody but the planes, the blitter and the
@@ -174,7 +172,7 @@ fn clocks_of_processor<S: Side, Q: Raster<S>>(
 
 /// So many of them, one behind the other.
 #[inline(always)]
-fn clocks_on_bus<S: Side, Q: Raster<S>, T: Clocks<S, Q>>(
+fn clocks_on_bus<S: Side, Q: Raster<S>, T: Turn<S>>(
     fore: &mut Fore<S>,
     turn: &T,
     rules: &Option<FetchRules>,
@@ -200,8 +198,23 @@ fn clocks_on_bus<S: Side, Q: Raster<S>, T: Clocks<S, Q>>(
     let mut rest = 0;
     let mut left = clocks;
     while left > 0 {
-        match turn.clock(fore, rules, claim, &mut rest, raster, out) {
-            Ok(on) => left = if on { left - 1 } else { 0 },
+        match turn.run_alone(fore, rules, claim, left, rest, limit, out) {
+            Ok(made) => {
+                left -= made;
+                rest -= made;
+            }
+            Err(refused) => {
+                fore.spent = true;
+                return Err(refused);
+            }
+        }
+        if left == 0 {
+            return Ok(());
+        }
+        match clock_on_bus(fore, turn, rules, claim, &mut rest, out) {
+            Ok(Access::Stays) => left -= 1,
+            Ok(Access::Ends) => return Ok(()),
+            Ok(Access::Other) => return finish_clock(fore, raster, out),
             Err(refused) => {
                 fore.spent = true;
                 return Err(refused);
@@ -232,7 +245,7 @@ fn bus_clocks<S: Side>(fore: &mut Fore<S>, limit: u64) -> (u16, Option<FetchRule
         wait_for_refresh(&mut fore.lookout, now, h);
         return (0, None);
     }
-    let most = clocks_before(fore, limit).min(LONGEST_RUN);
+    let most = clocks_before(fore, limit);
     if most < 2 {
         return (0, None);
     }
@@ -251,33 +264,91 @@ fn is_open_for_bus<S: Side>(fore: &Fore<S>) -> bool
         && fore.machine.side.is_nothing()
 }
 
-/// One of them. The answer says whether the bus is known to be left in further clocks. That memory was
-/// wanted is the caller's to note. In `rest` clocks from this one on nothing is to be done for the CIAs,
-/// and then in how many from the next one on.
+/// One of them, if its access is one to memory or nobody's. The answer says so, and whether the bus is known to
+/// be left in further clocks; where the access is another it is still to be made, and the clock to be ended. That
+/// memory was wanted is the caller's to note. In `rest` clocks from this one on nothing is to be done for the
+/// CIAs, and then in how many from the next one on.
 #[inline(always)]
-pub(crate) fn clock_on_bus<S: Side, Q: Raster<S>, T: Turn<S, Q>>(
+fn clock_on_bus<S: Side, T: Turn<S>>(
     fore: &mut Fore<S>,
     turn: &T,
     rules: &Option<FetchRules>,
     claim: &BlitterClaim,
     rest: &mut u16,
-    raster: &mut Q,
     out: &mut OutFiles,
-) -> Result<bool, OutOfMemory>
-    requires can { CanMakeClock rules.now rest.old claim.now (over S.seen fore.old)
-        (Q.seen raster.old) }
-    ensures made { OnOk result (HasMadeClock (over S.seen fore.old) (over S.seen fore.new)
-        (Q.seen raster.old) (Q.seen raster.new) out.old out.new) }
-    ensures part { OnErr result (HasMadeClockInPart (over S.seen fore.old)
-        (over S.seen fore.new) (Q.seen raster.old) (Q.seen raster.new) out.old out.new) }
+) -> Result<Access, OutOfMemory>
+    requires can { (seen : RasterValue) × CanMakeClock rules.now rest.old claim.now
+        (over S.seen fore.old) seen }
+    ensures made { IfOk result (λ access. is_made access ≡ true → (seen : RasterValue)
+        → HasMadeClock (over S.seen fore.old) (over S.seen fore.new) seen seen out.old out.new) }
+    ensures part { OnErr result ((seen : RasterValue) → HasMadeClockInPart (over S.seen fore.old)
+        (over S.seen fore.new) seen seen out.old out.new) }
     ensures run { (over S.seen fore.new).run ≡ (over S.seen fore.old).run }
-    ensures bus { IfOk result (λ on. on ≡ true
+    ensures bus { IfOk result (λ access. stays_left access ≡ true
         → GoesOnBus rules.now rest.new (over S.seen fore.old) (over S.seen fore.new)) }
+    ensures asked { IfOk result (λ access. is_made access ≡ false
+        → HasAskedLate (over S.seen fore.old) (over S.seen fore.new)) }
+    ensures given { IfOk result (λ access. is_made access ≡ false → out.new ≡ out.old) }
 {
     let plane = ask_on_bus(fore, rules, rest);
-    let on = access_on_bus(fore, turn, plane, claim, raster, out)?;
-    end_on_bus(fore, rest, out)?;
-    Ok(on)
+    match access_on_bus(fore, turn, plane, claim, out)? {
+        Access::Stays => {
+            end_on_bus(fore, rest, out)?;
+            Ok(Access::Stays)
+        }
+        Access::Ends => {
+            end_on_bus(fore, rest, out)?;
+            Ok(Access::Ends)
+        }
+        Access::Other => Ok(Access::Other),
+    }
+}
+
+/// The rest of a clock in which the access is neither one to memory nor nobody's, once the chips have asked for
+/// the slot. That memory was wanted is noted.
+#[inline(never)]
+fn finish_clock<S: Side, Q: Raster<S>>(
+    fore: &mut Fore<S>,
+    raster: &mut Q,
+    out: &mut OutFiles,
+) -> Result<(), OutOfMemory>
+    requires asked { (old : ForeValue) × IsWithinLine old (Q.seen raster.old)
+        × HasAskedLate old (over S.seen fore.old) }
+    ensures made { OnOk result ((old : ForeValue) → IsWithinLine old (Q.seen raster.old)
+        → HasAskedLate old (over S.seen fore.old) → HasMadeClock old (over S.seen fore.new)
+        (Q.seen raster.old) (Q.seen raster.new) out.old out.new) }
+    ensures part { OnErr result ((old : ForeValue) → IsWithinLine old (Q.seen raster.old)
+        → HasAskedLate old (over S.seen fore.old) → HasMadeClockInPart old (over S.seen fore.new)
+        (Q.seen raster.old) (Q.seen raster.new) out.old out.new) }
+    ensures run { (over S.seen fore.new).run ≡ (over S.seen fore.old).run }
+    ensures spent { OnErr result (fore.new.spent ≡ true) }
+{
+    let finished = access_and_end(fore, raster, out);
+    if finished.is_err() {
+        fore.spent = true;
+    }
+    finished
+}
+
+/// The same; that memory was wanted is the caller's to note.
+#[inline(always)]
+fn access_and_end<S: Side, Q: Raster<S>>(
+    fore: &mut Fore<S>,
+    raster: &mut Q,
+    out: &mut OutFiles,
+) -> Result<(), OutOfMemory>
+    requires asked { (old : ForeValue) × IsWithinLine old (Q.seen raster.old)
+        × HasAskedLate old (over S.seen fore.old) }
+    ensures made { OnOk result ((old : ForeValue) → IsWithinLine old (Q.seen raster.old)
+        → HasAskedLate old (over S.seen fore.old) → HasMadeClock old (over S.seen fore.new)
+        (Q.seen raster.old) (Q.seen raster.new) out.old out.new) }
+    ensures part { OnErr result ((old : ForeValue) → IsWithinLine old (Q.seen raster.old)
+        → HasAskedLate old (over S.seen fore.old) → HasMadeClockInPart old (over S.seen fore.new)
+        (Q.seen raster.old) (Q.seen raster.new) out.old out.new) }
+    ensures run { (over S.seen fore.new).run ≡ (over S.seen fore.old).run }
+{
+    fore.access(None, raster, out)?;
+    fore.end_clock(out)
 }
 
 /// The third and the fourth step of it, and the plane that has the slot, if one has.
@@ -339,34 +410,30 @@ fn end_on_bus<S: Side>(
     Ok(())
 }
 
-/// The fifth, where this plane has the slot, or none. The answer says whether the bus is known to be left
-/// in further clocks.
+/// The fifth, where this plane has the slot, or none.
 #[inline(always)]
-fn access_on_bus<S: Side, Q: Raster<S>, T: Turn<S, Q>>(
+fn access_on_bus<S: Side, T: Turn<S>>(
     fore: &mut Fore<S>,
     turn: &T,
     plane: Option<PlaneAsk>,
     claim: &BlitterClaim,
-    raster: &mut Q,
     out: &mut OutFiles,
-) -> Result<bool, OutOfMemory>
-    requires can { CanAccess
+) -> Result<Access, OutOfMemory>
+    requires can { (seen : RasterValue) × CanAccess
         (ask_beside_planes plane fore.old.machine.beam fore.old.machine.chips)
-        (over S.seen fore.old) (Q.seen raster.old) }
+        (over S.seen fore.old) seen }
     requires room { fore.old.machine.t + 1 < 2 ^ 64 }
     requires waits { fore.old.log.waiting ≡ None }
     requires leaves { LeavesToPlanes fore.old.machine.beam fore.old.machine.chips }
     requires claim { IsClaim claim.now fore.old.machine.chips }
-    ensures access { MakesAccessWith
+    ensures serves { ServesAsk
         (ask_beside_planes plane fore.old.machine.beam fore.old.machine.chips)
-        (over S.seen fore.old) (over S.seen fore.new)
-        (Q.seen raster.old) (Q.seen raster.new) out.old out.new result }
-    ensures bus { IfOk result (λ on. on ≡ true
-        → StaysOnBus (over S.seen fore.old) (over S.seen fore.new)) }
+        (over S.seen fore.old) (over S.seen fore.new) out.old out.new result }
+    ensures late { IfOk result (λ access. is_made access ≡ false → plane ≡ None) }
 {
     match plane {
         Some(ask) => serve_on_bus(fore, &Ask::Plane { ask }, out),
-        None => turn.access(fore, claim, raster, out),
+        None => turn.access(fore, claim, out),
     }
 }
 

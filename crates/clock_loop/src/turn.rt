@@ -1,7 +1,8 @@
 //! Whose access is looked for first in a clock of the bus in which no plane has the slot.
 
-ghost use Rattle.std.specs.Prelude.{◌≡◌, ◌+◌, ◌<◌, ◌^◌, true, false, is_some, None, IfOk, OnOk, OnErr};
+ghost use Rattle.std.specs.Prelude.{◌≡◌, ◌+◌, ◌-◌, ◌≤◌, ◌<◌, ◌^◌, true, false, is_some, None, IfOk, OnOk, OnErr};
 ghost use Rattle.serial_model.specs.Bus.{blit_owner_ask, processor_ask};
+ghost use Rattle.serial_model.specs.declared.bus.ProcessorAsk.TheVariants as P;
 ghost use Rattle.serial_model.specs.declared.bus.Ask.TheVariants as A;
 ghost use Rattle.serial_bands.specs.BusReads.{reads_of_ask};
 ghost use Rattle.serial_bands.specs.Shadows.{IsInRange};
@@ -10,16 +11,15 @@ ghost use Rattle.band_log.specs.Raster.{RasterValue};
 ghost use Rattle.cpu_bus.specs.Bus.{wish_shown};
 ghost use Rattle.chip_set.specs.BusCode.{LeavesToPlanes, IsClaim, is_bus_ask};
 ghost use Rattle.chip_set.specs.Chips.{kept_wish, late_ask};
-ghost use Rattle.foreground.specs.AccessCode.{CanAccess, MakesAccessWith};
-ghost use Rattle.clock_loop.specs.BusRun.{StaysOnBus, CanMakeClock, HasMadeClock, HasMadeClockInPart, GoesOnBus};
-ghost use Rattle.foreground.specs.Fore.{over};
+ghost use Rattle.foreground.specs.AccessCode.{CanAccess};
+ghost use Rattle.clock_loop.specs.BusRun.{StaysOnBus, ServesAsk, is_made, stays_left};
+ghost use Rattle.clock_loop.specs.BusRun.{CanMakeClocks, HasRunOnBus, HasRunInPart};
+ghost use Rattle.foreground.specs.Fore.{over, CanGo};
 ghost use Rattle.foreground.specs.Steps.{MakesAskedAccess, AccessesPart, KeepsClock, reads_more};
 
-use crate::ahead::{pass_first_clock, read_at_once};
-use crate::bus::clock_on_bus;
-use band_log::Raster;
+use crate::ahead::clocks_alone;
 use blit_words::SlotAsk;
-use chip_set::{BlitterClaim, FetchRules, Progress};
+use chip_set::{BlitterClaim, FetchRules};
 use foreground::Fore;
 use machine::touch_of;
 use ocs_base::OutOfMemory;
@@ -27,53 +27,65 @@ use out_files::OutFiles;
 use picture_log::Log;
 use serial_model::{Ask, ProcessorAsk, Side, Touch};
 
-/// How a loop of clocks makes the access of a clock in which no plane has the slot. All make the same one; they
-/// differ in whose they have in line, which only speed hangs on.
-pub(crate) trait Turn<S: Side, Q: Raster<S>> {
-    /// Makes it. The answer says whether the bus is known to be left in further clocks.
-    fn access(
-        &self,
-        fore: &mut Fore<S>,
-        claim: &BlitterClaim,
-        raster: &mut Q,
-        out: &mut OutFiles,
-    ) -> Result<bool, OutOfMemory>
-        requires can { CanAccess (late_ask fore.old.machine.beam fore.old.machine.chips)
-            (over S.seen fore.old) (Q.seen raster.old) }
-        requires room { fore.old.machine.t + 1 < 2 ^ 64 }
-        requires waits { fore.old.log.waiting ≡ None }
-        requires leaves { LeavesToPlanes fore.old.machine.beam fore.old.machine.chips }
-        requires claim { IsClaim claim.now fore.old.machine.chips }
-        ensures access { MakesAccessWith (late_ask fore.old.machine.beam fore.old.machine.chips)
-            (over S.seen fore.old) (over S.seen fore.new)
-            (Q.seen raster.old) (Q.seen raster.new) out.old out.new result }
-        ensures bus { IfOk result (λ on. on ≡ true
-            → StaysOnBus (over S.seen fore.old) (over S.seen fore.new)) };
+/// What came of the access of a clock.
+pub(crate) enum Access {
+    /// It was made, and the bus is known to be left in further clocks.
+    Stays,
+    /// It was made.
+    Ends,
+    /// It was not made: it is neither to memory nor nobody's.
+    Other,
 }
 
-/// How a loop of clocks makes each of them.
-pub(crate) trait Clocks<S: Side, Q: Raster<S>> {
-    /// Makes one, in which a plane may have the slot. The answer says whether the bus is known to be
-    /// left in further clocks. That memory was wanted is the caller's to note. In `rest` clocks from this one on
-    /// nothing is to be done for the CIAs, and then in how many from the next one on.
-    fn clock(
+/// How a loop of clocks makes the access of a clock in which no plane has the slot, if it is one to memory or
+/// nobody's. All make the same one; they differ in whose they have in line, which only speed hangs on. None is
+/// lent the raster: behind each call of what may wait for a band it is looked whether that has come back.
+pub(crate) trait Turn<S: Side> {
+    /// Makes the first of the next `left` clocks, as far as they come at once; that may be none. The clock
+    /// `limit` comes behind them, and in `rest` of them nothing is to be done for the CIAs. The answer is how many
+    /// were made.
+    fn run_alone(
         &self,
         fore: &mut Fore<S>,
         rules: &Option<FetchRules>,
         claim: &BlitterClaim,
-        rest: &mut u16,
-        raster: &mut Q,
+        left: u16,
+        rest: u16,
+        limit: u64,
         out: &mut OutFiles,
-    ) -> Result<bool, OutOfMemory>
-        requires can { CanMakeClock rules.now rest.old claim.now (over S.seen fore.old)
-            (Q.seen raster.old) }
-        ensures made { OnOk result (HasMadeClock (over S.seen fore.old) (over S.seen fore.new)
-            (Q.seen raster.old) (Q.seen raster.new) out.old out.new) }
-        ensures part { OnErr result (HasMadeClockInPart (over S.seen fore.old)
-            (over S.seen fore.new) (Q.seen raster.old) (Q.seen raster.new) out.old out.new) }
+    ) -> Result<u16, OutOfMemory>
+        requires fits { (seen : RasterValue) × CanGo (over S.seen fore.old) seen }
+        requires fresh { fore.old.spent ≡ false }
+        requires can { CanMakeClocks limit left rules.now rest claim.now (over S.seen fore.old) }
+        ensures most { IfOk result (λ made. made ≤ left) }
+        ensures rest { IfOk result (λ made. made ≤ rest) }
+        ensures runs { OnOk result ((seen : RasterValue)
+            → HasRunOnBus limit (over S.seen fore.old) (over S.seen fore.new) seen seen out.old out.new) }
+        ensures can { IfOk result (λ made. CanMakeClocks limit (left - made) rules.now (rest - made)
+            claim.now (over S.seen fore.new)) }
+        ensures part { OnErr result ((seen : RasterValue)
+            → HasRunInPart limit (over S.seen fore.old) (over S.seen fore.new) seen seen out.old out.new) }
         ensures run { (over S.seen fore.new).run ≡ (over S.seen fore.old).run }
-        ensures bus { IfOk result (λ on. on ≡ true
-            → GoesOnBus rules.now rest.new (over S.seen fore.old) (over S.seen fore.new)) };
+        ensures fresh { OnOk result (fore.new.spent ≡ false) }
+        ensures still { OnOk result (fore.new.machine.t ≡ fore.old.machine.t
+            → fore.new ≡ fore.old) };
+
+    /// Makes it, or leaves it.
+    fn access(
+        &self,
+        fore: &mut Fore<S>,
+        claim: &BlitterClaim,
+        out: &mut OutFiles,
+    ) -> Result<Access, OutOfMemory>
+        requires can { (seen : RasterValue)
+            × CanAccess (late_ask fore.old.machine.beam fore.old.machine.chips)
+            (over S.seen fore.old) seen }
+        requires room { fore.old.machine.t + 1 < 2 ^ 64 }
+        requires waits { fore.old.log.waiting ≡ None }
+        requires leaves { LeavesToPlanes fore.old.machine.beam fore.old.machine.chips }
+        requires claim { IsClaim claim.now fore.old.machine.chips }
+        ensures { ServesAsk (late_ask fore.old.machine.beam fore.old.machine.chips)
+            (over S.seen fore.old) (over S.seen fore.new) out.old out.new result };
 }
 
 /// Where planes have slots too: no owner's in line.
@@ -85,195 +97,137 @@ pub(crate) struct BlitterTurn;
 /// Where the blitter does not ask: the processor's in line.
 pub(crate) struct ProcessorTurn;
 
-impl<S: Side, Q: Raster<S>> Turn<S, Q> for AnyTurn {
+impl<S: Side> Turn<S> for AnyTurn {
+    #[inline(always)]
+    fn run_alone(
+        &self,
+        _fore: &mut Fore<S>,
+        _rules: &Option<FetchRules>,
+        _claim: &BlitterClaim,
+        _left: u16,
+        _rest: u16,
+        _limit: u64,
+        _out: &mut OutFiles,
+    ) -> Result<u16, OutOfMemory> {
+        Ok(0)
+    }
+
     #[inline(always)]
     fn access(
         &self,
         fore: &mut Fore<S>,
         claim: &BlitterClaim,
-        raster: &mut Q,
         out: &mut OutFiles,
-    ) -> Result<bool, OutOfMemory> {
+    ) -> Result<Access, OutOfMemory> {
         if fore.machine.chips.has_blitter_turn(claim) {
-            blit_apart(fore, raster, out)
+            blit_apart(fore, out)
         } else {
-            process_apart(fore, raster, out)
+            process_apart(fore, out)
         }
     }
 }
 
-impl<S: Side, Q: Raster<S>> Turn<S, Q> for BlitterTurn {
+impl<S: Side> Turn<S> for BlitterTurn {
+    #[inline(always)]
+    fn run_alone(
+        &self,
+        _fore: &mut Fore<S>,
+        _rules: &Option<FetchRules>,
+        _claim: &BlitterClaim,
+        _left: u16,
+        _rest: u16,
+        _limit: u64,
+        _out: &mut OutFiles,
+    ) -> Result<u16, OutOfMemory> {
+        Ok(0)
+    }
+
     #[inline(always)]
     fn access(
         &self,
         fore: &mut Fore<S>,
         claim: &BlitterClaim,
-        raster: &mut Q,
         out: &mut OutFiles,
-    ) -> Result<bool, OutOfMemory> {
+    ) -> Result<Access, OutOfMemory> {
         if fore.machine.chips.has_blitter_turn(claim) {
-            blit_on_bus(fore, raster, out)
+            blit_on_bus(fore, out)
         } else {
-            process_apart(fore, raster, out)
+            process_apart(fore, out)
         }
     }
 }
 
-impl<S: Side, Q: Raster<S>> Turn<S, Q> for ProcessorTurn {
+impl<S: Side> Turn<S> for ProcessorTurn {
+    #[inline(always)]
+    fn run_alone(
+        &self,
+        fore: &mut Fore<S>,
+        rules: &Option<FetchRules>,
+        claim: &BlitterClaim,
+        left: u16,
+        rest: u16,
+        limit: u64,
+        out: &mut OutFiles,
+    ) -> Result<u16, OutOfMemory> {
+        if rules.is_none() && !claim.asks() {
+            clocks_alone(fore, claim, left, rest, limit, out)
+        } else {
+            Ok(0)
+        }
+    }
+
     #[inline(always)]
     fn access(
         &self,
         fore: &mut Fore<S>,
         claim: &BlitterClaim,
-        raster: &mut Q,
         out: &mut OutFiles,
-    ) -> Result<bool, OutOfMemory> {
+    ) -> Result<Access, OutOfMemory> {
         if fore.machine.chips.has_blitter_turn(claim) {
-            blit_apart(fore, raster, out)
+            blit_apart(fore, out)
         } else {
-            process_or_leave(fore, raster, out)
+            process_on_bus(fore, out)
         }
     }
 }
 
-impl<S: Side, Q: Raster<S>> Clocks<S, Q> for AnyTurn {
-    #[inline(always)]
-    fn clock(
-        &self,
-        fore: &mut Fore<S>,
-        rules: &Option<FetchRules>,
-        claim: &BlitterClaim,
-        rest: &mut u16,
-        raster: &mut Q,
-        out: &mut OutFiles,
-    ) -> Result<bool, OutOfMemory> {
-        clock_on_bus(fore, self, rules, claim, rest, raster, out)
-    }
-}
-
-impl<S: Side, Q: Raster<S>> Clocks<S, Q> for BlitterTurn {
-    #[inline(always)]
-    fn clock(
-        &self,
-        fore: &mut Fore<S>,
-        rules: &Option<FetchRules>,
-        claim: &BlitterClaim,
-        rest: &mut u16,
-        raster: &mut Q,
-        out: &mut OutFiles,
-    ) -> Result<bool, OutOfMemory> {
-        clock_on_bus(fore, self, rules, claim, rest, raster, out)
-    }
-}
-
-impl<S: Side, Q: Raster<S>> Clocks<S, Q> for ProcessorTurn {
-    #[inline(always)]
-    fn clock(
-        &self,
-        fore: &mut Fore<S>,
-        rules: &Option<FetchRules>,
-        claim: &BlitterClaim,
-        rest: &mut u16,
-        raster: &mut Q,
-        out: &mut OutFiles,
-    ) -> Result<bool, OutOfMemory> {
-        if rules.is_none() && !claim.asks() && *rest > 0 {
-            match fore.machine.chips.progress() {
-                Progress::Begins => {
-                    pass_first_clock(fore, claim, rest);
-                    return Ok(true);
-                }
-                Progress::Reads { at } => {
-                    read_at_once(fore, claim, at, rest, out)?;
-                    return Ok(true);
-                }
-                Progress::Other => {}
-            }
-        }
-        clock_on_bus(fore, self, rules, claim, rest, raster, out)
-    }
-}
-
-/// The access of the blitter, out of line.
+/// That of the blitter, out of line.
 #[inline(never)]
-fn blit_apart<S: Side, Q: Raster<S>>(
-    fore: &mut Fore<S>,
-    raster: &mut Q,
-    out: &mut OutFiles,
-) -> Result<bool, OutOfMemory>
-    requires can { CanAccess (blit_owner_ask (kept_wish fore.old.machine.chips))
-        (over S.seen fore.old) (Q.seen raster.old) }
+fn blit_apart<S: Side>(fore: &mut Fore<S>, out: &mut OutFiles) -> Result<Access, OutOfMemory>
+    requires can { (seen : RasterValue)
+        × CanAccess (blit_owner_ask (kept_wish fore.old.machine.chips)) (over S.seen fore.old) seen }
     requires room { fore.old.machine.t + 1 < 2 ^ 64 }
     requires waits { fore.old.log.waiting ≡ None }
     requires leaves { LeavesToPlanes fore.old.machine.beam fore.old.machine.chips }
     requires asks { is_some (kept_wish fore.old.machine.chips) ≡ true }
-    ensures access { MakesAccessWith (blit_owner_ask (kept_wish fore.old.machine.chips))
-        (over S.seen fore.old) (over S.seen fore.new)
-        (Q.seen raster.old) (Q.seen raster.new) out.old out.new result }
-    ensures bus { IfOk result (λ on. on ≡ true
-        → StaysOnBus (over S.seen fore.old) (over S.seen fore.new)) }
+    ensures { ServesAsk (blit_owner_ask (kept_wish fore.old.machine.chips))
+        (over S.seen fore.old) (over S.seen fore.new) out.old out.new result }
 {
     match fore.machine.chips.blit_ask_in_turn() {
         Ask::Blit { ask } => serve_on_bus(fore, &Ask::Blit { ask }, out),
-        other => {
-            fore.access_by(&other, raster, out)?;
-            Ok(false)
-        }
+        _ => Ok(Access::Other),
     }
 }
 
 /// That of the processor or of nobody, out of line.
 #[inline(never)]
-fn process_apart<S: Side, Q: Raster<S>>(
-    fore: &mut Fore<S>,
-    raster: &mut Q,
-    out: &mut OutFiles,
-) -> Result<bool, OutOfMemory>
-    requires can { CanAccess (processor_ask (wish_shown fore.old.machine.chips.processor))
-        (over S.seen fore.old) (Q.seen raster.old) }
+fn process_apart<S: Side>(fore: &mut Fore<S>, out: &mut OutFiles) -> Result<Access, OutOfMemory>
+    requires can { (seen : RasterValue)
+        × CanAccess (processor_ask (wish_shown fore.old.machine.chips.processor))
+        (over S.seen fore.old) seen }
     requires room { fore.old.machine.t + 1 < 2 ^ 64 }
     requires waits { fore.old.log.waiting ≡ None }
     requires leaves { LeavesToPlanes fore.old.machine.beam fore.old.machine.chips }
-    ensures access { MakesAccessWith
-        (processor_ask (wish_shown fore.old.machine.chips.processor))
-        (over S.seen fore.old) (over S.seen fore.new)
-        (Q.seen raster.old) (Q.seen raster.new) out.old out.new result }
-    ensures bus { IfOk result (λ on. on ≡ true
-        → StaysOnBus (over S.seen fore.old) (over S.seen fore.new)) }
+    ensures { ServesAsk (processor_ask (wish_shown fore.old.machine.chips.processor))
+        (over S.seen fore.old) (over S.seen fore.new) out.old out.new result }
 {
     match fore.machine.chips.processor_wish() {
         Some(ask) => {
             if is_of_memory(&ask) {
                 return serve_on_bus(fore, &Ask::Processor { ask }, out);
             }
-            fore.access_by(&Ask::Processor { ask }, raster, out)?;
-            Ok(false)
+            Ok(Access::Other)
         }
-        None => serve_on_bus(fore, &Ask::Free, out),
-    }
-}
-
-/// The access of the processor, if it asks, or nobody's.
-#[inline(always)]
-fn process_or_leave<S: Side, Q: Raster<S>>(
-    fore: &mut Fore<S>,
-    raster: &mut Q,
-    out: &mut OutFiles,
-) -> Result<bool, OutOfMemory>
-    requires can { CanAccess (processor_ask (wish_shown fore.old.machine.chips.processor))
-        (over S.seen fore.old) (Q.seen raster.old) }
-    requires room { fore.old.machine.t + 1 < 2 ^ 64 }
-    requires waits { fore.old.log.waiting ≡ None }
-    requires leaves { LeavesToPlanes fore.old.machine.beam fore.old.machine.chips }
-    ensures access { MakesAccessWith
-        (processor_ask (wish_shown fore.old.machine.chips.processor))
-        (over S.seen fore.old) (over S.seen fore.new)
-        (Q.seen raster.old) (Q.seen raster.new) out.old out.new result }
-    ensures bus { IfOk result (λ on. on ≡ true
-        → StaysOnBus (over S.seen fore.old) (over S.seen fore.new)) }
-{
-    match fore.machine.chips.processor_wish() {
-        Some(ask) => process_on_bus(fore, ask, raster, out),
         None => serve_on_bus(fore, &Ask::Free, out),
     }
 }
@@ -282,81 +236,50 @@ fn process_or_leave<S: Side, Q: Raster<S>>(
 /// of its own from the ask to its end. Only a loop's own access has it in line, so it has one caller: what
 /// has more, and is as large, the compiler sets out of line.
 #[inline(always)]
-fn blit_on_bus<S: Side, Q: Raster<S>>(
-    fore: &mut Fore<S>,
-    raster: &mut Q,
-    out: &mut OutFiles,
-) -> Result<bool, OutOfMemory>
-    requires can { CanAccess (blit_owner_ask (kept_wish fore.old.machine.chips))
-        (over S.seen fore.old) (Q.seen raster.old) }
+fn blit_on_bus<S: Side>(fore: &mut Fore<S>, out: &mut OutFiles) -> Result<Access, OutOfMemory>
+    requires can { (seen : RasterValue)
+        × CanAccess (blit_owner_ask (kept_wish fore.old.machine.chips)) (over S.seen fore.old) seen }
     requires room { fore.old.machine.t + 1 < 2 ^ 64 }
     requires waits { fore.old.log.waiting ≡ None }
     requires leaves { LeavesToPlanes fore.old.machine.beam fore.old.machine.chips }
     requires asks { is_some (kept_wish fore.old.machine.chips) ≡ true }
-    ensures access { MakesAccessWith (blit_owner_ask (kept_wish fore.old.machine.chips))
-        (over S.seen fore.old) (over S.seen fore.new)
-        (Q.seen raster.old) (Q.seen raster.new) out.old out.new result }
-    ensures bus { IfOk result (λ on. on ≡ true
-        → StaysOnBus (over S.seen fore.old) (over S.seen fore.new)) }
+    ensures { ServesAsk (blit_owner_ask (kept_wish fore.old.machine.chips))
+        (over S.seen fore.old) (over S.seen fore.new) out.old out.new result }
 {
     if let Some((at, word)) = fore.machine.chips.blit_write_in_turn() {
-        return serve_on_bus(
-            fore,
-            &Ask::Blit {
-                ask: SlotAsk::Write { at, word },
-            },
-            out,
-        );
+        let ask = SlotAsk::Write { at, word };
+        return serve_on_bus(fore, &Ask::Blit { ask }, out);
     }
     if let Some(at) = fore.machine.chips.blit_read_in_turn() {
-        return serve_on_bus(
-            fore,
-            &Ask::Blit {
-                ask: SlotAsk::Read { at },
-            },
-            out,
-        );
+        let ask = SlotAsk::Read { at };
+        return serve_on_bus(fore, &Ask::Blit { ask }, out);
     }
-    blit_apart(fore, raster, out)
+    blit_apart(fore, out)
 }
 
-/// That of the processor.
+/// The access of the processor, if it asks, or nobody's.
 #[inline(always)]
-fn process_on_bus<S: Side, Q: Raster<S>>(
-    fore: &mut Fore<S>,
-    ask: ProcessorAsk,
-    raster: &mut Q,
-    out: &mut OutFiles,
-) -> Result<bool, OutOfMemory>
-    requires can { CanAccess (A.Processor ask) (over S.seen fore.old) (Q.seen raster.old) }
+fn process_on_bus<S: Side>(fore: &mut Fore<S>, out: &mut OutFiles) -> Result<Access, OutOfMemory>
+    requires can { (seen : RasterValue)
+        × CanAccess (processor_ask (wish_shown fore.old.machine.chips.processor))
+        (over S.seen fore.old) seen }
     requires room { fore.old.machine.t + 1 < 2 ^ 64 }
     requires waits { fore.old.log.waiting ≡ None }
     requires leaves { LeavesToPlanes fore.old.machine.beam fore.old.machine.chips }
-    ensures access { MakesAccessWith (A.Processor ask)
-        (over S.seen fore.old) (over S.seen fore.new)
-        (Q.seen raster.old) (Q.seen raster.new) out.old out.new result }
-    ensures bus { IfOk result (λ on. on ≡ true
-        → StaysOnBus (over S.seen fore.old) (over S.seen fore.new)) }
+    ensures { ServesAsk (processor_ask (wish_shown fore.old.machine.chips.processor))
+        (over S.seen fore.old) (over S.seen fore.new) out.old out.new result }
 {
-    match ask {
-        ProcessorAsk::Read { at } => serve_on_bus(
-            fore,
-            &Ask::Processor {
-                ask: ProcessorAsk::Read { at },
-            },
-            out,
-        ),
-        ProcessorAsk::Write { at, half, word } => serve_on_bus(
-            fore,
-            &Ask::Processor {
-                ask: ProcessorAsk::Write { at, half, word },
-            },
-            out,
-        ),
-        other => {
-            fore.access_by(&Ask::Processor { ask: other }, raster, out)?;
-            Ok(false)
+    match fore.machine.chips.processor_wish() {
+        Some(ProcessorAsk::Read { at }) => {
+            let ask = ProcessorAsk::Read { at };
+            serve_on_bus(fore, &Ask::Processor { ask }, out)
         }
+        Some(ProcessorAsk::Write { at, half, word }) => {
+            let ask = ProcessorAsk::Write { at, half, word };
+            serve_on_bus(fore, &Ask::Processor { ask }, out)
+        }
+        Some(_) => Ok(Access::Other),
+        None => serve_on_bus(fore, &Ask::Free, out),
     }
 }
 
@@ -366,7 +289,7 @@ pub(crate) fn serve_on_bus<S: Side>(
     fore: &mut Fore<S>,
     ask: &Ask,
     out: &mut OutFiles,
-) -> Result<bool, OutOfMemory>
+) -> Result<Access, OutOfMemory>
     requires can { (seen : RasterValue) × CanAccess ask.now (over S.seen fore.old) seen }
     requires bus { is_bus_ask ask.now ≡ true }
     requires room { fore.old.machine.t + 1 < 2 ^ 64 }
@@ -379,14 +302,24 @@ pub(crate) fn serve_on_bus<S: Side>(
     ensures kept { KeepsClock (over S.seen fore.old) (over S.seen fore.new) }
     ensures reads { fore.new.machine.chip.reads ≡ reads_more
         (reads_of_ask ask.now) fore.old.machine.chip.reads }
-    ensures bus { IfOk result (λ on. on ≡ true
+    ensures made { IfOk result (λ access. is_made access ≡ true) }
+    ensures bus { IfOk result (λ access. stays_left access ≡ true
         → StaysOnBus (over S.seen fore.old) (over S.seen fore.new)) }
 {
     let busy = fore.machine.chips.is_blitting();
     let made = fore.machine.answer_on_bus(ask, out)?;
     let t = fore.machine.t;
     note_touch(&mut fore.log, t, &touch_of(&made))?;
-    Ok(fore.machine.chips.is_blitting() == busy)
+    Ok(made_access(fore.machine.chips.is_blitting() == busy))
+}
+
+/// An access that was made; the bus is known to be left in further clocks, or not.
+#[inline(always)]
+fn made_access(stays: bool) -> Access
+    ensures made { is_made result ≡ true }
+    ensures stays { stays_left result ≡ stays }
+{
+    if stays { Access::Stays } else { Access::Ends }
 }
 
 /// Whether the processor asks for a word of memory.

@@ -1,104 +1,106 @@
 -- A clock within a line: what it need not look at does nothing.
-use Rattle.std.proofs.Common.{◌+◌, ap, refl, ◌∙◌}
+use Rattle.std.proofs.Common.{ap, ◌∙◌}
 use Rattle.chip_set.proofs.BusLaws.{claim_kept}
 use Rattle.machine.specs.Machine.{MachineValue}
-use Rattle.mem_versions.specs.Chip.{ChipValue}
-use Rattle.foreground.specs.Fore.{ForeOf, over, looked_up}
-use Rattle.foreground.proofs.BeginLaws.{rises_same}
-use Rattle.clock_loop.proofs.BusLaws.{begins_on_bus, goes_on_bus, line_left, rest_left}
+use Rattle.foreground.specs.Fore.{ForeOf, over}
 use Rattle.foreground.proofs.MadeLaws.{on_err}
-use Rattle.foreground.proofs.AskedLaws.{reaches_ask, at_ask, makes_from_ask, part_from_ask, kept_from_ask, rises_from_ask}
-use Rattle.foreground.proofs.AdvanceLaws.{advances, part_accessing, part_ending, place_made}
-use Rattle.clock_loop.proofs.LineLaws.{runs_none_behind, place_behind}
+use Rattle.clock_loop.proofs.AheadLaws.{no_files}
+use Rattle.clock_loop.proofs.BusLaws.{goes_on_bus, rest_left}
+use Rattle.clock_loop.proofs.ClockLaws.{can_access, clock_made, accessed_in_part, ended_in_part, asked_late}
+use Rattle.clock_loop.specs.BusRun.{is_made, stays_left}
 use Rattle.clock_loop.proofs.bus.clock_on_bus.Goals as goal
 
 pub access_on_bus-requires-clause-can : goal.access_on_bus-requires-clause-can
 access_on_bus-requires-clause-can g c =
-    let f0 = over g.S.Side.seen c.args.fore.now in
-    let begins = begins_on_bus f0 _ _ (g.Q.Raster.seen c.args.raster.now) c.args.out.now c.requires.can.underway.1 c.requires.can.ready
-    c.requires.can.running c.requires.can.inner c.requires.can.due in
-    let runs = runs_none_behind f0 f0 _ _ c.args.out.now refl c.requires.can.underway.1 c.requires.can.inner c.requires.can.due in
-    let reaches = reaches_ask _ _ _ _ _ _ _ runs c.ask_on_bus-plane.ensures.asks (ap (over g.S.Side.seen) c.ask_on_bus-plane.ensures.same) in
-    let at = at_ask _ _ _ _ _ _ _ _ _ _ _ c.requires.can.underway.1 begins reaches in
-    record { logged = at.1; asked = at.0; able = c.ask_on_bus-plane.ensures.able; wish = c.ask_on_bus-plane.ensures.wish }
+    let of = over g.S.Side.seen in (
+      c.requires.can.0,
+      can_access _ (of c.args.fore.now) (of c.ask_on_bus-plane.new.fore) c.requires.can.0 no_files c.requires.can.1.within
+          (record { asks = c.ask_on_bus-plane.ensures.asks; same = ap of c.ask_on_bus-plane.ensures.same }) c.ask_on_bus-plane.ensures.able
+          c.ask_on_bus-plane.ensures.wish,
+    )
 
 pub access_on_bus-requires-clause-waits : goal.access_on_bus-requires-clause-waits
-access_on_bus-requires-clause-waits g c = ap (λ (f : ForeOf _). f.log.waiting) c.ask_on_bus-plane.ensures.same ∙ c.requires.can.ready.waits
+access_on_bus-requires-clause-waits g c =
+    ap (λ (f : ForeOf _). f.log.waiting) c.ask_on_bus-plane.ensures.same ∙ c.requires.can.1.within.ready.waits
 
 pub access_on_bus-requires-clause-claim : goal.access_on_bus-requires-clause-claim
 access_on_bus-requires-clause-claim g c =
     claim_kept _ c.args.rules.now c.args.fore.now.machine.chips c.ask_on_bus-plane.new.fore.machine.chips c.ask_on_bus-plane.ensures.bus
-    c.requires.can.claims
+    c.requires.can.1.claims
 
-pub returns-in_err-on-clause-part : goal.returns-in_err-on-clause-part
-returns-in_err-on-clause-part g c =
-    let f0 = over g.S.Side.seen c.args.fore.now in
-    let begins = begins_on_bus f0 _ _ (g.Q.Raster.seen c.args.raster.now) c.args.out.now c.requires.can.underway.1 c.requires.can.ready
-    c.requires.can.running c.requires.can.inner c.requires.can.due in
-    let runs = runs_none_behind f0 f0 _ _ c.args.out.now refl c.requires.can.underway.1 c.requires.can.inner c.requires.can.due in
-    let reaches = reaches_ask _ _ _ _ _ _ _ runs c.ask_on_bus-plane.ensures.asks (ap (over g.S.Side.seen) c.ask_on_bus-plane.ensures.same) in
-    on_err c.from_residual.result (record {
-      part = part_accessing _ _ _ _ _ _ _ _ _ _ _ begins reaches.reaches
-          (part_from_ask _ _ _ _ _ _ _ _ _ reaches c.in_err-on.ensures.access.part);
-      few = (rises_from_ask f0 f0 _ _ _ _ (looked_up f0) _ _ _ _ _ _ _ c.requires.can.underway.1 begins
-          (rises_same (looked_up f0) _ _ refl) reaches c.in_err-on.ensures.access.reads refl).1;
-    })
+pub returns-in_err-access_on_bus-clause-part : goal.returns-in_err-access_on_bus-clause-part
+returns-in_err-access_on_bus-clause-part g c =
+    let of = over g.S.Side.seen in
+    on_err c.from_residual.result
+    (λ seen. accessed_in_part _ (of c.args.fore.now) (of c.ask_on_bus-plane.new.fore) (of c.access_on_bus.new.fore) c.requires.can.0 seen seen
+    c.args.out.now c.access_on_bus.new.out c.requires.can.1.within
+    (record { asks = c.ask_on_bus-plane.ensures.asks; same = ap of c.ask_on_bus-plane.ensures.same })
+    (c.in_err-access_on_bus.ensures.serves.part seen) c.in_err-access_on_bus.ensures.serves.few)
 
-pub returns-in_err-end_on_bus-clause-part : goal.returns-in_err-end_on_bus-clause-part
-returns-in_err-end_on_bus-clause-part g c =
-    let f0 = over g.S.Side.seen c.args.fore.now in
-    let begins = begins_on_bus f0 _ _ (g.Q.Raster.seen c.args.raster.now) c.args.out.now c.requires.can.underway.1 c.requires.can.ready
-    c.requires.can.running c.requires.can.inner c.requires.can.due in
-    let runs = runs_none_behind f0 f0 _ _ c.args.out.now refl c.requires.can.underway.1 c.requires.can.inner c.requires.can.due in
-    let reaches = reaches_ask _ _ _ _ _ _ _ runs c.ask_on_bus-plane.ensures.asks (ap (over g.S.Side.seen) c.ask_on_bus-plane.ensures.same) in
-    on_err c.from_residual-in_err-end_on_bus.result (record {
-      part = part_ending _ _ _ _ _ _ _ _ _ _ _ _ _ begins
-          reaches.reaches (makes_from_ask _ _ _ _ _ _ _ _ _ _ reaches c.in_ok-on.ensures.access.makes)
-          (kept_from_ask _ _ _ _ _ _ _ reaches c.in_ok-on.ensures.access.kept) c.in_err-end_on_bus.ensures.refused;
-      few = (rises_from_ask f0 f0 _ _ _ _ (looked_up f0) _ _ _ _ _ _ _ c.requires.can.underway.1 begins
-          (rises_same (looked_up f0) _ _ refl) reaches
-          c.in_ok-on.ensures.access.reads (ap (λ (x : ChipValue). x.reads) c.end_on_bus.ensures.chip)).1;
-    })
+pub returns-in_err-end_on_bus-in-Stays-clause-part : goal.returns-in_err-end_on_bus-in-Stays-clause-part
+returns-in_err-end_on_bus-in-Stays-clause-part g c =
+    let of = over g.S.Side.seen in
+    let serves = c.in_ok-access_on_bus.ensures.serves in
+    let made = ap is_made c.in-Stays.is in
+    on_err c.from_residual-in_err-end_on_bus-in-Stays.result
+    (λ seen. ended_in_part _ (of c.args.fore.now) (of c.ask_on_bus-plane.new.fore) (of c.access_on_bus.new.fore) (of c.end_on_bus.new.fore)
+    c.requires.can.0 seen seen c.args.out.now c.access_on_bus.new.out c.end_on_bus.new.out c.requires.can.1.within
+    (record { asks = c.ask_on_bus-plane.ensures.asks; same = ap of c.ask_on_bus-plane.ensures.same })
+    (serves.makes made seen) serves.kept (serves.reads made) c.end_on_bus.ensures.chip c.in_err-end_on_bus-in-Stays.ensures.refused)
 
-pub returns-clause-made : goal.returns-clause-made
-returns-clause-made g c =
-    let f0 = over g.S.Side.seen c.args.fore.now in
-    let begins = begins_on_bus f0 _ _ (g.Q.Raster.seen c.args.raster.now) c.args.out.now c.requires.can.underway.1 c.requires.can.ready
-    c.requires.can.running c.requires.can.inner c.requires.can.due in
-    let runs = runs_none_behind f0 f0 _ _ c.args.out.now refl c.requires.can.underway.1 c.requires.can.inner c.requires.can.due in
-    let reaches = reaches_ask _ _ _ _ _ _ _ runs c.ask_on_bus-plane.ensures.asks (ap (over g.S.Side.seen) c.ask_on_bus-plane.ensures.same) in
-    let place = c.in_ok-end_on_bus.ensures.place in
-    let ends = c.in_ok-end_on_bus.ensures.ends in
-    let kept = c.in_ok-on.ensures.access.kept in
-    let there = place_made f0 f0 _ _ _ _ _ _ _ _ _ c.requires.can.underway.1 begins reaches.reaches (kept_from_ask _ _ _ _ _ _ _ reaches kept) in
-    record {
-      clock = advances _ _ _ _ _ _ place.0 _ _ _ _ _ _ _ _ c.requires.can.running begins
-          reaches.reaches (makes_from_ask _ _ _ _ _ _ _ _ _ _ reaches c.in_ok-on.ensures.access.makes)
-          (kept_from_ask _ _ _ _ _ _ _ reaches kept) ends place.1;
-      place = place_behind _ place.0 c.args.fore.now.machine.beam c.access_on_bus.new.fore.machine.beam c.end_on_bus.new.fore.machine.beam
-          c.requires.can.last there.0 place.1;
-      count = ends.t ∙ ap (λ t. t + 1) there.1;
-      spent = ends.spent ∙ kept.spent ∙ ap (λ (f : ForeOf _). f.spent) c.ask_on_bus-plane.ensures.same;
-      reads = (rises_from_ask f0 f0 _ _ _ _ (looked_up f0) _ _ _ _ _ _ _ c.requires.can.underway.1 begins
-          (rises_same (looked_up f0) _ _ refl) reaches
-          c.in_ok-on.ensures.access.reads (ap (λ (x : ChipValue). x.reads) c.end_on_bus.ensures.chip)).0;
-    }
+pub returns-in_err-end_on_bus-in-Ends-clause-part : goal.returns-in_err-end_on_bus-in-Ends-clause-part
+returns-in_err-end_on_bus-in-Ends-clause-part g c =
+    let of = over g.S.Side.seen in
+    let serves = c.in_ok-access_on_bus.ensures.serves in
+    let made = ap is_made c.in-Ends.is in
+    on_err c.from_residual-in_err-end_on_bus-in-Ends.result
+    (λ seen. ended_in_part _ (of c.args.fore.now) (of c.ask_on_bus-plane.new.fore) (of c.access_on_bus.new.fore) (of c.end_on_bus-in-Ends.new.fore)
+    c.requires.can.0 seen seen c.args.out.now c.access_on_bus.new.out c.end_on_bus-in-Ends.new.out c.requires.can.1.within
+    (record { asks = c.ask_on_bus-plane.ensures.asks; same = ap of c.ask_on_bus-plane.ensures.same })
+    (serves.makes made seen) serves.kept (serves.reads made) c.end_on_bus-in-Ends.ensures.chip c.in_err-end_on_bus-in-Ends.ensures.refused)
 
-pub returns-clause-bus : goal.returns-clause-bus
-returns-clause-bus g c on =
-    let rules = c.args.rules.now in
-    let f0 = over g.S.Side.seen c.args.fore.now in
-    let f1 = over g.S.Side.seen c.ask_on_bus-plane.new.fore in
-    let f2 = over g.S.Side.seen c.access_on_bus.new.fore in
-    let f3 = over g.S.Side.seen c.end_on_bus.new.fore in
-    goes_on_bus rules _ f0 f1 f2 f3 c.ask_on_bus-plane.ensures.bus (ap (over g.S.Side.seen) c.ask_on_bus-plane.ensures.same)
-    (ap g.S.Side.seen c.ask_on_bus-plane.ensures.side) c.in_ok-on.ensures.access.kept (c.in_ok-on.ensures.bus on) c.in_ok-end_on_bus.ensures.ends
-    c.end_on_bus.ensures.bus (ap g.S.Side.seen c.end_on_bus.ensures.side)
+pub returns-in_ok-end_on_bus-in-Stays-clause-made : goal.returns-in_ok-end_on_bus-in-Stays-clause-made
+returns-in_ok-end_on_bus-in-Stays-clause-made g c stays seen =
+    let of = over g.S.Side.seen in
+    let serves = c.in_ok-access_on_bus.ensures.serves in
+    let made = ap is_made c.in-Stays.is in
+    let place = c.in_ok-end_on_bus-in-Stays.ensures.place in
+    clock_made _ (of c.args.fore.now) (of c.ask_on_bus-plane.new.fore) (of c.access_on_bus.new.fore) (of c.end_on_bus.new.fore) place.0
+    c.requires.can.0 seen seen c.args.out.now c.access_on_bus.new.out c.end_on_bus.new.out c.requires.can.1.within
+    (record { asks = c.ask_on_bus-plane.ensures.asks; same = ap of c.ask_on_bus-plane.ensures.same })
+    (serves.makes made seen) serves.kept (serves.reads made) c.in_ok-end_on_bus-in-Stays.ensures.ends place.1
+
+pub returns-in_ok-end_on_bus-in-Stays-clause-bus : goal.returns-in_ok-end_on_bus-in-Stays-clause-bus
+returns-in_ok-end_on_bus-in-Stays-clause-bus g c on =
+    let of = over g.S.Side.seen in
+    let f0 = of c.args.fore.now in
+    let f1 = of c.ask_on_bus-plane.new.fore in
+    let f2 = of c.access_on_bus.new.fore in
+    let f3 = of c.end_on_bus.new.fore in
+    let serves = c.in_ok-access_on_bus.ensures.serves in
+    let stays = serves.bus (ap stays_left c.in-Stays.is) in
+    goes_on_bus c.args.rules.now _ f0 f1 f2 f3 c.ask_on_bus-plane.ensures.bus (ap of c.ask_on_bus-plane.ensures.same)
+    (ap g.S.Side.seen c.ask_on_bus-plane.ensures.side) serves.kept stays c.in_ok-end_on_bus-in-Stays.ensures.ends c.end_on_bus.ensures.bus
+    (ap g.S.Side.seen c.end_on_bus.ensures.side)
     (ap (λ (m : MachineValue). m.t) c.ask_on_bus-plane.ensures.asks.same ∙ ap (λ (m : MachineValue). m.t) c.ask_on_bus-plane.ensures.asks.kept)
-    c.requires.can.ready
-    (c.in_ok-end_on_bus.ensures.rest (rest_left _ f1 f2 c.in_ok-on.ensures.access.kept.t (c.in_ok-on.ensures.bus on) c.ask_on_bus-plane.ensures.rest))
+    c.requires.can.1.within.ready
+    (c.in_ok-end_on_bus-in-Stays.ensures.rest (rest_left _ f1 f2 serves.kept.t stays c.ask_on_bus-plane.ensures.rest))
 
-pub end_on_bus-requires-clause-line : goal.end_on_bus-requires-clause-line
-end_on_bus-requires-clause-line g c =
-    line_left c.args.fore.now.machine.beam c.ask_on_bus-plane.new.fore.machine.beam c.access_on_bus.new.fore.machine.beam c.requires.can.last
-    c.ask_on_bus-plane.ensures.beam c.in_ok-on.ensures.access.kept.beam
+pub returns-in_ok-end_on_bus-in-Ends-clause-made : goal.returns-in_ok-end_on_bus-in-Ends-clause-made
+returns-in_ok-end_on_bus-in-Ends-clause-made g c ends seen =
+    let of = over g.S.Side.seen in
+    let serves = c.in_ok-access_on_bus.ensures.serves in
+    let made = ap is_made c.in-Ends.is in
+    let place = c.in_ok-end_on_bus-in-Ends.ensures.place in
+    clock_made _ (of c.args.fore.now) (of c.ask_on_bus-plane.new.fore) (of c.access_on_bus.new.fore) (of c.end_on_bus-in-Ends.new.fore) place.0
+    c.requires.can.0 seen seen c.args.out.now c.access_on_bus.new.out c.end_on_bus-in-Ends.new.out c.requires.can.1.within
+    (record { asks = c.ask_on_bus-plane.ensures.asks; same = ap of c.ask_on_bus-plane.ensures.same })
+    (serves.makes made seen) serves.kept (serves.reads made) c.in_ok-end_on_bus-in-Ends.ensures.ends place.1
+
+pub returns-in-Other-clause-asked : goal.returns-in-Other-clause-asked
+returns-in-Other-clause-asked g c left =
+    let of = over g.S.Side.seen in
+    let other = ap is_made c.in-Other.is in
+    asked_late _ (of c.args.fore.now) (of c.ask_on_bus-plane.new.fore) (of c.access_on_bus.new.fore) (c.in_ok-access_on_bus.ensures.late other)
+    (c.in_ok-access_on_bus.ensures.serves.same other) c.ask_on_bus-plane.ensures.asks c.ask_on_bus-plane.ensures.able c.ask_on_bus-plane.ensures.wish
+    (ap of c.ask_on_bus-plane.ensures.same)

@@ -1,49 +1,86 @@
-use Rattle.std.proofs.Common.{◌<◌, arith, refl, ◌∙◌, ap, subst, sym}
-use Rattle.chip_set.specs.BusCode.{LeaveBus}
+use Rattle.std.proofs.Common.{◌<◌, ◌-◌, arith, refl, ◌∙◌, ap}
+use Rattle.std.proofs.lemmas.Result.{on_err_weaker, on_ok_weaker}
 use Rattle.foreground.specs.Fore.{over}
-use Rattle.clock_loop.specs.LineCode.{AreInLine}
-use Rattle.clock_loop.specs.RunTo.{RisesInSome}
-use Rattle.clock_loop.proofs.RunToLaws.{runs_none, runs_then, part_behind, can_go_on, no_reads, reads_then, few_behind}
-use Rattle.chip_set.proofs.BusLaws.{claim_kept}
-use Rattle.clock_loop.proofs.BusLaws.{first_leaves, leave_next, no_rest}
-use Rattle.clock_loop.proofs.LineLaws.{in_line_next, first_due}
+use Rattle.clock_loop.specs.BusRun.{is_made, stays_left}
+use Rattle.clock_loop.proofs.BusLaws.{no_rest, none_made}
+use Rattle.clock_loop.proofs.ClockLaws.{HasGoneOn, first_can, next_can, gone_then, gone_by_clock, gone_in_part, gone_in_part_run, gone_untold}
+use Rattle.clock_loop.proofs.LineLaws.{nothing_made}
 use Rattle.clock_loop.proofs.bus.clocks_on_bus.Goals as goal
-use Rattle.clock_loop.proofs.bus.clocks_on_bus.Goals.{then-on, else-on}
 
 pub loop-left-init : goal.loop-left-init
 loop-left-init g c = record {
   able = c.requires.fits;
-  runs = runs_none _ _ _;
+  ran = none_made _ _ _ _;
   run = refl;
-  on = omega arith;
-  most = omega arith;
-  reads = no_reads _ _ _;
   fresh = c.requires.fresh;
   still = λ there. refl;
-  line = c.requires.bus.line;
-  leave = c.requires.bus.leave;
-  claim = λ some. c.requires.bus.asks;
-  ready = c.requires.bus.ready;
-  rest = λ some. no_rest c.args.fore.now.machine.t c.args.fore.now.machine.chips;
+  can = record {
+    line = c.requires.bus.line;
+    leave = c.requires.bus.leave;
+    ready = c.requires.bus.ready;
+    claims = λ some. c.requires.bus.asks;
+    rests = λ some. no_rest c.args.fore.now.machine.t c.args.fore.now.machine.chips;
+  };
 }
 
-pub clock-requires : goal.clock-requires
-clock-requires g c =
-    let f = over g.S.Side.seen c.loop-left.fore in
-    let some : 0 < c.loop-left.left = c.loop-left-test.true in
-    let are : AreInLine c.args.limit c.loop-left.left f = c.loop-left.invariant.line some in
+pub returns-in-Err-clause-part : goal.returns-in-Err-clause-part
+returns-in-Err-clause-part g c =
+    let of = over g.S.Side.seen in
+    let f0 = of c.args.fore.now in
+    let f = of c.loop-left.fore in
+    let g1 = of c.run_alone.new.fore in
+    let s0 = g.Q.Raster.seen c.args.raster.now in
+    let s = g.Q.Raster.seen c.loop-left.raster in
+    let inv = c.loop-left.invariant in
+    let some = c.loop-left-test.true in
+    let line = (inv.can.line some).before in
+    let gone0 : HasGoneOn c.args.limit f0 f s0 s c.args.out.now c.loop-left.out =
+    record { able = inv.able; fresh = inv.fresh; run = inv.run; ran = inv.ran } in
+    gone_in_part_run c.args.limit f0 f g1 _ s0 s s _ _ _ gone0 (omega (arith, line)) (c.in-Err.ensures.part s)
+    (ap (λ x. x.machine.chip.reads) c.fore.view_is)
+
+pub returns-then-left-eq0-clause-runs : goal.returns-then-left-eq0-clause-runs
+returns-then-left-eq0-clause-runs g c =
+    let of = over g.S.Side.seen in
+    let f0 = of c.args.fore.now in
+    let f = of c.loop-left.fore in
+    let g1 = of c.run_alone.new.fore in
+    let s0 = g.Q.Raster.seen c.args.raster.now in
+    let s = g.Q.Raster.seen c.loop-left.raster in
+    let inv = c.loop-left.invariant in
+    let some = c.loop-left-test.true in
+    let line = (inv.can.line some).before in
+    let gone0 : HasGoneOn c.args.limit f0 f s0 s c.args.out.now c.loop-left.out =
+    record { able = inv.able; fresh = inv.fresh; run = inv.run; ran = inv.ran } in
+    let gone = gone_then c.args.limit f0 f g1 s0 s s _ _ _ gone0 (omega (arith, line)) c.run_alone.ensures.run c.in-Ok.ensures.fresh
+    (c.in-Ok.ensures.runs s) in
+    gone.ran
+
+pub returns-then-left-eq0-clause-still : goal.returns-then-left-eq0-clause-still
+returns-then-left-eq0-clause-still g c same =
+    let more = (c.in-Ok.ensures.runs (g.Q.Raster.seen c.loop-left.raster)).on in
+    nothing_made c.args.fore.now c.loop-left.fore c.run_alone.new.fore c.loop-left.invariant.ran.on more c.loop-left.invariant.still
+    c.in-Ok.ensures.still (omega (arith, same))
+
+pub clock_on_bus-requires : goal.clock_on_bus-requires
+clock_on_bus-requires g c =
+    let of = over g.S.Side.seen in
+    let f0 = of c.args.fore.now in
+    let f = of c.loop-left.fore in
+    let g1 = of c.run_alone.new.fore in
+    let s0 = g.Q.Raster.seen c.args.raster.now in
+    let s = g.Q.Raster.seen c.loop-left.raster in
+    let inv = c.loop-left.invariant in
+    let some = c.loop-left-test.true in
+    let line = (inv.can.line some).before in
+    let gone0 : HasGoneOn c.args.limit f0 f s0 s c.args.out.now c.loop-left.out =
+    record { able = inv.able; fresh = inv.fresh; run = inv.run; ran = inv.ran } in
+    let gone = gone_then c.args.limit f0 f g1 s0 s s _ _ _ gone0 (omega (arith, line)) c.run_alone.ensures.run c.in-Ok.ensures.fresh
+    (c.in-Ok.ensures.runs s) in
+    let more : 0 < c.loop-left.left - c.in-Ok.made = (let left = c.if-left-eq0.false in omega (arith, left)) in
+    let next = (c.in-Ok.ensures.can.line more).before in
     record {
-      can = record {
-        underway = c.loop-left.invariant.able c.loop-left.invariant.fresh;
-        running = are.running;
-        inner = are.inner;
-        last = omega (arith, are.line, some);
-        due = first_due c.args.limit c.loop-left.left f some are;
-        ready = c.loop-left.invariant.ready some;
-        leaves = first_leaves c.args.rules.now c.loop-left.left f.machine.beam f.machine.chips some (c.loop-left.invariant.leave some);
-        claims = c.loop-left.invariant.claim some;
-        rests = c.loop-left.invariant.rest some;
-      };
+      can = (s, first_can c.args.limit _ c.args.rules.now _ c.args.claim.now g1 s more c.in-Ok.ensures.can gone.able gone.fresh);
     }
 
 pub loop-left-preserved : goal.loop-left-preserved
@@ -51,65 +88,230 @@ loop-left-preserved g c =
     let of = over g.S.Side.seen in
     let f0 = of c.args.fore.now in
     let f = of c.loop-left.fore in
-    let next = of c.clock.new.fore in
-    let rules = c.args.rules.now in
-    let some : 0 < c.loop-left.left = c.loop-left-test.true in
-    let are : AreInLine c.args.limit c.loop-left.left f = c.loop-left.invariant.line some in
-    let one = c.in-Ok.ensures in
+    let g1 = of c.run_alone.new.fore in
+    let s0 = g.Q.Raster.seen c.args.raster.now in
+    let s = g.Q.Raster.seen c.loop-left.raster in
+    let inv = c.loop-left.invariant in
+    let some = c.loop-left-test.true in
+    let line = (inv.can.line some).before in
+    let gone0 : HasGoneOn c.args.limit f0 f s0 s c.args.out.now c.loop-left.out =
+    record { able = inv.able; fresh = inv.fresh; run = inv.run; ran = inv.ran } in
+    let gone = gone_then c.args.limit f0 f g1 s0 s s _ _ _ gone0 (omega (arith, line)) c.run_alone.ensures.run c.in-Ok.ensures.fresh
+    (c.in-Ok.ensures.runs s) in
+    let more : 0 < c.loop-left.left - c.in-Ok.made = (let left = c.if-left-eq0.false in omega (arith, left)) in
+    let next = (c.in-Ok.ensures.can.line more).before in
+    let h = of c.clock_on_bus.new.fore in
+    let made = c.in-Ok-Stays.ensures.made (ap is_made c.in-Ok-Stays.field-0-is) s in
+    let all = gone_by_clock c.args.limit f0 g1 h s0 s s _ _ _ gone (omega (arith, more, next)) c.clock_on_bus.ensures.run made in
+    let on = gone.ran.on in
+    let count = made.count in
     record {
-      able = can_go_on f next _ _ _ _ one.made.clock c.loop-left.invariant.fresh c.loop-left.invariant.able;
-      runs = runs_then f0 f next _ _ _ _ _ _ c.loop-left.invariant.runs one.made.clock c.loop-left.invariant.run one.made.count;
-      run = c.clock.ensures.run ∙ c.loop-left.invariant.run;
-      on = omega (arith, c.loop-left.invariant.on, one.made.count);
-      most = omega (arith, are.before, one.made.count, some);
-      reads = reads_then f0 f next _ c.loop-left.invariant.run c.loop-left.invariant.on c.loop-left.invariant.fresh c.loop-left.invariant.able
-          c.loop-left.invariant.reads one.made.reads one.made.count;
-      fresh = one.made.spent ∙ c.loop-left.invariant.fresh;
-      still = λ same. absurd (omega (arith, c.loop-left.invariant.on, one.made.count, same));
-      line = λ more. elim c.if-on.branch [
-        | then-on w ↦ subst (λ n. AreInLine c.args.limit n next) (sym w.left-is)
-            (in_line_next c.args.limit c.loop-left.left f next some are c.clock.ensures.run one.made.count one.made.place)
-        | else-on w ↦ absurd (omega (arith, more, w.left-is))
-      ];
-      leave = λ more. elim c.if-on.branch [
-        | then-on w ↦ subst (λ n. LeaveBus rules next.machine.beam n next.machine.chips) (sym w.left-is)
-            (leave_next rules c.loop-left.left f.machine.beam next.machine.beam f.machine.chips next.machine.chips some
-            (c.loop-left.invariant.leave some) one.made.place (one.bus w.if-on.true).chips)
-        | else-on w ↦ absurd (omega (arith, more, w.left-is))
-      ];
-      claim = λ more. elim c.if-on.branch [
-        | then-on w ↦ claim_kept _ rules f.machine.chips next.machine.chips (one.bus w.if-on.true).chips (c.loop-left.invariant.claim some)
-        | else-on w ↦ absurd (omega (arith, more, w.left-is))
-      ];
-      ready = λ more. elim c.if-on.branch [
-        | then-on w ↦ (one.bus w.if-on.true).ready
-        | else-on w ↦ absurd (omega (arith, more, w.left-is))
-      ];
-      rest = λ more. elim c.if-on.branch [
-        | then-on w ↦ (one.bus w.if-on.true).rests
-        | else-on w ↦ absurd (omega (arith, more, w.left-is))
-      ];
+      able = all.able;
+      ran = all.ran;
+      run = all.run;
+      fresh = all.fresh;
+      still = λ same. absurd (omega (arith, on, count, same));
+      can = next_can c.args.limit _ c.args.rules.now _ _ c.args.claim.now g1 h s s _ _ more c.in-Ok.ensures.can c.clock_on_bus.ensures.run made
+          (c.in-Ok-Stays.ensures.bus (ap stays_left c.in-Ok-Stays.field-0-is));
     }
 
-pub returns-in-Err-clause-part : goal.returns-in-Err-clause-part
-returns-in-Err-clause-part g c =
+pub returns-in-Ok-Ends-clause-runs : goal.returns-in-Ok-Ends-clause-runs
+returns-in-Ok-Ends-clause-runs g c =
     let of = over g.S.Side.seen in
-    let f0 = c.args.fore.now in
-    let some : 0 < c.loop-left.left = c.loop-left-test.true in
-    let are : AreInLine c.args.limit c.loop-left.left (of c.loop-left.fore) = c.loop-left.invariant.line some in
-    let same = ap (λ f. f.machine.chip.reads) c.fore.view_is in
-    record {
-      part = part_behind (of f0) (of c.loop-left.fore) _ _ _ _ _ _ c.loop-left.invariant.runs c.in-Err.ensures.part.part c.loop-left.invariant.run;
-      few = subst (λ reads. RisesInSome c.args.limit (of f0).run f0.machine.t f0.machine.chip.reads reads) (sym same)
-          (few_behind (of f0) (of c.loop-left.fore) (of c.clock.new.fore) _ c.args.limit c.loop-left.invariant.run
-          c.loop-left.invariant.on (omega (arith, are.before, some)) c.loop-left.invariant.fresh c.loop-left.invariant.able
-          c.loop-left.invariant.reads c.in-Err.ensures.part.few);
-    }
+    let f0 = of c.args.fore.now in
+    let f = of c.loop-left.fore in
+    let g1 = of c.run_alone.new.fore in
+    let s0 = g.Q.Raster.seen c.args.raster.now in
+    let s = g.Q.Raster.seen c.loop-left.raster in
+    let inv = c.loop-left.invariant in
+    let some = c.loop-left-test.true in
+    let line = (inv.can.line some).before in
+    let gone0 : HasGoneOn c.args.limit f0 f s0 s c.args.out.now c.loop-left.out =
+    record { able = inv.able; fresh = inv.fresh; run = inv.run; ran = inv.ran } in
+    let gone = gone_then c.args.limit f0 f g1 s0 s s _ _ _ gone0 (omega (arith, line)) c.run_alone.ensures.run c.in-Ok.ensures.fresh
+    (c.in-Ok.ensures.runs s) in
+    let more : 0 < c.loop-left.left - c.in-Ok.made = (let left = c.if-left-eq0.false in omega (arith, left)) in
+    let next = (c.in-Ok.ensures.can.line more).before in
+    let h = of c.clock_on_bus.new.fore in
+    let made = c.in-Ok-Ends.ensures.made (ap is_made c.in-Ok-Ends.field-0-is) s in
+    (gone_by_clock c.args.limit f0 g1 h s0 s s _ _ _ gone (omega (arith, more, next)) c.clock_on_bus.ensures.run made).ran
 
-pub returns-clause-runs : goal.returns-clause-runs
-returns-clause-runs g c = record {
-  clocks = c.loop-left.invariant.runs;
-  on = c.loop-left.invariant.on;
-  most = c.loop-left.invariant.most;
-  reads = c.loop-left.invariant.reads;
-}
+pub returns-in-Ok-Ends-clause-fresh : goal.returns-in-Ok-Ends-clause-fresh
+returns-in-Ok-Ends-clause-fresh g c =
+    let of = over g.S.Side.seen in
+    let f0 = of c.args.fore.now in
+    let f = of c.loop-left.fore in
+    let g1 = of c.run_alone.new.fore in
+    let s0 = g.Q.Raster.seen c.args.raster.now in
+    let s = g.Q.Raster.seen c.loop-left.raster in
+    let inv = c.loop-left.invariant in
+    let some = c.loop-left-test.true in
+    let line = (inv.can.line some).before in
+    let gone0 : HasGoneOn c.args.limit f0 f s0 s c.args.out.now c.loop-left.out =
+    record { able = inv.able; fresh = inv.fresh; run = inv.run; ran = inv.ran } in
+    let gone = gone_then c.args.limit f0 f g1 s0 s s _ _ _ gone0 (omega (arith, line)) c.run_alone.ensures.run c.in-Ok.ensures.fresh
+    (c.in-Ok.ensures.runs s) in
+    let h = of c.clock_on_bus.new.fore in
+    let made = c.in-Ok-Ends.ensures.made (ap is_made c.in-Ok-Ends.field-0-is) s in
+    made.spent ∙ gone.fresh
+
+pub returns-in-Ok-Ends-clause-still : goal.returns-in-Ok-Ends-clause-still
+returns-in-Ok-Ends-clause-still g c same =
+    let of = over g.S.Side.seen in
+    let f0 = of c.args.fore.now in
+    let f = of c.loop-left.fore in
+    let g1 = of c.run_alone.new.fore in
+    let s0 = g.Q.Raster.seen c.args.raster.now in
+    let s = g.Q.Raster.seen c.loop-left.raster in
+    let inv = c.loop-left.invariant in
+    let some = c.loop-left-test.true in
+    let line = (inv.can.line some).before in
+    let gone0 : HasGoneOn c.args.limit f0 f s0 s c.args.out.now c.loop-left.out =
+    record { able = inv.able; fresh = inv.fresh; run = inv.run; ran = inv.ran } in
+    let gone = gone_then c.args.limit f0 f g1 s0 s s _ _ _ gone0 (omega (arith, line)) c.run_alone.ensures.run c.in-Ok.ensures.fresh
+    (c.in-Ok.ensures.runs s) in
+    let h = of c.clock_on_bus.new.fore in
+    let made = c.in-Ok-Ends.ensures.made (ap is_made c.in-Ok-Ends.field-0-is) s in
+    let on = gone.ran.on in
+    let count = made.count in
+    absurd (omega (arith, on, count, same))
+
+pub finish_clock-requires : goal.finish_clock-requires
+finish_clock-requires g c =
+    let of = over g.S.Side.seen in
+    let f0 = of c.args.fore.now in
+    let f = of c.loop-left.fore in
+    let g1 = of c.run_alone.new.fore in
+    let s0 = g.Q.Raster.seen c.args.raster.now in
+    let s = g.Q.Raster.seen c.loop-left.raster in
+    let inv = c.loop-left.invariant in
+    let some = c.loop-left-test.true in
+    let line = (inv.can.line some).before in
+    let gone0 : HasGoneOn c.args.limit f0 f s0 s c.args.out.now c.loop-left.out =
+    record { able = inv.able; fresh = inv.fresh; run = inv.run; ran = inv.ran } in
+    let gone = gone_then c.args.limit f0 f g1 s0 s s _ _ _ gone0 (omega (arith, line)) c.run_alone.ensures.run c.in-Ok.ensures.fresh
+    (c.in-Ok.ensures.runs s) in
+    let more : 0 < c.loop-left.left - c.in-Ok.made = (let left = c.if-left-eq0.false in omega (arith, left)) in
+    let next = (c.in-Ok.ensures.can.line more).before in
+    let within = (first_can c.args.limit _ c.args.rules.now _ c.args.claim.now g1 s more c.in-Ok.ensures.can gone.able gone.fresh).within in
+    let left = ap is_made c.in-Ok-Other.field-0-is in
+    let asked = c.in-Ok-Other.ensures.asked left in
+    record { asked = (g1, within, asked) }
+
+pub returns-in-Ok-Other-clause-runs : goal.returns-in-Ok-Other-clause-runs
+returns-in-Ok-Other-clause-runs g c =
+    let of = over g.S.Side.seen in
+    let f0 = of c.args.fore.now in
+    let f = of c.loop-left.fore in
+    let g1 = of c.run_alone.new.fore in
+    let s0 = g.Q.Raster.seen c.args.raster.now in
+    let s = g.Q.Raster.seen c.loop-left.raster in
+    let inv = c.loop-left.invariant in
+    let some = c.loop-left-test.true in
+    let line = (inv.can.line some).before in
+    let gone0 : HasGoneOn c.args.limit f0 f s0 s c.args.out.now c.loop-left.out =
+    record { able = inv.able; fresh = inv.fresh; run = inv.run; ran = inv.ran } in
+    let gone = gone_then c.args.limit f0 f g1 s0 s s _ _ _ gone0 (omega (arith, line)) c.run_alone.ensures.run c.in-Ok.ensures.fresh
+    (c.in-Ok.ensures.runs s) in
+    let more : 0 < c.loop-left.left - c.in-Ok.made = (let left = c.if-left-eq0.false in omega (arith, left)) in
+    let next = (c.in-Ok.ensures.can.line more).before in
+    let within = (first_can c.args.limit _ c.args.rules.now _ c.args.claim.now g1 s more c.in-Ok.ensures.can gone.able gone.fresh).within in
+    let left = ap is_made c.in-Ok-Other.field-0-is in
+    let asked = c.in-Ok-Other.ensures.asked left in
+    let h = of c.finish_clock.new.fore in
+    let s2 = g.Q.Raster.seen c.finish_clock.new.raster in
+    let here = gone_untold c.args.limit f0 g1 s0 s _ _ _ (c.in-Ok-Other.ensures.given left) gone in
+    on_ok_weaker c.finish_clock.result (λ made. (gone_by_clock c.args.limit f0 g1 h s0 s s2 _ _ _ here (omega (arith, more, next))
+    (c.finish_clock.ensures.run ∙ c.clock_on_bus.ensures.run) (made g1 within asked)).ran) c.finish_clock.ensures.made
+
+pub returns-in-Ok-Other-clause-part : goal.returns-in-Ok-Other-clause-part
+returns-in-Ok-Other-clause-part g c =
+    let of = over g.S.Side.seen in
+    let f0 = of c.args.fore.now in
+    let f = of c.loop-left.fore in
+    let g1 = of c.run_alone.new.fore in
+    let s0 = g.Q.Raster.seen c.args.raster.now in
+    let s = g.Q.Raster.seen c.loop-left.raster in
+    let inv = c.loop-left.invariant in
+    let some = c.loop-left-test.true in
+    let line = (inv.can.line some).before in
+    let gone0 : HasGoneOn c.args.limit f0 f s0 s c.args.out.now c.loop-left.out =
+    record { able = inv.able; fresh = inv.fresh; run = inv.run; ran = inv.ran } in
+    let gone = gone_then c.args.limit f0 f g1 s0 s s _ _ _ gone0 (omega (arith, line)) c.run_alone.ensures.run c.in-Ok.ensures.fresh
+    (c.in-Ok.ensures.runs s) in
+    let more : 0 < c.loop-left.left - c.in-Ok.made = (let left = c.if-left-eq0.false in omega (arith, left)) in
+    let next = (c.in-Ok.ensures.can.line more).before in
+    let within = (first_can c.args.limit _ c.args.rules.now _ c.args.claim.now g1 s more c.in-Ok.ensures.can gone.able gone.fresh).within in
+    let left = ap is_made c.in-Ok-Other.field-0-is in
+    let asked = c.in-Ok-Other.ensures.asked left in
+    let h = of c.finish_clock.new.fore in
+    let s2 = g.Q.Raster.seen c.finish_clock.new.raster in
+    let here = gone_untold c.args.limit f0 g1 s0 s _ _ _ (c.in-Ok-Other.ensures.given left) gone in
+    on_err_weaker c.finish_clock.result (λ part. gone_in_part c.args.limit f0 g1 h h s0 s s2 _ _ _ here (omega (arith, more, next))
+    (part g1 within asked) refl) c.finish_clock.ensures.part
+
+pub returns-in-Ok-Other-clause-fresh : goal.returns-in-Ok-Other-clause-fresh
+returns-in-Ok-Other-clause-fresh g c =
+    let of = over g.S.Side.seen in
+    let f0 = of c.args.fore.now in
+    let f = of c.loop-left.fore in
+    let g1 = of c.run_alone.new.fore in
+    let s0 = g.Q.Raster.seen c.args.raster.now in
+    let s = g.Q.Raster.seen c.loop-left.raster in
+    let inv = c.loop-left.invariant in
+    let some = c.loop-left-test.true in
+    let line = (inv.can.line some).before in
+    let gone0 : HasGoneOn c.args.limit f0 f s0 s c.args.out.now c.loop-left.out =
+    record { able = inv.able; fresh = inv.fresh; run = inv.run; ran = inv.ran } in
+    let gone = gone_then c.args.limit f0 f g1 s0 s s _ _ _ gone0 (omega (arith, line)) c.run_alone.ensures.run c.in-Ok.ensures.fresh
+    (c.in-Ok.ensures.runs s) in
+    let more : 0 < c.loop-left.left - c.in-Ok.made = (let left = c.if-left-eq0.false in omega (arith, left)) in
+    let next = (c.in-Ok.ensures.can.line more).before in
+    let within = (first_can c.args.limit _ c.args.rules.now _ c.args.claim.now g1 s more c.in-Ok.ensures.can gone.able gone.fresh).within in
+    let left = ap is_made c.in-Ok-Other.field-0-is in
+    let asked = c.in-Ok-Other.ensures.asked left in
+    on_ok_weaker c.finish_clock.result (λ made. (made g1 within asked).spent ∙ gone.fresh) c.finish_clock.ensures.made
+
+pub returns-in-Ok-Other-clause-still : goal.returns-in-Ok-Other-clause-still
+returns-in-Ok-Other-clause-still g c =
+    let of = over g.S.Side.seen in
+    let f0 = of c.args.fore.now in
+    let f = of c.loop-left.fore in
+    let g1 = of c.run_alone.new.fore in
+    let s0 = g.Q.Raster.seen c.args.raster.now in
+    let s = g.Q.Raster.seen c.loop-left.raster in
+    let inv = c.loop-left.invariant in
+    let some = c.loop-left-test.true in
+    let line = (inv.can.line some).before in
+    let gone0 : HasGoneOn c.args.limit f0 f s0 s c.args.out.now c.loop-left.out =
+    record { able = inv.able; fresh = inv.fresh; run = inv.run; ran = inv.ran } in
+    let gone = gone_then c.args.limit f0 f g1 s0 s s _ _ _ gone0 (omega (arith, line)) c.run_alone.ensures.run c.in-Ok.ensures.fresh
+    (c.in-Ok.ensures.runs s) in
+    let more : 0 < c.loop-left.left - c.in-Ok.made = (let left = c.if-left-eq0.false in omega (arith, left)) in
+    let next = (c.in-Ok.ensures.can.line more).before in
+    let within = (first_can c.args.limit _ c.args.rules.now _ c.args.claim.now g1 s more c.in-Ok.ensures.can gone.able gone.fresh).within in
+    let left = ap is_made c.in-Ok-Other.field-0-is in
+    let asked = c.in-Ok-Other.ensures.asked left in
+    let on = gone.ran.on in
+    on_ok_weaker c.finish_clock.result
+    (λ made same. absurd (let count = (made g1 within asked).count in omega (arith, on, count, same))) c.finish_clock.ensures.made
+
+pub returns-in-Err-clock_on_bus-clause-part : goal.returns-in-Err-clock_on_bus-clause-part
+returns-in-Err-clock_on_bus-clause-part g c =
+    let of = over g.S.Side.seen in
+    let f0 = of c.args.fore.now in
+    let f = of c.loop-left.fore in
+    let g1 = of c.run_alone.new.fore in
+    let s0 = g.Q.Raster.seen c.args.raster.now in
+    let s = g.Q.Raster.seen c.loop-left.raster in
+    let inv = c.loop-left.invariant in
+    let some = c.loop-left-test.true in
+    let line = (inv.can.line some).before in
+    let gone0 : HasGoneOn c.args.limit f0 f s0 s c.args.out.now c.loop-left.out =
+    record { able = inv.able; fresh = inv.fresh; run = inv.run; ran = inv.ran } in
+    let gone = gone_then c.args.limit f0 f g1 s0 s s _ _ _ gone0 (omega (arith, line)) c.run_alone.ensures.run c.in-Ok.ensures.fresh
+    (c.in-Ok.ensures.runs s) in
+    let more : 0 < c.loop-left.left - c.in-Ok.made = (let left = c.if-left-eq0.false in omega (arith, left)) in
+    let next = (c.in-Ok.ensures.can.line more).before in
+    gone_in_part c.args.limit f0 g1 (of c.clock_on_bus.new.fore) _ s0 s s _ _ _ gone (omega (arith, more, next))
+    (c.in-Err-clock_on_bus.ensures.part s) (ap (λ x. x.machine.chip.reads) c.fore-in-Err-clock_on_bus.view_is)

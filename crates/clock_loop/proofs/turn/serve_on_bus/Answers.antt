@@ -1,4 +1,4 @@
-use Rattle.std.proofs.Common.{ap, ◌∙◌}
+use Rattle.std.proofs.Common.{ap, sym, ◌∙◌}
 use Rattle.foreground.specs.Fore.{over}
 use Rattle.machine.proofs.BusLaws.{no_clx}
 use Rattle.picture_log.specs.declared.log.Log.{Log}
@@ -30,7 +30,8 @@ pub returns-clause-bus : goal.returns-clause-bus
 returns-clause-bus g c same =
     stays_view g.S.Side.seen _ c.args.fore.now _ c.fore.view_is (record {
       chips = c.in_ok-made.ensures.bus
-          (blits_on _ _ c.is_blitting-busy.result c.is_blitting.result c.is_blitting-busy.ensures c.is_blitting.ensures same);
+          (blits_on _ _ c.is_blitting-busy.result c.is_blitting.result c.is_blitting-busy.ensures c.is_blitting.ensures
+          (sym c.made_access.ensures.stays ∙ same));
       waits = ap (λ (l : Log). l.waiting) c.in_ok-note_touch.ensures
           ∙ none_waits _ _ _ c.touch_of.ensures.touch c.in_ok-made.ensures.made;
       from = ap (λ (l : Log). l.band.from) c.in_ok-note_touch.ensures;
