@@ -2,13 +2,14 @@
 //! for the slot, and the read of a word of memory.
 
 ghost use Rattle.std.specs.Prelude.{◌≡◌, true};
-ghost use Rattle.serial_model.specs.Processor.{Processor};
+ghost use Rattle.serial_model.specs.Processor.{Processor, slot_wish};
 ghost use Rattle.irq_cia.specs.Interrupts.{level_of};
 ghost use Rattle.cpu_bus.specs.Bus.{IsProcessorOf, GoesOn, is_slot};
-ghost use Rattle.cpu_bus.specs.Progress.{IsProgress};
+ghost use Rattle.cpu_bus.specs.Progress.{IsProgress, BeginsAnew};
 
 use crate::chips::Chips;
 use cpu_bus::Progress;
+use serial_model::ProcessorAsk;
 
 impl Chips {
     /// How far the processor is with an access. Nothing hangs on `Other` but how fast a run is.
@@ -17,6 +18,22 @@ impl Chips {
         ensures { IsProgress result self.now.processor }
     {
         self.processor.progress()
+    }
+
+    /// Whether the processor is on, and what it waits for has just begun.
+    #[inline(always)]
+    pub fn begins_anew(&self) -> bool
+        ensures { result ≡ true → BeginsAnew self.now.processor }
+    {
+        self.processor.begins_anew()
+    }
+
+    /// What the processor asks for from its second clock on, if it waits for a slot.
+    #[inline(always)]
+    pub fn next_ask(&self) -> Option<ProcessorAsk>
+        ensures { result ≡ slot_wish self.now.processor.wait }
+    {
+        self.processor.next_ask()
     }
 
     /// The first clock of an access passes, in which nobody has the slot.
@@ -39,6 +56,7 @@ impl Chips {
         ensures goes { (p : Processor) → IsProcessorOf self.old.processor p
             → GoesOn word (level_of self.old.irq) p result self.new.processor }
         ensures kept { self.new ≡ record self.old { missed = 0; processor = self.new.processor } }
+        ensures anew { self.old.processor.on ≡ true → BeginsAnew self.new.processor }
     {
         self.missed = 0;
         self.processor.take_word(word, &self.irq)

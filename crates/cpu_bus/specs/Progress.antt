@@ -6,6 +6,12 @@ use Rattle.cpu_bus.specs.declared.Progress.{Progress}
 use Rattle.cpu_bus.specs.declared.Progress.TheVariants as P
 use Rattle.cpu_bus.specs.Bus.{is_slot, wish_shown}
 
+-- it is on, and what it waits for has just begun
+pub record BeginsAnew (now : BusCpu) : Type 0 where
+  pub on : now.on ≡ true
+  pub spent : now.spent ≡ 0
+  pub given : now.given ≡ None
+
 -- this clock is the first of an access that wants a slot, so that it does not ask for it yet
 pub record BeginsAccess (now : BusCpu) : Type 0 where
   pub on : now.on ≡ true

@@ -177,7 +177,7 @@ impl BusCpu {
 
 impl BusCpu {
     ghost use Rattle.cpu_bus.specs.Bus.{IsProcessorOf, IsAnswered, GoesOn, is_slot};
-    ghost use Rattle.cpu_bus.specs.Progress.{IsProgress};
+    ghost use Rattle.cpu_bus.specs.Progress.{IsProgress, BeginsAnew};
 
     /// How far it is with an access. Nothing hangs on `Other` but how fast a run is.
     #[inline(always)]
@@ -212,6 +212,22 @@ impl BusCpu {
         Progress::Other
     }
 
+    /// Whether it is on, and what it waits for has just begun.
+    #[inline(always)]
+    pub fn begins_anew(&self) -> bool
+        ensures { result ≡ true → BeginsAnew self.now }
+    {
+        self.on && self.spent == 0 && self.given.is_none()
+    }
+
+    /// What it asks for from its second clock on, if it waits for a slot.
+    #[inline(always)]
+    pub fn next_ask(&self) -> Option<ProcessorAsk>
+        ensures { result ≡ slot_wish self.now.wait }
+    {
+        slot_ask(&self.wait)
+    }
+
     /// The first clock of an access passes, in which it does not ask for it yet.
     #[inline(always)]
     pub fn pass_first_clock(&mut self)
@@ -225,8 +241,9 @@ impl BusCpu {
     #[inline(always)]
     pub fn take_word(&mut self, word: u16, irq: &Irq) -> Option<u8>
         requires { is_slot self.old.wait ≡ true }
-        ensures { (p : Processor) → IsProcessorOf self.old p
+        ensures goes { (p : Processor) → IsProcessorOf self.old p
             → GoesOn word (level_of irq.now) p result self.new }
+        ensures anew { self.old.on ≡ true → BeginsAnew self.new }
     {
         self.complete(word);
         if self.settle(irq) {
@@ -264,7 +281,8 @@ impl BusCpu {
     #[inline(always)]
     fn complete(&mut self, word: u16)
         requires { is_slot self.old.wait ≡ true }
-        ensures { (p : Processor) → IsProcessorOf self.old p → IsAnswered word self.new p }
+        ensures answers { (p : Processor) → IsProcessorOf self.old p → IsAnswered word self.new p }
+        ensures kept { self.new ≡ record self.old { cpu = self.new.cpu } }
     {
         self.cpu.complete_access(word);
     }
@@ -273,8 +291,9 @@ impl BusCpu {
     /// begins with it. What comes most often is looked for first.
     #[inline(never)]
     fn settle(&mut self, irq: &Irq) -> bool
-        ensures { (word : ℕ) (p : Processor) → IsAnswered word self.old p
+        ensures goes { (word : ℕ) (p : Processor) → IsAnswered word self.old p
             → GoesOn word (level_of irq.now) p (interrupt_if result (level_of irq.now)) self.new }
+        ensures anew { self.old.on ≡ true → BeginsAnew self.new }
     {
         self.spent = 0;
         self.given = None;

@@ -260,7 +260,7 @@ write_clock rest at half word m begins new out after alone asks goes lines =
       );
     }
 
-write_stored : (rest : ℕ) (at : Addr) (half : Half) (word : ℕ) (m : MachineValue) (begins : Option ℕ) (chip : ChipValue) (chips : WorkingChips)
+pub write_stored : (rest : ℕ) (at : Addr) (half : Half) (word : ℕ) (m : MachineValue) (begins : Option ℕ) (chip : ChipValue) (chips : WorkingChips)
     (out after : OutFilesValue) → IsLeftToProcessor rest m → wish_shown m.chips.processor ≡ Some (P.Write at half word)
     → chip ≡ chip_after m.t (M.Stored at half word) m.chip → chips ≡ gone chips.processor m.chips
     → ((p : Processor) → IsProcessorOf m.chips.processor p → GoesOn 0 (level_of m.chips.irq) p begins chips.processor)

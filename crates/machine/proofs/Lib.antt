@@ -1,5 +1,6 @@
 pub mod OutLaws
 pub mod ToldLaws
+pub mod TwoLaws
 pub mod WriteLaws
 pub mod StepLaws
 pub mod AccessLaws

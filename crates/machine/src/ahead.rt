@@ -1,21 +1,24 @@
 //! Clocks that everybody else leaves to the processor, made at once: nothing is to be done for side and CIAs in
 //! them.
 
-ghost use Rattle.std.specs.Prelude.{◌≡◌, ◌<◌, ◌≤◌, ◌+◌, ◌^◌, ℕ, true, [], Some, OnOk, OnErr};
+ghost use Rattle.std.specs.Prelude.{◌≡◌, ◌<◌, ◌≤◌, ◌+◌, ◌^◌, ℕ, true, false, [], Some, OnOk, OnErr, IfOk};
 ghost use Rattle.out_files.specs.OutFiles.{OutFilesValue};
 ghost use Rattle.serial_model.specs.declared.bus.Ask.TheVariants as A;
 ghost use Rattle.serial_model.specs.declared.bus.ProcessorAsk.TheVariants as P;
 ghost use Rattle.cpu_bus.specs.Bus.{is_slot, wish_shown};
-ghost use Rattle.cpu_bus.specs.Progress.{BeginsAccess};
+ghost use Rattle.cpu_bus.specs.Progress.{BeginsAccess, BeginsAnew};
+ghost use Rattle.serial_model.specs.Beam.{later_beam};
+ghost use Rattle.serial_model.specs.Processor.{slot_wish};
 ghost use Rattle.serial_model.specs.Turns.{taken_lines};
 ghost use Rattle.machine.specs.Machine.{machine_over, more_reads};
 ghost use Rattle.machine.specs.Out.{Gives};
-ghost use Rattle.machine.specs.AheadCode.{IsLeftToProcessor, IsClockAtOnce};
+ghost use Rattle.machine.specs.AheadCode.{IsLeftToProcessor, IsLeftThen, IsClockAtOnce};
+ghost use Rattle.machine.specs.AheadCode.{EndsInTwo, IsAccessInTwo, IsAccessInPart};
 
 use crate::machine::Machine;
-use ocs_base::{Addr, Beam, OutOfMemory};
+use ocs_base::{Addr, Beam, Clock, OutOfMemory};
 use out_files::OutFiles;
-use serial_model::{Half, Side, TraceLine};
+use serial_model::{Half, ProcessorAsk, Side, TraceLine};
 
 impl<S: Side> Machine<S> {
     /// The first clock of an access of the processor, in which it does not ask yet: nobody has the slot.
@@ -78,6 +81,128 @@ impl<S: Side> Machine<S> {
         tell_interrupt(&self.beam, begins, out)?;
         self.beam.h += 1;
         self.t += 1;
+        Ok(())
+    }
+
+    /// The two clocks of an access to memory that has just begun: in the first the processor does not ask yet, and
+    /// in the second it makes the access and goes on. The answer is whether such an access has begun; nothing
+    /// changes where none has.
+    #[inline(always)]
+    pub fn access_in_two(&mut self, out: &mut OutFiles) -> Result<bool, OutOfMemory>
+        requires alone { (rest : ℕ) × IsLeftToProcessor rest (machine_over S.seen self.old) }
+        requires next { IsLeftThen (machine_over S.seen self.old) out.old }
+        requires anew { BeginsAnew self.old.chips.processor }
+        requires time { self.old.chip.newest ≤ self.old.t }
+        requires count { self.old.t + 2 < 2 ^ 64 }
+        ensures clocks { IfOk result (λ made. made ≡ true
+            → IsAccessInTwo (machine_over S.seen self.old) out.old
+            (machine_over S.seen self.new) out.new) }
+        ensures anew { IfOk result (λ made. made ≡ true
+            → BeginsAnew self.new.chips.processor) }
+        ensures none { IfOk result (λ made. made ≡ false → self.new ≡ self.old) }
+        ensures quiet { IfOk result (λ made. made ≡ false → out.new ≡ out.old) }
+        ensures part { OnErr result (IsAccessInPart (machine_over S.seen self.old) out.old
+            (machine_over S.seen self.new) out.new) }
+    {
+        match self.chips.next_ask() {
+            Some(ProcessorAsk::Read { at }) => {
+                self.read_in_two(at, out)?;
+                Ok(true)
+            }
+            Some(ProcessorAsk::Write { at, half, word }) => {
+                self.write_in_two(at, half, word, out)?;
+                Ok(true)
+            }
+            _ => Ok(false),
+        }
+    }
+
+    /// Those of a read of the word at this address.
+    #[inline(always)]
+    fn read_in_two(&mut self, at: Addr, out: &mut OutFiles) -> Result<(), OutOfMemory>
+        requires alone { (rest : ℕ) × IsLeftToProcessor rest (machine_over S.seen self.old) }
+        requires next { IsLeftThen (machine_over S.seen self.old) out.old }
+        requires anew { BeginsAnew self.old.chips.processor }
+        requires asks { slot_wish self.old.chips.processor.wait ≡ Some (P.Read at) }
+        requires count { self.old.t + 2 < 2 ^ 64 }
+        ensures clocks { OnOk result (IsAccessInTwo (machine_over S.seen self.old) out.old
+            (machine_over S.seen self.new) out.new) }
+        ensures anew { OnOk result (BeginsAnew self.new.chips.processor) }
+        ensures part { OnErr result (IsAccessInPart (machine_over S.seen self.old) out.old
+            (machine_over S.seen self.new) out.new) }
+    {
+        let word = self.chip.read(at);
+        self.end_in_two(word, out)
+    }
+
+    /// Those of a write of this word, or of its low byte as one half of a word, at this address.
+    #[inline(always)]
+    fn write_in_two(
+        &mut self,
+        at: Addr,
+        half: Half,
+        word: u16,
+        out: &mut OutFiles,
+    ) -> Result<(), OutOfMemory>
+        requires alone { (rest : ℕ) × IsLeftToProcessor rest (machine_over S.seen self.old) }
+        requires next { IsLeftThen (machine_over S.seen self.old) out.old }
+        requires anew { BeginsAnew self.old.chips.processor }
+        requires asks { slot_wish self.old.chips.processor.wait ≡ Some (P.Write at half word) }
+        requires time { self.old.chip.newest ≤ self.old.t }
+        requires count { self.old.t + 2 < 2 ^ 64 }
+        ensures clocks { OnOk result (IsAccessInTwo (machine_over S.seen self.old) out.old
+            (machine_over S.seen self.new) out.new) }
+        ensures anew { OnOk result (BeginsAnew self.new.chips.processor) }
+        ensures part { OnErr result (IsAccessInPart (machine_over S.seen self.old) out.old
+            (machine_over S.seen self.new) out.new) }
+    {
+        self.store_in(Clock(self.t + 1), at, half, word)?;
+        self.end_in_two(0, out)
+    }
+
+    /// Behind the access to memory that the second of two clocks makes: the processor goes on with this word, and
+    /// both clocks are counted.
+    #[inline(always)]
+    fn end_in_two(&mut self, word: u16, out: &mut OutFiles) -> Result<(), OutOfMemory>
+        requires waits { is_slot self.old.chips.processor.wait ≡ true }
+        requires line { self.old.beam.h < 226 }
+        requires count { self.old.t + 2 < 2 ^ 64 }
+        ensures ends { OnOk result (EndsInTwo word (machine_over S.seen self.old) out.old
+            (machine_over S.seen self.new) out.new) }
+        ensures anew { self.old.chips.processor.on ≡ true
+            → OnOk result (BeginsAnew self.new.chips.processor) }
+        ensures chip { self.new.chip ≡ self.old.chip }
+        ensures refused { OnErr result (out.new ≡ out.old) }
+    {
+        if let Some(level) = self.chips.take_word(word) {
+            return self.end_with_interrupt(level, out);
+        }
+        self.beam.h += 2;
+        self.t += 2;
+        Ok(())
+    }
+
+    /// The same where an interrupt of this level begins with the second clock, behind the processor. It stands
+    /// apart, so that an access without one makes no room for it.
+    #[cold]
+    #[inline(never)]
+    fn end_with_interrupt(&mut self, level: u8, out: &mut OutFiles) -> Result<(), OutOfMemory>
+        requires line { self.old.beam.h < 226 }
+        requires count { self.old.t + 2 < 2 ^ 64 }
+        ensures lines { OnOk result (Gives out.old out.new []
+            (taken_lines (later_beam 1 self.old.beam) (Some level))) }
+        ensures passed { OnOk result (self.new ≡ record self.old {
+          t = self.old.t + 2;
+          beam = later_beam 2 self.old.beam;
+        }) }
+        ensures chip { self.new.chip ≡ self.old.chip }
+        ensures refused { OnErr result (out.new ≡ out.old) }
+    {
+        let mut beam = self.beam;
+        beam.h += 1;
+        out.line(TraceLine::Taken { beam, level })?;
+        self.beam.h += 2;
+        self.t += 2;
         Ok(())
     }
 }

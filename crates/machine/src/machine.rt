@@ -17,7 +17,7 @@ ghost use Rattle.chip_set.specs.BusCode.{KeepsBus};
 ghost use Rattle.machine.specs.Machine.{machine_over, IsMachineOf, IsReset, Makes, MakesQuietly, MakesEvent, MakesAccess};
 ghost use Rattle.machine.specs.Machine.{HasAskedOf, StoresMade, StaysInPlace, KeepsPlace, reads_after};
 ghost use Rattle.machine.specs.RegisterWord.{register_word, word_of_processor};
-ghost use Rattle.machine.specs.MachineStepsCode.{WritesRegister, AsksInTime, GivesSide, Does};
+ghost use Rattle.machine.specs.MachineStepsCode.{WritesRegister, AsksInTime, GivesSide, Does, chip_after};
 
 use chip_set::Chips;
 use mem_versions::Chip;
@@ -364,7 +364,24 @@ impl<S: Side> Machine<S> {
         ensures same { self.new ≡ record self.old { chip = self.new.chip } }
         ensures kept { OnErr result (self.new ≡ self.old) }
     {
-        let now = Clock(self.t);
+        self.store_in(Clock(self.t), at, half, word)
+    }
+
+    /// The same, as of this clock.
+    #[inline(always)]
+    pub(crate) fn store_in(
+        &mut self,
+        now: Clock,
+        at: Addr,
+        half: Half,
+        word: u16,
+    ) -> Result<(), OutOfMemory>
+        requires { self.old.chip.newest ≤ now.0 }
+        ensures stores { OnOk result (self.new.chip
+            ≡ chip_after now.0 (M.Stored at half word) self.old.chip) }
+        ensures same { self.new ≡ record self.old { chip = self.new.chip } }
+        ensures kept { OnErr result (self.new ≡ self.old) }
+    {
         let byte = (word % 256) as u8;
         match half {
             Half::Both => self.chip.write(now, at, word),

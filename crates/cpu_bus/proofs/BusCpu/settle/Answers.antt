@@ -4,8 +4,8 @@ use Rattle.m68k_decode.specs.Walk.{next, stage}
 use Rattle.cpu_bus.proofs.BusLaws.{goes_to, idle_waits}
 use Rattle.cpu_bus.proofs.BusCpu.settle.Goals as goal
 
-pub returns-in-Some : goal.returns-in-Some
-returns-in-Some c word p is =
+pub returns-in-Some-clause-goes : goal.returns-in-Some-clause-goes
+returns-in-Some-clause-goes c word p is =
     let level = level_of c.args.irq.now in
     let answers = p.answers ++ word ∷ [] in
     goes_to word level p _ _ (stage p.regs p.under answers)
