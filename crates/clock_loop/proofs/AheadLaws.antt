@@ -1,12 +1,13 @@
 -- Clocks on the bus that everybody else leaves to the processor, made at once.
-use Rattle.std.proofs.Common.{◌≡◌, ◌≤◌, ◌<◌, ◌+◌, ◌-◌, ℕ, Bool, true, false, not, ◌&&◌, ◌==◌, if◌then◌else◌, []}
-use Rattle.std.proofs.Common.{Option, Some, None, is_some, Result, Ok, Err, OnOk, OnErr}
+use Rattle.std.proofs.Common.{◌≡◌, ◌≤◌, ◌<◌, ◌+◌, ◌-◌, ◌^◌, ℕ, Bool, true, false, not, ◌&&◌, ◌==◌, if◌then◌else◌, []}
+use Rattle.std.proofs.Common.{Option, Some, None, is_some, Result, Ok, Err, IfOk, OnOk, OnErr}
 use Rattle.std.proofs.Common.{arith, refl, ap, subst, sym, ◌∙◌}
 use Rattle.std.proofs.lemmas.Bool.{false≢true}
 use Rattle.ocs_base.specs.declared.beam.Beam.{Beam}
 use Rattle.ocs_base.specs.declared.system.System.TheVariants.{Pal}
 use Rattle.out_files.specs.OutFiles.{OutFilesValue}
 use Rattle.serial_model.specs.declared.bus.Ask.{Ask}
+use Rattle.serial_model.specs.declared.bus.Ask.TheVariants as A
 use Rattle.serial_model.specs.declared.bus.ProcessorAsk.{ProcessorAsk}
 use Rattle.serial_model.specs.declared.processor.Wait.{Wait}
 use Rattle.serial_model.specs.declared.processor.Wait.TheVariants as W
@@ -14,6 +15,7 @@ use Rattle.serial_model.specs.Processor.{slot_wish}
 use Rattle.serial_model.specs.Side.{SideValue}
 use Rattle.cpu_bus.specs.declared.BusCpu.{BusCpu}
 use Rattle.cpu_bus.specs.Bus.{is_slot, wish_shown}
+use Rattle.cpu_bus.specs.Progress.{BeginsAnew}
 use Rattle.serial_bands.specs.BusReads.{bus_reads, reads_of_ask}
 use Rattle.serial_model.specs.Beam.{later_beam}
 use Rattle.chip_set.specs.AskLaws.{is_clx_ask}
@@ -23,16 +25,18 @@ use Rattle.chip_set.proofs.BusLaws.{rest_kept, rest_next}
 use Rattle.band_log.specs.Raster.{RasterValue}
 use Rattle.machine.specs.Machine.{MachineValue}
 use Rattle.machine.specs.MachineStepsCode.{AsksInTime}
-use Rattle.machine.specs.AheadCode.{IsLeftToProcessor, IsClockAtOnce}
+use Rattle.machine.specs.AheadCode.{IsLeftToProcessor, IsLeftThen, IsClockAtOnce, IsAccessInTwo, IsAccessInPart}
 use Rattle.machine.proofs.BusLaws.{place_in_line}
-use Rattle.clock_loop.specs.BusRun.{CanMakeClock, HasMadeClock, HasMadeClockInPart, GoesOnBus}
+use Rattle.clock_loop.specs.BusRun.{CanMakeClock, HasMadeClock, HasMadeClockInPart, GoesOnBus, CanMakeClocks, HasRunOnBus, HasRunInPart}
 use Rattle.foreground.specs.Clock.{Rises}
-use Rattle.foreground.specs.Fore.{ForeOf, ForeValue, GivesPart, looked_up}
+use Rattle.foreground.specs.Fore.{ForeOf, ForeValue, CanGo, GivesPart, looked_up}
 use Rattle.foreground.specs.Steps.{EndsClock, KeepsClock, MakesAskedAccess, HasAskedNow, reads_more}
 use Rattle.foreground.proofs.AdvanceLaws.{ends_clock}
 use Rattle.foreground.proofs.BeginLaws.{begins_no_part}
-use Rattle.clock_loop.proofs.BusLaws.{untouched}
+use Rattle.clock_loop.proofs.BusLaws.{untouched, none_made}
 use Rattle.clock_loop.proofs.ClockLaws.{HasAskedWith, can_access, rises_within_line, clock_made}
+use Rattle.clock_loop.proofs.ClockLaws.{first_can, next_can, run_and_clock, run_and_part, fewer_left}
+use Rattle.clock_loop.proofs.RunToLaws.{can_go_on}
 use Rattle.foreground.proofs.MadeLaws.{makes_quietly}
 
 -- output files without names and pending text
@@ -121,6 +125,97 @@ pub alone_now : (rest : ℕ) (claim : BlitterClaim) (f g : ForeValue) (seen : Ra
 alone_now rest claim f g seen view can some none =
     subst (λ x. IsLeftToProcessor rest x.machine) (sym view) (left_alone rest claim f seen can some none)
 
+-- ---- both clocks of an access
+
+-- the first of them was made
+record HasMadeFirst (limit n rest : ℕ) (claim : BlitterClaim) (f f1 : ForeValue) (able : RasterValue) (out : OutFilesValue) : Type 0 where
+  made : (seen : RasterValue) → HasMadeClock f f1 seen seen out out
+  go : CanGo f1 able
+  can : CanMakeClocks limit (n - 1) None (rest - 1) claim f1
+  one : CanMakeClock None (rest - 1) claim f1 able
+  before : f1.machine.t < limit
+
+first_of_two : (limit n rest : ℕ) (claim : BlitterClaim) (f : ForeValue) (mid : MachineValue) (able : RasterValue) (out : OutFilesValue) → CanGo f able
+    → f.spent ≡ false → CanMakeClocks limit n None rest claim f → 1 < n → 1 < rest → IsClockAtOnce A.Free f.machine out mid out
+    → HasMadeFirst limit n rest claim f (record f { machine = mid }) able out
+first_of_two limit n rest claim f mid able out go fresh can two rests begins =
+    let f1 : ForeValue = record f { machine = mid } in
+    let some : 0 < n = omega (arith, two) in
+    let next : 0 < n - 1 = omega (arith, two) in
+    let one : CanMakeClock None rest claim f able = first_can limit n None rest claim f able some can go fresh in
+    let made : (seen : RasterValue) → HasMadeClock f f1 seen seen out out =
+    λ seen. made_at_once rest claim A.Free f mid able seen out out one refl begins in
+    let more : CanMakeClocks limit (n - 1) None (rest - 1) claim f1 =
+    next_can limit n None rest (rest - 1) claim f f1 able able out out some can refl (made able)
+    (stays_at_once rest claim A.Free f mid able out out one begins) in
+    let there : CanGo f1 able = can_go_on f f1 able able out out (made able).clock fresh go in
+    let line = (more.line next).before in
+    record {
+      made = made;
+      go = there;
+      can = more;
+      one = first_can limit (n - 1) None (rest - 1) claim f1 able next more there fresh;
+      before = omega (arith, line, next);
+    }
+
+-- so the clock behind it is left to the processor too
+pub left_then : (limit n rest : ℕ) (claim : BlitterClaim) (f g : ForeValue) (able : RasterValue) (out : OutFilesValue) → g ≡ f → CanGo f able
+    → f.spent ≡ false → CanMakeClocks limit n None rest claim f → 1 < n → 1 < rest → claim.asks ≡ false → IsLeftThen g.machine out
+left_then limit n rest claim f g able out view go fresh can two rests none mid begins =
+    let first : HasMadeFirst limit n rest claim f (record f { machine = mid }) able out =
+    first_of_two limit n rest claim f mid able out go fresh can two rests (subst (λ x. IsClockAtOnce A.Free x.machine out mid out) view begins) in
+    (rest - 1, left_alone (rest - 1) claim (record f { machine = mid }) able first.one (omega (arith, rests)) none)
+
+-- both were made
+pub record HasMadeTwo (limit n rest : ℕ) (claim : BlitterClaim) (f h : ForeValue) (out given : OutFilesValue) : Type 0 where
+  pub runs : (seen : RasterValue) → HasRunOnBus limit f h seen seen out given
+  pub can : CanMakeClocks limit (n - 2) None (rest - 2) claim h
+  pub count : h.machine.t ≡ f.machine.t + 2
+
+two_at_once : (limit n rest : ℕ) (claim : BlitterClaim) (f : ForeValue) (m : MachineValue) (able : RasterValue) (out given : OutFilesValue) → CanGo f able
+    → f.spent ≡ false → CanMakeClocks limit n None rest claim f → 1 < n → 1 < rest → IsAccessInTwo f.machine out m given
+    → HasMadeTwo limit n rest claim f (record f { machine = m }) out given
+two_at_once limit n rest claim f m able out given go fresh can two rests made =
+    let f1 : ForeValue = record f { machine = made.mid } in
+    let f2 : ForeValue = record f { machine = m } in
+    let first : HasMadeFirst limit n rest claim f f1 able out = first_of_two limit n rest claim f made.mid able out go fresh can two rests made.begins in
+    let second : (seen : RasterValue) → HasMadeClock f1 f2 seen seen out given =
+    λ seen. made_at_once (rest - 1) claim made.ask f1 m able seen out given first.one made.quiet made.accesses in
+    let behind : CanMakeClocks limit (n - 1 - 1) None (rest - 1 - 1) claim f2 =
+    next_can limit (n - 1) None (rest - 1) (rest - 1 - 1) claim f1 f2 able able out given (omega (arith, two)) first.can refl (second able)
+    (stays_at_once (rest - 1) claim made.ask f1 m able out given first.one made.accesses) in
+    let before = first.before in
+    let one = (first.made able).count in
+    let other = (second able).count in
+    record {
+      runs = λ seen. run_and_clock limit f f1 f2 able seen seen seen out out given first.go fresh refl first.before
+          (run_and_clock limit f f f1 able seen seen seen out out out go fresh refl (omega (arith, before, one)) (none_made limit f seen out)
+          (first.made seen)) (second seen);
+      can = fewer_left limit n 1 1 rest None claim f2 behind;
+      count = omega (arith, one, other);
+    }
+
+pub two_now : (limit n rest : ℕ) (claim : BlitterClaim) (f g : ForeValue) (m : MachineValue) (able : RasterValue) (out given : OutFilesValue) → g ≡ f
+    → CanGo f able → f.spent ≡ false → CanMakeClocks limit n None rest claim f → 1 < n → 1 < rest → IsAccessInTwo g.machine out m given
+    → HasMadeTwo limit n rest claim f (record g { machine = m }) out given
+two_now limit n rest claim f g m able out given view go fresh can two rests made =
+    subst (λ x. HasMadeTwo limit n rest claim f (record x { machine = m }) out given) (sym view)
+    (two_at_once limit n rest claim f m able out given go fresh can two rests (subst (λ x. IsAccessInTwo x.machine out m given) view made))
+
+-- memory was wanted in the second
+pub two_in_part : (limit n rest : ℕ) (claim : BlitterClaim) (f g h : ForeValue) (m : MachineValue) (able seen : RasterValue) (out given : OutFilesValue)
+    → g ≡ f → h.machine.chip.reads ≡ m.chip.reads → CanGo f able → f.spent ≡ false → CanMakeClocks limit n None rest claim f → 1 < n → 1 < rest
+    → IsAccessInPart g.machine out m given → HasRunInPart limit f h seen seen out given
+two_in_part limit n rest claim f g h m able seen out given view same go fresh can two rests part =
+    let f1 : ForeValue = record f { machine = part.mid } in
+    let first : HasMadeFirst limit n rest claim f f1 able out =
+    first_of_two limit n rest claim f part.mid able out go fresh can two rests (subst (λ x. IsClockAtOnce A.Free x.machine out part.mid out) view part.begins) in
+    let before = first.before in
+    let one = (first.made able).count in
+    run_and_part limit f f1 h able seen seen seen out out given first.go fresh refl first.before
+    (run_and_clock limit f f f1 able seen seen seen out out out go fresh refl (omega (arith, before, one)) (none_made limit f seen out) (first.made seen))
+    (wanted_at_once (rest - 1) claim part.ask f1 h able seen out given first.one part.asks (same ∙ part.reads) part.same)
+
 -- it asks only while it waits for a slot
 slot_of_wish : (on rest : Bool) (wait : Wait) (ask : ProcessorAsk) → (if on && rest then slot_wish wait else None) ≡ Some ask → is_slot wait ≡ true
 slot_of_wish true true (W.Slot it) ask is = refl
@@ -143,7 +238,18 @@ pub time_view : {S : Type 0} (seen : S → SideValue) (g f : ForeOf S) → g ≡
     → g.machine.chip.newest ≤ g.machine.t
 time_view seen g f view time = subst (λ (x : ForeOf _). x.machine.chip.newest ≤ x.machine.t) (sym view) time
 
+pub room_view : {S : Type 0} (seen : S → SideValue) (g f : ForeOf S) → g ≡ f → f.machine.t + 2 < 2 ^ 64 → g.machine.t + 2 < 2 ^ 64
+room_view seen g f view room = subst (λ (x : ForeOf _). x.machine.t + 2 < 2 ^ 64) (sym view) room
+
+pub anew_view : {S : Type 0} (seen : S → SideValue) (g f : ForeOf S) → g ≡ f → BeginsAnew f.machine.chips.processor
+    → BeginsAnew g.machine.chips.processor
+anew_view seen g f view anew = subst (λ (x : ForeOf _). BeginsAnew x.machine.chips.processor) (sym view) anew
+
 -- what follows from what an answer tells
+pub if_ok_then : {T E : Type 0} {P Q : T → Type 0} (r : Result T E) → ((x : T) → P x → Q x) → IfOk r P → IfOk r Q
+if_ok_then (Ok x) next told = next x told
+if_ok_then (Err e) next told = tt
+
 pub on_ok_then : {T E P Q : Type 0} (r : Result T E) → (P → Q) → OnOk r P → OnOk r Q
 on_ok_then (Ok x) next told = next told
 on_ok_then (Err e) next told = tt

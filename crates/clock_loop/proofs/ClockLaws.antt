@@ -281,10 +281,18 @@ all_left limit n rules rest claim f can =
     let more : rest ≡ rest - 0 = omega arith in
     subst (λ k. CanMakeClocks limit (n - 0) rules k claim f) more (subst (λ k. CanMakeClocks limit k rules rest claim f) some can)
 
-pub one_fewer : (limit n made rest : ℕ) (rules : Option FetchRules) (claim : BlitterClaim) (f : ForeValue)
-    → CanMakeClocks limit (n - made - 1) rules (rest - made - 1) claim f → CanMakeClocks limit (n - (made + 1)) rules (rest - (made + 1)) claim f
-one_fewer limit n made rest rules claim f can =
-    let some : n - made - 1 ≡ n - (made + 1) = omega arith in
-    let more : rest - made - 1 ≡ rest - (made + 1) = omega arith in
-    subst (λ k. CanMakeClocks limit (n - (made + 1)) rules k claim f) more
-    (subst (λ k. CanMakeClocks limit k rules (rest - made - 1) claim f) some can)
+pub fewer_left : (limit n made more rest : ℕ) (rules : Option FetchRules) (claim : BlitterClaim) (f : ForeValue)
+    → CanMakeClocks limit (n - made - more) rules (rest - made - more) claim f
+    → CanMakeClocks limit (n - (made + more)) rules (rest - (made + more)) claim f
+fewer_left limit n made more rest rules claim f can =
+    let some : n - made - more ≡ n - (made + more) = omega arith in
+    let left : rest - made - more ≡ rest - (made + more) = omega arith in
+    subst (λ k. CanMakeClocks limit (n - (made + more)) rules k claim f) left
+    (subst (λ k. CanMakeClocks limit k rules (rest - made - more) claim f) some can)
+
+pub none_fewer : (limit n made rest : ℕ) (rules : Option FetchRules) (claim : BlitterClaim) (f : ForeValue) → made ≡ 0
+    → CanMakeClocks limit (n - made) rules (rest - made) claim f → CanMakeClocks limit n rules rest claim f
+none_fewer limit n made rest rules claim f none can =
+    let some : n - made ≡ n = omega (arith, none) in
+    let left : rest - made ≡ rest = omega (arith, none) in
+    subst (λ k. CanMakeClocks limit n rules k claim f) left (subst (λ k. CanMakeClocks limit k rules (rest - made) claim f) some can)

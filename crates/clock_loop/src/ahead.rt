@@ -1,12 +1,12 @@
 //! Clocks on the bus that everybody else leaves to the processor, made at once: the first of an access, in which
 //! it does not ask yet, and the read or the write of a word of memory.
 
-ghost use Rattle.std.specs.Prelude.{◌≡◌, ◌≤◌, ◌<◌, ◌-◌, true, false, Some, None, IfOk, OnOk, OnErr};
+ghost use Rattle.std.specs.Prelude.{◌≡◌, ◌≤◌, ◌<◌, ◌-◌, ◌+◌, true, false, Some, None, IfOk, OnOk, OnErr};
 ghost use Rattle.out_files.specs.OutFiles.{OutFilesValue};
 ghost use Rattle.serial_model.specs.declared.bus.ProcessorAsk.TheVariants as P;
 ghost use Rattle.band_log.specs.Raster.{RasterValue};
 ghost use Rattle.cpu_bus.specs.Bus.{is_slot, wish_shown};
-ghost use Rattle.cpu_bus.specs.Progress.{BeginsAccess};
+ghost use Rattle.cpu_bus.specs.Progress.{BeginsAccess, BeginsAnew};
 ghost use Rattle.clock_loop.specs.BusRun.{CanMakeClock, HasMadeClock, HasMadeClockInPart, GoesOnBus};
 ghost use Rattle.clock_loop.specs.BusRun.{CanMakeClocks, HasRunOnBus, HasRunInPart};
 ghost use Rattle.foreground.specs.Fore.{over, CanGo};
@@ -49,12 +49,128 @@ pub(crate) fn clocks_alone<S: Side>(
     let most = left.min(rest);
     let mut made = 0;
     while made < most {
-        if !clock_alone(fore, claim, rest - made, out)? {
+        let more = some_alone(fore, claim, left - made, rest - made, limit, out)?;
+        if more == 0 {
             return Ok(made);
         }
-        made += 1;
+        made += more;
     }
     Ok(made)
+}
+
+/// Some of them: those of whole accesses, or else the next one. There are none only where the next one is none.
+#[inline(always)]
+fn some_alone<S: Side>(
+    fore: &mut Fore<S>,
+    claim: &BlitterClaim,
+    left: u16,
+    rest: u16,
+    limit: u64,
+    out: &mut OutFiles,
+) -> Result<u16, OutOfMemory>
+    requires fits { (seen : RasterValue) × CanGo (over S.seen fore.old) seen }
+    requires fresh { fore.old.spent ≡ false }
+    requires can { CanMakeClocks limit left None rest claim.now (over S.seen fore.old) }
+    requires some { 0 < left }
+    requires more { 0 < rest }
+    requires alone { claim.now.asks ≡ false }
+    ensures most { IfOk result (λ made. made ≤ left) }
+    ensures rest { IfOk result (λ made. made ≤ rest) }
+    ensures runs { OnOk result ((seen : RasterValue) → HasRunOnBus limit (over S.seen fore.old)
+        (over S.seen fore.new) seen seen out.old out.new) }
+    ensures can { IfOk result (λ made. CanMakeClocks limit (left - made) None (rest - made) claim.now
+        (over S.seen fore.new)) }
+    ensures part { OnErr result ((seen : RasterValue) → HasRunInPart limit (over S.seen fore.old)
+        (over S.seen fore.new) seen seen out.old out.new) }
+    ensures run { (over S.seen fore.new).run ≡ (over S.seen fore.old).run }
+    ensures fresh { OnOk result (fore.new.spent ≡ false) }
+    ensures still { OnOk result (fore.new.machine.t ≡ fore.old.machine.t
+        → fore.new ≡ fore.old) }
+{
+    let made = accesses_in_two(fore, claim, left, rest, limit, out)?;
+    if made > 0 {
+        return Ok(made);
+    }
+    if clock_alone(fore, claim, rest, out)? {
+        return Ok(1);
+    }
+    Ok(0)
+}
+
+/// Those of whole accesses to memory, both clocks of each at once.
+#[inline(always)]
+fn accesses_in_two<S: Side>(
+    fore: &mut Fore<S>,
+    claim: &BlitterClaim,
+    left: u16,
+    rest: u16,
+    limit: u64,
+    out: &mut OutFiles,
+) -> Result<u16, OutOfMemory>
+    requires fits { (seen : RasterValue) × CanGo (over S.seen fore.old) seen }
+    requires fresh { fore.old.spent ≡ false }
+    requires can { CanMakeClocks limit left None rest claim.now (over S.seen fore.old) }
+    requires alone { claim.now.asks ≡ false }
+    ensures most { IfOk result (λ made. made ≤ left) }
+    ensures rest { IfOk result (λ made. made ≤ rest) }
+    ensures runs { OnOk result ((seen : RasterValue) → HasRunOnBus limit (over S.seen fore.old)
+        (over S.seen fore.new) seen seen out.old out.new) }
+    ensures can { IfOk result (λ made. CanMakeClocks limit (left - made) None (rest - made) claim.now
+        (over S.seen fore.new)) }
+    ensures part { OnErr result ((seen : RasterValue) → HasRunInPart limit (over S.seen fore.old)
+        (over S.seen fore.new) seen seen out.old out.new) }
+    ensures run { (over S.seen fore.new).run ≡ (over S.seen fore.old).run }
+    ensures fresh { OnOk result (fore.new.spent ≡ false) }
+    ensures still { OnOk result (fore.new.machine.t ≡ fore.old.machine.t
+        → fore.new ≡ fore.old) }
+{
+    if !fore.machine.chips.begins_anew() {
+        return Ok(0);
+    }
+    let most = left.min(rest);
+    let mut made = 0;
+    while most - made >= 2 {
+        if !access_in_two(fore, claim, left - made, rest - made, limit, out)? {
+            return Ok(made);
+        }
+        made += 2;
+    }
+    Ok(made)
+}
+
+/// Both clocks of an access to memory that has just begun, if one has. The answer says so.
+#[inline(always)]
+fn access_in_two<S: Side>(
+    fore: &mut Fore<S>,
+    claim: &BlitterClaim,
+    left: u16,
+    rest: u16,
+    limit: u64,
+    out: &mut OutFiles,
+) -> Result<bool, OutOfMemory>
+    requires fits { (seen : RasterValue) × CanGo (over S.seen fore.old) seen }
+    requires fresh { fore.old.spent ≡ false }
+    requires can { CanMakeClocks limit left None rest claim.now (over S.seen fore.old) }
+    requires two { 1 < left }
+    requires rests { 1 < rest }
+    requires alone { claim.now.asks ≡ false }
+    requires anew { BeginsAnew fore.old.machine.chips.processor }
+    ensures runs { IfOk result (λ made. made ≡ true → (seen : RasterValue)
+        → HasRunOnBus limit (over S.seen fore.old) (over S.seen fore.new) seen seen out.old out.new) }
+    ensures can { IfOk result (λ made. made ≡ true → CanMakeClocks limit (left - 2) None (rest - 2)
+        claim.now (over S.seen fore.new)) }
+    ensures anew { IfOk result (λ made. made ≡ true
+        → BeginsAnew fore.new.machine.chips.processor) }
+    ensures count { IfOk result (λ made. made ≡ true
+        → fore.new.machine.t ≡ fore.old.machine.t + 2) }
+    ensures none { IfOk result (λ made. made ≡ false → fore.new ≡ fore.old) }
+    ensures given { IfOk result (λ made. made ≡ false → out.new ≡ out.old) }
+    ensures part { OnErr result ((seen : RasterValue) → HasRunInPart limit (over S.seen fore.old)
+        (over S.seen fore.new) seen seen out.old out.new) }
+    ensures run { (over S.seen fore.new).run ≡ (over S.seen fore.old).run }
+    ensures fresh { fore.new.spent ≡ false }
+{
+    fore.machine.access_in_two(out)
 }
 
 /// One of them. The answer is whether it was made.
