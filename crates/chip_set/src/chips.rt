@@ -1,13 +1,14 @@
 //! The chips between two colour clocks: the custom registers, the fetches of bitplanes and sprites,
 //! the Copper, the blitter, the interrupt words, the processor, the CIAs and the joysticks.
 
-ghost use Rattle.std.specs.Prelude.{◌≡◌, Some, None, is_some};
+ghost use Rattle.std.specs.Prelude.{◌≡◌, false, Some, None, is_some};
 ghost use Rattle.serial_model.specs.State.{Chips as ChipsOf};
 ghost use Rattle.serial_model.specs.Registers.{is_interlaced as interlaced, is_danger as danger, blitter_first, blitter_dma, copper_dma, dmacon_of, effect_of, word_at};
 ghost use Rattle.serial_model.specs.Bus.{copper_runs as runs, copper_wish as wish_of, copper_word as word_to_copper};
-ghost use Rattle.serial_model.specs.Bus.{copper_after, blit_owner_ask, missed_after, ask_at, answer_blit};
+ghost use Rattle.serial_model.specs.Bus.{copper_after, blit_owner_ask, is_processor_ask, missed_after, ask_at, answer_blit};
 ghost use Rattle.serial_model.specs.Made.{word_of};
 ghost use Rattle.serial_model.specs.Side.{IsInTime};
+ghost use Rattle.serial_model.specs.declared.bus.Ask.{Ask as AskOf};
 ghost use Rattle.serial_model.specs.declared.bus.SideAsk.{SideAsk};
 ghost use Rattle.serial_bands.specs.BusReads.{reads_of_processor};
 ghost use Rattle.serial_model.specs.State.{read_word, live_words, zero_of};
@@ -547,9 +548,21 @@ impl Chips {
     {
         self.missed = match ask {
             Ask::Processor { .. } => 0,
-            _ if self.processor.wish().is_none() => 0,
-            _ => self.missed.saturating_add(1).min(3),
+            _ => self.missed_beside_another(),
         };
+    }
+
+    /// How many slots in a row the processor will have missed where another has this one.
+    #[inline(always)]
+    pub(crate) fn missed_beside_another(&self) -> u8
+        ensures { (ask : AskOf) → is_processor_ask ask ≡ false
+            → result ≡ missed_after (wish_shown self.now.processor) ask self.now.missed }
+    {
+        if self.processor.wish().is_none() {
+            0
+        } else {
+            self.missed.saturating_add(1).min(3)
+        }
     }
 
     /// Whether the blitter asks for the slot: a blit is under way, and the blitter's DMA is on.

@@ -37,7 +37,7 @@ use Rattle.machine.specs.AheadCode.{IsLeftToProcessor, IsClockAtOnce}
 use Rattle.machine.specs.Out.{Gives}
 use Rattle.machine.proofs.AccessLaws.{MakesAccess-by, StoresMade-by, reads_done}
 use Rattle.machine.proofs.AskedLaws.{asks_alone}
-use Rattle.machine.proofs.BusLaws.{place_in_line}
+use Rattle.machine.proofs.BusLaws.{place_in_line, with_chips}
 use Rattle.machine.proofs.OutLaws.{gives_nothing}
 use Rattle.machine.proofs.StepLaws.{Makes-processed, Makes-advanced}
 
@@ -64,9 +64,6 @@ advances_in_line : (m : MachineValue) → m.beam.h < 226 → (system : System) �
 advances_in_line m low system = Makes-advanced system m (advanced m) refl (sym (place_in_line system _ m.beam low)) refl
 
 -- ---- the first clock of an access
-
-abbrev pub with_chips : WorkingChips → MachineValue → MachineValue
-with_chips chips m = record m { chips = chips }
 
 pub first_clock : (rest : ℕ) (m : MachineValue) (out : OutFilesValue) → IsLeftToProcessor rest m → BeginsAccess m.chips.processor
     → IsClockAtOnce A.Free m out (advanced (with_chips (passed (left m.chips)) m)) out

@@ -11,14 +11,11 @@ use Rattle.serial_model.specs.Tick.{ask_of, count_timers}
 use Rattle.chip_set.specs.Chips.{WorkingChips, IsChipsOf, HasAsked}
 use Rattle.machine.specs.Machine.{MachineValue, IsMachineOf, HasAskedOf, MakesQuietly}
 use Rattle.machine.specs.MachineStepsCode.{AsksInTime}
+use Rattle.machine.proofs.BusLaws.{with_chips}
 use Rattle.machine.proofs.AccessLaws.{asks_of, HasAskedOf-by}
 use Rattle.machine.proofs.StepLaws.{Makes-timed}
 
 -- ---- the machine without a side
-
--- a machine whose side is none, with other chips
-abbrev with_chips : WorkingChips → MachineValue → MachineValue
-with_chips chips m = record m { chips = chips }
 
 pub asks_alone : (old new : MachineValue) (chips : WorkingChips) (ask : Ask) → old.side ≡ no_side
     → ((c : Chips) → IsChipsOf old.chips c → IsChipsOf chips (time_chips 0 old.t c))

@@ -2,6 +2,9 @@
 
 ghost use Rattle.std.specs.Prelude.{◌≡◌, ◌≤◌, ◌<◌, ◌+◌, ◌-◌, ◌^◌, true, is_some, Option, Bool, IfOk, OnOk, OnErr};
 ghost use Rattle.ocs_base.specs.declared.system.System.{System};
+ghost use Rattle.out_files.specs.OutFiles.{OutFilesValue};
+ghost use Rattle.serial_model.specs.declared.bus.Ask.TheVariants as A;
+ghost use Rattle.serial_model.specs.declared.bus.Made.TheVariants as M;
 ghost use Rattle.serial_model.specs.Beam.{IsOnScreen, next_place};
 ghost use Rattle.serial_model.specs.Registers.{is_interlaced};
 ghost use Rattle.serial_model.specs.Side.{no_side};
@@ -113,5 +116,24 @@ impl<S: Side> Machine<S> {
         let made = self.chips.answer_on_bus(ask, &self.beam, &mut self.chip);
         self.carry_out(&made, 0, out)?;
         Ok(made)
+    }
+
+    /// As `answer_on_bus`, where this plane has the slot: nothing but that the processor may miss it.
+    #[inline(always)]
+    pub fn pass_plane(&mut self, ask: &PlaneAsk)
+        requires leaves { LeavesToPlanes self.old.beam self.old.chips }
+        requires can { CanAsk (A.Plane ask.now) }
+        ensures access { (out : OutFilesValue) → MakesAccess (A.Plane ask.now) 0
+            (M.Plane ask.now.plane ask.now.at) (machine_over S.seen self.old) out
+            (machine_over S.seen self.new) out }
+        ensures able { CanDo (M.Plane ask.now.plane ask.now.at) }
+        ensures memory { StoresMade self.old.t (A.Plane ask.now)
+            (M.Plane ask.now.plane ask.now.at) self.old.chip self.new.chip }
+        ensures reads { self.new.chip.reads ≡ reads_after (A.Plane ask.now) self.old.chip.reads }
+        ensures place { StaysInPlace (machine_over S.seen self.old) (machine_over S.seen self.new) }
+        ensures same { self.new ≡ record self.old { chips = self.new.chips } }
+        ensures bus { KeepsOnBus self.old.chips self.new.chips }
+    {
+        self.chips.pass_plane();
     }
 }

@@ -6,6 +6,7 @@ ghost use Rattle.std.specs.Arc.{arc_value};
 ghost use Rattle.mem_versions.specs.Chip.{ChipValue, memory_from, after_cut, after_reads};
 ghost use Rattle.mem_versions.specs.MemView.{IsViewOf};
 ghost use Rattle.serial_model.specs.Beam.{is_line_start};
+ghost use Rattle.serial_model.specs.declared.picture.Touch.TheVariants as T;
 ghost use Rattle.serial_bands.specs.Run.{RunValue, run_over, state_of, beam_at};
 ghost use Rattle.serial_bands.specs.Bands.{begins as begins_at};
 ghost use Rattle.serial_bands.specs.RightJob.{event_at as event_of};
@@ -23,7 +24,7 @@ use band_log::{Event, Events, Job, Picture, Run, Spare};
 use mem_versions::Chip;
 use ocs_base::{Beam, Clock, OutOfMemory};
 use serial_bands::Shadow;
-use serial_model::{Denise, Side, Touch};
+use serial_model::{Denise, PlaneAsk, Side, Touch};
 use std::alloc::Global;
 use std::mem;
 use std::sync::Arc;
@@ -118,6 +119,21 @@ impl Log {
             _ => self.band.events.push(event_at(t, touch))?,
         }
         shadow::touch(&mut self.shadow, t, touch);
+        Ok(())
+    }
+
+    /// A fetch of a plane by the access of a clock, where no write waits.
+    #[inline(always)]
+    pub fn note_plane(&mut self, t: u64, ask: &PlaneAsk) -> Result<(), OutOfMemory>
+        requires waits { self.old.waiting ≡ None }
+        requires range { IsInRange (Some (T.Plane ask.now.plane ask.now.at)) }
+        ensures { OnOk result (self.new
+            ≡ with_access_touch t (Some (T.Plane ask.now.plane ask.now.at)) self.old) }
+    {
+        let at = Clock(t);
+        let PlaneAsk { plane, at: addr } = *ask;
+        self.band.events.push(Event::Plane { at, plane, addr })?;
+        shadow::fetch_plane(&mut self.shadow, t, plane, addr);
         Ok(())
     }
 

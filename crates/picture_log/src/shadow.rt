@@ -3,6 +3,7 @@
 ghost use Rattle.std.specs.Prelude.{◌≡◌, ◌<◌, ◌/◌, ◌%◌, ◌^◌, ℕ, List, length, count_by, map, false, if◌then◌else◌, Some};
 ghost use Rattle.mem_versions.specs.Chip.{after_reads};
 ghost use Rattle.mem_versions.specs.MemView.{word_then};
+ghost use Rattle.serial_model.specs.declared.picture.Touch.TheVariants as T;
 ghost use Rattle.serial_bands.specs.Run.{RunValue};
 ghost use Rattle.serial_bands.specs.declared.shadow.Filling.{Filling as FillingValue};
 ghost use Rattle.serial_bands.specs.declared.shadow.Filling.TheVariants as F;
@@ -12,7 +13,7 @@ ghost use Rattle.serial_bands.specs.Shadows.{touch_shadow, shadow_of as shadow_o
 ghost use Rattle.serial_bands.specs.Fetches.{is_fetched_filling, fetches_in, IsInRangeOf};
 
 use mem_versions::{Chip, MemView};
-use ocs_base::{Clock, Colour};
+use ocs_base::{Addr, Clock, Colour};
 use planes::Loads;
 use serial_bands::{Filling, Shadow};
 use serial_model::{Denise, Touch};
@@ -26,12 +27,7 @@ pub fn touch(shadow: &mut Shadow, t: u64, touch: &Touch)
 {
     match touch {
         Touch::Set { reg, word } => set(shadow, reg.offset, *word),
-        Touch::Plane { plane, at } => {
-            shadow.latches[*plane as usize - 1] = Filling::Fetched {
-                at: Clock(t),
-                addr: *at,
-            };
-        }
+        Touch::Plane { plane, at } => fetch_plane(shadow, t, *plane, *at),
         Touch::Sprite { sprite, second, at } => {
             let filling = Filling::Fetched {
                 at: Clock(t),
@@ -40,6 +36,18 @@ pub fn touch(shadow: &mut Shadow, t: u64, touch: &Touch)
             fetch_sprite(shadow, *sprite, *second, filling);
         }
     }
+}
+
+/// A fetch of the word of a plane, 1 to 6, at a clock.
+#[inline(always)]
+pub fn fetch_plane(shadow: &mut Shadow, t: u64, plane: u8, at: Addr)
+    requires { IsInRange (Some (T.Plane plane at)) }
+    ensures { shadow.new ≡ touch_shadow t (T.Plane plane at) shadow.old }
+{
+    shadow.latches[plane as usize - 1] = Filling::Fetched {
+        at: Clock(t),
+        addr: at,
+    };
 }
 
 /// A fetch of the first or the second word of a sprite, 0 to 7.
