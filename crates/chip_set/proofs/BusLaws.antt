@@ -1,6 +1,6 @@
 -- Clocks that refresh, sprites and the Copper leave to the planes, the blitter and the processor.
-use Rattle.std.proofs.Common.{◌≡◌, ◌⊎◌, inl, inr, ◌<◌, ◌≤◌, ℕ, suc, ◌+◌, ◌-◌, ◌%◌, ◌==◌, bit_or, Bool, true, false, not, ◌&&◌, if◌then◌else◌, true≢false}
-use Rattle.std.proofs.Common.{List, [], ◌∷◌, Option, Some, None, is_some, arith, refl, ap, subst, ◌∙◌, sym}
+use Rattle.std.proofs.Common.{◌≡◌, ◌⊎◌, inl, inr, ◌<◌, ◌≤◌, ℕ, suc, ◌+◌, ◌-◌, ◌%◌, ◌==◌, bit_or, Bool, true, false, not, ◌&&◌, ◌||◌, if◌then◌else◌, true≢false}
+use Rattle.std.proofs.Common.{List, [], ◌∷◌, Option, Some, None, is_some, nat_le, arith, refl, ap, subst, ◌∙◌, sym}
 use Rattle.std.proofs.lemmas.Bool.{false≢true}
 use Rattle.std.proofs.lemmas.Bool.Decides.{nat_tests}
 use Rattle.std.specs.Option.{option_map}
@@ -27,7 +27,8 @@ use Rattle.serial_model.specs.declared.fetch.SpriteKind.{SpriteKind}
 use Rattle.copper.specs.Quiet.{DoesNothing}
 use Rattle.sprite_dma.specs.Quiet.{ReadsNothing}
 use Rattle.serial_model.specs.Owner.{is_refresh, owner_of}
-use Rattle.serial_model.specs.PlaneFetch.{last_unit_at, begins_unit, is_running, fetched_plane, fetches_plane, slot_plane, high_resolution, last_unit, units_at}
+use Rattle.serial_model.specs.PlaneFetch.{last_unit_at, begins_unit, begins_next, begins_first, is_running, last_unit, units_at}
+use Rattle.serial_model.specs.PlaneFetch.{fetched_plane, fetches_plane, slot_plane, high_resolution}
 use Rattle.serial_model.specs.PlaneFetch.{ask_for_plane, move_planes, move_if_fetched, IsLastUnit}
 use Rattle.serial_model.specs.Registers.{Registers, copper_dma, is_danger, dmacon_of, blitter_dma}
 use Rattle.serial_model.specs.SpriteFetch.{kinds_at, sprite_ask, move_if_asked}
@@ -35,22 +36,25 @@ use Rattle.serial_model.specs.State.{Chips}
 use Rattle.serial_model.specs.Side.{IsInTime}
 use Rattle.quiet_clocks.specs.PlainClock.{comes_first}
 use Rattle.quiet_clocks.specs.QuietClock.{CopperIsStill}
+use Rattle.quiet_clocks.proofs.IdleClocks.{none_begins}
 use Rattle.quiet_clocks.proofs.Owners.{asked_in, late_wishes}
 use Rattle.quiet_clocks.proofs.QuietClock.{still_copper, still_steps, if_either}
 use Rattle.cpu_bus.specs.Bus.{wish_shown}
 use Rattle.chip_set.specs.BusCode.{LeavesToPlanes, LeavesBus, LeavesBeside, KeepsBus, KeepsToPlanes, KeepsBeside, KeepsCias, TimersStand, CiasRest, IsClaim}
 use Rattle.chip_set.specs.declared.bus.BlitterClaim.{BlitterClaim}
+use Rattle.chip_set.specs.declared.bus.Unit.{Unit}
 use Rattle.blitter.specs.StandsFor.{slot_shown}
 use Rattle.irq_cia.specs.Cia.{after_tick}
 use Rattle.irq_cia.specs.Icr.{is_active}
 use Rattle.irq_cia.specs.Interrupts.{Interrupts, after_request}
 use Rattle.irq_cia.specs.declared.cia.CiaState.{CiaState}
 use Rattle.quiet_clocks.specs.PlainClock.{AsksNothingNew}
-use Rattle.chip_set.specs.BusCode.{ask_beside_planes, is_bus_ask, is_bus_made, reaches_memory}
+use Rattle.chip_set.specs.BusCode.{ask_beside_planes, is_bus_ask, is_bus_made, reaches_memory, KeepsOnBus, IsUnitKept}
 use Rattle.chip_set.specs.Chips.{WorkingChips, IsChipsOf, HasAsked, HasAccessed, CanAsk, IsBlitAsk, some_blit, plain_chips, kept_wish, late_ask}
 use Rattle.chip_set.specs.Chips.{wishes_with, ask_with, answering, act_at, made_with, IsAnswer, AnswersOwner}
 use Rattle.chip_set.specs.Quiet.{IsCopperIdle, fetching_in, with_fetching}
 use Rattle.quiet_clocks.specs.FetchClocks.{fetching_after, ask_of_fetching}
+use Rattle.bitplane_dma.specs.Quiet.{IsUnitAt}
 use Rattle.bitplane_dma.specs.RulesCode.{rules_of}
 use Rattle.bitplane_dma.specs.declared.rules.FetchRules.{FetchRules}
 use Rattle.bitplane_dma.proofs.RuleLaws.{rules_kept}
@@ -417,6 +421,29 @@ fetched_beside rules b old new plane leaves asks is =
 -- refresh has its slots at a line's ends
 pub no_refresh : (h : ℕ) → 6 ≤ h → h < 225 → is_refresh h ≡ false
 no_refresh h late before = grind (arith, nat_tests, late, before)
+
+-- ---- the unit of bitplane fetch that is kept
+
+-- a unit goes on to its end: no other begins while it runs
+pub unit_goes_on : (b : Beam) (registers : Registers) (last : Option ℕ) (start : ℕ) → 0 < b.h → IsUnitAt start b.h last
+    → last_unit_at b registers last ≡ last
+unit_goes_on b registers last start inner unit =
+    let within : is_running b.h (Some start) ≡ true = grind (arith, nat_tests, unit.low, unit.high) in
+    let runs : is_running b.h last ≡ true = ap (λ unit. is_running b.h unit) unit.began ∙ within in
+    none_begins b registers last inner (ap (λ is. not is && (begins_next b.h registers last || begins_first b registers)) runs)
+
+pub none_kept : (h : ℕ) (last : Option ℕ) → IsUnitKept (record { start = 0; until = 0 }) h last
+none_kept h last k from below = absurd (omega (arith, below))
+
+pub unit_later : (unit : Unit) (h next : ℕ) (last : Option ℕ) → h ≤ next → IsUnitKept unit h last → IsUnitKept unit next last
+unit_later unit h next last late kept k from below = kept k (omega (arith, late, from)) below
+
+pub unit_kept : (unit : Unit) (h : ℕ) (old new : WorkingChips) → KeepsBus old new → IsUnitKept unit h old.last → IsUnitKept unit h new.last
+unit_kept unit h old new kept is = subst (λ (last : Option ℕ). IsUnitKept unit h last) (sym kept.last) is
+
+pub unit_kept_on_bus : (unit : Unit) (h : ℕ) (old new : WorkingChips) → KeepsOnBus old new → IsUnitKept unit h old.last
+    → IsUnitKept unit h new.last
+unit_kept_on_bus unit h old new kept is = unit_kept unit h old new kept.0 is
 
 -- ---- the blitter's claim, and the CIAs
 

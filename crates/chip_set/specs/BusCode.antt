@@ -1,5 +1,6 @@
 -- Clocks that refresh, sprites and the Copper leave to the planes, the blitter and the processor.
-use Rattle.std.specs.Prelude.{◌≡◌, ◌⊎◌, ◌<◌, ℕ, ◌+◌, ◌%◌, ◌==◌, Bool, true, false, not, Option, Some, None, is_some}
+use Rattle.std.specs.Prelude.{◌≡◌, ◌⊎◌, ◌≤◌, ◌<◌, ℕ, ◌+◌, ◌%◌, ◌==◌, Bool, true, false, not, Option, Some, None, is_some}
+use Rattle.bitplane_dma.specs.Quiet.{IsUnitAt}
 use Rattle.bitplane_dma.specs.RulesCode.{rules_of}
 use Rattle.bitplane_dma.specs.declared.rules.FetchRules.{FetchRules}
 use Rattle.irq_cia.specs.Cia.{after_tick}
@@ -18,6 +19,7 @@ use Rattle.serial_model.specs.declared.bus.ProcessorAsk.TheVariants as P
 use Rattle.serial_model.specs.Registers.{dmacon_of, blitter_first}
 use Rattle.sprite_dma.specs.Quiet.{ReadsNothing}
 use Rattle.chip_set.specs.declared.bus.BlitterClaim.{BlitterClaim}
+use Rattle.chip_set.specs.declared.bus.Unit.{Unit}
 use Rattle.chip_set.specs.Chips.{WorkingChips, late_ask, kept_wish, plain_chips}
 use Rattle.chip_set.specs.Quiet.{IsCopperIdle}
 
@@ -85,6 +87,10 @@ CiasRest t n now = (k : ℕ) → k < n → ((((t + k) % 5 == 0) ≡ false) ⊎ T
 pub record IsClaim (claim : BlitterClaim) (now : WorkingChips) : Type 0 where
   pub asks : claim.asks ≡ is_some (kept_wish now)
   pub yields : claim.yields ≡ not (blitter_first now.registers)
+
+-- at each clock from clock h on that the kept unit has, it is the line's last unit and runs
+abbrev pub IsUnitKept : Unit → ℕ → Option ℕ → Type 0
+IsUnitKept unit h last = (k : ℕ) → h ≤ k → k < unit.until → IsUnitAt unit.start k last
 
 -- the ask of such a clock, where this plane has its slot, or none
 abbrev pub ask_beside_planes : Option PlaneAsk → Beam → WorkingChips → Ask

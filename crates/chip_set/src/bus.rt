@@ -1,11 +1,13 @@
 //! Clocks that refresh, sprites and the Copper leave to the planes, the blitter and the processor.
 
-ghost use Rattle.std.specs.Prelude.{◌≡◌, ◌≤◌, ◌<◌, ◌+◌, ◌&&◌, ℕ, true, false, is_some, IfSome};
+ghost use Rattle.std.specs.Prelude.{◌≡◌, ◌≤◌, ◌<◌, ◌+◌, ◌&&◌, ℕ, true, false, None, is_some, IfSome};
+ghost use Rattle.bitplane_dma.specs.Quiet.{IsUnitAt};
+ghost use Rattle.bitplane_dma.specs.RulesCode.{rules_of};
 ghost use Rattle.ocs_base.specs.declared.beam.Beam.{Beam as BeamOf};
 ghost use Rattle.serial_model.specs.Bus.{blit_owner_ask, missed_after, processor_ask as processor_ask_of};
 ghost use Rattle.quiet_clocks.specs.PlainClock.{comes_first};
 ghost use Rattle.serial_model.specs.Beam.{later_beam};
-ghost use Rattle.serial_model.specs.PlaneFetch.{IsLastUnit};
+ghost use Rattle.serial_model.specs.PlaneFetch.{IsLastUnit, last_unit_at, is_running};
 ghost use Rattle.serial_model.specs.Side.{IsInTime};
 ghost use Rattle.serial_model.specs.State.{Chips as ChipsOf};
 ghost use Rattle.serial_model.specs.Bus.{ask_at};
@@ -13,10 +15,12 @@ ghost use Rattle.serial_model.specs.declared.bus.SideAsk.{SideAsk};
 ghost use Rattle.serial_model.specs.declared.fetch.PlaneAsk.{PlaneAsk as PlaneAskOf};
 ghost use Rattle.serial_model.specs.declared.bus.Ask.TheVariants as A;
 ghost use Rattle.cpu_bus.specs.Bus.{wish_shown};
+ghost use Rattle.quiet_clocks.specs.FetchClocks.{fetching_after, ask_of_fetching};
 ghost use Rattle.chip_set.specs.Chips.{IsChipsOf, HasAsked, HasAccessed, CanAsk, CanDo, WorkingChips, plain_chips, IsAnswer, IsBlitAsk, kept_wish, late_ask as asked_late};
-ghost use Rattle.chip_set.specs.Chips.{reads_by_chips, read_by};
+ghost use Rattle.chip_set.specs.Chips.{reads_by_chips, read_by, IsPlane};
+ghost use Rattle.chip_set.specs.Quiet.{fetching_in, with_fetching};
 ghost use Rattle.chip_set.specs.BusCode.{LeavesToPlanes, LeavesBeside, LeaveBus, KeepsOnBus, KeepsBeside, KeepsCias};
-ghost use Rattle.chip_set.specs.BusCode.{IsClaim};
+ghost use Rattle.chip_set.specs.BusCode.{IsClaim, IsUnitKept};
 ghost use Rattle.chip_set.specs.BusCode.{ask_beside_planes, is_bus_ask, is_bus_made};
 
 use crate::asks::{made_by, slot_ask};
@@ -42,6 +46,24 @@ impl BlitterClaim {
         ensures { result ≡ self.now.asks }
     {
         self.asks
+    }
+}
+
+/// The unit of bitplane fetch that runs: it began at clock `start` of the line, and has the clocks before
+/// `until`; none where that is past.
+#[derive(Clone, Copy)]
+pub struct Unit {
+    pub start: u16,
+    pub until: u16,
+}
+
+impl Unit {
+    /// None yet.
+    #[inline(always)]
+    pub fn none() -> Unit
+        ensures { result ≡ record { start = 0; until = 0 } }
+    {
+        Unit { start: 0, until: 0 }
     }
 }
 
@@ -89,10 +111,17 @@ impl Chips {
     }
 
     /// The planes' part of such a clock: the plane that has its slot, if one has; else the blitter or the
-    /// processor may (`has_blitter_turn`). `answer_on_bus` is to be called next.
+    /// processor may (`has_blitter_turn`). `answer_on_bus` is to be called next. The unit of bitplane fetch
+    /// that runs is kept for the clocks behind this one.
     #[inline(always)]
-    pub fn ask_on_bus(&mut self, rules: &Option<FetchRules>, beam: &Beam) -> Option<PlaneAsk>
+    pub fn ask_on_bus(
+        &mut self,
+        rules: &Option<FetchRules>,
+        beam: &Beam,
+        unit: &mut Unit,
+    ) -> Option<PlaneAsk>
         requires leaves { LeavesBeside rules.now beam.now self.old }
+        requires unit { IsUnitKept unit.old beam.now.h self.old.last }
         ensures ask { (c : ChipsOf) → IsChipsOf self.old c
             → ask_beside_planes result beam.now self.new ≡ ask_at SideAsk.Nothing beam.now c }
         ensures chips { (c : ChipsOf) → IsChipsOf self.old c → HasAsked beam.now c self.new }
@@ -102,9 +131,10 @@ impl Chips {
         ensures leaves { LeavesToPlanes beam.now self.new }
         ensures kept { KeepsBeside rules.now self.old self.new }
         ensures cias { KeepsCias self.old self.new }
+        ensures unit { IsUnitKept unit.new (beam.now.h + 1) self.new.last }
     {
         match rules {
-            Some(rules) => self.fetch_plane(rules, beam),
+            Some(rules) => self.fetch_plane(rules, beam, unit),
             None => None,
         }
     }
@@ -117,6 +147,54 @@ impl Chips {
         } }
     {
         self.missed = self.missed_beside_another();
+    }
+
+    /// The planes' part of a clock behind a line's first, by what decides the fetches of the line: the plane
+    /// that is fetched at it, if one is, whose pointer has moved then. The rules stay right, and the unit that
+    /// runs is kept.
+    #[inline(always)]
+    fn fetch_plane(&mut self, rules: &FetchRules, beam: &Beam, unit: &mut Unit) -> Option<PlaneAsk>
+        requires inner { 0 < beam.now.h }
+        requires begun { IsLastUnit self.old.last }
+        requires rules { rules.now ≡ rules_of beam.now.v self.old.registers }
+        requires unit { IsUnitKept unit.old beam.now.h self.old.last }
+        ensures ask { result ≡ ask_of_fetching beam.now (fetching_in self.old) }
+        ensures able { IfSome result (λ ask. IsPlane ask.plane) }
+        ensures moved { self.new
+            ≡ with_fetching (fetching_after beam.now (fetching_in self.old)) self.old }
+        ensures next { IsLastUnit self.new.last }
+        ensures same { rules.now ≡ rules_of beam.now.v self.new.registers }
+        ensures unit { IsUnitKept unit.new (beam.now.h + 1) self.new.last }
+    {
+        let start = self.kept_unit(rules, beam, unit)?;
+        self.fetch_in_unit(rules, beam.h, start)
+    }
+
+    /// As `plane_unit`, which is asked only where the unit that is kept is past; the one that runs then is
+    /// kept.
+    #[inline(always)]
+    fn kept_unit(&mut self, rules: &FetchRules, beam: &Beam, unit: &mut Unit) -> Option<u16>
+        requires inner { 0 < beam.now.h }
+        requires begun { IsLastUnit self.old.last }
+        requires rules { rules.now ≡ rules_of beam.now.v self.old.registers }
+        requires unit { IsUnitKept unit.old beam.now.h self.old.last }
+        ensures last { self.new ≡ record self.old {
+          last = last_unit_at beam.now self.old.registers self.old.last;
+        } }
+        ensures begun { IsLastUnit self.new.last }
+        ensures some { IfSome result (λ start. IsUnitAt start beam.now.h self.new.last) }
+        ensures none { result ≡ None → is_running beam.now.h self.new.last ≡ false }
+        ensures unit { IsUnitKept unit.new beam.now.h self.new.last }
+    {
+        if beam.h < unit.until {
+            return Some(unit.start);
+        }
+        let start = self.plane_unit(rules, beam)?;
+        *unit = Unit {
+            start,
+            until: start + 8,
+        };
+        Some(start)
     }
 
     /// Whether a blit is under way.

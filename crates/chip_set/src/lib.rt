@@ -14,7 +14,7 @@ mod turn;
 
 pub use asks::is_clx_ask;
 pub use bitplane_dma::FetchRules;
-pub use bus::BlitterClaim;
+pub use bus::{BlitterClaim, Unit};
 pub use chips::Chips;
 pub use cpu_bus::Progress;
 pub use fetches::is_fetch_ask;

@@ -13,9 +13,7 @@ ghost use Rattle.chip_set.specs.Chips.{IsChipsOf, plain_chips};
 ghost use Rattle.serial_model.specs.PlaneFetch.{IsLastUnit, last_unit_at, is_running, plane_ask, move_planes};
 ghost use Rattle.bitplane_dma.specs.Quiet.{IsUnitAt};
 ghost use Rattle.chip_set.specs.Chips.{IsPlane};
-ghost use Rattle.quiet_clocks.specs.FetchClocks.{fetching_after, ask_of_fetching};
 ghost use Rattle.chip_set.specs.Quiet.{PassesQuiet, AreIdle, AreAtRest, AreLater, HasRested, IsCopperIdle};
-ghost use Rattle.chip_set.specs.Quiet.{fetching_in, with_fetching};
 
 use crate::chips::Chips;
 use crate::turn::{EXTER, PORTS};
@@ -74,23 +72,6 @@ impl Chips {
         ensures { result ≡ rules_of beam.now.v self.now.registers }
     {
         FetchRules::of(beam, &self.registers)
-    }
-
-    /// The planes' part of a clock behind a line's first, by what decides the fetches of the line: the plane
-    /// that is fetched at it, if one is, whose pointer has moved then. The rules stay right.
-    #[inline(always)]
-    pub fn fetch_plane(&mut self, rules: &FetchRules, beam: &Beam) -> Option<PlaneAsk>
-        requires inner { 0 < beam.now.h }
-        requires begun { IsLastUnit self.old.last }
-        requires rules { rules.now ≡ rules_of beam.now.v self.old.registers }
-        ensures ask { result ≡ ask_of_fetching beam.now (fetching_in self.old) }
-        ensures able { IfSome result (λ ask. IsPlane ask.plane) }
-        ensures moved { self.new
-            ≡ with_fetching (fetching_after beam.now (fetching_in self.old)) self.old }
-        ensures next { IsLastUnit self.new.last }
-        ensures same { rules.now ≡ rules_of beam.now.v self.new.registers }
-    {
-        self.fetcher.step_by(rules, beam, &mut self.registers)
     }
 
     /// Where the unit of bitplane fetch began that runs at this clock behind a line's first, by what decides the

@@ -10,7 +10,7 @@ ghost use Rattle.serial_model.specs.Registers.{is_interlaced};
 ghost use Rattle.serial_model.specs.Side.{no_side};
 ghost use Rattle.serial_model.specs.State.{State};
 ghost use Rattle.serial_model.specs.Tick.{ask_of, run_processor, advance_beam};
-ghost use Rattle.chip_set.specs.BusCode.{LeavesToPlanes, LeavesBeside, KeepsBus, KeepsBeside, KeepsCias, KeepsOnBus, CiasRest};
+ghost use Rattle.chip_set.specs.BusCode.{LeavesToPlanes, LeavesBeside, KeepsBus, KeepsBeside, KeepsCias, KeepsOnBus, CiasRest, IsUnitKept};
 ghost use Rattle.chip_set.specs.BusCode.{ask_beside_planes, is_bus_ask, is_bus_made};
 ghost use Rattle.chip_set.specs.Chips.{CanAsk, CanDo, IsBlitAsk, kept_wish};
 ghost use Rattle.machine.specs.Machine.{machine_over, Makes, MakesQuietly};
@@ -18,7 +18,7 @@ ghost use Rattle.machine.specs.Machine.{MakesAccess, HasAskedOf, StoresMade, Sta
 ghost use Rattle.machine.specs.MachineStepsCode.{AsksInTime};
 
 use crate::machine::Machine;
-use chip_set::FetchRules;
+use chip_set::{FetchRules, Unit};
 use ocs_base::OutOfMemory;
 use out_files::OutFiles;
 use serial_model::{Ask, Made, PlaneAsk, Side, TraceLine};
@@ -27,12 +27,18 @@ impl<S: Side> Machine<S> {
     /// Third step of such a clock, without a side: the timers tick; and the planes' part of it: the plane
     /// that has the slot, if one has. Else `has_blitter_turn` tells who has it. `answer_on_bus` is to be
     /// called next. In `rest` clocks from this one on nothing is to be done for the CIAs, and then in how many
-    /// from the next one on.
+    /// from the next one on. The unit of bitplane fetch that runs is kept for the clocks behind this one.
     #[inline(always)]
-    pub fn ask_on_bus(&mut self, rules: &Option<FetchRules>, rest: &mut u16) -> Option<PlaneAsk>
+    pub fn ask_on_bus(
+        &mut self,
+        rules: &Option<FetchRules>,
+        rest: &mut u16,
+        unit: &mut Unit,
+    ) -> Option<PlaneAsk>
         requires side { S.seen self.old.side ≡ no_side }
         requires leaves { LeavesBeside rules.now self.old.beam self.old.chips }
         requires rest { CiasRest self.old.t rest.old self.old.chips }
+        requires unit { IsUnitKept unit.old self.old.beam.h self.old.chips.last }
         requires room { self.old.t + 1 < 2 ^ 64 }
         ensures asks { AsksInTime (ask_beside_planes result self.new.beam self.new.chips)
             (machine_over S.seen self.old) (machine_over S.seen self.new) }
@@ -42,10 +48,11 @@ impl<S: Side> Machine<S> {
         ensures leaves { LeavesToPlanes self.new.beam self.new.chips }
         ensures kept { KeepsBeside rules.now self.old.chips self.new.chips }
         ensures rest { CiasRest (self.new.t + 1) rest.new self.new.chips }
+        ensures unit { IsUnitKept unit.new (self.new.beam.h + 1) self.new.chips.last }
         ensures same { self.new ≡ record self.old { chips = self.new.chips } }
     {
         *rest = self.chips.count_or_rest(self.t, *rest);
-        self.chips.ask_on_bus(rules, &self.beam)
+        self.chips.ask_on_bus(rules, &self.beam, unit)
     }
 
     /// Sixth step, as `process`. The answer says whether the processor left the CIAs alone.

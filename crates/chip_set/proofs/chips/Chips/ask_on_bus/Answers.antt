@@ -1,6 +1,6 @@
-use Rattle.std.proofs.Common.{Some, None, subst, sym}
+use Rattle.std.proofs.Common.{ℕ, ◌+◌, Some, None, arith, subst, sym}
 use Rattle.chip_set.specs.BusCode.{LeavesBeside}
-use Rattle.chip_set.proofs.BusLaws.{cias_beside, HasFetchedBeside, HasAskedOnBus, fetched_beside, asked_without_planes}
+use Rattle.chip_set.proofs.BusLaws.{cias_beside, HasFetchedBeside, HasAskedOnBus, fetched_beside, asked_without_planes, unit_later}
 use Rattle.chip_set.proofs.chips.Chips.ask_on_bus.Goals as goal
 
 fetches : (c : goal.After-fetch_plane) → HasFetchedBeside c.args.rules.now c.args.beam.now c.args.self.now c.fetch_plane.new.self c.fetch_plane.result
@@ -46,3 +46,8 @@ returns-in-None-clause-able c = (alone c).able
 
 pub returns-in-None-clause-wish : goal.returns-in-None-clause-wish
 returns-in-None-clause-wish c = (alone c).wish
+
+pub returns-in-None-clause-unit : goal.returns-in-None-clause-unit
+returns-in-None-clause-unit c =
+    let h : ℕ = c.args.beam.now.h in
+    unit_later c.args.unit.now h (h + 1) c.args.self.now.last (omega arith) c.requires.unit

@@ -1,18 +1,17 @@
-use Rattle.std.proofs.Common.{◌∙◌, ap, sym}
+use Rattle.std.proofs.Common.{ℕ, ◌+◌, arith, ◌∙◌, ap, subst, sym}
 use Rattle.bitplane_dma.specs.RulesCode.{rules_of}
-use Rattle.bitplane_dma.proofs.RuleLaws.{rules_kept}
-use Rattle.serial_model.specs.Registers.{Registers}
+use Rattle.chip_set.specs.BusCode.{IsUnitKept}
 use Rattle.chip_set.specs.Chips.{WorkingChips}
-use Rattle.chip_set.proofs.FetchLaws.{one_of_six}
+use Rattle.chip_set.proofs.BusLaws.{unit_later}
 use Rattle.chip_set.proofs.chips.Chips.fetch_plane.Goals as goal
 
-pub returns-clause-able : goal.returns-clause-able
-returns-clause-able c =
-    one_of_six c.args.beam.now.h c.self.inside.registers c.step_by.new.self c.step_by.result c.step_by.ensures.begun c.step_by.ensures.ask
+pub fetch_in_unit-requires-clause-rules : goal.fetch_in_unit-requires-clause-rules
+fetch_in_unit-requires-clause-rules c =
+    let v : ℕ = c.args.beam.now.v in
+    (v, c.requires.rules ∙ ap (λ (now : WorkingChips). rules_of v now.registers) (sym c.kept_unit.ensures.last))
 
-pub returns-clause-same : goal.returns-clause-same
-returns-clause-same c =
-    c.requires.rules
-    ∙ ap (λ (now : WorkingChips). rules_of c.args.beam.now.v now.registers) (sym c.self.view_is)
-    ∙ sym (rules_kept c.args.beam.now.v c.args.beam.now.h c.step_by.new.self c.self.inside.registers c.step_by.ensures.begun)
-    ∙ ap (λ (r : Registers). rules_of c.args.beam.now.v r) (sym c.step_by.ensures.moved)
+pub returns-clause-unit : goal.returns-clause-unit
+returns-clause-unit c =
+    let h : ℕ = c.args.beam.now.h in
+    subst (λ (now : WorkingChips). IsUnitKept c.kept_unit.new.unit (h + 1) now.last) (sym c.fetch_in_unit.ensures.moved)
+    (unit_later c.kept_unit.new.unit h (h + 1) c.kept_unit.new.self.last (omega arith) c.kept_unit.ensures.unit)

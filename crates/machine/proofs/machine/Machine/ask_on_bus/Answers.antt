@@ -1,5 +1,5 @@
 use Rattle.std.proofs.Common.{◌+◌, refl}
-use Rattle.chip_set.proofs.BusLaws.{timers_kept, beside_kept, beside_then, leaves_beside_kept, rest_kept}
+use Rattle.chip_set.proofs.BusLaws.{timers_kept, beside_kept, beside_then, leaves_beside_kept, rest_kept, unit_kept}
 use Rattle.machine.specs.Machine.{machine_over}
 use Rattle.machine.proofs.AskedLaws.{asks_alone}
 use Rattle.machine.proofs.machine.Machine.ask_on_bus.Goals as goal
@@ -9,6 +9,8 @@ ask_on_bus-requires g c = record {
   leaves = leaves_beside_kept c.args.rules.now c.args.self.now.beam c.args.self.now.chips c.count_or_rest.new.self
       (beside_kept c.args.rules.now c.args.self.now.chips c.count_or_rest.new.self
       (timers_kept c.args.self.now.chips c.count_or_rest.new.self c.count_or_rest.ensures.kept)) c.requires.leaves;
+  unit = unit_kept c.args.unit.now c.args.self.now.beam.h c.args.self.now.chips c.count_or_rest.new.self
+      (timers_kept c.args.self.now.chips c.count_or_rest.new.self c.count_or_rest.ensures.kept) c.requires.unit;
 }
 
 pub returns-clause-asks : goal.returns-clause-asks
