@@ -22,7 +22,8 @@ use Rattle.chip_set.proofs.AheadLaws.{left, passed}
 use Rattle.machine.specs.Machine.{MachineValue}
 use Rattle.machine.specs.MachineStepsCode.{chip_after}
 use Rattle.machine.specs.AheadCode.{IsLeftToProcessor, IsLeftThen, IsClockAtOnce, EndsInTwo, IsAccessInTwo, IsAccessInPart}
-use Rattle.machine.proofs.AheadLaws.{advanced, with_chips, first_clock, read_asks, read_made, write_asks, write_stored}
+use Rattle.machine.proofs.AheadLaws.{advanced, first_clock, read_asks, read_made, write_asks, write_stored}
+use Rattle.machine.proofs.BusLaws.{with_chips}
 
 -- what wants a slot waits for one
 waits_for_slot : (wait : Wait) (ask : ProcessorAsk) → slot_wish wait ≡ Some ask → is_slot wait ≡ true
