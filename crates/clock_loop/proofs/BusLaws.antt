@@ -9,9 +9,10 @@ use Rattle.serial_model.specs.Side.{SideValue}
 use Rattle.serial_model.specs.SpriteFetch.{kinds_at}
 use Rattle.bitplane_dma.specs.declared.rules.FetchRules.{FetchRules}
 use Rattle.band_log.specs.Raster.{RasterValue}
-use Rattle.chip_set.specs.BusCode.{LeavesToPlanes, LeavesBeside, LeaveBus, KeepsBus, KeepsBeside, KeepsCias, CiasRest, is_bus_made}
+use Rattle.chip_set.specs.BusCode.{LeavesToPlanes, LeavesBeside, LeaveBus, KeepsBus, KeepsOnBus, KeepsBeside, KeepsCias, CiasRest, IsUnitKept, is_bus_made}
+use Rattle.chip_set.specs.declared.bus.Unit.{Unit}
 use Rattle.chip_set.specs.Chips.{WorkingChips}
-use Rattle.chip_set.proofs.BusLaws.{leaves_beside_kept, beside_kept, beside_then, rest_kept}
+use Rattle.chip_set.proofs.BusLaws.{leaves_beside_kept, beside_kept, beside_then, rest_kept, none_kept, unit_kept, unit_kept_on_bus}
 use Rattle.out_files.specs.OutFiles.{OutFilesValue}
 use Rattle.picture_log.specs.Log.{with_waiting, with_access_touch, waiting_list, waiting_write}
 use Rattle.picture_log.specs.declared.log.Log.{Log}
@@ -119,6 +120,35 @@ goes_on_bus rules rest f0 f1 f2 f3 asks same alone clock stays ends kept side at
       };
       rests = rests;
     }
+
+-- no unit of bitplane fetch is kept
+pub no_unit : (h : ℕ) (last : Option ℕ) (unit : Unit) → unit ≡ record { start = 0; until = 0 } → IsUnitKept unit h last
+no_unit h last unit is = subst (λ u. IsUnitKept u h last) (sym is) (none_kept h last)
+
+pub unit_view : {S : Type 0} (seen : S → SideValue) (g f : ForeOf S) (unit : Unit) → g ≡ f
+    → IsUnitKept unit f.machine.beam.h f.machine.chips.last → IsUnitKept unit g.machine.beam.h g.machine.chips.last
+unit_view seen g f unit view is = subst (λ (x : ForeOf _). IsUnitKept unit x.machine.beam.h x.machine.chips.last) (sym view) is
+
+pub unit_as : (unit was : Unit) (h : ℕ) (last : Option ℕ) → unit ≡ was → IsUnitKept was h last → IsUnitKept unit h last
+unit_as unit was h last is kept = subst (λ u. IsUnitKept u h last) (sym is) kept
+
+-- where no clock was made it stays
+pub unit_stays : {S : Type 0} (seen : S → SideValue) (f g : ForeOf S) (unit : Unit) (made : ℕ) → made ≡ 0 → g.machine.t ≡ f.machine.t + made
+    → (g.machine.t ≡ f.machine.t → g ≡ f) → IsUnitKept unit f.machine.beam.h f.machine.chips.last
+    → IsUnitKept unit g.machine.beam.h g.machine.chips.last
+unit_stays seen f g unit made none count still is = unit_view seen g f unit (still (omega (arith, none, count))) is
+
+-- and it is kept over the steps of a clock
+pub unit_then : (unit : Unit) (f0 f1 f2 f3 : ForeValue) → f1.machine.beam ≡ f0.machine.beam → IsSamePlace (later_beam 1 f0.machine.beam) f3.machine.beam
+    → KeepsOnBus f1.machine.chips f2.machine.chips → KeepsBus f2.machine.chips f3.machine.chips
+    → IsUnitKept unit (f1.machine.beam.h + 1) f1.machine.chips.last → IsUnitKept unit f3.machine.beam.h f3.machine.chips.last
+unit_then unit f0 f1 f2 f3 same place access ends is =
+    let was : f1.machine.beam.h ≡ f0.machine.beam.h = ap (λ (b : Beam). b.h) same in
+    let at : f3.machine.beam.h ≡ f0.machine.beam.h + 1 = ap (λ (b : Beam). b.h) place in
+    let there : f1.machine.beam.h + 1 ≡ f3.machine.beam.h = omega (arith, was, at) in
+    subst (λ h. IsUnitKept unit h f3.machine.chips.last) there
+    (unit_kept unit (f1.machine.beam.h + 1) f2.machine.chips f3.machine.chips ends
+    (unit_kept_on_bus unit (f1.machine.beam.h + 1) f1.machine.chips f2.machine.chips access is))
 
 -- LOF does not count
 others_elsewhere : (b : Beam) (lof : Bool) (now : WorkingChips) → LeavesToPlanes b now → LeavesToPlanes (record b { lof = lof }) now

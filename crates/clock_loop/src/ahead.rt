@@ -35,6 +35,7 @@ pub(crate) fn clocks_alone<S: Side>(
     requires alone { claim.now.asks ≡ false }
     ensures most { IfOk result (λ made. made ≤ left) }
     ensures rest { IfOk result (λ made. made ≤ rest) }
+    ensures count { IfOk result (λ made. fore.new.machine.t ≡ fore.old.machine.t + made) }
     ensures runs { OnOk result ((seen : RasterValue) → HasRunOnBus limit (over S.seen fore.old)
         (over S.seen fore.new) seen seen out.old out.new) }
     ensures can { IfOk result (λ made. CanMakeClocks limit (left - made) None (rest - made) claim.now
@@ -76,6 +77,7 @@ fn some_alone<S: Side>(
     requires alone { claim.now.asks ≡ false }
     ensures most { IfOk result (λ made. made ≤ left) }
     ensures rest { IfOk result (λ made. made ≤ rest) }
+    ensures count { IfOk result (λ made. fore.new.machine.t ≡ fore.old.machine.t + made) }
     ensures runs { OnOk result ((seen : RasterValue) → HasRunOnBus limit (over S.seen fore.old)
         (over S.seen fore.new) seen seen out.old out.new) }
     ensures can { IfOk result (λ made. CanMakeClocks limit (left - made) None (rest - made) claim.now
@@ -113,6 +115,7 @@ fn accesses_in_two<S: Side>(
     requires alone { claim.now.asks ≡ false }
     ensures most { IfOk result (λ made. made ≤ left) }
     ensures rest { IfOk result (λ made. made ≤ rest) }
+    ensures count { IfOk result (λ made. fore.new.machine.t ≡ fore.old.machine.t + made) }
     ensures runs { OnOk result ((seen : RasterValue) → HasRunOnBus limit (over S.seen fore.old)
         (over S.seen fore.new) seen seen out.old out.new) }
     ensures can { IfOk result (λ made. CanMakeClocks limit (left - made) None (rest - made) claim.now

@@ -6,7 +6,7 @@ ghost use Rattle.serial_model.specs.Beam.{next_place};
 ghost use Rattle.serial_model.specs.Side.{no_side};
 ghost use Rattle.band_log.specs.Raster.{RasterValue};
 ghost use Rattle.chip_set.specs.BusCode.{LeavesToPlanes, LeavesBeside, LeaveBus, KeepsBus, KeepsBeside};
-ghost use Rattle.chip_set.specs.BusCode.{CiasRest, IsClaim, ask_beside_planes};
+ghost use Rattle.chip_set.specs.BusCode.{CiasRest, IsClaim, IsUnitKept, ask_beside_planes};
 ghost use Rattle.chip_set.specs.Chips.{CanAsk, IsBlitAsk, kept_wish};
 ghost use Rattle.foreground.specs.AccessCode.{CanAccess, MakesAccessWith};
 ghost use Rattle.clock_loop.specs.BusRun.{IsOpenForBus, GoesOnBus, AreOnBus, HasRunOnBus, HasRunInPart};
@@ -19,13 +19,13 @@ ghost use Rattle.foreground.specs.Steps.{EndsClock};
 
 use crate::line::clocks_before;
 use crate::lookout::{WORTH, is_beside_refresh, is_due, note_look, wait_for_refresh};
-use crate::turn::{Access, AnyTurn, BlitterTurn, ProcessorTurn, Turn, serve_on_bus};
+use crate::turn::{Access, AnyTurn, BlitterTurn, ProcessorTurn, Turn, serve_plane};
 use band_log::Raster;
-use chip_set::{BlitterClaim, FetchRules};
+use chip_set::{BlitterClaim, FetchRules, Unit};
 use foreground::Fore;
 use ocs_base::OutOfMemory;
 use out_files::OutFiles;
-use serial_model::{Ask, PlaneAsk, Side};
+use serial_model::{PlaneAsk, Side};
 
 /// The clocks of this line that come before the clock `limit`, before the next event of the script and
 /// before quiet clocks are looked for again, as far as nobody but the planes, the blitter and the
@@ -196,12 +196,16 @@ fn clocks_on_bus<S: Side, Q: Raster<S>, T: Turn<S>>(
     ensures spent { OnErr result (fore.new.spent ≡ true) }
 {
     let mut rest = 0;
+    let mut unit = Unit::none();
     let mut left = clocks;
     while left > 0 {
         match turn.run_alone(fore, rules, claim, left, rest, limit, out) {
             Ok(made) => {
                 left -= made;
                 rest -= made;
+                if made > 0 {
+                    unit = Unit::none();
+                }
             }
             Err(refused) => {
                 fore.spent = true;
@@ -211,7 +215,7 @@ fn clocks_on_bus<S: Side, Q: Raster<S>, T: Turn<S>>(
         if left == 0 {
             return Ok(());
         }
-        match clock_on_bus(fore, turn, rules, claim, &mut rest, out) {
+        match clock_on_bus(fore, turn, rules, claim, &mut rest, &mut unit, out) {
             Ok(Access::Stays) => left -= 1,
             Ok(Access::Ends) => return Ok(()),
             Ok(Access::Other) => return finish_clock(fore, raster, out),
@@ -267,7 +271,8 @@ fn is_open_for_bus<S: Side>(fore: &Fore<S>) -> bool
 /// One of them, if its access is one to memory or nobody's. The answer says so, and whether the bus is known to
 /// be left in further clocks; where the access is another it is still to be made, and the clock to be ended. That
 /// memory was wanted is the caller's to note. In `rest` clocks from this one on nothing is to be done for the
-/// CIAs, and then in how many from the next one on.
+/// CIAs, and then in how many from the next one on. The unit of bitplane fetch that runs is kept from clock to
+/// clock.
 #[inline(always)]
 fn clock_on_bus<S: Side, T: Turn<S>>(
     fore: &mut Fore<S>,
@@ -275,10 +280,12 @@ fn clock_on_bus<S: Side, T: Turn<S>>(
     rules: &Option<FetchRules>,
     claim: &BlitterClaim,
     rest: &mut u16,
+    unit: &mut Unit,
     out: &mut OutFiles,
 ) -> Result<Access, OutOfMemory>
     requires can { (seen : RasterValue) × CanMakeClock rules.now rest.old claim.now
         (over S.seen fore.old) seen }
+    requires unit { IsUnitKept unit.old fore.old.machine.beam.h fore.old.machine.chips.last }
     ensures made { IfOk result (λ access. is_made access ≡ true → (seen : RasterValue)
         → HasMadeClock (over S.seen fore.old) (over S.seen fore.new) seen seen out.old out.new) }
     ensures part { OnErr result ((seen : RasterValue) → HasMadeClockInPart (over S.seen fore.old)
@@ -286,11 +293,13 @@ fn clock_on_bus<S: Side, T: Turn<S>>(
     ensures run { (over S.seen fore.new).run ≡ (over S.seen fore.old).run }
     ensures bus { IfOk result (λ access. stays_left access ≡ true
         → GoesOnBus rules.now rest.new (over S.seen fore.old) (over S.seen fore.new)) }
+    ensures unit { IfOk result (λ access. stays_left access ≡ true
+        → IsUnitKept unit.new fore.new.machine.beam.h fore.new.machine.chips.last) }
     ensures asked { IfOk result (λ access. is_made access ≡ false
         → HasAskedLate (over S.seen fore.old) (over S.seen fore.new)) }
     ensures given { IfOk result (λ access. is_made access ≡ false → out.new ≡ out.old) }
 {
-    let plane = ask_on_bus(fore, rules, rest);
+    let plane = ask_on_bus(fore, rules, rest, unit);
     match access_on_bus(fore, turn, plane, claim, out)? {
         Access::Stays => {
             end_on_bus(fore, rest, out)?;
@@ -357,10 +366,12 @@ fn ask_on_bus<S: Side>(
     fore: &mut Fore<S>,
     rules: &Option<FetchRules>,
     rest: &mut u16,
+    unit: &mut Unit,
 ) -> Option<PlaneAsk>
     requires side { S.seen fore.old.machine.side ≡ no_side }
     requires leaves { LeavesBeside rules.now fore.old.machine.beam fore.old.machine.chips }
     requires rest { CiasRest fore.old.machine.t rest.old fore.old.machine.chips }
+    requires unit { IsUnitKept unit.old fore.old.machine.beam.h fore.old.machine.chips.last }
     requires room { fore.old.machine.t + 1 < 2 ^ 64 }
     ensures asks { AsksInTime
         (ask_beside_planes result fore.new.machine.beam fore.new.machine.chips)
@@ -373,12 +384,14 @@ fn ask_on_bus<S: Side>(
     ensures leaves { LeavesToPlanes fore.new.machine.beam fore.new.machine.chips }
     ensures bus { KeepsBeside rules.now fore.old.machine.chips fore.new.machine.chips }
     ensures rest { CiasRest (fore.new.machine.t + 1) rest.new fore.new.machine.chips }
+    ensures unit { IsUnitKept unit.new (fore.new.machine.beam.h + 1)
+        fore.new.machine.chips.last }
     ensures beam { fore.new.machine.beam ≡ fore.old.machine.beam }
     ensures side { fore.new.machine.side ≡ fore.old.machine.side }
     ensures same { fore.new ≡ record fore.old { machine = fore.new.machine } }
     ensures chip { fore.new.machine.chip ≡ fore.old.machine.chip }
 {
-    fore.machine.ask_on_bus(rules, rest)
+    fore.machine.ask_on_bus(rules, rest, unit)
 }
 
 /// The last two steps of it.
@@ -432,7 +445,7 @@ fn access_on_bus<S: Side, T: Turn<S>>(
     ensures late { IfOk result (λ access. is_made access ≡ false → plane ≡ None) }
 {
     match plane {
-        Some(ask) => serve_on_bus(fore, &Ask::Plane { ask }, out),
+        Some(ask) => serve_plane(fore, &ask),
         None => turn.access(fore, claim, out),
     }
 }

@@ -8,6 +8,7 @@ ghost use Rattle.serial_bands.specs.BusReads.{reads_of_ask};
 ghost use Rattle.serial_bands.specs.Shadows.{IsInRange};
 ghost use Rattle.picture_log.specs.Log.{with_access_touch};
 ghost use Rattle.band_log.specs.Raster.{RasterValue};
+ghost use Rattle.out_files.specs.OutFiles.{OutFilesValue};
 ghost use Rattle.cpu_bus.specs.Bus.{wish_shown};
 ghost use Rattle.chip_set.specs.BusCode.{LeavesToPlanes, IsClaim, is_bus_ask};
 ghost use Rattle.chip_set.specs.Chips.{kept_wish, late_ask};
@@ -25,7 +26,7 @@ use machine::touch_of;
 use ocs_base::OutOfMemory;
 use out_files::OutFiles;
 use picture_log::Log;
-use serial_model::{Ask, ProcessorAsk, Side, Touch};
+use serial_model::{Ask, PlaneAsk, ProcessorAsk, Side, Touch};
 
 /// What came of the access of a clock.
 pub(crate) enum Access {
@@ -59,6 +60,7 @@ pub(crate) trait Turn<S: Side> {
         requires can { CanMakeClocks limit left rules.now rest claim.now (over S.seen fore.old) }
         ensures most { IfOk result (λ made. made ≤ left) }
         ensures rest { IfOk result (λ made. made ≤ rest) }
+        ensures count { IfOk result (λ made. fore.new.machine.t ≡ fore.old.machine.t + made) }
         ensures runs { OnOk result ((seen : RasterValue)
             → HasRunOnBus limit (over S.seen fore.old) (over S.seen fore.new) seen seen out.old out.new) }
         ensures can { IfOk result (λ made. CanMakeClocks limit (left - made) rules.now (rest - made)
@@ -88,7 +90,7 @@ pub(crate) trait Turn<S: Side> {
             (over S.seen fore.old) (over S.seen fore.new) out.old out.new result };
 }
 
-/// Where planes have slots too: no owner's in line.
+/// Where planes have slots too: the processor's in line.
 pub(crate) struct AnyTurn;
 
 /// Where the blitter asks: its own in line.
@@ -122,7 +124,7 @@ impl<S: Side> Turn<S> for AnyTurn {
         if fore.machine.chips.has_blitter_turn(claim) {
             blit_apart(fore, out)
         } else {
-            process_apart(fore, out)
+            process_on_bus(fore, out)
         }
     }
 }
@@ -283,7 +285,7 @@ fn process_on_bus<S: Side>(fore: &mut Fore<S>, out: &mut OutFiles) -> Result<Acc
     }
 }
 
-/// The access of a plane, of the blitter, of the processor to memory, or of nobody.
+/// The access of the blitter, of the processor to memory, or of nobody.
 #[inline(always)]
 pub(crate) fn serve_on_bus<S: Side>(
     fore: &mut Fore<S>,
@@ -311,6 +313,30 @@ pub(crate) fn serve_on_bus<S: Side>(
     let t = fore.machine.t;
     note_touch(&mut fore.log, t, &touch_of(&made))?;
     Ok(made_access(fore.machine.chips.is_blitting() == busy))
+}
+
+/// The access of this plane, which has the slot.
+#[inline(always)]
+pub(crate) fn serve_plane<S: Side>(
+    fore: &mut Fore<S>,
+    ask: &PlaneAsk,
+) -> Result<Access, OutOfMemory>
+    requires can { (seen : RasterValue) × CanAccess (A.Plane ask.now) (over S.seen fore.old) seen }
+    requires waits { fore.old.log.waiting ≡ None }
+    requires leaves { LeavesToPlanes fore.old.machine.beam fore.old.machine.chips }
+    ensures makes { OnOk result ((seen : RasterValue) (out : OutFilesValue) → MakesAskedAccess
+        (over S.seen fore.old) (over S.seen fore.new) seen seen out out) }
+    ensures part { OnErr result ((seen : RasterValue) (out : OutFilesValue) → AccessesPart
+        (over S.seen fore.old) seen seen out out) }
+    ensures kept { KeepsClock (over S.seen fore.old) (over S.seen fore.new) }
+    ensures reads { fore.new.machine.chip.reads ≡ reads_more
+        (reads_of_ask (A.Plane ask.now)) fore.old.machine.chip.reads }
+    ensures made { IfOk result (λ access. is_made access ≡ true) }
+    ensures bus { OnOk result (StaysOnBus (over S.seen fore.old) (over S.seen fore.new)) }
+{
+    fore.machine.pass_plane(ask);
+    fore.log.note_plane(fore.machine.t, ask)?;
+    Ok(Access::Stays)
 }
 
 /// An access that was made; the bus is known to be left in further clocks, or not.

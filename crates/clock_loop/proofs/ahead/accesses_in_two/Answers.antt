@@ -15,6 +15,7 @@ loop-made-init g c = record {
   fresh = c.requires.fresh;
   most = omega arith;
   rest = omega arith;
+  count = omega arith;
   can = all_left c.args.limit c.args.left None c.args.rest c.args.claim.now _ c.requires.can;
   still = λ there. refl;
   anew = anew_view g.S.Side.seen c.args.fore.now _ (sym c.fore.view_is) (c.begins_anew.ensures c.if-not-begins_anew.false);
@@ -52,6 +53,7 @@ loop-made-preserved g c =
     let runs = c.in_ok-access_in_two.ensures.runs c.if-not-branch.false in
     let count = c.in_ok-access_in_two.ensures.count c.if-not-branch.false in
     let on = (c.loop-made.invariant.ran able.0).on in
+    let all = c.loop-made.invariant.count in
     record {
       able = (able.0, can_go_then f next able.0 able.0 _ _ (runs able.0).clocks c.loop-made.invariant.fresh able.1);
       ran = λ seen. run_and_run c.args.limit f0 f next seen seen seen _ _ _ c.loop-made.invariant.run (omega (arith, line))
@@ -60,6 +62,7 @@ loop-made-preserved g c =
       fresh = c.access_in_two.ensures.fresh;
       most = omega (arith, before, min);
       rest = omega (arith, before, min);
+      count = omega (arith, count, all);
       can = fewer_left c.args.limit c.args.left c.loop-made.made 2 c.args.rest None c.args.claim.now next
           (c.in_ok-access_in_two.ensures.can c.if-not-branch.false);
       still = λ same. absurd (omega (arith, on, count, same));

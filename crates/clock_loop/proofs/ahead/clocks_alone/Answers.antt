@@ -14,6 +14,7 @@ loop-made-init g c = record {
   fresh = c.requires.fresh;
   most = omega arith;
   rest = omega arith;
+  count = omega arith;
   can = all_left c.args.limit c.args.left None c.args.rest c.args.claim.now _ c.requires.can;
   still = λ there. refl;
 }
@@ -81,6 +82,8 @@ loop-made-preserved g c =
     let rest = c.in_ok-more.ensures.rest in
     let one = c.loop-made.invariant.most in
     let other = c.loop-made.invariant.rest in
+    let count = c.in_ok-more.ensures.count in
+    let all = c.loop-made.invariant.count in
     record {
       able = (able.0, can_go_then f next able.0 able.0 _ _ (runs able.0).clocks c.loop-made.invariant.fresh able.1);
       ran = λ seen. run_and_run c.args.limit f0 f next seen seen seen _ _ _ c.loop-made.invariant.run (omega (arith, line))
@@ -89,6 +92,7 @@ loop-made-preserved g c =
       fresh = c.in_ok-more.ensures.fresh;
       most = omega (arith, more, one);
       rest = omega (arith, rest, other);
+      count = omega (arith, count, all);
       can = fewer_left c.args.limit c.args.left c.loop-made.made c.in_ok-more.more c.args.rest None c.args.claim.now next c.in_ok-more.ensures.can;
       still = λ same. nothing_made c.args.fore.now c.loop-made.fore c.some_alone.new.fore (c.loop-made.invariant.ran able.0).on
           (runs able.0).on c.loop-made.invariant.still c.in_ok-more.ensures.still (omega (arith, same));

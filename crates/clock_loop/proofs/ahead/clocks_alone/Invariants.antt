@@ -1,4 +1,4 @@
-use Rattle.std.proofs.Common.{◌≡◌, ◌≤◌, ◌-◌, None, false}
+use Rattle.std.proofs.Common.{◌≡◌, ◌≤◌, ◌+◌, ◌-◌, None, false}
 use Rattle.band_log.specs.Raster.{RasterValue}
 use Rattle.clock_loop.specs.BusRun.{CanMakeClocks, HasRunOnBus}
 use Rattle.foreground.specs.Fore.{over, CanGo}
@@ -14,6 +14,7 @@ invariant-loop-made g l =
       fresh : l.fore.spent ≡ false;
       most : l.made ≤ l.left;
       rest : l.made ≤ l.rest;
+      count : l.fore.machine.t ≡ l.initial.fore.machine.t + l.made;
       can : CanMakeClocks l.limit (l.left - l.made) None (l.rest - l.made) l.claim (of l.fore);
       still : l.fore.machine.t ≡ l.initial.fore.machine.t → l.fore ≡ l.initial.fore;
     }

@@ -85,6 +85,24 @@ returns-then-branch-clause-fresh g c =
     let made = c.in_ok-clock_alone.ensures.made c.if-branch.true in
     (made c.requires.fits.0).spent ∙ c.in_ok-made.ensures.fresh
 
+pub returns-then-branch-clause-count : goal.returns-then-branch-clause-count
+returns-then-branch-clause-count g c =
+    let of = over g.S.Side.seen in
+    let f0 = of c.args.fore.now in
+    let g1 = of c.accesses_in_two.new.fore in
+    let gt = c.if-made-gt0.false in
+    let none : c.in_ok-made.made ≡ 0 = omega (arith, gt) in
+    let can = none_fewer c.args.limit c.args.left _ c.args.rest None c.args.claim.now g1 none c.in_ok-made.ensures.can in
+    let line = (can.line c.requires.some).before in
+    let some = c.requires.some in
+    let able = can_go_then f0 g1 c.requires.fits.0 c.requires.fits.0 _ _ (c.in_ok-made.ensures.runs c.requires.fits.0).clocks c.requires.fresh
+    c.requires.fits.1 in
+    let h = of c.clock_alone.new.fore in
+    let made = c.in_ok-clock_alone.ensures.made c.if-branch.true in
+    let before = c.in_ok-made.ensures.count in
+    let count = (made c.requires.fits.0).count in
+    omega (arith, none, before, count)
+
 pub returns-then-branch-clause-still : goal.returns-then-branch-clause-still
 returns-then-branch-clause-still g c same =
     let of = over g.S.Side.seen in

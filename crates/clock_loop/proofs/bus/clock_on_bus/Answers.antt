@@ -5,7 +5,7 @@ use Rattle.machine.specs.Machine.{MachineValue}
 use Rattle.foreground.specs.Fore.{ForeOf, over}
 use Rattle.foreground.proofs.MadeLaws.{on_err}
 use Rattle.clock_loop.proofs.AheadLaws.{no_files}
-use Rattle.clock_loop.proofs.BusLaws.{goes_on_bus, rest_left}
+use Rattle.clock_loop.proofs.BusLaws.{goes_on_bus, rest_left, unit_then}
 use Rattle.clock_loop.proofs.ClockLaws.{can_access, clock_made, accessed_in_part, ended_in_part, asked_late}
 use Rattle.clock_loop.specs.BusRun.{is_made, stays_left}
 use Rattle.clock_loop.proofs.bus.clock_on_bus.Goals as goal
@@ -69,6 +69,20 @@ returns-in_ok-end_on_bus-in-Stays-clause-made g c stays seen =
     c.requires.can.0 seen seen c.args.out.now c.access_on_bus.new.out c.end_on_bus.new.out c.requires.can.1.within
     (record { asks = c.ask_on_bus-plane.ensures.asks; same = ap of c.ask_on_bus-plane.ensures.same })
     (serves.makes made seen) serves.kept (serves.reads made) c.in_ok-end_on_bus-in-Stays.ensures.ends place.1
+
+pub returns-in_ok-end_on_bus-in-Stays-clause-unit : goal.returns-in_ok-end_on_bus-in-Stays-clause-unit
+returns-in_ok-end_on_bus-in-Stays-clause-unit g c on =
+    let of = over g.S.Side.seen in
+    let serves = c.in_ok-access_on_bus.ensures.serves in
+    let made = ap is_made c.in-Stays.is in
+    let place = c.in_ok-end_on_bus-in-Stays.ensures.place in
+    let stays = serves.bus (ap stays_left c.in-Stays.is) in
+    let clock = clock_made _ (of c.args.fore.now) (of c.ask_on_bus-plane.new.fore) (of c.access_on_bus.new.fore) (of c.end_on_bus.new.fore) place.0
+    c.requires.can.0 c.requires.can.0 c.requires.can.0 c.args.out.now c.access_on_bus.new.out c.end_on_bus.new.out c.requires.can.1.within
+    (record { asks = c.ask_on_bus-plane.ensures.asks; same = ap of c.ask_on_bus-plane.ensures.same })
+    (serves.makes made c.requires.can.0) serves.kept (serves.reads made) c.in_ok-end_on_bus-in-Stays.ensures.ends place.1 in
+    unit_then c.ask_on_bus-plane.new.unit (of c.args.fore.now) (of c.ask_on_bus-plane.new.fore) (of c.access_on_bus.new.fore) (of c.end_on_bus.new.fore)
+    c.ask_on_bus-plane.ensures.beam clock.place stays.chips c.end_on_bus.ensures.bus c.ask_on_bus-plane.ensures.unit
 
 pub returns-in_ok-end_on_bus-in-Stays-clause-bus : goal.returns-in_ok-end_on_bus-in-Stays-clause-bus
 returns-in_ok-end_on_bus-in-Stays-clause-bus g c on =

@@ -2,10 +2,11 @@ use Rattle.std.proofs.Common.{◌<◌, ◌-◌, arith, refl, ◌∙◌, ap}
 use Rattle.std.proofs.lemmas.Result.{on_err_weaker, on_ok_weaker}
 use Rattle.foreground.specs.Fore.{over}
 use Rattle.clock_loop.specs.BusRun.{is_made, stays_left}
-use Rattle.clock_loop.proofs.BusLaws.{no_rest, none_made}
+use Rattle.clock_loop.proofs.BusLaws.{no_rest, none_made, no_unit, unit_as, unit_stays}
 use Rattle.clock_loop.proofs.ClockLaws.{HasGoneOn, first_can, next_can, gone_then, gone_by_clock, gone_in_part, gone_in_part_run, gone_untold}
 use Rattle.clock_loop.proofs.LineLaws.{nothing_made}
 use Rattle.clock_loop.proofs.bus.clocks_on_bus.Goals as goal
+use Rattle.clock_loop.proofs.bus.clocks_on_bus.Goals.{then-made-gt0, else-made-gt0}
 
 pub loop-left-init : goal.loop-left-init
 loop-left-init g c = record {
@@ -14,6 +15,7 @@ loop-left-init g c = record {
   run = refl;
   fresh = c.requires.fresh;
   still = λ there. refl;
+  unit = no_unit c.args.fore.now.machine.beam.h c.args.fore.now.machine.chips.last _ c.none-unit.ensures;
   can = record {
     line = c.requires.bus.line;
     leave = c.requires.bus.leave;
@@ -62,8 +64,8 @@ returns-then-left-eq0-clause-still g c same =
     nothing_made c.args.fore.now c.loop-left.fore c.run_alone.new.fore c.loop-left.invariant.ran.on more c.loop-left.invariant.still
     c.in-Ok.ensures.still (omega (arith, same))
 
-pub clock_on_bus-requires : goal.clock_on_bus-requires
-clock_on_bus-requires g c =
+pub clock_on_bus-requires-clause-can : goal.clock_on_bus-requires-clause-can
+clock_on_bus-requires-clause-can g c =
     let of = over g.S.Side.seen in
     let f0 = of c.args.fore.now in
     let f = of c.loop-left.fore in
@@ -79,9 +81,7 @@ clock_on_bus-requires g c =
     (c.in-Ok.ensures.runs s) in
     let more : 0 < c.loop-left.left - c.in-Ok.made = (let left = c.if-left-eq0.false in omega (arith, left)) in
     let next = (c.in-Ok.ensures.can.line more).before in
-    record {
-      can = (s, first_can c.args.limit _ c.args.rules.now _ c.args.claim.now g1 s more c.in-Ok.ensures.can gone.able gone.fresh);
-    }
+    (s, first_can c.args.limit _ c.args.rules.now _ c.args.claim.now g1 s more c.in-Ok.ensures.can gone.able gone.fresh)
 
 pub loop-left-preserved : goal.loop-left-preserved
 loop-left-preserved g c =
@@ -111,6 +111,7 @@ loop-left-preserved g c =
       run = all.run;
       fresh = all.fresh;
       still = λ same. absurd (omega (arith, on, count, same));
+      unit = c.in-Ok-Stays.ensures.unit (ap stays_left c.in-Ok-Stays.field-0-is);
       can = next_can c.args.limit _ c.args.rules.now _ _ c.args.claim.now g1 h s s _ _ more c.in-Ok.ensures.can c.clock_on_bus.ensures.run made
           (c.in-Ok-Stays.ensures.bus (ap stays_left c.in-Ok-Stays.field-0-is));
     }
@@ -315,3 +316,15 @@ returns-in-Err-clock_on_bus-clause-part g c =
     let next = (c.in-Ok.ensures.can.line more).before in
     gone_in_part c.args.limit f0 g1 (of c.clock_on_bus.new.fore) _ s0 s s _ _ _ gone (omega (arith, more, next))
     (c.in-Err-clock_on_bus.ensures.part s) (ap (λ x. x.machine.chip.reads) c.fore-in-Err-clock_on_bus.view_is)
+
+pub clock_on_bus-requires-clause-unit : goal.clock_on_bus-requires-clause-unit
+clock_on_bus-requires-clause-unit g c =
+    let f = c.run_alone.new.fore in
+    elim c.if-made-gt0.branch [
+      | then-made-gt0 w ↦ no_unit f.machine.beam.h f.machine.chips.last _ (w.unit-is ∙ w.none-unit-then-made-gt0.ensures)
+      | else-made-gt0 w ↦
+          let no = w.if-made-gt0.false in
+          unit_as c.if-made-gt0.unit c.loop-left.unit f.machine.beam.h f.machine.chips.last w.unit-is
+          (unit_stays g.S.Side.seen c.loop-left.fore f c.loop-left.unit c.in-Ok.made (omega (arith, no)) c.in-Ok.ensures.count c.in-Ok.ensures.still
+          c.loop-left.invariant.unit)
+    ]

@@ -1,4 +1,5 @@
 use Rattle.std.proofs.Common.{◌≡◌, false}
+use Rattle.chip_set.specs.BusCode.{IsUnitKept}
 use Rattle.clock_loop.specs.BusRun.{CanMakeClocks, HasRunOnBus}
 use Rattle.foreground.specs.Fore.{over, CanGo}
 use Rattle.clock_loop.proofs.bus.clocks_on_bus.Given as goal
@@ -13,6 +14,7 @@ invariant-loop-left g l =
       run : (of l.fore).run ≡ (of l.initial.fore).run;
       fresh : l.fore.spent ≡ false;
       still : l.fore.machine.t ≡ l.initial.fore.machine.t → l.fore ≡ l.initial.fore;
+      unit : IsUnitKept l.unit l.fore.machine.beam.h l.fore.machine.chips.last;
       can : CanMakeClocks l.limit l.left l.rules l.rest l.claim (of l.fore);
     }
 
