@@ -209,7 +209,8 @@ pub two_in_part : (limit n rest : ℕ) (claim : BlitterClaim) (f g h : ForeValue
 two_in_part limit n rest claim f g h m able seen out given view same go fresh can two rests part =
     let f1 : ForeValue = record f { machine = part.mid } in
     let first : HasMadeFirst limit n rest claim f f1 able out =
-    first_of_two limit n rest claim f part.mid able out go fresh can two rests (subst (λ x. IsClockAtOnce A.Free x.machine out part.mid out) view part.begins) in
+    first_of_two limit n rest claim f part.mid able out go fresh can two rests
+    (subst (λ x. IsClockAtOnce A.Free x.machine out part.mid out) view part.begins) in
     let before = first.before in
     let one = (first.made able).count in
     run_and_part limit f f1 h able seen seen seen out out given first.go fresh refl first.before

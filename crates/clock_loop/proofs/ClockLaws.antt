@@ -22,7 +22,7 @@ use Rattle.clock_loop.specs.LineCode.{AreInLine}
 use Rattle.clock_loop.specs.RunTo.{RisesInSome}
 use Rattle.foreground.specs.AccessCode.{CanAccess}
 use Rattle.foreground.specs.Clock.{Rises}
-use Rattle.foreground.specs.Fore.{ForeValue, CanGo, looked_up}
+use Rattle.foreground.specs.Fore.{ForeOf, ForeValue, CanGo, looked_up}
 use Rattle.foreground.specs.Steps.{BeginsClock, EndsClock, KeepsClock, MakesAskedAccess, AccessesPart, ReachesAsk, reads_more}
 use Rattle.foreground.proofs.AdvanceLaws.{advances, part_accessing, part_ending, place_made}
 use Rattle.foreground.proofs.AskedLaws.{reaches_ask, at_ask, makes_from_ask, part_from_ask, kept_from_ask, rises_from_ask}
@@ -133,6 +133,21 @@ asked_late plane f0 f1 f2 none still asks able wish same =
       wish = subst (λ ask. IsBlitAsk ask (kept_wish f1.machine.chips)) late wish;
       same = same;
     })
+
+-- the ask that was worked out anew
+pub late_view : {S : Type 0} (g f : ForeOf S) (ask : Ask) → g ≡ f → ask ≡ late_ask g.machine.beam g.machine.chips
+    → ask ≡ late_ask f.machine.beam f.machine.chips
+late_view g f ask view is = subst (λ (x : ForeOf _). ask ≡ late_ask x.machine.beam x.machine.chips) view is
+
+pub asked_with : (ask : Ask) (f0 f1 : ForeValue) → ask ≡ late_ask f1.machine.beam f1.machine.chips → HasAskedLate f0 f1 → HasAskedWith ask f0 f1
+asked_with ask f0 f1 is asked =
+    record { asks = subst (λ a. AsksInTime a f0.machine f1.machine) (sym is) asked.asks; same = asked.same }
+
+pub late_access : (ask : Ask) (f0 f1 : ForeValue) (seen : RasterValue) (out : OutFilesValue) → ask ≡ late_ask f1.machine.beam f1.machine.chips
+    → IsWithinLine f0 seen → HasAskedLate f0 f1 → CanAccess ask f1 seen
+late_access ask f0 f1 seen out is w asked =
+    can_access ask f0 f1 seen out w (asked_with ask f0 f1 is asked) (subst CanAsk (sym is) asked.able)
+    (subst (λ a. IsBlitAsk a (kept_wish f1.machine.chips)) (sym is) asked.wish)
 
 -- ---- clocks one behind the other
 

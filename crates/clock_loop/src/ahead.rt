@@ -38,8 +38,8 @@ pub(crate) fn clocks_alone<S: Side>(
     ensures count { IfOk result (λ made. fore.new.machine.t ≡ fore.old.machine.t + made) }
     ensures runs { OnOk result ((seen : RasterValue) → HasRunOnBus limit (over S.seen fore.old)
         (over S.seen fore.new) seen seen out.old out.new) }
-    ensures can { IfOk result (λ made. CanMakeClocks limit (left - made) None (rest - made) claim.now
-        (over S.seen fore.new)) }
+    ensures can { IfOk result (λ made. CanMakeClocks limit (left - made) None (rest - made)
+        claim.now (over S.seen fore.new)) }
     ensures part { OnErr result ((seen : RasterValue) → HasRunInPart limit (over S.seen fore.old)
         (over S.seen fore.new) seen seen out.old out.new) }
     ensures run { (over S.seen fore.new).run ≡ (over S.seen fore.old).run }
@@ -80,8 +80,8 @@ fn some_alone<S: Side>(
     ensures count { IfOk result (λ made. fore.new.machine.t ≡ fore.old.machine.t + made) }
     ensures runs { OnOk result ((seen : RasterValue) → HasRunOnBus limit (over S.seen fore.old)
         (over S.seen fore.new) seen seen out.old out.new) }
-    ensures can { IfOk result (λ made. CanMakeClocks limit (left - made) None (rest - made) claim.now
-        (over S.seen fore.new)) }
+    ensures can { IfOk result (λ made. CanMakeClocks limit (left - made) None (rest - made)
+        claim.now (over S.seen fore.new)) }
     ensures part { OnErr result ((seen : RasterValue) → HasRunInPart limit (over S.seen fore.old)
         (over S.seen fore.new) seen seen out.old out.new) }
     ensures run { (over S.seen fore.new).run ≡ (over S.seen fore.old).run }
@@ -118,8 +118,8 @@ fn accesses_in_two<S: Side>(
     ensures count { IfOk result (λ made. fore.new.machine.t ≡ fore.old.machine.t + made) }
     ensures runs { OnOk result ((seen : RasterValue) → HasRunOnBus limit (over S.seen fore.old)
         (over S.seen fore.new) seen seen out.old out.new) }
-    ensures can { IfOk result (λ made. CanMakeClocks limit (left - made) None (rest - made) claim.now
-        (over S.seen fore.new)) }
+    ensures can { IfOk result (λ made. CanMakeClocks limit (left - made) None (rest - made)
+        claim.now (over S.seen fore.new)) }
     ensures part { OnErr result ((seen : RasterValue) → HasRunInPart limit (over S.seen fore.old)
         (over S.seen fore.new) seen seen out.old out.new) }
     ensures run { (over S.seen fore.new).run ≡ (over S.seen fore.old).run }
@@ -159,7 +159,8 @@ fn access_in_two<S: Side>(
     requires alone { claim.now.asks ≡ false }
     requires anew { BeginsAnew fore.old.machine.chips.processor }
     ensures runs { IfOk result (λ made. made ≡ true → (seen : RasterValue)
-        → HasRunOnBus limit (over S.seen fore.old) (over S.seen fore.new) seen seen out.old out.new) }
+        → HasRunOnBus limit (over S.seen fore.old) (over S.seen fore.new) seen seen
+        out.old out.new) }
     ensures can { IfOk result (λ made. made ≡ true → CanMakeClocks limit (left - 2) None (rest - 2)
         claim.now (over S.seen fore.new)) }
     ensures anew { IfOk result (λ made. made ≡ true

@@ -356,7 +356,8 @@ fn access_and_end<S: Side, Q: Raster<S>>(
         (Q.seen raster.old) (Q.seen raster.new) out.old out.new) }
     ensures run { (over S.seen fore.new).run ≡ (over S.seen fore.old).run }
 {
-    fore.access(None, raster, out)?;
+    let ask = fore.machine.chips.late_ask(&fore.machine.beam);
+    fore.access_by(&ask, raster, out)?;
     fore.end_clock(out)
 }
 

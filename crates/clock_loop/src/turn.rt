@@ -62,11 +62,13 @@ pub(crate) trait Turn<S: Side> {
         ensures rest { IfOk result (λ made. made ≤ rest) }
         ensures count { IfOk result (λ made. fore.new.machine.t ≡ fore.old.machine.t + made) }
         ensures runs { OnOk result ((seen : RasterValue)
-            → HasRunOnBus limit (over S.seen fore.old) (over S.seen fore.new) seen seen out.old out.new) }
+            → HasRunOnBus limit (over S.seen fore.old) (over S.seen fore.new) seen seen
+            out.old out.new) }
         ensures can { IfOk result (λ made. CanMakeClocks limit (left - made) rules.now (rest - made)
             claim.now (over S.seen fore.new)) }
         ensures part { OnErr result ((seen : RasterValue)
-            → HasRunInPart limit (over S.seen fore.old) (over S.seen fore.new) seen seen out.old out.new) }
+            → HasRunInPart limit (over S.seen fore.old) (over S.seen fore.new) seen seen
+            out.old out.new) }
         ensures run { (over S.seen fore.new).run ≡ (over S.seen fore.old).run }
         ensures fresh { OnOk result (fore.new.spent ≡ false) }
         ensures still { OnOk result (fore.new.machine.t ≡ fore.old.machine.t
@@ -197,7 +199,8 @@ impl<S: Side> Turn<S> for ProcessorTurn {
 #[inline(never)]
 fn blit_apart<S: Side>(fore: &mut Fore<S>, out: &mut OutFiles) -> Result<Access, OutOfMemory>
     requires can { (seen : RasterValue)
-        × CanAccess (blit_owner_ask (kept_wish fore.old.machine.chips)) (over S.seen fore.old) seen }
+        × CanAccess (blit_owner_ask (kept_wish fore.old.machine.chips))
+        (over S.seen fore.old) seen }
     requires room { fore.old.machine.t + 1 < 2 ^ 64 }
     requires waits { fore.old.log.waiting ≡ None }
     requires leaves { LeavesToPlanes fore.old.machine.beam fore.old.machine.chips }
@@ -240,7 +243,8 @@ fn process_apart<S: Side>(fore: &mut Fore<S>, out: &mut OutFiles) -> Result<Acce
 #[inline(always)]
 fn blit_on_bus<S: Side>(fore: &mut Fore<S>, out: &mut OutFiles) -> Result<Access, OutOfMemory>
     requires can { (seen : RasterValue)
-        × CanAccess (blit_owner_ask (kept_wish fore.old.machine.chips)) (over S.seen fore.old) seen }
+        × CanAccess (blit_owner_ask (kept_wish fore.old.machine.chips))
+        (over S.seen fore.old) seen }
     requires room { fore.old.machine.t + 1 < 2 ^ 64 }
     requires waits { fore.old.log.waiting ≡ None }
     requires leaves { LeavesToPlanes fore.old.machine.beam fore.old.machine.chips }

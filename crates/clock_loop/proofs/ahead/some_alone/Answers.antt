@@ -32,7 +32,8 @@ returns-in_err-clock_alone-clause-part g c =
     let some = c.requires.some in
     let able = can_go_then f0 g1 c.requires.fits.0 c.requires.fits.0 _ _ (c.in_ok-made.ensures.runs c.requires.fits.0).clocks c.requires.fresh
     c.requires.fits.1 in
-    on_err c.from_residual-in_err-clock_alone.result (λ seen. run_and_part c.args.limit f0 g1 (of c.clock_alone.new.fore) _ seen seen seen _ _ _ able c.in_ok-made.ensures.fresh
+    on_err c.from_residual-in_err-clock_alone.result
+    (λ seen. run_and_part c.args.limit f0 g1 (of c.clock_alone.new.fore) _ seen seen seen _ _ _ able c.in_ok-made.ensures.fresh
     c.accesses_in_two.ensures.run (omega (arith, line, some)) (c.in_ok-made.ensures.runs seen) (c.in_err-clock_alone.ensures.part seen))
 
 pub returns-then-branch-clause-runs : goal.returns-then-branch-clause-runs
