@@ -23,6 +23,11 @@ is_plain_op Q.Tst = true
 is_plain_op Q.AddAddress = true
 is_plain_op Q.SubAddress = true
 is_plain_op Q.CmpAddress = true
+is_plain_op Q.Btst = true
+is_plain_op Q.Not = true
+is_plain_op Q.Neg = true
+is_plain_op Q.Swap = true
+is_plain_op Q.Ext = true
 is_plain_op _ = false
 
 -- with what the row counts and the exception that it may make

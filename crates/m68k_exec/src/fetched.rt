@@ -156,20 +156,20 @@ fn is_plain_op(op: Op) -> bool
         | Op::Tst
         | Op::AddAddress
         | Op::SubAddress
-        | Op::CmpAddress => true,
+        | Op::CmpAddress
+        | Op::Btst
+        | Op::Not
+        | Op::Neg
+        | Op::Swap
+        | Op::Ext => true,
         Op::ImmediateToStatus { .. }
         | Op::MoveToStatus { .. }
-        | Op::Btst
         | Op::Bchg
         | Op::Bclr
         | Op::Bset
         | Op::Negx
-        | Op::Neg
-        | Op::Not
         | Op::MoveFromSr
         | Op::Nbcd
-        | Op::Swap
-        | Op::Ext
         | Op::Tas
         | Op::Chk
         | Op::Scc { .. }

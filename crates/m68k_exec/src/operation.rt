@@ -176,19 +176,19 @@ pub fn plain_operation(row: &GeneralRow, value: u32, old: u32, sr: u16) -> Outco
             extended_value(row.source_size, value),
             flags_of(sr),
         ),
+        Op::Btst => op_btst(size, old, value, flags_of(sr)),
+        Op::Not => op_not(size, old, 0, flags_of(sr)),
+        Op::Neg => op_neg(size, old, 0, flags_of(sr)),
+        Op::Swap => op_swap(size, old, 0, flags_of(sr)),
+        Op::Ext => op_ext(size, old, 0, flags_of(sr)),
         Op::ImmediateToStatus { .. }
         | Op::MoveToStatus { .. }
-        | Op::Btst
         | Op::Bchg
         | Op::Bclr
         | Op::Bset
         | Op::Negx
-        | Op::Neg
-        | Op::Not
         | Op::MoveFromSr
         | Op::Nbcd
-        | Op::Swap
-        | Op::Ext
         | Op::Tas
         | Op::Chk
         | Op::Scc { .. }
