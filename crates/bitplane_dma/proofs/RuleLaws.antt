@@ -1,6 +1,6 @@
 -- What decides the fetches of a line decides them as the registers do.
 use Rattle.std.proofs.Common.{◌≡◌, ◌≤◌, ◌<◌, ℕ, ◌+◌, ◌-◌, ◌/◌, ◌*◌, ◌%◌, Bool, true, false, not, ◌&&◌, ◌||◌, ◌==◌, nat_le, nat_lt, min, max, if◌then◌else◌}
-use Rattle.std.proofs.Common.{inl, inr, Option, Some, None, arith, refl, ap, ◌∙◌, sym}
+use Rattle.std.proofs.Common.{zero, suc, slice_index, inl, inr, Option, Some, None, arith, refl, ap, ◌∙◌, sym, subst}
 use Rattle.std.proofs.lemmas.Bool.Decides.{nat_tests}
 use Rattle.irq_cia.specs.Bits.{has_bits}
 use Rattle.ocs_base.specs.declared.beam.Beam.{Beam}
@@ -14,7 +14,7 @@ use Rattle.serial_model.specs.declared.fetch.PlaneAsk.{PlaneAsk}
 use Rattle.serial_model.specs.Registers.{Registers, kept_word}
 use Rattle.serial_model.specs.Window.{is_window_line}
 use Rattle.serial_model.proofs.FetchLaws.{IsNoPlanePointer, kept_word-move_planes}
-use Rattle.bitplane_dma.specs.RulesCode.{first_unit, rules_of, is_first, follows_by, begins_by, fetches_by, plane_by, bytes_by}
+use Rattle.bitplane_dma.specs.RulesCode.{first_unit, rules_of, is_first, follows_by, begins_by, planes_by, fetched_in_slot, slots_by, plane_by, bytes_by}
 use Rattle.bitplane_dma.specs.declared.rules.FetchRules.{FetchRules}
 
 -- ---- units
@@ -65,6 +65,74 @@ begins_as b registers last =
 
 -- ---- fetches
 
+zero_if : (few : Bool) → zero ≡ (if few then zero else zero)
+zero_if true = refl
+zero_if false = refl
+
+-- a slot behind the eighth fetches none
+none_behind : (high : Bool) (planes slot : ℕ) → 0 ≡ fetched_in_slot high planes (suc (suc (suc (suc (suc (suc (suc (suc slot))))))))
+none_behind true planes slot = zero_if (nat_le 0 planes)
+none_behind false planes slot = zero_if (nat_le 0 planes)
+
+in_slot : (high : Bool) (planes slot : ℕ) → slice_index (slots_by high planes) slot ≡ fetched_in_slot high planes slot
+unfolding slots_by
+in_slot high planes zero = refl
+in_slot high planes (suc zero) = refl
+in_slot high planes (suc (suc zero)) = refl
+in_slot high planes (suc (suc (suc zero))) = refl
+in_slot high planes (suc (suc (suc (suc zero)))) = refl
+in_slot high planes (suc (suc (suc (suc (suc zero))))) = refl
+in_slot high planes (suc (suc (suc (suc (suc (suc zero)))))) = refl
+in_slot high planes (suc (suc (suc (suc (suc (suc (suc zero))))))) = refl
+in_slot high planes (suc (suc (suc (suc (suc (suc (suc (suc slot)))))))) = none_behind high planes slot
+
+-- no slot fetches a plane above the sixth
+at_most : (few : Bool) (plane : ℕ) → plane ≤ 6 → (if few then plane else 0) ≤ 6
+at_most true plane most = most
+at_most false plane most = omega arith
+
+slot_at_most : (high : Bool) (slot : ℕ) → slot_plane high slot ≤ 6
+slot_at_most true zero = omega arith
+slot_at_most true (suc zero) = omega arith
+slot_at_most true (suc (suc zero)) = omega arith
+slot_at_most true (suc (suc (suc zero))) = omega arith
+slot_at_most true (suc (suc (suc (suc zero)))) = omega arith
+slot_at_most true (suc (suc (suc (suc (suc zero))))) = omega arith
+slot_at_most true (suc (suc (suc (suc (suc (suc zero)))))) = omega arith
+slot_at_most true (suc (suc (suc (suc (suc (suc (suc zero))))))) = omega arith
+slot_at_most true (suc (suc (suc (suc (suc (suc (suc (suc slot)))))))) = omega arith
+slot_at_most false zero = omega arith
+slot_at_most false (suc zero) = omega arith
+slot_at_most false (suc (suc zero)) = omega arith
+slot_at_most false (suc (suc (suc zero))) = omega arith
+slot_at_most false (suc (suc (suc (suc zero)))) = omega arith
+slot_at_most false (suc (suc (suc (suc (suc zero))))) = omega arith
+slot_at_most false (suc (suc (suc (suc (suc (suc zero)))))) = omega arith
+slot_at_most false (suc (suc (suc (suc (suc (suc (suc zero))))))) = omega arith
+slot_at_most false (suc (suc (suc (suc (suc (suc (suc (suc slot)))))))) = omega arith
+
+pub slot_most : (v slot : ℕ) (registers : Registers) (rules : FetchRules) → rules ≡ rules_of v registers → slice_index rules.slots slot ≤ 6
+slot_most v slot registers rules same =
+    let high : Bool = high_resolution registers in
+    let planes : ℕ = planes_by registers in
+    subst (λ plane. plane ≤ 6) (sym (ap (λ (r : FetchRules). slice_index r.slots slot) same ∙ in_slot high planes slot))
+    (at_most (nat_le (slot_plane high slot) planes) (slot_plane high slot) (slot_at_most high slot))
+
+and_true : (some : Bool) → some ≡ (some && true)
+and_true true = refl
+and_true false = refl
+
+and_false : (some : Bool) → false ≡ (some && false)
+and_false true = refl
+and_false false = refl
+
+-- a slot fetches its plane where that is one and not above the number of planes
+slot_as : (within few : Bool) (plane : ℕ) → (if within && nat_le 1 (if few then plane else 0) then Some (if few then plane else 0) else None)
+    ≡ (if within && (nat_le 1 plane && few) then Some plane else None)
+slot_as true true plane = ap (λ some. if some then Some plane else None) (and_true (nat_le 1 plane))
+slot_as true false plane = ap (λ some. if some then Some plane else None) (and_false (nat_le 1 plane))
+slot_as false few plane = refl
+
 none_of_none : (plane : ℕ) → (nat_le 1 plane && nat_le plane 0) ≡ false
 none_of_none plane = grind (arith, nat_tests)
 
@@ -74,27 +142,33 @@ few_as false plane planes = none_of_none plane
 
 pub plane_as : (v h start : ℕ) (registers : Registers) → plane_by (rules_of v registers) h start ≡ fetched_plane h registers (Some start)
 plane_as v h start registers =
-    let plane : ℕ = slot_plane (high_resolution registers) (h - start) in
-    ap (λ fetches. if is_in_unit h start && fetches then Some plane else None) (few_as (plane_dma registers) plane (planes_of (kept_word registers 0x100)))
+    let high : Bool = high_resolution registers in
+    let planes : ℕ = planes_by registers in
+    let plane : ℕ = slot_plane high (h - start) in
+    ap (λ plane. if is_in_unit h start && nat_le 1 plane then Some plane else None) (in_slot high planes (h - start))
+    ∙ slot_as (is_in_unit h start) (nat_le plane planes) plane
+    ∙ ap (λ fetches. if is_in_unit h start && fetches then Some plane else None)
+    (few_as (plane_dma registers) plane (planes_of (kept_word registers 0x100)))
 
--- in a unit it is that of its slot, where that is fetched
-pub found_in_unit : (rules : FetchRules) (h start plane : ℕ) (fetches : Bool) → start ≤ h → h < start + 8 → plane ≡ slot_plane rules.high (h - start)
-    → fetches ≡ fetches_by rules plane → (if fetches then Some plane else None) ≡ plane_by rules h start
-found_in_unit rules h start plane fetches low high is may =
+-- in a unit it is that of its slot, where that fetches one
+found_in_unit : (rules : FetchRules) (h start plane : ℕ) → start ≤ h → h < start + 8 → plane ≡ slice_index rules.slots (h - start)
+    → (if nat_le 1 plane then Some plane else None) ≡ plane_by rules h start
+found_in_unit rules h start plane low high is =
+    let slot : ℕ = slice_index rules.slots (h - start) in
     let within : is_in_unit h start ≡ true = grind (arith, nat_tests, low, high) in
-    ap (λ f. if f then Some plane else None) may
-    ∙ ap (λ p. if fetches_by rules p then Some p else None) is
-    ∙ sym (ap (λ within. if within && fetches_by rules (slot_plane rules.high (h - start)) then Some (slot_plane rules.high (h - start)) else None) within)
+    ap (λ p. if nat_le 1 p then Some p else None) is
+    ∙ sym (ap (λ within. if within && nat_le 1 slot then Some slot else None) within)
 
-pub some_in_unit : (rules : FetchRules) (h start plane : ℕ) (fetches : Bool) → start ≤ h → h < start + 8 → plane ≡ slot_plane rules.high (h - start)
-    → fetches ≡ fetches_by rules plane → fetches ≡ true → Some plane ≡ plane_by rules h start
-some_in_unit rules h start plane fetches low high is may does =
-    sym (ap (λ f. if f then Some plane else None) does) ∙ found_in_unit rules h start plane fetches low high is may
+pub some_in_unit : (rules : FetchRules) (h start plane : ℕ) → start ≤ h → h < start + 8 → plane ≡ slice_index rules.slots (h - start)
+    → 1 ≤ plane → Some plane ≡ plane_by rules h start
+some_in_unit rules h start plane low high is does =
+    let fetches : nat_le 1 plane ≡ true = grind (arith, nat_tests, does) in
+    sym (ap (λ f. if f then Some plane else None) fetches) ∙ found_in_unit rules h start plane low high is
 
-pub none_in_unit : (rules : FetchRules) (h start plane : ℕ) (fetches : Bool) → start ≤ h → h < start + 8 → plane ≡ slot_plane rules.high (h - start)
-    → fetches ≡ fetches_by rules plane → fetches ≡ false → plane_by rules h start ≡ None
-none_in_unit rules h start plane fetches low high is may lacks =
-    sym (found_in_unit rules h start plane fetches low high is may) ∙ ap (λ f. if f then Some plane else None) lacks
+pub none_in_unit : (rules : FetchRules) (h start plane : ℕ) → start ≤ h → h < start + 8 → plane ≡ slice_index rules.slots (h - start)
+    → plane ≡ 0 → plane_by rules h start ≡ None
+none_in_unit rules h start plane low high is lacks =
+    sym (found_in_unit rules h start plane low high is) ∙ ap (λ p. if nat_le 1 p then Some p else None) lacks
 
 word_as : (odd : Bool) (registers : Registers) → (if odd then kept_word registers 0x108 else kept_word registers 0x10a)
     ≡ kept_word registers (if odd then 0x108 else 0x10a)
@@ -117,7 +191,7 @@ rules_by v diwstrt diwstop ddfstrt ddfstop dmacon bplcon0 odd even = record {
       else None;
   end = min (min 0xd8 ddfstop / 4 * 4) 0xd1;
   high = is_hires bplcon0;
-  planes = if has_bits dmacon 768 then planes_of bplcon0 else 0;
+  slots = slots_by (is_hires bplcon0) (if has_bits dmacon 768 then planes_of bplcon0 else 0);
   odd = odd;
   even = even;
 }

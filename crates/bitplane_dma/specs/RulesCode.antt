@@ -1,5 +1,6 @@
 -- What decides the fetches of a line, read from the registers once.
-use Rattle.std.specs.Prelude.{ℕ, ◌+◌, ◌-◌, ◌%◌, Bool, false, not, ◌&&◌, ◌||◌, ◌==◌, nat_le, nat_lt, min, if◌then◌else◌, Option, Some, None}
+use Rattle.std.specs.Prelude.{ℕ, ◌+◌, ◌-◌, ◌%◌, Bool, false, not, ◌&&◌, ◌||◌, ◌==◌, nat_le, nat_lt, min, if◌then◌else◌}
+use Rattle.std.specs.Prelude.{List, [], ◌∷◌, slice_index, Option, Some, None}
 use Rattle.priority_ham.specs.PlaneCount.{planes_of}
 use Rattle.serial_model.specs.PlaneFetch.{fetch_start, fetch_end, plane_dma, high_resolution, is_in_unit, is_running, slot_plane}
 use Rattle.serial_model.specs.PlaneFetch.{is_last_fetch, modulo_bytes}
@@ -18,13 +19,23 @@ first_unit v registers =
 abbrev pub planes_by : Registers → ℕ
 planes_by registers = if plane_dma registers then planes_of (kept_word registers 0x100) else 0
 
+-- the plane that a slot of a unit fetches, where so many planes are fetched; 0 where it fetches none
+abbrev pub fetched_in_slot : Bool → ℕ → ℕ → ℕ
+fetched_in_slot high planes slot = let plane = slot_plane high slot in if nat_le plane planes then plane else 0
+
+-- the same of each of the eight slots
+unfoldable pub slots_by : Bool → ℕ → List ℕ
+slots_by high planes =
+    fetched_in_slot high planes 0 ∷ fetched_in_slot high planes 1 ∷ fetched_in_slot high planes 2 ∷ fetched_in_slot high planes 3
+    ∷ fetched_in_slot high planes 4 ∷ fetched_in_slot high planes 5 ∷ fetched_in_slot high planes 6 ∷ fetched_in_slot high planes 7 ∷ []
+
 -- what decides the fetches of line v; no unit that begins at clock D1 (hexadecimal) or later is followed by another
 abbrev pub rules_of : ℕ → Registers → FetchRules
 rules_of v registers = record {
   first = first_unit v registers;
   end = min (fetch_end registers) 0xd1;
   high = high_resolution registers;
-  planes = planes_by registers;
+  slots = slots_by (high_resolution registers) (planes_by registers);
   odd = kept_word registers 0x108;
   even = kept_word registers 0x10a;
 }
@@ -42,15 +53,11 @@ follows_by rules h (Some start) = (h == start + 8) && nat_lt start rules.end
 abbrev pub begins_by : FetchRules → ℕ → Option ℕ → Bool
 begins_by rules h last = not (is_running h last) && (follows_by rules h last || is_first h rules.first)
 
--- a unit fetches a plane that is not above the number of planes
-abbrev pub fetches_by : FetchRules → ℕ → Bool
-fetches_by rules plane = nat_le 1 plane && nat_le plane rules.planes
-
 -- the plane that is fetched at clock h, where the line's last unit began at `start`
 abbrev pub plane_by : FetchRules → ℕ → ℕ → Option ℕ
 plane_by rules h start =
-    let plane = slot_plane rules.high (h - start) in
-    if is_in_unit h start && fetches_by rules plane then Some plane else None
+    let plane = slice_index rules.slots (h - start) in
+    if is_in_unit h start && nat_le 1 plane then Some plane else None
 
 -- how many bytes its fetch adds to the pointer beside the word's two
 abbrev pub bytes_by : FetchRules → ℕ → ℕ → ℕ → ℕ

@@ -421,8 +421,8 @@ pub fn fetch_in_unit(rules: &FetchRules, h: u16, start: u16, regs: &mut Regs) ->
     ensures ask { result ≡ plane_ask h regs.old (Some start) }
     ensures moved { regs.new ≡ move_planes h (Some start) regs.old }
 {
-    let plane = rules.slot_plane(h - start);
-    if !rules.fetches(plane) {
+    let plane = rules.slot(h - start);
+    if plane == 0 {
         return None;
     }
     let bytes = rules.bytes(h, start, plane);

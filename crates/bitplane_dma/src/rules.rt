@@ -1,8 +1,8 @@
 //! What decides the fetches of a line, read from the registers once.
 
-ghost use Rattle.std.specs.Prelude.{◌≡◌, ◌≤◌, ◌<◌, true, IfSome};
-ghost use Rattle.bitplane_dma.specs.RulesCode.{rules_of, first_unit, planes_by, begins_by, plane_by, fetches_by, bytes_by};
-ghost use Rattle.serial_model.specs.PlaneFetch.{slot_plane as plane_of_slot};
+ghost use Rattle.std.specs.Prelude.{◌≡◌, ◌≤◌, ◌<◌, ℕ, IfSome, slice_index};
+ghost use Rattle.serial_model.specs.Registers.{Registers};
+ghost use Rattle.bitplane_dma.specs.RulesCode.{rules_of, first_unit, planes_by, begins_by, plane_by, fetched_in_slot as in_slot, bytes_by};
 
 use crate::{fetch_end, fetch_start, has_dma, is_window_line, modulo_bytes, slot_plane};
 use ocs_base::offset::{BPL1MOD, BPL2MOD, BPLCON0};
@@ -19,8 +19,8 @@ pub struct FetchRules {
     end: u16,
     /// Whether units fetch as in high resolution.
     high: bool,
-    /// How many planes are fetched.
-    planes: u16,
+    /// The plane that each of the eight slots of a unit fetches; 0 where it fetches none.
+    slots: [u8; 8],
     /// The kept words of BPL1MOD and BPL2MOD.
     odd: u16,
     even: u16,
@@ -28,14 +28,26 @@ pub struct FetchRules {
 
 impl FetchRules {
     /// Those of the beam's line, by the registers as they are now.
+    #[tactic(auto, unfolding(crate::specs::RulesCode::slots_by))]
     pub fn of(beam: &Beam, regs: &Regs) -> FetchRules
         ensures { result ≡ rules_of beam.now.v regs.now }
     {
+        let high = regs.word(Reg::masked(BPLCON0)) >= 0x8000;
+        let planes = planes_in_unit(regs);
         FetchRules {
             first: first_of_line(beam, regs),
             end: fetch_end(regs).min(0xd1),
-            high: regs.word(Reg::masked(BPLCON0)) >= 0x8000,
-            planes: planes_in_unit(regs),
+            high,
+            slots: [
+                fetched_in_slot(high, planes, 0),
+                fetched_in_slot(high, planes, 1),
+                fetched_in_slot(high, planes, 2),
+                fetched_in_slot(high, planes, 3),
+                fetched_in_slot(high, planes, 4),
+                fetched_in_slot(high, planes, 5),
+                fetched_in_slot(high, planes, 6),
+                fetched_in_slot(high, planes, 7),
+            ],
             odd: regs.word(Reg::masked(BPL1MOD)),
             even: regs.word(Reg::masked(BPL2MOD)),
         }
@@ -60,6 +72,7 @@ impl FetchRules {
     /// The plane that is fetched at clock `h`, if one is, where the last unit began at `start`.
     #[inline(always)]
     pub(crate) fn plane(&self, h: u16, start: u16) -> Option<u8>
+        requires { (v : ℕ) × (registers : Registers) × (self.now ≡ rules_of v registers) }
         ensures plane { result ≡ plane_by self.now h start }
         ensures in_range { IfSome result (λ plane. (1 ≤ plane) × (plane ≤ 6)) }
         ensures behind { IfSome result (λ plane. start ≤ h) }
@@ -67,31 +80,22 @@ impl FetchRules {
         if h < start || h - start >= 8 {
             return None;
         }
-        let plane = slot_plane(self.high, h - start);
-        if plane >= 1 && plane as u16 <= self.planes {
-            Some(plane)
-        } else {
-            None
+        let plane = self.slot(h - start);
+        if plane == 0 {
+            return None;
         }
+        Some(plane)
     }
 
-    /// The plane of a slot of a unit; 0 is none.
+    /// The plane that a slot of a unit fetches; 0 where it fetches none.
     #[inline(always)]
-    pub(crate) fn slot_plane(&self, slot: u16) -> u8
-        requires { slot < 8 }
-        ensures plane { result ≡ plane_of_slot self.now.high slot }
+    pub(crate) fn slot(&self, slot: u16) -> u8
+        requires within { slot < 8 }
+        requires rules { (v : ℕ) × (registers : Registers) × (self.now ≡ rules_of v registers) }
+        ensures plane { result ≡ slice_index self.now.slots slot }
         ensures most { result ≤ 6 }
     {
-        slot_plane(self.high, slot)
-    }
-
-    /// Whether a unit fetches this plane.
-    #[inline(always)]
-    pub(crate) fn fetches(&self, plane: u8) -> bool
-        ensures fetches { result ≡ fetches_by self.now plane }
-        ensures some { result ≡ true → 1 ≤ plane }
-    {
-        plane >= 1 && plane as u16 <= self.planes
+        self.slots[slot as usize]
     }
 
     /// How many bytes a plane's fetch at clock `h` adds to its pointer beside the word's two.
@@ -129,4 +133,13 @@ fn planes_in_unit(regs: &Regs) -> u16
         return 0;
     }
     (con0 / 0x1000 % 8).min(if con0 >= 0x8000 { 4 } else { 6 })
+}
+
+/// The plane that a slot of a unit fetches, where so many planes are fetched; 0 where it fetches none.
+fn fetched_in_slot(high: bool, planes: u16, slot: u16) -> u8
+    requires { slot < 8 }
+    ensures { result ≡ in_slot high planes slot }
+{
+    let plane = slot_plane(high, slot);
+    if plane as u16 <= planes { plane } else { 0 }
 }
