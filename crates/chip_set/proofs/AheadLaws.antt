@@ -22,7 +22,6 @@ use Rattle.serial_model.specs.State.{Chips}
 use Rattle.serial_model.specs.Turns.{take_turn, begins_by, run_chips, interrupt_of}
 use Rattle.cpu_bus.specs.declared.BusCpu.{BusCpu}
 use Rattle.cpu_bus.specs.Bus.{IsProcessorOf, GoesOn, is_slot, wish_shown}
-use Rattle.cpu_bus.specs.Progress.{BeginsAccess}
 use Rattle.chip_set.specs.BusCode.{LeavesToPlanes}
 use Rattle.chip_set.specs.Chips.{WorkingChips, IsChipsOf, HasAsked, HasAccessed, kept_wish, late_ask}
 use Rattle.chip_set.proofs.BusLaws.{turn_of_processor, no_turn, bus_answered}
@@ -33,71 +32,10 @@ pub asked_alone : (b : Beam) (now : WorkingChips) (wish : Option ProcessorAsk) �
 asked_alone b now wish leaves none is =
     turn_of_processor now false (no_turn now false (sym none) refl) refl b leaves ∙ ap (λ w. processor_ask w) is
 
--- ---- the first clock of an access
-
-pub no_wish : (now : BusCpu) → BeginsAccess now → wish_shown now ≡ None
-no_wish now begins =
-    ap (λ on. if on && not (now.spent == 0) then slot_wish now.wait else None) begins.on
-    ∙ ap (λ spent. if not (spent == 0) then slot_wish now.wait else None) begins.spent
-
-abbrev pub left : WorkingChips → WorkingChips
-left now = record now { missed = 0 }
-
-abbrev pub passed : WorkingChips → WorkingChips
-passed now = record now { processor = record now.processor { spent = 1 } }
-
-pub nobody_answered : (b : Beam) (clx : ℕ) (memory : List ℕ) (now : WorkingChips) → LeavesToPlanes b now → BeginsAccess now.processor
-    → (side : SideAsk) (c : Chips) → IsInTime b side → HasAsked b c now → A.Free ≡ ask_at side b c
-    → HasAccessed side b clx c memory M.Nothing (left now)
-nobody_answered b clx memory now leaves begins =
-    bus_answered b clx memory A.Free now (left now) 0 M.Nothing leaves refl refl
-    (sym (ap (λ wish. record now { missed = missed_after wish A.Free now.missed }) (no_wish now.processor begins))) refl
-
-turn_of_slot : (wait : Wait) (spent : ℕ) → is_slot wait ≡ true → turn_by wait spent ≡ T.Waits 1
-turn_of_slot (W.Slot ask) spent is = refl
-turn_of_slot (W.Cia cia reg byte) spent is = absurd (false≢true is)
-turn_of_slot W.Unmapped spent is = absurd (false≢true is)
-turn_of_slot (W.Idle clocks) spent is = absurd (false≢true is)
-turn_of_slot W.Halted spent is = absurd (false≢true is)
-
-first_turn : (now : BusCpu) (p : Processor) → BeginsAccess now → IsProcessorOf now p → turn_of p ≡ T.Waits 1
-unfolding turn_of
-first_turn now p begins is =
-    ap (λ on. if on then turn_with p.given (processor_wait p) p.spent else T.Rests) (is.on ∙ begins.on)
-    ∙ ap (λ (given : Option ℕ). turn_with given (processor_wait p) p.spent) (is.given ∙ begins.given)
-    ∙ turn_of_slot (processor_wait p) p.spent (ap is_slot is.wait ∙ begins.waits)
-
-with_turn : (now new : WorkingChips) (c : Chips) (turn : Turn) → turn_of c.processor ≡ turn → IsChipsOf new (take_turn turn c) → IsChipsOf new (run_chips c)
+pub with_turn : (now new : WorkingChips) (c : Chips) (turn : Turn) → turn_of c.processor ≡ turn → IsChipsOf new (take_turn turn c)
+    → IsChipsOf new (run_chips c)
 unfolding run_chips
 with_turn now new c turn is stands = subst (λ t. IsChipsOf new (take_turn t c)) (sym is) stands
-
-pub first_passes : (now : WorkingChips) (c : Chips) → BeginsAccess now.processor → IsChipsOf now c → IsChipsOf (passed now) (run_chips c)
-first_passes now c begins is =
-    with_turn now (passed now) c (T.Waits 1) (first_turn now.processor c.processor begins is.processor) (record {
-      registers = is.registers;
-      last = is.last;
-      kinds = is.kinds;
-      copper = is.copper;
-      blit = is.blit;
-      zero = is.zero;
-      irq = is.irq;
-      processor = record {
-        chip = is.processor.chip;
-        on = is.processor.on;
-        stands = is.processor.stands;
-        wait = is.processor.wait;
-        spent = refl;
-        given = is.processor.given;
-      };
-      missed = is.missed;
-      cia_a = is.cia_a;
-      cia_b = is.cia_b;
-      inputs = is.inputs;
-    })
-
-pub first_begins_none : (now : WorkingChips) (c : Chips) → BeginsAccess now.processor → IsChipsOf now c → None ≡ interrupt_of c
-unfolding interrupt_of
-first_begins_none now c begins is = sym (ap (λ t. begins_by t c) (first_turn now.processor c.processor begins is.processor))
 
 -- ---- the read of a word
 
@@ -136,7 +74,8 @@ read_answered at b clx memory now leaves =
       inputs = is.inputs;
     }) refl
 
-given_turn : (word : ℕ) (now : BusCpu) (p : Processor) → now.on ≡ true → IsProcessorOf (record now { given = Some word }) p → turn_of p ≡ T.Goes word
+given_turn : (word : ℕ) (now : BusCpu) (p : Processor) → now.on ≡ true → IsProcessorOf (record now { given = Some word }) p
+    → turn_of p ≡ T.Goes word
 unfolding turn_of
 given_turn word now p on is =
     ap (λ o. if o then turn_with p.given (processor_wait p) p.spent else T.Rests) (is.on ∙ on)
@@ -148,7 +87,8 @@ on_of_wish true rest wish ask is = refl
 on_of_wish false rest wish ask is = absurd (false≢true (ap (λ (w : Option ProcessorAsk). is_some w) is))
 
 -- what the word leads to does not hang on its having been given
-ungiven : (word : ℕ) (now : BusCpu) (p : Processor) → IsProcessorOf (record now { given = Some word }) p → IsProcessorOf now (record p { given = now.given })
+ungiven : (word : ℕ) (now : BusCpu) (p : Processor) → IsProcessorOf (record now { given = Some word }) p
+    → IsProcessorOf now (record p { given = now.given })
 ungiven word now p is = record {
   chip = is.chip;
   on = is.on;

@@ -1,6 +1,6 @@
 -- Clocks that refresh, sprites and the Copper leave to the planes, the blitter and the processor.
 use Rattle.std.proofs.Common.{◌≡◌, ◌⊎◌, inl, inr, ◌<◌, ◌≤◌, ℕ, suc, ◌+◌, ◌-◌, ◌%◌, ◌==◌, bit_or, Bool, true, false, not, ◌&&◌, ◌||◌, if◌then◌else◌, true≢false}
-use Rattle.std.proofs.Common.{List, [], ◌∷◌, Option, Some, None, is_some, nat_le, arith, refl, ap, subst, ◌∙◌, sym}
+use Rattle.std.proofs.Common.{List, [], ◌∷◌, Option, Some, None, is_some, arith, refl, ap, subst, ◌∙◌, sym}
 use Rattle.std.proofs.lemmas.Bool.{false≢true}
 use Rattle.std.proofs.lemmas.Bool.Decides.{nat_tests}
 use Rattle.std.specs.Option.{option_map}

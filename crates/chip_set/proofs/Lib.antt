@@ -12,3 +12,4 @@ mod StartLaws
 pub mod FetchLaws
 pub mod BusLaws
 pub mod AheadLaws
+pub mod BesideLaws

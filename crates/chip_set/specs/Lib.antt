@@ -1,4 +1,5 @@
 pub mod AskLaws
+pub mod Beside
+pub mod BusCode
 pub mod Chips
 pub mod Quiet
-pub mod BusCode

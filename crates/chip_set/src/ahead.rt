@@ -1,29 +1,80 @@
-//! Clocks that everybody else leaves to the processor, made at once: the first of an access, in which nobody asks
-//! for the slot, and the read of a word of memory.
+//! The processor's turn made at once with what becomes of the slot: where that is another's or nobody's and it only
+//! waits, where its idle clocks are over, and where it has the slot itself.
 
-ghost use Rattle.std.specs.Prelude.{◌≡◌, true};
+ghost use Rattle.std.specs.Prelude.{◌≡◌, true, false};
+ghost use Rattle.serial_model.specs.declared.bus.Ask.{Ask as AskOf};
+ghost use Rattle.serial_model.specs.declared.bus.Ask.TheVariants as A;
+ghost use Rattle.serial_model.specs.Bus.{is_processor_ask};
 ghost use Rattle.serial_model.specs.Processor.{Processor, slot_wish};
+ghost use Rattle.serial_model.specs.State.{Chips as ChipsOf};
+ghost use Rattle.serial_model.specs.Turns.{run_chips, interrupt_of};
 ghost use Rattle.irq_cia.specs.Interrupts.{level_of};
 ghost use Rattle.cpu_bus.specs.Bus.{IsProcessorOf, GoesOn, is_slot};
-ghost use Rattle.cpu_bus.specs.Progress.{IsProgress, BeginsAnew};
+ghost use Rattle.cpu_bus.specs.Beside.{turn_beside_of, only_waits, BeginsAnew, begins_anew_of};
+ghost use Rattle.cpu_bus.specs.declared.TurnBeside.TheVariants as T;
+ghost use Rattle.chip_set.specs.Beside.{WaitsBeside, missing};
+ghost use Rattle.chip_set.specs.Chips.{IsChipsOf};
 
 use crate::chips::Chips;
-use cpu_bus::Progress;
+use cpu_bus::TurnBeside;
 use serial_model::ProcessorAsk;
 
 impl Chips {
-    /// How far the processor is with an access. Nothing hangs on `Other` but how fast a run is.
+    /// What a clock makes of the processor whose slot is not its own.
     #[inline(always)]
-    pub fn progress(&self) -> Progress
-        ensures { IsProgress result self.now.processor }
+    pub fn turn_beside(&self) -> TurnBeside
+        ensures { result ≡ turn_beside_of self.now.processor }
     {
-        self.processor.progress()
+        self.processor.turn_beside()
+    }
+
+    /// The slot of a clock is another's or nobody's, and then the processor takes its turn, if it only waits in it.
+    /// The answer says so; where it does more its turn is still to come.
+    #[inline(always)]
+    pub fn wait_beside(&mut self) -> bool
+        ensures only { result ≡ only_waits (turn_beside_of self.old.processor) }
+        ensures waits { result ≡ true → WaitsBeside self.old self.new }
+        ensures left { result ≡ false → (ask : AskOf) → is_processor_ask ask ≡ false
+            → self.new ≡ missing ask self.old }
+    {
+        match self.processor.turn_beside() {
+            TurnBeside::Waits { spent } => {
+                self.missed = 0;
+                self.processor.wait(spent);
+                true
+            }
+            TurnBeside::Asks => {
+                self.missed = self.missed.saturating_add(1).min(3);
+                self.processor.wait(1);
+                true
+            }
+            TurnBeside::GoesOn | TurnBeside::Other => {
+                self.missed = self.missed_beside_another();
+                false
+            }
+        }
+    }
+
+    /// A clock in whose slot nobody is, and in which the idle clocks of the processor are over: it goes on. The
+    /// answer is the level of an interrupt that begins with it.
+    #[inline(always)]
+    pub fn end_idle(&mut self) -> Option<u8>
+        requires over { turn_beside_of self.old.processor ≡ T.GoesOn }
+        ensures runs { (c : ChipsOf) → IsChipsOf (missing A.Free self.old) c
+            → IsChipsOf self.new (run_chips c) }
+        ensures interrupt { (c : ChipsOf) → IsChipsOf (missing A.Free self.old) c
+            → result ≡ interrupt_of c }
+        ensures kept { self.new ≡ record self.old { missed = 0; processor = self.new.processor } }
+    {
+        self.missed = 0;
+        self.go_on_or_rest(0)
     }
 
     /// Whether the processor is on, and what it waits for has just begun.
     #[inline(always)]
     pub fn begins_anew(&self) -> bool
-        ensures { result ≡ true → BeginsAnew self.now.processor }
+        ensures begins { result ≡ begins_anew_of self.now.processor }
+        ensures anew { result ≡ true → BeginsAnew self.now.processor }
     {
         self.processor.begins_anew()
     }
@@ -34,18 +85,6 @@ impl Chips {
         ensures { result ≡ slot_wish self.now.processor.wait }
     {
         self.processor.next_ask()
-    }
-
-    /// The first clock of an access passes, in which nobody has the slot.
-    #[inline(always)]
-    pub fn pass_first_clock(&mut self)
-        ensures { self.new ≡ record self.old {
-          missed = 0;
-          processor = record self.old.processor { spent = 1 };
-        } }
-    {
-        self.missed = 0;
-        self.processor.pass_first_clock();
     }
 
     /// The processor has the slot, with this word for the answer, and goes on with it. The answer is the level of

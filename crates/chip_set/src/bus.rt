@@ -4,7 +4,7 @@ ghost use Rattle.std.specs.Prelude.{◌≡◌, ◌≤◌, ◌<◌, ◌+◌, ◌&
 ghost use Rattle.bitplane_dma.specs.Quiet.{IsUnitAt};
 ghost use Rattle.bitplane_dma.specs.RulesCode.{rules_of};
 ghost use Rattle.ocs_base.specs.declared.beam.Beam.{Beam as BeamOf};
-ghost use Rattle.serial_model.specs.Bus.{blit_owner_ask, missed_after, processor_ask as processor_ask_of};
+ghost use Rattle.serial_model.specs.Bus.{blit_owner_ask, processor_ask as processor_ask_of};
 ghost use Rattle.quiet_clocks.specs.PlainClock.{comes_first};
 ghost use Rattle.serial_model.specs.Beam.{later_beam};
 ghost use Rattle.serial_model.specs.PlaneFetch.{IsLastUnit, last_unit_at, is_running};
@@ -12,7 +12,6 @@ ghost use Rattle.serial_model.specs.Side.{IsInTime};
 ghost use Rattle.serial_model.specs.State.{Chips as ChipsOf};
 ghost use Rattle.serial_model.specs.Bus.{ask_at};
 ghost use Rattle.serial_model.specs.declared.bus.SideAsk.{SideAsk};
-ghost use Rattle.serial_model.specs.declared.fetch.PlaneAsk.{PlaneAsk as PlaneAskOf};
 ghost use Rattle.serial_model.specs.declared.bus.Ask.TheVariants as A;
 ghost use Rattle.cpu_bus.specs.Bus.{wish_shown};
 ghost use Rattle.quiet_clocks.specs.FetchClocks.{fetching_after, ask_of_fetching};
@@ -137,16 +136,6 @@ impl Chips {
             Some(rules) => self.fetch_plane(rules, beam, unit),
             None => None,
         }
-    }
-
-    /// A plane has the slot of such a clock: the processor misses it if it asks.
-    #[inline(always)]
-    pub fn pass_plane(&mut self)
-        ensures { (ask : PlaneAskOf) → self.new ≡ record self.old {
-          missed = missed_after (wish_shown self.old.processor) (A.Plane ask) self.old.missed;
-        } }
-    {
-        self.missed = self.missed_beside_another();
     }
 
     /// The planes' part of a clock behind a line's first, by what decides the fetches of the line: the plane

@@ -636,7 +636,7 @@ impl Chips {
 
     /// The blit under way has the answer of its slot.
     #[inline(always)]
-    fn give_blit(&mut self, word: u16)
+    pub fn give_blit(&mut self, word: u16)
         requires { IsGoing self.old.blit }
         ensures gives { GivesBlit word self.old self.new }
         ensures kept { is_some self.new.blit ≡ is_some self.old.blit

@@ -16,6 +16,6 @@ pub use asks::is_clx_ask;
 pub use bitplane_dma::FetchRules;
 pub use bus::{BlitterClaim, Unit};
 pub use chips::Chips;
-pub use cpu_bus::Progress;
+pub use cpu_bus::TurnBeside;
 pub use fetches::is_fetch_ask;
 pub use late::LateOwner;

@@ -165,7 +165,7 @@ impl Chips {
     /// The processor goes on with a word, where that is its turn. One that only waits on by it, as while it
     /// is stopped by STOP, is not worked out anew.
     #[inline(always)]
-    fn go_on_or_rest(&mut self, word: u16) -> Option<u8>
+    pub(crate) fn go_on_or_rest(&mut self, word: u16) -> Option<u8>
         ensures chips { (c : ChipsOf) → IsChipsOf self.old c → turn_of c.processor ≡ Goes word
             → IsChipsOf self.new (go_on_with word c) }
         ensures interrupt { (c : ChipsOf) → IsChipsOf self.old c → turn_of c.processor ≡ Goes word

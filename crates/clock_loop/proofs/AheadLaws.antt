@@ -1,50 +1,44 @@
 -- Clocks on the bus that everybody else leaves to the processor, made at once.
-use Rattle.std.proofs.Common.{◌≡◌, ◌≤◌, ◌<◌, ◌+◌, ◌-◌, ◌^◌, ℕ, Bool, true, false, not, ◌&&◌, ◌==◌, if◌then◌else◌, []}
-use Rattle.std.proofs.Common.{Option, Some, None, is_some, Result, Ok, Err, IfOk, OnOk, OnErr}
+use Rattle.std.proofs.Common.{◌≡◌, ◌≤◌, ◌<◌, ◌+◌, ◌-◌, ◌^◌, ℕ, Bool, true, false}
+use Rattle.std.proofs.Common.{None, Result, Ok, Err, IfOk, OnErr}
 use Rattle.std.proofs.Common.{arith, refl, ap, subst, sym, ◌∙◌}
-use Rattle.std.proofs.lemmas.Bool.{false≢true}
 use Rattle.ocs_base.specs.declared.beam.Beam.{Beam}
-use Rattle.ocs_base.specs.declared.system.System.TheVariants.{Pal}
 use Rattle.out_files.specs.OutFiles.{OutFilesValue}
 use Rattle.serial_model.specs.declared.bus.Ask.{Ask}
 use Rattle.serial_model.specs.declared.bus.Ask.TheVariants as A
-use Rattle.serial_model.specs.declared.bus.ProcessorAsk.{ProcessorAsk}
-use Rattle.serial_model.specs.declared.processor.Wait.{Wait}
-use Rattle.serial_model.specs.declared.processor.Wait.TheVariants as W
-use Rattle.serial_model.specs.Processor.{slot_wish}
 use Rattle.serial_model.specs.Side.{SideValue}
-use Rattle.cpu_bus.specs.declared.BusCpu.{BusCpu}
-use Rattle.cpu_bus.specs.Bus.{is_slot, wish_shown}
-use Rattle.cpu_bus.specs.Progress.{BeginsAnew}
+use Rattle.cpu_bus.specs.Bus.{wish_shown}
+use Rattle.serial_model.specs.Bus.{processor_ask}
+use Rattle.cpu_bus.specs.Beside.{BeginsAnew}
 use Rattle.serial_bands.specs.BusReads.{bus_reads, reads_of_ask}
 use Rattle.serial_model.specs.Beam.{later_beam}
-use Rattle.chip_set.specs.AskLaws.{is_clx_ask}
-use Rattle.chip_set.specs.BusCode.{CiasRest}
+use Rattle.chip_set.specs.BusCode.{CiasRest, KeepsCias}
+use Rattle.chip_set.specs.Chips.{CanAsk, IsBlitAsk, kept_wish, late_ask}
 use Rattle.chip_set.specs.declared.bus.BlitterClaim.{BlitterClaim}
-use Rattle.chip_set.proofs.BusLaws.{rest_kept, rest_next}
+use Rattle.chip_set.proofs.AheadLaws.{asked_alone}
+use Rattle.chip_set.proofs.BusLaws.{HasAskedOnBus, asked_without_planes, rest_kept, rest_next}
+use Rattle.chip_set.proofs.TurnLaws.{rested}
 use Rattle.band_log.specs.Raster.{RasterValue}
 use Rattle.machine.specs.Machine.{MachineValue}
 use Rattle.machine.specs.MachineStepsCode.{AsksInTime}
 use Rattle.machine.specs.AheadCode.{IsLeftToProcessor, IsLeftThen, IsClockAtOnce, IsAccessInTwo, IsAccessInPart}
+use Rattle.machine.proofs.AskedLaws.{asks_alone}
 use Rattle.machine.proofs.BusLaws.{place_in_line}
+use Rattle.machine.proofs.StepLaws.{Makes-advanced}
+use Rattle.clock_loop.specs.BusRun.{HasAskedFor, AdvancesInLine, StaysBehind, EndsAlone}
 use Rattle.clock_loop.specs.BusRun.{CanMakeClock, HasMadeClock, HasMadeClockInPart, GoesOnBus, CanMakeClocks, HasRunOnBus, HasRunInPart}
 use Rattle.foreground.specs.Clock.{Rises}
 use Rattle.foreground.specs.Fore.{ForeOf, ForeValue, CanGo, GivesPart, looked_up}
-use Rattle.foreground.specs.Steps.{EndsClock, KeepsClock, MakesAskedAccess, HasAskedNow, reads_more}
-use Rattle.foreground.proofs.AdvanceLaws.{ends_clock}
+use Rattle.foreground.specs.Steps.{reads_more}
 use Rattle.foreground.proofs.BeginLaws.{begins_no_part}
-use Rattle.clock_loop.proofs.BusLaws.{untouched, none_made}
-use Rattle.clock_loop.proofs.ClockLaws.{HasAskedWith, can_access, rises_within_line, clock_made}
+use Rattle.clock_loop.proofs.BusLaws.{none_made}
+use Rattle.clock_loop.proofs.EndLaws.{no_files, alone_whole, alone_stays, alone_cias}
+use Rattle.clock_loop.proofs.ClockLaws.{rises_within_line}
 use Rattle.clock_loop.proofs.ClockLaws.{first_can, next_can, run_and_clock, run_and_part, fewer_left}
 use Rattle.clock_loop.proofs.RunToLaws.{can_go_on}
-use Rattle.foreground.proofs.MadeLaws.{makes_quietly}
-
--- output files without names and pending text
-pub no_files : OutFilesValue
-no_files = record { names = record { frames = []; trace = []; memory = [] }; system = Pal; frames = []; trace = []; given = 0 }
 
 -- the machine is left to the processor
-pub left_alone : (rest : ℕ) (claim : BlitterClaim) (f : ForeValue) (seen : RasterValue) → CanMakeClock None rest claim f seen → 0 < rest
+left_alone : (rest : ℕ) (claim : BlitterClaim) (f : ForeValue) (seen : RasterValue) → CanMakeClock None rest claim f seen → 0 < rest
     → claim.asks ≡ false → IsLeftToProcessor rest f.machine
 left_alone rest claim f seen can some none = record {
   side = can.within.ready.side;
@@ -62,43 +56,84 @@ few_at_once : (rest : ℕ) (claim : BlitterClaim) (ask : Ask) (f : ForeValue) (s
 few_at_once rest claim ask f seen reads can asks is =
     (rises_within_line ask f f reads reads seen no_files can.within (record { asks = asks; same = refl }) is refl).1
 
--- a clock that was made at once
-pub made_at_once : (rest : ℕ) (claim : BlitterClaim) (ask : Ask) (f : ForeValue) (m : MachineValue) (before seen : RasterValue) (out given : OutFilesValue)
-    → CanMakeClock None rest claim f before → is_clx_ask ask ≡ false → IsClockAtOnce ask f.machine out m given
-    → HasMadeClock f (record f { machine = m }) seen seen out given
-made_at_once rest claim ask f m before seen out given can quiet at =
-    let asked : HasAskedWith ask f f = record { asks = at.asks; same = refl } in
-    let now : HasAskedNow ask f = (can_access ask f f before out can.within asked at.able at.wish).asked in
-    let behind : ForeValue = record f { machine = at.accessed } in
-    let makes : MakesAskedAccess f behind seen seen out out =
-    makes_quietly f ask at.made None at.accessed f.log seen out out now quiet at.access at.does at.place at.stores (sym at.unseen) (λ able. tt)
-    (untouched at.accessed.t None f.log can.within.ready.waits refl) in
-    let kept : KeepsClock f behind = record { run = refl; t = at.place.t; beam = at.place.beam; next = refl; spent = refl } in
-    let ends : EndsClock behind (record behind { machine = m }) out given =
-    ends_clock f.run.script.system behind behind at.processed m out given refl refl at.turns at.same (at.advances _) at.count at.chip in
-    let beam : m.beam ≡ later_beam 1 at.accessed.beam = at.beam ∙ ap (λ (x : MachineValue). later_beam 1 x.beam) at.same in
-    let here : at.accessed.beam.h ≡ f.machine.beam.h = ap (λ (b : Beam). b.h) at.place.beam in
-    let low : at.accessed.beam.h < 226 = (let last = can.within.last in omega (arith, last, here)) in
-    clock_made ask f f behind (record behind { machine = m }) false before seen seen out out given can.within asked makes kept at.reads ends
-    (beam ∙ sym (place_in_line f.run.script.system false at.accessed.beam low))
-
-pub stays_at_once : (rest : ℕ) (claim : BlitterClaim) (ask : Ask) (f : ForeValue) (m : MachineValue) (before : RasterValue) (out given : OutFilesValue)
-    → CanMakeClock None rest claim f before → IsClockAtOnce ask f.machine out m given → GoesOnBus None (rest - 1) f (record f { machine = m })
-stays_at_once rest claim ask f m before out given can at =
-    let count : m.t ≡ f.machine.t + 1 = at.count ∙ ap (λ (x : MachineValue). x.t + 1) at.same ∙ ap (λ t. t + 1) at.place.t in
+-- the chips of such a clock ask as they stand
+pub asked_as_it_stands : (rest : ℕ) (claim : BlitterClaim) (f : ForeValue) (seen : RasterValue) → CanMakeClock None rest claim f seen → 0 < rest
+    → claim.asks ≡ false → HasAskedFor (processor_ask (wish_shown f.machine.chips.processor)) f f
+asked_as_it_stands rest claim f seen can some none =
+    let m : MachineValue = f.machine in
+    let alone : IsLeftToProcessor rest m = left_alone rest claim f seen can some none in
+    let asked : HasAskedOnBus m.beam m.chips m.chips None = asked_without_planes m.beam m.chips alone.leaves in
+    let ask : Ask = processor_ask (wish_shown m.chips.processor) in
+    let is : late_ask m.beam m.chips ≡ ask = asked_alone m.beam m.chips _ alone.leaves.others alone.alone refl in
     record {
-      chips = at.keeps.0;
-      ready = record {
-        waits = can.within.ready.waits;
-        before = (let before = can.within.ready.before in omega (arith, before, count));
-        side = at.side ∙ can.within.ready.side;
-      };
-      rests = subst (λ t. CiasRest t (rest - 1) m.chips) (sym count)
-          (rest_kept (f.machine.t + 1) (rest - 1) f.machine.chips m.chips at.keeps.1 (rest_next f.machine.t rest f.machine.chips can.rests));
+      asks = asks_alone m m m.chips ask alone.side (λ c stands. rested m.t rest m.chips c alone.rests alone.some stands)
+          (λ c stands. sym is ∙ asked.ask c stands) asked.chips refl;
+      able = subst CanAsk is asked.able;
+      wish = subst (λ a. IsBlitAsk a (kept_wish m.chips)) is asked.wish;
+      same = refl;
     }
 
+-- a clock that was made at once
+asked_at_once : (ask : Ask) (f : ForeValue) (m : MachineValue) (out given : OutFilesValue) → IsClockAtOnce ask f.machine out m given → HasAskedFor ask f f
+asked_at_once ask f m out given at = record { asks = at.asks; able = at.able; wish = at.wish; same = refl }
+
+in_line : (m : MachineValue) → m.beam.h < 226 → AdvancesInLine m (record m { t = m.t + 1; beam = later_beam 1 m.beam })
+in_line m low = record {
+  step = λ system. Makes-advanced system m (record m { t = m.t + 1; beam = later_beam 1 m.beam }) refl (sym (place_in_line system _ m.beam low)) refl;
+  beam = λ system. sym (place_in_line system _ m.beam low);
+  count = refl;
+  chip = refl;
+  chips = refl;
+  side = refl;
+}
+
+advances_at_once : (ask : Ask) (old new : MachineValue) (out given : OutFilesValue) → (at : IsClockAtOnce ask old out new given)
+    → AdvancesInLine at.processed new
+advances_at_once ask old new out given at =
+    let made = at.rest.at in
+    let here : at.processed.beam.h ≡ old.beam.h =
+    ap (λ (x : MachineValue). x.beam.h) made.same ∙ ap (λ (b : Beam). b.h) made.access.place.beam in
+    let line = at.line in
+    subst (λ x. AdvancesInLine at.processed x) (sym at.advanced) (in_line at.processed (omega (arith, line, here)))
+
+made_at_once : (rest : ℕ) (claim : BlitterClaim) (ask : Ask) (f : ForeValue) (m : MachineValue) (before seen : RasterValue) (out given : OutFilesValue)
+    → CanMakeClock None rest claim f before → IsClockAtOnce ask f.machine out m given → HasMadeClock f (record f { machine = m }) seen seen out given
+made_at_once rest claim ask f m before seen out given can at =
+    alone_whole ask f f at.processed m before seen out given can.within (asked_at_once ask f m out given at) at.rest
+    (advances_at_once ask f.machine m out given at)
+
+-- further ones may come behind it
+goes_alone_on : (rest : ℕ) (claim : BlitterClaim) (f g : ForeValue) (before : RasterValue) → CanMakeClock None rest claim f before → StaysBehind f g
+    → KeepsCias f.machine.chips g.machine.chips → g.machine.t ≡ f.machine.t + 1 → GoesOnBus None (rest - 1) f g
+goes_alone_on rest claim f g before can stays kept count = record {
+  chips = stays.chips;
+  ready = record {
+    waits = stays.waits;
+    before = (let before = can.within.ready.before in let from = stays.from in omega (arith, before, from, count));
+    side = stays.side ∙ can.within.ready.side;
+  };
+  rests = subst (λ t. CiasRest t (rest - 1) g.machine.chips) (sym count)
+      (rest_kept (f.machine.t + 1) (rest - 1) f.machine.chips g.machine.chips kept (rest_next f.machine.t rest f.machine.chips can.rests));
+}
+
+pub alone_goes_on : {E : Type 0} (rest : ℕ) (claim : BlitterClaim) (ask : Ask) (f g : ForeValue) (before : RasterValue) (out given : OutFilesValue)
+    (r : Result Bool E) → CanMakeClock None rest claim f before → HasAskedFor ask f f → EndsAlone ask f g out given r
+    → IfOk r (λ made. made ≡ true → GoesOnBus None (rest - 1) f g)
+alone_goes_on rest claim ask f g before out given (Ok made) can asked ends =
+    λ is. goes_alone_on rest claim f g before can (ends.bus is) (ends.cias is) (ends.made is f before before can.within asked).count
+alone_goes_on rest claim ask f g before out given (Err e) can asked ends = tt
+
+stays_at_once : (rest : ℕ) (claim : BlitterClaim) (ask : Ask) (f : ForeValue) (m : MachineValue) (before : RasterValue) (out given : OutFilesValue)
+    → CanMakeClock None rest claim f before → IsClockAtOnce ask f.machine out m given → GoesOnBus None (rest - 1) f (record f { machine = m })
+stays_at_once rest claim ask f m before out given can at =
+    let advances = advances_at_once ask f.machine m out given at in
+    goes_alone_on rest claim f (record f { machine = m }) before can
+    (alone_stays ask f at.processed m out given can.within.ready.waits at.rest advances)
+    (alone_cias ask f.machine at.processed m out given at.rest advances)
+    (made_at_once rest claim ask f m before before out given can at).count
+
 -- one that wanted memory
-pub wanted_at_once : (rest : ℕ) (claim : BlitterClaim) (ask : Ask) (f new : ForeValue) (before seen : RasterValue) (out given : OutFilesValue)
+wanted_at_once : (rest : ℕ) (claim : BlitterClaim) (ask : Ask) (f new : ForeValue) (before seen : RasterValue) (out given : OutFilesValue)
     → CanMakeClock None rest claim f before → AsksInTime ask f.machine f.machine
     → new.machine.chip.reads ≡ reads_more (reads_of_ask ask) f.machine.chip.reads → given ≡ out → HasMadeClockInPart f new seen seen out given
 wanted_at_once rest claim ask f new before seen out given can asks reads same = record {
@@ -107,19 +142,6 @@ wanted_at_once rest claim ask f new before seen out given can asks reads same = 
 }
 
 -- the same of a foreground that is seen in two ways
-pub made_now : (rest : ℕ) (claim : BlitterClaim) (ask : Ask) (f g : ForeValue) (m : MachineValue) (before seen : RasterValue) (out given : OutFilesValue)
-    → g ≡ f → CanMakeClock None rest claim f before → is_clx_ask ask ≡ false → IsClockAtOnce ask g.machine out m given
-    → HasMadeClock f (record g { machine = m }) seen seen out given
-made_now rest claim ask f g m before seen out given view can quiet at =
-    subst (λ x. HasMadeClock f (record x { machine = m }) seen seen out given) (sym view)
-    (made_at_once rest claim ask f m before seen out given can quiet (subst (λ x. IsClockAtOnce ask x.machine out m given) view at))
-
-pub stays_now : (rest : ℕ) (claim : BlitterClaim) (ask : Ask) (f g : ForeValue) (m : MachineValue) (before : RasterValue) (out given : OutFilesValue)
-    → g ≡ f → CanMakeClock None rest claim f before → IsClockAtOnce ask g.machine out m given → GoesOnBus None (rest - 1) f (record g { machine = m })
-stays_now rest claim ask f g m before out given view can at =
-    subst (λ x. GoesOnBus None (rest - 1) f (record x { machine = m })) (sym view)
-    (stays_at_once rest claim ask f m before out given can (subst (λ x. IsClockAtOnce ask x.machine out m given) view at))
-
 pub alone_now : (rest : ℕ) (claim : BlitterClaim) (f g : ForeValue) (seen : RasterValue) → g ≡ f → CanMakeClock None rest claim f seen → 0 < rest
     → claim.asks ≡ false → IsLeftToProcessor rest g.machine
 alone_now rest claim f g seen view can some none =
@@ -144,7 +166,7 @@ first_of_two limit n rest claim f mid able out go fresh can two rests begins =
     let next : 0 < n - 1 = omega (arith, two) in
     let one : CanMakeClock None rest claim f able = first_can limit n None rest claim f able some can go fresh in
     let made : (seen : RasterValue) → HasMadeClock f f1 seen seen out out =
-    λ seen. made_at_once rest claim A.Free f mid able seen out out one refl begins in
+    λ seen. made_at_once rest claim A.Free f mid able seen out out one begins in
     let more : CanMakeClocks limit (n - 1) None (rest - 1) claim f1 =
     next_can limit n None rest (rest - 1) claim f f1 able able out out some can refl (made able)
     (stays_at_once rest claim A.Free f mid able out out one begins) in
@@ -180,7 +202,7 @@ two_at_once limit n rest claim f m able out given go fresh can two rests made =
     let f2 : ForeValue = record f { machine = m } in
     let first : HasMadeFirst limit n rest claim f f1 able out = first_of_two limit n rest claim f made.mid able out go fresh can two rests made.begins in
     let second : (seen : RasterValue) → HasMadeClock f1 f2 seen seen out given =
-    λ seen. made_at_once (rest - 1) claim made.ask f1 m able seen out given first.one made.quiet made.accesses in
+    λ seen. made_at_once (rest - 1) claim made.ask f1 m able seen out given first.one made.accesses in
     let behind : CanMakeClocks limit (n - 1 - 1) None (rest - 1 - 1) claim f2 =
     next_can limit (n - 1) None (rest - 1) (rest - 1 - 1) claim f1 f2 able able out given (omega (arith, two)) first.can refl (second able)
     (stays_at_once (rest - 1) claim made.ask f1 m able out given first.one made.accesses) in
@@ -204,7 +226,8 @@ two_now limit n rest claim f g m able out given view go fresh can two rests made
 
 -- memory was wanted in the second
 pub two_in_part : (limit n rest : ℕ) (claim : BlitterClaim) (f g h : ForeValue) (m : MachineValue) (able seen : RasterValue) (out given : OutFilesValue)
-    → g ≡ f → h.machine.chip.reads ≡ m.chip.reads → CanGo f able → f.spent ≡ false → CanMakeClocks limit n None rest claim f → 1 < n → 1 < rest
+    → g ≡ f → h.machine.chip.reads ≡ m.chip.reads → CanGo f able → f.spent ≡ false → CanMakeClocks limit n None rest claim f → 1 < n
+    → 1 < rest
     → IsAccessInPart g.machine out m given → HasRunInPart limit f h seen seen out given
 two_in_part limit n rest claim f g h m able seen out given view same go fresh can two rests part =
     let f1 : ForeValue = record f { machine = part.mid } in
@@ -216,24 +239,6 @@ two_in_part limit n rest claim f g h m able seen out given view same go fresh ca
     run_and_part limit f f1 h able seen seen seen out out given first.go fresh refl first.before
     (run_and_clock limit f f f1 able seen seen seen out out out go fresh refl (omega (arith, before, one)) (none_made limit f seen out) (first.made seen))
     (wanted_at_once (rest - 1) claim part.ask f1 h able seen out given first.one part.asks (same ∙ part.reads) part.same)
-
--- it asks only while it waits for a slot
-slot_of_wish : (on rest : Bool) (wait : Wait) (ask : ProcessorAsk) → (if on && rest then slot_wish wait else None) ≡ Some ask → is_slot wait ≡ true
-slot_of_wish true true (W.Slot it) ask is = refl
-slot_of_wish true true (W.Cia cia reg byte) ask is = absurd (false≢true (ap (λ (w : Option ProcessorAsk). is_some w) is))
-slot_of_wish true true W.Unmapped ask is = absurd (false≢true (ap (λ (w : Option ProcessorAsk). is_some w) is))
-slot_of_wish true true (W.Idle clocks) ask is = absurd (false≢true (ap (λ (w : Option ProcessorAsk). is_some w) is))
-slot_of_wish true true W.Halted ask is = absurd (false≢true (ap (λ (w : Option ProcessorAsk). is_some w) is))
-slot_of_wish true false wait ask is = absurd (false≢true (ap (λ (w : Option ProcessorAsk). is_some w) is))
-slot_of_wish false rest wait ask is = absurd (false≢true (ap (λ (w : Option ProcessorAsk). is_some w) is))
-
-waits_of_wish : (now : BusCpu) (ask : ProcessorAsk) → wish_shown now ≡ Some ask → is_slot now.wait ≡ true
-waits_of_wish now ask is = slot_of_wish now.on (not (now.spent == 0)) now.wait ask is
-
-pub waits_view : {S : Type 0} (seen : S → SideValue) (g f : ForeOf S) (ask : ProcessorAsk) → g ≡ f → wish_shown f.machine.chips.processor ≡ Some ask
-    → is_slot g.machine.chips.processor.wait ≡ true
-waits_view seen g f ask view is =
-    subst (λ (x : ForeOf _). is_slot x.machine.chips.processor.wait ≡ true) (sym view) (waits_of_wish f.machine.chips.processor ask is)
 
 pub time_view : {S : Type 0} (seen : S → SideValue) (g f : ForeOf S) → g ≡ f → f.machine.chip.newest ≤ f.machine.t
     → g.machine.chip.newest ≤ g.machine.t
@@ -250,10 +255,6 @@ anew_view seen g f view anew = subst (λ (x : ForeOf _). BeginsAnew x.machine.ch
 pub if_ok_then : {T E : Type 0} {P Q : T → Type 0} (r : Result T E) → ((x : T) → P x → Q x) → IfOk r P → IfOk r Q
 if_ok_then (Ok x) next told = next x told
 if_ok_then (Err e) next told = tt
-
-pub on_ok_then : {T E P Q : Type 0} (r : Result T E) → (P → Q) → OnOk r P → OnOk r Q
-on_ok_then (Ok x) next told = next told
-on_ok_then (Err e) next told = tt
 
 pub on_err_then : {T E P Q : Type 0} (r : Result T E) → (P → Q) → OnErr r P → OnErr r Q
 on_err_then (Ok x) next told = tt

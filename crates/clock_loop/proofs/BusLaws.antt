@@ -9,10 +9,10 @@ use Rattle.serial_model.specs.Side.{SideValue}
 use Rattle.serial_model.specs.SpriteFetch.{kinds_at}
 use Rattle.bitplane_dma.specs.declared.rules.FetchRules.{FetchRules}
 use Rattle.band_log.specs.Raster.{RasterValue}
-use Rattle.chip_set.specs.BusCode.{LeavesToPlanes, LeavesBeside, LeaveBus, KeepsBus, KeepsOnBus, KeepsBeside, KeepsCias, CiasRest, IsUnitKept, is_bus_made}
+use Rattle.chip_set.specs.BusCode.{LeavesToPlanes, LeavesBeside, LeaveBus, KeepsBus, KeepsBeside, KeepsCias, CiasRest, IsUnitKept, is_bus_made}
 use Rattle.chip_set.specs.declared.bus.Unit.{Unit}
 use Rattle.chip_set.specs.Chips.{WorkingChips}
-use Rattle.chip_set.proofs.BusLaws.{leaves_beside_kept, beside_kept, beside_then, rest_kept, none_kept, unit_kept, unit_kept_on_bus}
+use Rattle.chip_set.proofs.BusLaws.{leaves_beside_kept, beside_kept, beside_then, rest_kept, none_kept, unit_kept}
 use Rattle.out_files.specs.OutFiles.{OutFilesValue}
 use Rattle.picture_log.specs.Log.{with_waiting, with_access_touch, waiting_list, waiting_write}
 use Rattle.picture_log.specs.declared.log.Log.{Log}
@@ -22,9 +22,9 @@ use Rattle.serial_model.specs.Made.{touch_of}
 use Rattle.serial_model.specs.declared.bus.Made.{Made}
 use Rattle.serial_model.specs.declared.bus.Made.TheVariants as M
 use Rattle.serial_model.specs.declared.picture.Touch.{Touch}
-use Rattle.clock_loop.specs.BusRun.{IsOpenForBus, StaysOnBus, GoesOnBus, HasRunOnBus}
+use Rattle.clock_loop.specs.BusRun.{IsOpenForBus, StaysOnBus, StaysBehind, GoesOnBus, HasRunOnBus}
 use Rattle.foreground.specs.Fore.{ForeOf, ForeValue, IsUnderway, over, is_done}
-use Rattle.foreground.specs.Steps.{BeginsClock, EndsClock, KeepsClock}
+use Rattle.foreground.specs.Steps.{BeginsClock}
 use Rattle.foreground.proofs.BeginLaws.{begins_within}
 use Rattle.clock_loop.proofs.LineLaws.{no_band_place, no_read_due}
 use Rattle.clock_loop.proofs.RunToLaws.{runs_none, no_reads}
@@ -93,30 +93,18 @@ rest_left n asked accessed same stays rest =
     subst (λ at. CiasRest (at + 1) n accessed.machine.chips) (sym same)
     (rest_kept (asked.machine.t + 1) n asked.machine.chips accessed.machine.chips stays.chips.1 rest)
 
-pub line_left : (old asked accessed : Beam) → old.h < 226 → asked ≡ old → IsSamePlace asked accessed → accessed.h < 226
-line_left old asked accessed low same place =
-    let at : accessed.h ≡ asked.h = ap (λ (b : Beam). b.h) place in
-    let was : asked.h ≡ old.h = ap (λ (b : Beam). b.h) same in
-    omega (arith, low, at, was)
-
-pub goes_on_bus : (rules : Option FetchRules) (rest : ℕ) (f0 f1 f2 f3 : ForeValue) {out given : OutFilesValue}
-    → KeepsBeside rules f0.machine.chips f1.machine.chips → f1 ≡ record f0 { machine = f1.machine } → f1.machine.side ≡ f0.machine.side
-    → KeepsClock f1 f2 → StaysOnBus f1 f2 → EndsClock f2 f3 out given → KeepsBus f2.machine.chips f3.machine.chips
-    → f3.machine.side ≡ f2.machine.side → f1.machine.t ≡ f0.machine.t → IsOpenForBus f0
-    → CiasRest f3.machine.t rest f3.machine.chips → GoesOnBus rules rest f0 f3
-goes_on_bus rules rest f0 f1 f2 f3 asks same alone clock stays ends kept side at ready rests =
-    let log : f1.log ≡ f0.log = ap (λ (f : ForeValue). f.log) same in
-    let from : f3.log.band.from ≡ f0.log.band.from =
-    ap (λ (l : Log). l.band.from) ends.log ∙ stays.from ∙ ap (λ (l : Log). l.band.from) log in
-    let later : f3.machine.t ≡ f0.machine.t + 1 = ends.t ∙ ap (λ t. t + 1) (clock.t ∙ at) in
+pub goes_on_bus : (rules : Option FetchRules) (rest : ℕ) (f0 f1 f3 : ForeValue) → KeepsBeside rules f0.machine.chips f1.machine.chips
+    → f1 ≡ record f0 { machine = f1.machine } → f1.machine.side ≡ f0.machine.side → StaysBehind f1 f3 → f3.machine.t ≡ f0.machine.t + 1
+    → IsOpenForBus f0 → CiasRest f3.machine.t rest f3.machine.chips → GoesOnBus rules rest f0 f3
+goes_on_bus rules rest f0 f1 f3 asks same alone stays later ready rests =
+    let from : f3.log.band.from ≡ f0.log.band.from = stays.from ∙ ap (λ (f : ForeValue). f.log.band.from) same in
     record {
       chips = beside_then rules f0.machine.chips f1.machine.chips f3.machine.chips asks
-          (beside_then rules f1.machine.chips f2.machine.chips f3.machine.chips (beside_kept rules f1.machine.chips f2.machine.chips stays.chips.0)
-          (beside_kept rules f2.machine.chips f3.machine.chips kept));
+          (beside_kept rules f1.machine.chips f3.machine.chips stays.chips);
       ready = record {
-        waits = ap (λ (l : Log). l.waiting) ends.log ∙ stays.waits;
-        before = omega (arith, ready.before, from, later);
-        side = side ∙ stays.side ∙ alone ∙ ready.side;
+        waits = stays.waits;
+        before = (let before = ready.before in omega (arith, before, from, later));
+        side = stays.side ∙ alone ∙ ready.side;
       };
       rests = rests;
     }
@@ -138,17 +126,16 @@ pub unit_stays : {S : Type 0} (seen : S → SideValue) (f g : ForeOf S) (unit : 
     → IsUnitKept unit g.machine.beam.h g.machine.chips.last
 unit_stays seen f g unit made none count still is = unit_view seen g f unit (still (omega (arith, none, count))) is
 
--- and it is kept over the steps of a clock
-pub unit_then : (unit : Unit) (f0 f1 f2 f3 : ForeValue) → f1.machine.beam ≡ f0.machine.beam → IsSamePlace (later_beam 1 f0.machine.beam) f3.machine.beam
-    → KeepsOnBus f1.machine.chips f2.machine.chips → KeepsBus f2.machine.chips f3.machine.chips
-    → IsUnitKept unit (f1.machine.beam.h + 1) f1.machine.chips.last → IsUnitKept unit f3.machine.beam.h f3.machine.chips.last
-unit_then unit f0 f1 f2 f3 same place access ends is =
+-- and it is kept over the rest of a clock
+pub unit_then : (unit : Unit) (f0 f1 f3 : ForeValue) → f1.machine.beam ≡ f0.machine.beam → IsSamePlace (later_beam 1 f0.machine.beam) f3.machine.beam
+    → KeepsBus f1.machine.chips f3.machine.chips → IsUnitKept unit (f1.machine.beam.h + 1) f1.machine.chips.last
+    → IsUnitKept unit f3.machine.beam.h f3.machine.chips.last
+unit_then unit f0 f1 f3 same place kept is =
     let was : f1.machine.beam.h ≡ f0.machine.beam.h = ap (λ (b : Beam). b.h) same in
     let at : f3.machine.beam.h ≡ f0.machine.beam.h + 1 = ap (λ (b : Beam). b.h) place in
     let there : f1.machine.beam.h + 1 ≡ f3.machine.beam.h = omega (arith, was, at) in
     subst (λ h. IsUnitKept unit h f3.machine.chips.last) there
-    (unit_kept unit (f1.machine.beam.h + 1) f2.machine.chips f3.machine.chips ends
-    (unit_kept_on_bus unit (f1.machine.beam.h + 1) f1.machine.chips f2.machine.chips access is))
+    (unit_kept unit (f1.machine.beam.h + 1) f1.machine.chips f3.machine.chips kept is)
 
 -- LOF does not count
 others_elsewhere : (b : Beam) (lof : Bool) (now : WorkingChips) → LeavesToPlanes b now → LeavesToPlanes (record b { lof = lof }) now

@@ -1,23 +1,19 @@
 -- A clock within a line, from its steps, and such clocks one behind the other.
-use Rattle.std.proofs.Common.{◌≡◌, ◌≤◌, ◌<◌, ◌+◌, ◌-◌, ℕ, Bool, false, true, Option, None, Result, Ok, Err, IfOk, OnOk}
+use Rattle.std.proofs.Common.{◌≡◌, ◌≤◌, ◌<◌, ◌+◌, ◌-◌, ℕ, Bool, false, Option}
 use Rattle.std.proofs.Common.{arith, refl, ap, subst, sym, ◌∙◌}
-use Rattle.std.proofs.lemmas.Bool.{true≢false}
 use Rattle.mem_versions.specs.Chip.{ChipValue}
 use Rattle.out_files.specs.OutFiles.{OutFilesValue}
 use Rattle.serial_model.specs.declared.bus.Ask.{Ask}
-use Rattle.serial_model.specs.declared.fetch.PlaneAsk.{PlaneAsk}
 use Rattle.serial_model.specs.Beam.{next_place}
 use Rattle.serial_bands.specs.BusReads.{bus_reads, reads_of_ask}
 use Rattle.bitplane_dma.specs.declared.rules.FetchRules.{FetchRules}
-use Rattle.chip_set.specs.BusCode.{ask_beside_planes}
 use Rattle.chip_set.specs.declared.bus.BlitterClaim.{BlitterClaim}
 use Rattle.chip_set.specs.Chips.{CanAsk, IsBlitAsk, kept_wish, late_ask}
 use Rattle.chip_set.proofs.BusLaws.{claim_kept}
 use Rattle.band_log.specs.Raster.{RasterValue}
 use Rattle.machine.specs.MachineStepsCode.{AsksInTime}
-use Rattle.clock_loop.specs.declared.turn.Access.{Access}
 use Rattle.clock_loop.specs.BusRun.{IsWithinLine, CanMakeClock, HasMadeClock, HasMadeClockInPart, GoesOnBus, CanMakeClocks}
-use Rattle.clock_loop.specs.BusRun.{HasRunOnBus, HasRunInPart, HasAskedLate, is_made}
+use Rattle.clock_loop.specs.BusRun.{HasRunOnBus, HasRunInPart, HasAskedLate}
 use Rattle.clock_loop.specs.LineCode.{AreInLine}
 use Rattle.clock_loop.specs.RunTo.{RisesInSome}
 use Rattle.foreground.specs.AccessCode.{CanAccess}
@@ -118,22 +114,6 @@ same_part f0 f g seen after out given same part = record {
   few = subst (λ n. Rises 0 (bus_reads f0.run f0.machine.t + looked_up f0) f0.machine.chip.reads n) (sym same) part.few;
 }
 
--- no plane has the slot, and nothing more was made
-pub asked_late : (plane : Option PlaneAsk) (f0 f1 f2 : ForeValue) → plane ≡ None → f2 ≡ f1
-    → AsksInTime (ask_beside_planes plane f1.machine.beam f1.machine.chips) f0.machine f1.machine
-    → CanAsk (ask_beside_planes plane f1.machine.beam f1.machine.chips)
-    → IsBlitAsk (ask_beside_planes plane f1.machine.beam f1.machine.chips) (kept_wish f1.machine.chips)
-    → f1 ≡ record f0 { machine = f1.machine } → HasAskedLate f0 f2
-asked_late plane f0 f1 f2 none still asks able wish same =
-    let late : ask_beside_planes plane f1.machine.beam f1.machine.chips ≡ late_ask f1.machine.beam f1.machine.chips =
-    ap (λ p. ask_beside_planes p f1.machine.beam f1.machine.chips) none in
-    subst (λ f. HasAskedLate f0 f) (sym still) (record {
-      asks = subst (λ ask. AsksInTime ask f0.machine f1.machine) late asks;
-      able = subst CanAsk late able;
-      wish = subst (λ ask. IsBlitAsk ask (kept_wish f1.machine.chips)) late wish;
-      same = same;
-    })
-
 -- the ask that was worked out anew
 pub late_view : {S : Type 0} (g f : ForeOf S) (ask : Ask) → g ≡ f → ask ≡ late_ask g.machine.beam g.machine.chips
     → ask ≡ late_ask f.machine.beam f.machine.chips
@@ -225,7 +205,8 @@ run_and_part_run limit f0 f g s0 s1 s2 o0 o1 o2 run before ran part = record {
 }
 
 -- where nothing more was made
-pub run_and_none : (limit : ℕ) (f0 f g : ForeValue) (s0 s1 : RasterValue) (o0 o1 o2 : OutFilesValue) → g ≡ f → o2 ≡ o1 → HasRunOnBus limit f0 f s0 s1 o0 o1
+pub run_and_none : (limit : ℕ) (f0 f g : ForeValue) (s0 s1 : RasterValue) (o0 o1 o2 : OutFilesValue) → g ≡ f → o2 ≡ o1
+    → HasRunOnBus limit f0 f s0 s1 o0 o1
     → HasRunOnBus limit f0 g s0 s1 o0 o2
 run_and_none limit f0 f g s0 s1 o0 o1 o2 same untold ran =
     subst (λ x. HasRunOnBus limit f0 x s0 s1 o0 o2) (sym same) (subst (λ o. HasRunOnBus limit f0 f s0 s1 o0 o) (sym untold) ran)
@@ -274,18 +255,6 @@ gone_in_part_run limit f0 f g h s0 s1 s2 o0 o1 o2 gone before part same =
 pub gone_untold : (limit : ℕ) (f0 f : ForeValue) (s0 s : RasterValue) (o0 o1 o2 : OutFilesValue) → o2 ≡ o1 → HasGoneOn limit f0 f s0 s o0 o1
     → HasGoneOn limit f0 f s0 s o0 o2
 gone_untold limit f0 f s0 s o0 o1 o2 same gone = subst (λ o. HasGoneOn limit f0 f s0 s o0 o) (sym same) gone
-
--- ---- answers
-
--- what holds of each answer that is no refusal
-pub if_made : {E : Type 0} (P : Type 0) (r : Result Access E) → OnOk r P → IfOk r (λ access. is_made access ≡ true → P)
-if_made P (Ok access) p = λ made. p
-if_made P (Err e) p = tt
-
--- an access that was made was not left
-pub none_left : {E : Type 0} (P : Type 0) (r : Result Access E) → IfOk r (λ access. is_made access ≡ true) → IfOk r (λ access. is_made access ≡ false → P)
-none_left P (Ok access) made = λ left. absurd (true≢false (sym made ∙ left))
-none_left P (Err e) made = tt
 
 -- ---- counts
 

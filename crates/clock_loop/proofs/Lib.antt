@@ -6,4 +6,5 @@ pub mod UnitLaws
 pub mod LineLaws
 pub mod BusLaws
 pub mod ClockLaws
+pub mod EndLaws
 pub mod AheadLaws

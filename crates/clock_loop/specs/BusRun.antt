@@ -3,21 +3,29 @@ use Rattle.std.specs.Prelude.{◌≡◌, ◌≤◌, ◌<◌, ◌+◌, ◌-◌, �
 use Rattle.band_log.specs.Raster.{RasterValue}
 use Rattle.out_files.specs.OutFiles.{OutFilesValue}
 use Rattle.serial_model.specs.declared.bus.Ask.{Ask}
+use Rattle.serial_model.specs.declared.bus.Made.{Made}
+use Rattle.serial_model.specs.Made.{touch_of}
 use Rattle.serial_model.specs.Side.{no_side}
 use Rattle.bitplane_dma.specs.declared.rules.FetchRules.{FetchRules}
-use Rattle.chip_set.specs.BusCode.{LeaveBus, LeavesBeside, IsClaim, KeepsBeside, KeepsOnBus, CiasRest}
+use Rattle.chip_set.specs.BusCode.{LeaveBus, LeavesBeside, IsClaim, KeepsBeside, KeepsBus, KeepsCias, KeepsOnBus, CiasRest}
 use Rattle.chip_set.specs.declared.bus.BlitterClaim.{BlitterClaim}
-use Rattle.chip_set.specs.Chips.{CanAsk, IsBlitAsk, kept_wish, late_ask}
-use Rattle.machine.specs.Machine.{IsSamePlace}
+use Rattle.chip_set.specs.Chips.{CanAsk, CanDo, IsBlitAsk, kept_wish, late_ask}
+use Rattle.machine.specs.AheadCode.{IsAccessAtOnce, IsMadeAtOnce}
+use Rattle.machine.specs.Machine.{MachineValue, Makes, MakesQuietly, IsSamePlace}
 use Rattle.machine.specs.MachineStepsCode.{AsksInTime}
-use Rattle.serial_model.specs.Beam.{later_beam}
+use Rattle.serial_model.specs.Beam.{later_beam, next_place}
+use Rattle.serial_model.specs.Registers.{is_interlaced}
+use Rattle.serial_model.specs.Tick.{run_processor, advance_beam}
+use Rattle.ocs_base.specs.declared.system.System.{System}
 use Rattle.serial_bands.specs.BusReads.{bus_reads, reads_of_ask}
+use Rattle.serial_bands.specs.Shadows.{IsInRange}
+use Rattle.picture_log.specs.Log.{with_access_touch, waiting_write}
 use Rattle.serial_model.specs.Events.{due_events}
 use Rattle.foreground.specs.Clock.{Rises}
 use Rattle.foreground.specs.Fore.{ForeValue, IsUnderway, Advances, GivesPart, is_done, looked_up}
 use Rattle.foreground.specs.Steps.{MakesAskedAccess, AccessesPart, KeepsClock, reads_more}
-use Rattle.clock_loop.specs.declared.turn.Access.{Access}
-use Rattle.clock_loop.specs.declared.turn.Access.TheVariants as X
+use Rattle.clock_loop.specs.declared.clock.Access.{Access}
+use Rattle.clock_loop.specs.declared.clock.Access.TheVariants as X
 use Rattle.clock_loop.specs.LineCode.{AreInLine}
 use Rattle.clock_loop.specs.RunTo.{RunsOn, RisesIn, RisesInSome}
 
@@ -30,6 +38,13 @@ pub record IsOpenForBus (fore : ForeValue) : Type 0 where
 -- behind an access all that stays as it is, and no write waits
 pub record StaysOnBus (old new : ForeValue) : Type 0 where
   pub chips : KeepsOnBus old.machine.chips new.machine.chips
+  pub waits : new.log.waiting ≡ None
+  pub from : new.log.band.from ≡ old.log.band.from
+  pub side : new.machine.side ≡ old.machine.side
+
+-- and behind the clock, but for the CIAs
+pub record StaysBehind (old new : ForeValue) : Type 0 where
+  pub chips : KeepsBus old.machine.chips new.machine.chips
   pub waits : new.log.waiting ≡ None
   pub from : new.log.band.from ≡ old.log.band.from
   pub side : new.machine.side ≡ old.machine.side
@@ -79,12 +94,16 @@ pub record ServesAsk {E : Type 0} (ask : Ask) (old new : ForeValue) (out given :
   pub same : IfOk result (λ access. is_made access ≡ false → new ≡ old)
   pub untold : IfOk result (λ access. is_made access ≡ false → given ≡ out)
 
--- the chips have asked for the slot of a clock, and nobody but the Copper, the blitter and the processor may have it
-pub record HasAskedLate (old new : ForeValue) : Type 0 where
-  pub asks : AsksInTime (late_ask new.machine.beam new.machine.chips) old.machine new.machine
-  pub able : CanAsk (late_ask new.machine.beam new.machine.chips)
-  pub wish : IsBlitAsk (late_ask new.machine.beam new.machine.chips) (kept_wish new.machine.chips)
+-- the chips have asked for the slot of a clock with this
+pub record HasAskedFor (ask : Ask) (old new : ForeValue) : Type 0 where
+  pub asks : AsksInTime ask old.machine new.machine
+  pub able : CanAsk ask
+  pub wish : IsBlitAsk ask (kept_wish new.machine.chips)
   pub same : new ≡ record old { machine = new.machine }
+
+-- and nobody but the Copper, the blitter and the processor may have it
+abbrev pub HasAskedLate : ForeValue → ForeValue → Type 0
+HasAskedLate old new = HasAskedFor (late_ask new.machine.beam new.machine.chips) old new
 
 -- it was made, and memory was read as often as it needs
 pub record HasMadeClock (old new : ForeValue) (seen after : RasterValue) (out given : OutFilesValue) : Type 0 where
@@ -98,6 +117,62 @@ pub record HasMadeClock (old new : ForeValue) (seen after : RasterValue) (out gi
 pub record HasMadeClockInPart (old new : ForeValue) (seen after : RasterValue) (out given : OutFilesValue) : Type 0 where
   pub part : GivesPart old seen after out given
   pub few : Rises 0 (bus_reads old.run old.machine.t + looked_up old) old.machine.chip.reads new.machine.chip.reads
+
+-- what came of the rest of a clock whose chips have asked for the slot with this, whatever raster there is: where it was not made
+-- all is as it was
+pub record EndsItsClock {E : Type 0} (ask : Ask) (old new : ForeValue) (out given : OutFilesValue) (result : Result Access E) : Type 0 where
+  pub made : IfOk result (λ access. is_made access ≡ true → (f : ForeValue) (before seen : RasterValue) → IsWithinLine f before
+      → HasAskedFor ask f old → HasMadeClock f new seen seen out given)
+  pub part : OnErr result ((f : ForeValue) (before seen : RasterValue) → IsWithinLine f before → HasAskedFor ask f old
+      → HasMadeClockInPart f new seen seen out given)
+  pub bus : IfOk result (λ access. stays_left access ≡ true → StaysBehind old new)
+  pub same : IfOk result (λ access. is_made access ≡ false → new ≡ old)
+  pub untold : IfOk result (λ access. is_made access ≡ false → given ≡ out)
+  pub run : new.run ≡ old.run
+
+-- the same of a clock in which the processor has the slot, or nobody: the answer is whether it was made
+pub record EndsAlone {E : Type 0} (ask : Ask) (old new : ForeValue) (out given : OutFilesValue) (result : Result Bool E) : Type 0 where
+  pub made : IfOk result (λ made. made ≡ true → (f : ForeValue) (before seen : RasterValue) → IsWithinLine f before
+      → HasAskedFor ask f old → HasMadeClock f new seen seen out given)
+  pub part : OnErr result ((f : ForeValue) (before seen : RasterValue) → IsWithinLine f before → HasAskedFor ask f old
+      → HasMadeClockInPart f new seen seen out given)
+  pub bus : IfOk result (λ made. made ≡ true → StaysBehind old new)
+  pub cias : IfOk result (λ made. made ≡ true → KeepsCias old.machine.chips new.machine.chips)
+  pub same : IfOk result (λ made. made ≡ false → new ≡ old)
+  pub untold : IfOk result (λ made. made ≡ false → given ≡ out)
+  pub run : new.run ≡ old.run
+
+-- behind the access that a clock makes with this ask, for which the chips have asked: the log has its touch, and where the processor
+-- has only waited, its turn is made too
+pub record HasServed (ask : Ask) (made : Made) (waited : Bool) (old new : ForeValue) : Type 0 where
+  pub turned : waited ≡ true → (out : OutFilesValue) → IsMadeAtOnce ask made old.machine out new.machine out
+  pub access : waited ≡ false → (out : OutFilesValue) → IsAccessAtOnce ask made old.machine out new.machine out
+  pub notes : new.log ≡ with_access_touch old.machine.t (touch_of made) old.log
+  pub range : CanDo made → IsInRange (touch_of made)
+  pub waits : waiting_write old.machine.t (touch_of made) ≡ None
+  pub same : new ≡ record old { machine = new.machine; log = new.log }
+
+-- the processor has taken its turn behind the access
+pub record IsTurned (old : MachineValue) (out : OutFilesValue) (new : MachineValue) (given : OutFilesValue) : Type 0 where
+  pub turns : Makes run_processor old out new given
+  pub same : new ≡ record old { chips = new.chips }
+  pub keeps : KeepsBus old.chips new.chips
+
+-- the beam has advanced within a line
+pub record AdvancesInLine (old new : MachineValue) : Type 0 where
+  pub step : (system : System) → MakesQuietly (advance_beam system) old new
+  pub beam : (system : System) → new.beam ≡ next_place system (is_interlaced old.chips.registers) old.beam
+  pub count : new.t ≡ old.t + 1
+  pub chip : new.chip ≡ old.chip
+  pub chips : new.chips ≡ old.chips
+  pub side : new.side ≡ old.side
+
+-- both, or the second alone where the processor has waited already
+pub record EndsBeside (waited : Bool) (old : MachineValue) (out : OutFilesValue) (new : MachineValue) (given : OutFilesValue) : Type 0 where
+  pub processed : MachineValue
+  pub turned : waited ≡ false → IsTurned old out processed given
+  pub same : waited ≡ true → (processed ≡ old) × (given ≡ out)
+  pub advances : AdvancesInLine processed new
 
 -- the next n clocks are in this line, before the clock `limit`, and leave the bus to the planes by these rules, to the blitter,
 -- which asks so, and to the processor

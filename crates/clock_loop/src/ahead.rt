@@ -1,21 +1,19 @@
-//! Clocks on the bus that everybody else leaves to the processor, made at once: the first of an access, in which
-//! it does not ask yet, and the read or the write of a word of memory.
+//! Clocks on the bus that everybody else leaves to the processor, made one behind the other, and both clocks of an
+//! access to memory at once.
 
 ghost use Rattle.std.specs.Prelude.{◌≡◌, ◌≤◌, ◌<◌, ◌-◌, ◌+◌, true, false, Some, None, IfOk, OnOk, OnErr};
-ghost use Rattle.out_files.specs.OutFiles.{OutFilesValue};
-ghost use Rattle.serial_model.specs.declared.bus.ProcessorAsk.TheVariants as P;
 ghost use Rattle.band_log.specs.Raster.{RasterValue};
-ghost use Rattle.cpu_bus.specs.Bus.{is_slot, wish_shown};
-ghost use Rattle.cpu_bus.specs.Progress.{BeginsAccess, BeginsAnew};
+ghost use Rattle.cpu_bus.specs.Beside.{BeginsAnew};
 ghost use Rattle.clock_loop.specs.BusRun.{CanMakeClock, HasMadeClock, HasMadeClockInPart, GoesOnBus};
 ghost use Rattle.clock_loop.specs.BusRun.{CanMakeClocks, HasRunOnBus, HasRunInPart};
 ghost use Rattle.foreground.specs.Fore.{over, CanGo};
 
-use chip_set::{BlitterClaim, Progress};
+use crate::clock::process_alone;
+use chip_set::BlitterClaim;
 use foreground::Fore;
-use ocs_base::{Addr, OutOfMemory};
+use ocs_base::OutOfMemory;
 use out_files::OutFiles;
-use serial_model::{Half, ProcessorAsk, Side};
+use serial_model::Side;
 
 /// The first of the next `left` clocks, as far as the processor begins or makes an access to memory in each. The
 /// planes have no slot in them, the blitter does not ask for one, and the clock `limit` comes behind them; in
@@ -199,88 +197,5 @@ fn clock_alone<S: Side>(
     ensures none { IfOk result (λ made. made ≡ false → fore.new ≡ fore.old) }
     ensures given { IfOk result (λ made. made ≡ false → out.new ≡ out.old) }
 {
-    if let Progress::Begins = fore.machine.chips.progress() {
-        pass_first_clock(fore, claim, rest);
-        return Ok(true);
-    }
-    match fore.machine.chips.processor_wish() {
-        Some(ProcessorAsk::Read { at }) => {
-            read_at_once(fore, claim, at, rest, out)?;
-            Ok(true)
-        }
-        Some(ProcessorAsk::Write { at, half, word }) => {
-            write_at_once(fore, claim, at, half, word, rest, out)?;
-            Ok(true)
-        }
-        _ => Ok(false),
-    }
-}
-
-/// The first clock of an access of the processor, where the planes have no slot and the blitter does not ask
-/// for one. In `rest` clocks from it on nothing is to be done for the CIAs.
-#[inline(always)]
-fn pass_first_clock<S: Side>(fore: &mut Fore<S>, claim: &BlitterClaim, rest: u16)
-    requires can { (seen : RasterValue) × CanMakeClock None rest claim.now
-        (over S.seen fore.old) seen }
-    requires some { 0 < rest }
-    requires alone { claim.now.asks ≡ false }
-    requires begins { BeginsAccess fore.old.machine.chips.processor }
-    ensures made { (seen : RasterValue) (out : OutFilesValue) → HasMadeClock
-        (over S.seen fore.old) (over S.seen fore.new) seen seen out out }
-    ensures run { (over S.seen fore.new).run ≡ (over S.seen fore.old).run }
-    ensures bus { GoesOnBus None (rest - 1) (over S.seen fore.old) (over S.seen fore.new) }
-{
-    fore.machine.pass_first_clock();
-}
-
-/// A clock in which the processor reads the word at this address, where the same holds.
-#[inline(always)]
-fn read_at_once<S: Side>(
-    fore: &mut Fore<S>,
-    claim: &BlitterClaim,
-    at: Addr,
-    rest: u16,
-    out: &mut OutFiles,
-) -> Result<(), OutOfMemory>
-    requires can { (seen : RasterValue) × CanMakeClock None rest claim.now
-        (over S.seen fore.old) seen }
-    requires some { 0 < rest }
-    requires alone { claim.now.asks ≡ false }
-    requires asks { wish_shown fore.old.machine.chips.processor ≡ Some (P.Read at) }
-    ensures made { OnOk result ((seen : RasterValue) → HasMadeClock
-        (over S.seen fore.old) (over S.seen fore.new) seen seen out.old out.new) }
-    ensures part { OnErr result ((seen : RasterValue) → HasMadeClockInPart
-        (over S.seen fore.old) (over S.seen fore.new) seen seen out.old out.new) }
-    ensures run { (over S.seen fore.new).run ≡ (over S.seen fore.old).run }
-    ensures bus { OnOk result
-        (GoesOnBus None (rest - 1) (over S.seen fore.old) (over S.seen fore.new)) }
-{
-    fore.machine.read_at_once(at, out)
-}
-
-/// A clock in which it writes this word, or its low byte as one half of a word, at this address.
-#[inline(always)]
-fn write_at_once<S: Side>(
-    fore: &mut Fore<S>,
-    claim: &BlitterClaim,
-    at: Addr,
-    half: Half,
-    word: u16,
-    rest: u16,
-    out: &mut OutFiles,
-) -> Result<(), OutOfMemory>
-    requires can { (seen : RasterValue) × CanMakeClock None rest claim.now
-        (over S.seen fore.old) seen }
-    requires some { 0 < rest }
-    requires alone { claim.now.asks ≡ false }
-    requires asks { wish_shown fore.old.machine.chips.processor ≡ Some (P.Write at half word) }
-    ensures made { OnOk result ((seen : RasterValue) → HasMadeClock
-        (over S.seen fore.old) (over S.seen fore.new) seen seen out.old out.new) }
-    ensures part { OnErr result ((seen : RasterValue) → HasMadeClockInPart
-        (over S.seen fore.old) (over S.seen fore.new) seen seen out.old out.new) }
-    ensures run { (over S.seen fore.new).run ≡ (over S.seen fore.old).run }
-    ensures bus { OnOk result
-        (GoesOnBus None (rest - 1) (over S.seen fore.old) (over S.seen fore.new)) }
-{
-    fore.machine.write_at_once(at, half, word, out)
+    process_alone(fore, out)
 }

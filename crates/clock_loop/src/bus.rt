@@ -1,25 +1,23 @@
 //! Clocks of a line that refresh, sprites and the Copper leave to the planes, the blitter and the processor,
 //! made one behind the other.
 
-ghost use Rattle.std.specs.Prelude.{◌≡◌, ◌<◌, ◌+◌, ◌-◌, ◌^◌, ℕ, Bool, true, false, None, IfOk, OnOk, OnErr};
-ghost use Rattle.serial_model.specs.Beam.{next_place};
+ghost use Rattle.std.specs.Prelude.{◌≡◌, ◌<◌, ◌+◌, ◌-◌, ◌^◌, ℕ, true, false, None, IfOk, OnOk, OnErr};
 ghost use Rattle.serial_model.specs.Side.{no_side};
 ghost use Rattle.band_log.specs.Raster.{RasterValue};
-ghost use Rattle.chip_set.specs.BusCode.{LeavesToPlanes, LeavesBeside, LeaveBus, KeepsBus, KeepsBeside};
-ghost use Rattle.chip_set.specs.BusCode.{CiasRest, IsClaim, IsUnitKept, ask_beside_planes};
+ghost use Rattle.chip_set.specs.BusCode.{LeavesToPlanes, LeavesBeside, LeaveBus, KeepsBeside};
+ghost use Rattle.chip_set.specs.BusCode.{CiasRest, IsUnitKept, ask_beside_planes};
 ghost use Rattle.chip_set.specs.Chips.{CanAsk, IsBlitAsk, kept_wish};
-ghost use Rattle.foreground.specs.AccessCode.{CanAccess, MakesAccessWith};
 ghost use Rattle.clock_loop.specs.BusRun.{IsOpenForBus, GoesOnBus, AreOnBus, HasRunOnBus, HasRunInPart};
 ghost use Rattle.clock_loop.specs.BusRun.{CanMakeClock, HasMadeClock, HasMadeClockInPart, IsWithinLine};
-ghost use Rattle.clock_loop.specs.BusRun.{HasAskedLate, ServesAsk, is_made, stays_left};
+ghost use Rattle.clock_loop.specs.BusRun.{HasAskedLate, is_made, stays_left};
 ghost use Rattle.machine.specs.MachineStepsCode.{AsksInTime};
 ghost use Rattle.foreground.specs.Fore.{ForeValue, over, CanGo, IsUnderway};
 ghost use Rattle.clock_loop.specs.LineCode.{AreInLine};
-ghost use Rattle.foreground.specs.Steps.{EndsClock};
 
+use crate::clock::{Access, plane_clock};
 use crate::line::clocks_before;
 use crate::lookout::{WORTH, is_beside_refresh, is_due, note_look, wait_for_refresh};
-use crate::turn::{Access, AnyTurn, BlitterTurn, ProcessorTurn, Turn, serve_plane};
+use crate::turn::{AnyTurn, BlitterTurn, ProcessorTurn, Turn};
 use band_log::Raster;
 use chip_set::{BlitterClaim, FetchRules, Unit};
 use foreground::Fore;
@@ -299,17 +297,9 @@ fn clock_on_bus<S: Side, T: Turn<S>>(
         → HasAskedLate (over S.seen fore.old) (over S.seen fore.new)) }
     ensures given { IfOk result (λ access. is_made access ≡ false → out.new ≡ out.old) }
 {
-    let plane = ask_on_bus(fore, rules, rest, unit);
-    match access_on_bus(fore, turn, plane, claim, out)? {
-        Access::Stays => {
-            end_on_bus(fore, rest, out)?;
-            Ok(Access::Stays)
-        }
-        Access::Ends => {
-            end_on_bus(fore, rest, out)?;
-            Ok(Access::Ends)
-        }
-        Access::Other => Ok(Access::Other),
+    match ask_on_bus(fore, rules, rest, unit) {
+        Some(ask) => plane_clock(fore, &ask, rest, out),
+        None => turn.clock(fore, claim, rest, out),
     }
 }
 
@@ -393,70 +383,4 @@ fn ask_on_bus<S: Side>(
     ensures chip { fore.new.machine.chip ≡ fore.old.machine.chip }
 {
     fore.machine.ask_on_bus(rules, rest, unit)
-}
-
-/// The last two steps of it.
-#[inline(always)]
-fn end_on_bus<S: Side>(
-    fore: &mut Fore<S>,
-    rest: &mut u16,
-    out: &mut OutFiles,
-) -> Result<(), OutOfMemory>
-    requires line { fore.old.machine.beam.h < 226 }
-    requires count { fore.old.machine.t + 1 < 2 ^ 64 }
-    ensures ends { OnOk result (EndsClock (over S.seen fore.old) (over S.seen fore.new) out.old
-        out.new) }
-    ensures place { OnOk result ((lace : Bool)
-        × (fore.new.machine.beam ≡ next_place (over S.seen fore.old).run.script.system lace
-        fore.old.machine.beam)) }
-    ensures run { (over S.seen fore.new).run ≡ (over S.seen fore.old).run }
-    ensures chip { fore.new.machine.chip ≡ fore.old.machine.chip }
-    ensures side { fore.new.machine.side ≡ fore.old.machine.side }
-    ensures bus { KeepsBus fore.old.machine.chips fore.new.machine.chips }
-    ensures rest { OnOk result
-        (CiasRest (fore.old.machine.t + 1) rest.old fore.old.machine.chips
-        → CiasRest fore.new.machine.t rest.new fore.new.machine.chips) }
-    ensures refused { OnErr result (out.new ≡ out.old) }
-{
-    let alone = fore.machine.process_beside_cias(out)?;
-    *rest = rest_beside(alone, *rest);
-    fore.machine.advance_in_line();
-    Ok(())
-}
-
-/// The fifth, where this plane has the slot, or none.
-#[inline(always)]
-fn access_on_bus<S: Side, T: Turn<S>>(
-    fore: &mut Fore<S>,
-    turn: &T,
-    plane: Option<PlaneAsk>,
-    claim: &BlitterClaim,
-    out: &mut OutFiles,
-) -> Result<Access, OutOfMemory>
-    requires can { (seen : RasterValue) × CanAccess
-        (ask_beside_planes plane fore.old.machine.beam fore.old.machine.chips)
-        (over S.seen fore.old) seen }
-    requires room { fore.old.machine.t + 1 < 2 ^ 64 }
-    requires waits { fore.old.log.waiting ≡ None }
-    requires leaves { LeavesToPlanes fore.old.machine.beam fore.old.machine.chips }
-    requires claim { IsClaim claim.now fore.old.machine.chips }
-    ensures serves { ServesAsk
-        (ask_beside_planes plane fore.old.machine.beam fore.old.machine.chips)
-        (over S.seen fore.old) (over S.seen fore.new) out.old out.new result }
-    ensures late { IfOk result (λ access. is_made access ≡ false → plane ≡ None) }
-{
-    match plane {
-        Some(ask) => serve_plane(fore, &ask),
-        None => turn.access(fore, claim, out),
-    }
-}
-
-/// In how many clocks nothing is to be done for the CIAs, where that was known of so many, and the processor
-/// left them alone or not.
-#[inline(always)]
-fn rest_beside(alone: bool, rest: u16) -> u16
-    ensures alone { alone ≡ true → result ≡ rest }
-    ensures accessed { alone ≡ false → result ≡ 0 }
-{
-    if alone { rest } else { 0 }
 }

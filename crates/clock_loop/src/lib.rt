@@ -4,6 +4,7 @@
 
 mod ahead;
 mod bus;
+mod clock;
 mod fetches;
 mod line;
 mod lookout;

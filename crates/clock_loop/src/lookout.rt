@@ -1,7 +1,7 @@
 //! When the loop looks for quiet clocks and for such as it makes on the bus. What a run gives does not
 //! hang on it, but how fast it is.
 
-ghost use Rattle.std.specs.Prelude.{◌≡◌, ◌≤◌, nat_le};
+ghost use Rattle.std.specs.Prelude.{◌≡◌, ◌≤◌, ◌+◌, ◌-◌, ◌^◌, ◌||◌, min, nat_le, nat_lt, if◌then◌else◌};
 
 use foreground::Lookout;
 
@@ -47,13 +47,19 @@ pub fn note_look(lookout: &mut Lookout, now: u64, h: u16, pays: bool)
 }
 
 /// At clock `h` of a line, beside the slots of refresh: it looks again behind them.
-pub fn wait_for_refresh(lookout: &mut Lookout, now: u64, h: u16) {
+pub fn wait_for_refresh(lookout: &mut Lookout, now: u64, h: u16)
+    ensures { lookout.new ≡ record lookout.old {
+      from = min (now + ((if nat_lt h 6 then 0 else 227) + 6 - h)) (2 ^ 64 - 1);
+    } }
+{
     let line = if h < BEHIND_REFRESH { 0 } else { LINE };
     lookout.from = now.saturating_add((line + BEHIND_REFRESH).saturating_sub(h) as u64);
 }
 
 /// Whether clock `h` of a line is among those of refresh, at a line's ends.
 #[inline(always)]
-pub fn is_beside_refresh(h: u16) -> bool {
+pub fn is_beside_refresh(h: u16) -> bool
+    ensures { result ≡ (nat_lt h 6 || nat_le 225 h) }
+{
     h < BEHIND_REFRESH || LAST_REFRESH <= h
 }

@@ -1,42 +1,22 @@
 //! Whose access is looked for first in a clock of the bus in which no plane has the slot.
 
-ghost use Rattle.std.specs.Prelude.{◌≡◌, ◌+◌, ◌-◌, ◌≤◌, ◌<◌, ◌^◌, true, false, is_some, None, IfOk, OnOk, OnErr};
-ghost use Rattle.serial_model.specs.Bus.{blit_owner_ask, processor_ask};
-ghost use Rattle.serial_model.specs.declared.bus.ProcessorAsk.TheVariants as P;
-ghost use Rattle.serial_model.specs.declared.bus.Ask.TheVariants as A;
-ghost use Rattle.serial_bands.specs.BusReads.{reads_of_ask};
-ghost use Rattle.serial_bands.specs.Shadows.{IsInRange};
-ghost use Rattle.picture_log.specs.Log.{with_access_touch};
+ghost use Rattle.std.specs.Prelude.{◌≡◌, ◌+◌, ◌-◌, ◌≤◌, true, false, IfOk, OnOk, OnErr};
 ghost use Rattle.band_log.specs.Raster.{RasterValue};
-ghost use Rattle.out_files.specs.OutFiles.{OutFilesValue};
-ghost use Rattle.cpu_bus.specs.Bus.{wish_shown};
-ghost use Rattle.chip_set.specs.BusCode.{LeavesToPlanes, IsClaim, is_bus_ask};
-ghost use Rattle.chip_set.specs.Chips.{kept_wish, late_ask};
-ghost use Rattle.foreground.specs.AccessCode.{CanAccess};
-ghost use Rattle.clock_loop.specs.BusRun.{StaysOnBus, ServesAsk, is_made, stays_left};
+ghost use Rattle.chip_set.specs.BusCode.{LeavesToPlanes, IsClaim, CiasRest};
+ghost use Rattle.chip_set.specs.Chips.{late_ask};
+ghost use Rattle.clock_loop.specs.BusRun.{EndsItsClock, HasAskedLate, IsWithinLine, stays_left};
 ghost use Rattle.clock_loop.specs.BusRun.{CanMakeClocks, HasRunOnBus, HasRunInPart};
-ghost use Rattle.foreground.specs.Fore.{over, CanGo};
-ghost use Rattle.foreground.specs.Steps.{MakesAskedAccess, AccessesPart, KeepsClock, reads_more};
+ghost use Rattle.foreground.specs.Fore.{ForeValue, over, CanGo};
 
 use crate::ahead::clocks_alone;
-use blit_words::SlotAsk;
+use crate::clock::{
+    Access, blit_clock, blit_clock_apart, made_alone, process_alone, process_apart,
+};
 use chip_set::{BlitterClaim, FetchRules};
 use foreground::Fore;
-use machine::touch_of;
 use ocs_base::OutOfMemory;
 use out_files::OutFiles;
-use picture_log::Log;
-use serial_model::{Ask, PlaneAsk, ProcessorAsk, Side, Touch};
-
-/// What came of the access of a clock.
-pub(crate) enum Access {
-    /// It was made, and the bus is known to be left in further clocks.
-    Stays,
-    /// It was made.
-    Ends,
-    /// It was not made: it is neither to memory nor nobody's.
-    Other,
-}
+use serial_model::Side;
 
 /// How a loop of clocks makes the access of a clock in which no plane has the slot, if it is one to memory or
 /// nobody's. All make the same one; they differ in whose they have in line, which only speed hangs on. None is
@@ -74,22 +54,24 @@ pub(crate) trait Turn<S: Side> {
         ensures still { OnOk result (fore.new.machine.t ≡ fore.old.machine.t
             → fore.new ≡ fore.old) };
 
-    /// Makes it, or leaves it.
-    fn access(
+    /// Makes the rest of it once the chips have asked for the slot, or leaves it. In how many clocks nothing is to
+    /// be done for the CIAs is kept up to date.
+    fn clock(
         &self,
         fore: &mut Fore<S>,
         claim: &BlitterClaim,
+        rest: &mut u16,
         out: &mut OutFiles,
     ) -> Result<Access, OutOfMemory>
-        requires can { (seen : RasterValue)
-            × CanAccess (late_ask fore.old.machine.beam fore.old.machine.chips)
-            (over S.seen fore.old) seen }
-        requires room { fore.old.machine.t + 1 < 2 ^ 64 }
-        requires waits { fore.old.log.waiting ≡ None }
+        requires asked { (f : ForeValue) × (seen : RasterValue) × IsWithinLine f seen
+            × HasAskedLate f (over S.seen fore.old) }
         requires leaves { LeavesToPlanes fore.old.machine.beam fore.old.machine.chips }
         requires claim { IsClaim claim.now fore.old.machine.chips }
-        ensures { ServesAsk (late_ask fore.old.machine.beam fore.old.machine.chips)
-            (over S.seen fore.old) (over S.seen fore.new) out.old out.new result };
+        ensures ends { EndsItsClock (late_ask fore.old.machine.beam fore.old.machine.chips)
+            (over S.seen fore.old) (over S.seen fore.new) out.old out.new result }
+        ensures rest { IfOk result (λ access. stays_left access ≡ true
+            → CiasRest (fore.old.machine.t + 1) rest.old fore.old.machine.chips
+            → CiasRest fore.new.machine.t rest.new fore.new.machine.chips) };
 }
 
 /// Where planes have slots too: the processor's in line.
@@ -117,16 +99,17 @@ impl<S: Side> Turn<S> for AnyTurn {
     }
 
     #[inline(always)]
-    fn access(
+    fn clock(
         &self,
         fore: &mut Fore<S>,
         claim: &BlitterClaim,
+        rest: &mut u16,
         out: &mut OutFiles,
     ) -> Result<Access, OutOfMemory> {
         if fore.machine.chips.has_blitter_turn(claim) {
-            blit_apart(fore, out)
+            blit_clock_apart(fore, rest, out)
         } else {
-            process_on_bus(fore, out)
+            Ok(made_alone(process_alone(fore, out)?))
         }
     }
 }
@@ -147,16 +130,17 @@ impl<S: Side> Turn<S> for BlitterTurn {
     }
 
     #[inline(always)]
-    fn access(
+    fn clock(
         &self,
         fore: &mut Fore<S>,
         claim: &BlitterClaim,
+        rest: &mut u16,
         out: &mut OutFiles,
     ) -> Result<Access, OutOfMemory> {
         if fore.machine.chips.has_blitter_turn(claim) {
-            blit_on_bus(fore, out)
+            blit_clock(fore, rest, out)
         } else {
-            process_apart(fore, out)
+            Ok(made_alone(process_apart(fore, out)?))
         }
     }
 }
@@ -181,194 +165,17 @@ impl<S: Side> Turn<S> for ProcessorTurn {
     }
 
     #[inline(always)]
-    fn access(
+    fn clock(
         &self,
         fore: &mut Fore<S>,
         claim: &BlitterClaim,
+        rest: &mut u16,
         out: &mut OutFiles,
     ) -> Result<Access, OutOfMemory> {
         if fore.machine.chips.has_blitter_turn(claim) {
-            blit_apart(fore, out)
+            blit_clock_apart(fore, rest, out)
         } else {
-            process_on_bus(fore, out)
+            Ok(made_alone(process_apart(fore, out)?))
         }
-    }
-}
-
-/// That of the blitter, out of line.
-#[inline(never)]
-fn blit_apart<S: Side>(fore: &mut Fore<S>, out: &mut OutFiles) -> Result<Access, OutOfMemory>
-    requires can { (seen : RasterValue)
-        × CanAccess (blit_owner_ask (kept_wish fore.old.machine.chips))
-        (over S.seen fore.old) seen }
-    requires room { fore.old.machine.t + 1 < 2 ^ 64 }
-    requires waits { fore.old.log.waiting ≡ None }
-    requires leaves { LeavesToPlanes fore.old.machine.beam fore.old.machine.chips }
-    requires asks { is_some (kept_wish fore.old.machine.chips) ≡ true }
-    ensures { ServesAsk (blit_owner_ask (kept_wish fore.old.machine.chips))
-        (over S.seen fore.old) (over S.seen fore.new) out.old out.new result }
-{
-    match fore.machine.chips.blit_ask_in_turn() {
-        Ask::Blit { ask } => serve_on_bus(fore, &Ask::Blit { ask }, out),
-        _ => Ok(Access::Other),
-    }
-}
-
-/// That of the processor or of nobody, out of line.
-#[inline(never)]
-fn process_apart<S: Side>(fore: &mut Fore<S>, out: &mut OutFiles) -> Result<Access, OutOfMemory>
-    requires can { (seen : RasterValue)
-        × CanAccess (processor_ask (wish_shown fore.old.machine.chips.processor))
-        (over S.seen fore.old) seen }
-    requires room { fore.old.machine.t + 1 < 2 ^ 64 }
-    requires waits { fore.old.log.waiting ≡ None }
-    requires leaves { LeavesToPlanes fore.old.machine.beam fore.old.machine.chips }
-    ensures { ServesAsk (processor_ask (wish_shown fore.old.machine.chips.processor))
-        (over S.seen fore.old) (over S.seen fore.new) out.old out.new result }
-{
-    match fore.machine.chips.processor_wish() {
-        Some(ask) => {
-            if is_of_memory(&ask) {
-                return serve_on_bus(fore, &Ask::Processor { ask }, out);
-            }
-            Ok(Access::Other)
-        }
-        None => serve_on_bus(fore, &Ask::Free, out),
-    }
-}
-
-/// That of the blitter. Which kind of access an area blit makes is asked for at once, so that each has a way
-/// of its own from the ask to its end. Only a loop's own access has it in line, so it has one caller: what
-/// has more, and is as large, the compiler sets out of line.
-#[inline(always)]
-fn blit_on_bus<S: Side>(fore: &mut Fore<S>, out: &mut OutFiles) -> Result<Access, OutOfMemory>
-    requires can { (seen : RasterValue)
-        × CanAccess (blit_owner_ask (kept_wish fore.old.machine.chips))
-        (over S.seen fore.old) seen }
-    requires room { fore.old.machine.t + 1 < 2 ^ 64 }
-    requires waits { fore.old.log.waiting ≡ None }
-    requires leaves { LeavesToPlanes fore.old.machine.beam fore.old.machine.chips }
-    requires asks { is_some (kept_wish fore.old.machine.chips) ≡ true }
-    ensures { ServesAsk (blit_owner_ask (kept_wish fore.old.machine.chips))
-        (over S.seen fore.old) (over S.seen fore.new) out.old out.new result }
-{
-    if let Some((at, word)) = fore.machine.chips.blit_write_in_turn() {
-        let ask = SlotAsk::Write { at, word };
-        return serve_on_bus(fore, &Ask::Blit { ask }, out);
-    }
-    if let Some(at) = fore.machine.chips.blit_read_in_turn() {
-        let ask = SlotAsk::Read { at };
-        return serve_on_bus(fore, &Ask::Blit { ask }, out);
-    }
-    blit_apart(fore, out)
-}
-
-/// The access of the processor, if it asks, or nobody's.
-#[inline(always)]
-fn process_on_bus<S: Side>(fore: &mut Fore<S>, out: &mut OutFiles) -> Result<Access, OutOfMemory>
-    requires can { (seen : RasterValue)
-        × CanAccess (processor_ask (wish_shown fore.old.machine.chips.processor))
-        (over S.seen fore.old) seen }
-    requires room { fore.old.machine.t + 1 < 2 ^ 64 }
-    requires waits { fore.old.log.waiting ≡ None }
-    requires leaves { LeavesToPlanes fore.old.machine.beam fore.old.machine.chips }
-    ensures { ServesAsk (processor_ask (wish_shown fore.old.machine.chips.processor))
-        (over S.seen fore.old) (over S.seen fore.new) out.old out.new result }
-{
-    match fore.machine.chips.processor_wish() {
-        Some(ProcessorAsk::Read { at }) => {
-            let ask = ProcessorAsk::Read { at };
-            serve_on_bus(fore, &Ask::Processor { ask }, out)
-        }
-        Some(ProcessorAsk::Write { at, half, word }) => {
-            let ask = ProcessorAsk::Write { at, half, word };
-            serve_on_bus(fore, &Ask::Processor { ask }, out)
-        }
-        Some(_) => Ok(Access::Other),
-        None => serve_on_bus(fore, &Ask::Free, out),
-    }
-}
-
-/// The access of the blitter, of the processor to memory, or of nobody.
-#[inline(always)]
-pub(crate) fn serve_on_bus<S: Side>(
-    fore: &mut Fore<S>,
-    ask: &Ask,
-    out: &mut OutFiles,
-) -> Result<Access, OutOfMemory>
-    requires can { (seen : RasterValue) × CanAccess ask.now (over S.seen fore.old) seen }
-    requires bus { is_bus_ask ask.now ≡ true }
-    requires room { fore.old.machine.t + 1 < 2 ^ 64 }
-    requires waits { fore.old.log.waiting ≡ None }
-    requires leaves { LeavesToPlanes fore.old.machine.beam fore.old.machine.chips }
-    ensures makes { OnOk result ((seen : RasterValue) → MakesAskedAccess
-        (over S.seen fore.old) (over S.seen fore.new) seen seen out.old out.new) }
-    ensures part { OnErr result ((seen : RasterValue) → AccessesPart
-        (over S.seen fore.old) seen seen out.old out.new) }
-    ensures kept { KeepsClock (over S.seen fore.old) (over S.seen fore.new) }
-    ensures reads { fore.new.machine.chip.reads ≡ reads_more
-        (reads_of_ask ask.now) fore.old.machine.chip.reads }
-    ensures made { IfOk result (λ access. is_made access ≡ true) }
-    ensures bus { IfOk result (λ access. stays_left access ≡ true
-        → StaysOnBus (over S.seen fore.old) (over S.seen fore.new)) }
-{
-    let busy = fore.machine.chips.is_blitting();
-    let made = fore.machine.answer_on_bus(ask, out)?;
-    let t = fore.machine.t;
-    note_touch(&mut fore.log, t, &touch_of(&made))?;
-    Ok(made_access(fore.machine.chips.is_blitting() == busy))
-}
-
-/// The access of this plane, which has the slot.
-#[inline(always)]
-pub(crate) fn serve_plane<S: Side>(
-    fore: &mut Fore<S>,
-    ask: &PlaneAsk,
-) -> Result<Access, OutOfMemory>
-    requires can { (seen : RasterValue) × CanAccess (A.Plane ask.now) (over S.seen fore.old) seen }
-    requires waits { fore.old.log.waiting ≡ None }
-    requires leaves { LeavesToPlanes fore.old.machine.beam fore.old.machine.chips }
-    ensures makes { OnOk result ((seen : RasterValue) (out : OutFilesValue) → MakesAskedAccess
-        (over S.seen fore.old) (over S.seen fore.new) seen seen out out) }
-    ensures part { OnErr result ((seen : RasterValue) (out : OutFilesValue) → AccessesPart
-        (over S.seen fore.old) seen seen out out) }
-    ensures kept { KeepsClock (over S.seen fore.old) (over S.seen fore.new) }
-    ensures reads { fore.new.machine.chip.reads ≡ reads_more
-        (reads_of_ask (A.Plane ask.now)) fore.old.machine.chip.reads }
-    ensures made { IfOk result (λ access. is_made access ≡ true) }
-    ensures bus { OnOk result (StaysOnBus (over S.seen fore.old) (over S.seen fore.new)) }
-{
-    fore.machine.pass_plane(ask);
-    fore.log.note_plane(fore.machine.t, ask)?;
-    Ok(Access::Stays)
-}
-
-/// An access that was made; the bus is known to be left in further clocks, or not.
-#[inline(always)]
-fn made_access(stays: bool) -> Access
-    ensures made { is_made result ≡ true }
-    ensures stays { stays_left result ≡ stays }
-{
-    if stays { Access::Stays } else { Access::Ends }
-}
-
-/// Whether the processor asks for a word of memory.
-fn is_of_memory(ask: &ProcessorAsk) -> bool
-    ensures { result ≡ is_bus_ask (A.Processor ask.now) }
-{
-    matches!(ask, ProcessorAsk::Read { .. } | ProcessorAsk::Write { .. })
-}
-
-/// A touch by the access of a clock, where no write waits: without one nothing is to be noted.
-#[inline(always)]
-fn note_touch(log: &mut Log, t: u64, touch: &Option<Touch>) -> Result<(), OutOfMemory>
-    requires waits { log.old.waiting ≡ None }
-    requires range { IsInRange touch.now }
-    requires room { t + 1 < 2 ^ 64 }
-    ensures { OnOk result (log.new ≡ with_access_touch t touch.now log.old) }
-{
-    match touch {
-        Some(_) => log.note_access(t, touch),
-        None => Ok(()),
     }
 }

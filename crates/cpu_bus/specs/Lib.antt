@@ -1,3 +1,3 @@
+pub mod Beside
 pub mod Bus
-pub mod Progress
 pub mod Quiet

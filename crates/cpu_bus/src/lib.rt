@@ -18,7 +18,7 @@ pub use crate::quiet::waits_of_none;
 use crate::target::{look_ahead, look_for_word, look_for_write, look_further};
 use irq_cia::Irq;
 use m68k_exec::{Ask as Access, Cpu};
-use ocs_base::{Addr, ChipSize};
+use ocs_base::ChipSize;
 use serial_model::{ProcessorAsk, Turn, Wait};
 
 /// The clocks of an access that goes nowhere, and of one to a CIA (profile).
@@ -26,14 +26,16 @@ const UNMAPPED_CLOCKS: u32 = 2;
 
 const CIA_CLOCKS: u32 = 5;
 
-/// How far the processor is with an access to memory or to a register.
+/// What a clock makes of the processor whose slot is not its own.
 #[derive(Clone, Copy)]
-pub enum Progress {
-    /// Its first clock is to come, in which it does not ask for the slot yet.
-    Begins,
-    /// It asks for the slot, to read the word of memory at this address.
-    Reads { at: Addr },
-    /// Anything else.
+pub enum TurnBeside {
+    /// It does not ask for the slot, and waits on: so many clocks have passed of that then.
+    Waits { spent: u32 },
+    /// It asks for the slot, and waits on.
+    Asks,
+    /// It does not ask for the slot, and goes on: its idle clocks are over with this one.
+    GoesOn,
+    /// Anything else: its access has its word, or goes to a CIA or nowhere, or it has halted.
     Other,
 }
 
@@ -150,8 +152,9 @@ impl BusCpu {
 
     /// One more clock passes of what it waits for: these have passed now.
     pub fn wait(&mut self, spent: u32)
-        ensures { (p : Processor) → IsProcessorOf self.old p
+        ensures stands { (p : Processor) → IsProcessorOf self.old p
             → IsProcessorOf self.new (record p { spent = spent }) }
+        ensures kept { self.new ≡ record self.old { spent = spent } }
     {
         self.spent = spent;
     }
@@ -177,45 +180,55 @@ impl BusCpu {
 
 impl BusCpu {
     ghost use Rattle.cpu_bus.specs.Bus.{IsProcessorOf, IsAnswered, GoesOn, is_slot};
-    ghost use Rattle.cpu_bus.specs.Progress.{IsProgress, BeginsAnew};
+    ghost use Rattle.cpu_bus.specs.Beside.{turn_beside_of, slot_beside_by, idle_beside_by};
+    ghost use Rattle.cpu_bus.specs.Beside.{BeginsAnew, begins_anew_of};
 
-    /// How far it is with an access. Nothing hangs on `Other` but how fast a run is.
+    /// What a clock makes of it whose slot is not its own.
     #[inline(always)]
-    pub fn progress(&self) -> Progress
-        ensures { IsProgress result self.now }
+    pub fn turn_beside(&self) -> TurnBeside
+        ensures { result ≡ turn_beside_of self.now }
     {
         if !self.on {
-            return Progress::Other;
+            return TurnBeside::Waits { spent: self.spent };
+        }
+        if self.given.is_some() {
+            return TurnBeside::Other;
         }
         match self.wait {
-            Wait::Slot { ask } => self.progress_with(ask),
-            _ => Progress::Other,
+            Wait::Slot { .. } => self.slot_beside(),
+            Wait::Idle { clocks } => self.idle_beside(clocks),
+            Wait::Cia { .. } | Wait::Unmapped | Wait::Halted => TurnBeside::Other,
         }
     }
 
-    /// The same, where it is on and waits for a slot with this.
+    /// The same while it waits for a slot.
     #[inline(always)]
-    fn progress_with(&self, ask: ProcessorAsk) -> Progress
-        requires on { self.now.on ≡ true }
-        requires waits { self.now.wait ≡ W.Slot ask }
-        ensures { IsProgress result self.now }
+    fn slot_beside(&self) -> TurnBeside
+        ensures { result ≡ slot_beside_by self.now.spent }
     {
         if self.spent == 0 {
-            if self.given.is_none() {
-                return Progress::Begins;
-            }
-            return Progress::Other;
+            TurnBeside::Waits { spent: 1 }
+        } else {
+            TurnBeside::Asks
         }
-        if let ProcessorAsk::Read { at } = ask {
-            return Progress::Reads { at };
+    }
+
+    /// The same while it idles for so many clocks.
+    #[inline(always)]
+    fn idle_beside(&self, clocks: u32) -> TurnBeside
+        ensures { result ≡ idle_beside_by clocks self.now.spent }
+    {
+        match self.spent.checked_add(1) {
+            Some(spent) if spent < clocks => TurnBeside::Waits { spent },
+            _ => TurnBeside::GoesOn,
         }
-        Progress::Other
     }
 
     /// Whether it is on, and what it waits for has just begun.
     #[inline(always)]
     pub fn begins_anew(&self) -> bool
-        ensures { result ≡ true → BeginsAnew self.now }
+        ensures begins { result ≡ begins_anew_of self.now }
+        ensures anew { result ≡ true → BeginsAnew self.now }
     {
         self.on && self.spent == 0 && self.given.is_none()
     }
@@ -226,14 +239,6 @@ impl BusCpu {
         ensures { result ≡ slot_wish self.now.wait }
     {
         slot_ask(&self.wait)
-    }
-
-    /// The first clock of an access passes, in which it does not ask for it yet.
-    #[inline(always)]
-    pub fn pass_first_clock(&mut self)
-        ensures { self.new ≡ record self.old { spent = 1 } }
-    {
-        self.spent = 1;
     }
 
     /// It has its slot, with this word for the answer, and goes on with it in the same clock; the interrupts are

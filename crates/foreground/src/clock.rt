@@ -92,7 +92,9 @@ impl<S: Side> Fore<S> {
         Ok(())
     }
 
-    /// The third and the fourth, and the ask of the slot's owner.
+    /// The third step of a clock and the fourth, behind the script's events: timers and side tick, the picture has its
+    /// step, and the chips ask for the slot. The answer is what a side, a plane or a sprite asks for; where none does the
+    /// slot may be the Copper's, the blitter's or the processor's, whose ask `access` finds. That is to be called next.
     #[inline(always)]
     pub fn ask(&mut self) -> Option<Ask>
         ensures asks { AsksInTime (ask_or_late result self.new.machine.beam self.new.machine.chips)
@@ -174,7 +176,8 @@ impl<S: Side> Fore<S> {
         Ok(())
     }
 
-    /// The last two steps.
+    /// The last two steps of a clock, behind its access: the processor takes its turn, and the beam goes on by a colour
+    /// clock. An error comes where memory is wanted for the trace's line of an interrupt.
     #[inline(always)]
     pub fn end_clock(&mut self, out: &mut OutFiles) -> Result<(), OutOfMemory>
         requires screen { IsOnScreen self.old.machine.beam }

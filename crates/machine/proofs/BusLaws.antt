@@ -11,9 +11,6 @@ use Rattle.serial_model.specs.declared.bus.Made.{Made}
 use Rattle.serial_model.specs.declared.bus.Made.TheVariants as M
 use Rattle.serial_model.specs.declared.bus.ProcessorAsk.{ProcessorAsk}
 use Rattle.serial_model.specs.declared.bus.ProcessorAsk.TheVariants as P
-use Rattle.serial_model.specs.declared.fetch.PlaneAsk.{PlaneAsk}
-use Rattle.serial_model.specs.Bus.{missed_after}
-use Rattle.cpu_bus.specs.Bus.{wish_shown}
 use Rattle.quiet_clocks.proofs.QuietClocks.{next_later}
 use Rattle.serial_model.specs.Beam.{next_place, later_beam}
 use Rattle.serial_model.specs.Made.{chips_after}
@@ -21,13 +18,12 @@ use Rattle.serial_model.specs.Side.{SideValue, answer_side, side_by_made}
 use Rattle.serial_model.specs.State.{Chips, State}
 use Rattle.serial_model.specs.Tick.{ask_of}
 use Rattle.chip_set.specs.AskLaws.{is_clx_ask}
-use Rattle.chip_set.specs.BusCode.{KeepsBus, KeepsOnBus, LeavesToPlanes, reaches_memory, is_bus_ask, is_bus_made, is_fetch_ask}
+use Rattle.chip_set.specs.BusCode.{KeepsBus, KeepsOnBus, reaches_memory, is_bus_ask, is_bus_made, is_fetch_ask}
 use Rattle.chip_set.specs.Chips.{WorkingChips, IsChipsOf}
-use Rattle.chip_set.proofs.BusLaws.{bus_answered, kept_then, kept_alike, cias_then, cias_of_same}
-use Rattle.machine.specs.Machine.{MachineValue, HasAskedOf, MakesAccess}
+use Rattle.chip_set.proofs.BusLaws.{kept_then, kept_alike, cias_then, cias_of_same}
+use Rattle.machine.specs.Machine.{MachineValue, HasAskedOf}
 use Rattle.machine.specs.MachineStepsCode.{Does}
-use Rattle.machine.proofs.AccessLaws.{Answers, answered, accessed, MakesAccess-by}
-use Rattle.machine.proofs.OutLaws.{gives_nothing}
+use Rattle.machine.proofs.AccessLaws.{Answers, answered, accessed}
 
 -- such an access does not read CLXDAT
 no_register : (ask : ProcessorAsk) → reaches_memory ask ≡ true → is_clx_ask (A.Processor ask) ≡ false
@@ -106,38 +102,5 @@ fetch_reads_no_bits (A.Copper at) is = refl
 fetch_reads_no_bits (A.Blit ask) is = refl
 fetch_reads_no_bits (A.Processor ask) is = absurd (false≢true is)
 
--- ---- the slot of a plane
-
 abbrev pub with_chips : WorkingChips → MachineValue → MachineValue
 with_chips chips m = record m { chips = chips }
-
--- the processor may miss it, and all else stays
-abbrev pub passed_by : PlaneAsk → WorkingChips → WorkingChips
-passed_by ask now = record now { missed = missed_after (wish_shown now.processor) (A.Plane ask) now.missed }
-
-plane_answered : (ask : PlaneAsk) (m : MachineValue) → LeavesToPlanes m.beam m.chips
-    → Answers (A.Plane ask) 0 (M.Plane ask.plane ask.at) m (passed_by ask m.chips)
-plane_answered ask m leaves =
-    bus_answered m.beam 0 m.chip.words (A.Plane ask) m.chips (passed_by ask m.chips) 0 (M.Plane ask.plane ask.at) leaves refl tt refl refl
-
-pub record PassesPlane (ask : PlaneAsk) (old new : MachineValue) : Type 0 where
-  pub access : (out : OutFilesValue) → MakesAccess (A.Plane ask) 0 (M.Plane ask.plane ask.at) old out new out
-  pub bus : KeepsOnBus old.chips new.chips
-
-plane_passes : (ask : PlaneAsk) (m : MachineValue) → LeavesToPlanes m.beam m.chips → PassesPlane ask m (with_chips (passed_by ask m.chips) m)
-plane_passes ask m leaves =
-    let chips : WorkingChips = passed_by ask m.chips in
-    record {
-      access = λ out. MakesAccess-by (A.Plane ask) 0 (M.Plane ask.plane ask.at) m (with_chips chips m) m.chip chips m.side out out refl refl
-          (plane_answered ask m leaves)
-          (record { t = refl; beam = refl; chip = refl; chips = λ c is. is; side = refl; lines = λ c is. gives_nothing out });
-      bus = (
-        record { registers = refl; last = refl; kinds = refl; copper = refl; busy = refl },
-        record { irq = refl; cia_a = refl; cia_b = refl },
-      );
-    }
-
--- whatever these chips are called
-pub plane_passed : (ask : PlaneAsk) (m : MachineValue) (chips : WorkingChips) → LeavesToPlanes m.beam m.chips → chips ≡ passed_by ask m.chips
-    → PassesPlane ask m (with_chips chips m)
-plane_passed ask m chips leaves is = subst (λ x. PassesPlane ask m (with_chips x m)) (sym is) (plane_passes ask m leaves)

@@ -10,5 +10,6 @@ pub mod Sizes
 pub mod QuietLaws
 pub mod AskedLaws
 pub mod BusLaws
+pub mod BlitLaws
 pub mod AheadLaws
 pub mod WordLaws

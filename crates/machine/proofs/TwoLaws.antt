@@ -1,7 +1,6 @@
 -- Both clocks of an access of the processor to memory, made at once.
-use Rattle.std.proofs.Common.{◌≡◌, ◌+◌, ◌==◌, ℕ, true, not, ◌&&◌, if◌then◌else◌, Option, Some, None, is_some}
+use Rattle.std.proofs.Common.{◌≡◌, ◌+◌, ◌==◌, ℕ, not, ◌&&◌, if◌then◌else◌, Option, Some, None}
 use Rattle.std.proofs.Common.{arith, refl, ap, subst, sym, ◌∙◌}
-use Rattle.std.proofs.lemmas.Bool.{false≢true}
 use Rattle.mem_versions.specs.Chip.{ChipValue, after_reads, word_at}
 use Rattle.ocs_base.specs.declared.addr.Addr.{Addr}
 use Rattle.out_files.specs.OutFiles.{OutFilesValue}
@@ -11,31 +10,18 @@ use Rattle.serial_model.specs.declared.bus.Half.{Half}
 use Rattle.serial_model.specs.declared.bus.Made.TheVariants as M
 use Rattle.serial_model.specs.declared.bus.ProcessorAsk.{ProcessorAsk}
 use Rattle.serial_model.specs.declared.bus.ProcessorAsk.TheVariants as P
-use Rattle.serial_model.specs.declared.processor.Wait.{Wait}
-use Rattle.serial_model.specs.declared.processor.Wait.TheVariants as W
 use Rattle.serial_model.specs.Beam.{later_beam}
 use Rattle.serial_model.specs.Processor.{Processor, slot_wish}
 use Rattle.cpu_bus.specs.declared.BusCpu.{BusCpu}
-use Rattle.cpu_bus.specs.Bus.{IsProcessorOf, GoesOn, is_slot, wish_shown}
-use Rattle.cpu_bus.specs.Progress.{BeginsAccess, BeginsAnew}
-use Rattle.chip_set.proofs.AheadLaws.{left, passed}
+use Rattle.cpu_bus.specs.declared.TurnBeside.TheVariants as T
+use Rattle.cpu_bus.specs.Beside.{BeginsAnew, turn_beside_of}
+use Rattle.cpu_bus.specs.Bus.{IsProcessorOf, GoesOn, wish_shown}
+use Rattle.chip_set.proofs.BesideLaws.{waited_on, waits_beside, first_waits, waits_wish}
 use Rattle.machine.specs.Machine.{MachineValue}
 use Rattle.machine.specs.MachineStepsCode.{chip_after}
 use Rattle.machine.specs.AheadCode.{IsLeftToProcessor, IsLeftThen, IsClockAtOnce, EndsInTwo, IsAccessInTwo, IsAccessInPart}
-use Rattle.machine.proofs.AheadLaws.{advanced, first_clock, read_asks, read_made, write_asks, write_stored}
+use Rattle.machine.proofs.AheadLaws.{advanced, clock_at_once, nobody_then_waits, processor_asks, read_made, write_stored}
 use Rattle.machine.proofs.BusLaws.{with_chips}
-
--- what wants a slot waits for one
-waits_for_slot : (wait : Wait) (ask : ProcessorAsk) → slot_wish wait ≡ Some ask → is_slot wait ≡ true
-waits_for_slot (W.Slot asks) ask is = refl
-waits_for_slot (W.Cia cia reg byte) ask is = absurd (false≢true (ap (λ (w : Option ProcessorAsk). is_some w) is))
-waits_for_slot W.Unmapped ask is = absurd (false≢true (ap (λ (w : Option ProcessorAsk). is_some w) is))
-waits_for_slot (W.Idle clocks) ask is = absurd (false≢true (ap (λ (w : Option ProcessorAsk). is_some w) is))
-waits_for_slot W.Halted ask is = absurd (false≢true (ap (λ (w : Option ProcessorAsk). is_some w) is))
-
--- what begins and wants a slot is an access
-pub begins_access : (now : BusCpu) → BeginsAnew now → is_slot now.wait ≡ true → BeginsAccess now
-begins_access now anew waits = record { on = anew.on; given = anew.given; spent = anew.spent; waits = waits }
 
 -- behind its first clock it asks
 asks_then : (now : BusCpu) (ask : ProcessorAsk) → BeginsAnew now → slot_wish now.wait ≡ Some ask → wish_shown (record now { spent = 1 }) ≡ Some ask
@@ -53,7 +39,14 @@ goes_then word level now new begins goes p is =
 -- ---- the first of them
 
 abbrev pub begun : MachineValue → MachineValue
-begun m = advanced (with_chips (passed (left m.chips)) m)
+begun m = advanced (with_chips (waited_on 0 1 m.chips) m)
+
+first_clock : (rest : ℕ) (wish : ProcessorAsk) (m : MachineValue) (out : OutFilesValue) → IsLeftToProcessor rest m
+    → BeginsAnew m.chips.processor → slot_wish m.chips.processor.wait ≡ Some wish → IsClockAtOnce A.Free m out (begun m) out
+first_clock rest wish m out alone anew is =
+    let waits : turn_beside_of m.chips.processor ≡ T.Waits 1 = first_waits m.chips.processor wish anew is in
+    clock_at_once rest m (with_chips (waited_on 0 1 m.chips) m) None out out alone (waits_wish m.chips.processor 1 waits)
+    (nobody_then_waits m (waited_on 0 1 m.chips) out alone.leaves.others (waits_beside 1 m.chips waits))
 
 -- an access with this has just begun, and both of its clocks are left to the processor
 pub record Begins (wish : ProcessorAsk) (m : MachineValue) (out : OutFilesValue) : Type 0 where
@@ -66,7 +59,7 @@ pub begins_with : (rest : ℕ) (wish : ProcessorAsk) (m : MachineValue) (out : O
     → BeginsAnew m.chips.processor → slot_wish m.chips.processor.wait ≡ Some wish → Begins wish m out
 begins_with rest wish m out alone next anew is =
     let first : IsClockAtOnce A.Free m out (begun m) out =
-    first_clock rest m out alone (begins_access m.chips.processor anew (waits_for_slot m.chips.processor.wait wish is)) in
+    first_clock rest wish m out alone anew is in
     record {
       first = first;
       rest = (next (begun m) first).0;
@@ -98,9 +91,9 @@ two_read at word m new chip out after begins read count ends =
       ask = ask;
       begins = begins.first;
       accesses = subst (λ x. IsClockAtOnce ask (begun m) out x after) (sym (ended word m new chip out after ends))
-          (read_made begins.rest at (begun m) ends.begins word chip new.chips out after begins.alone begins.asks read count ends.chips
-          (goes_then word _ m.chips.processor new.chips.processor ends.begins ends.goes) ends.lines);
-      quiet = refl;
+          (clock_at_once begins.rest (begun m) (record (begun m) { chip = chip; chips = new.chips }) (Some (P.Read at)) out after begins.alone begins.asks
+          (read_made at (begun m) ends.begins word chip new.chips out after begins.alone.leaves.others begins.asks read count ends.chips
+          (goes_then word _ m.chips.processor new.chips.processor ends.begins ends.goes) ends.lines));
     }
 
 pub part_read : (at : Addr) (m new : MachineValue) (out after : OutFilesValue) → Begins (P.Read at) m out → new.chip ≡ after_reads m.chip 1
@@ -110,7 +103,7 @@ part_read at m new out after begins count same =
       mid = begun m;
       ask = A.Processor (P.Read at);
       begins = begins.first;
-      asks = read_asks begins.rest at (begun m) begins.alone begins.asks;
+      asks = processor_asks begins.rest (begun m) (P.Read at) begins.alone begins.asks;
       quiet = refl;
       reads = ap (λ (chip : ChipValue). chip.reads) count;
       same = same;
@@ -129,9 +122,10 @@ two_write at half word m stored new out after begins kept stores done =
       ask = ask;
       begins = begins.first;
       accesses = subst (λ x. IsClockAtOnce ask (begun m) out x after) (sym (ended 0 m new stored.chip out after ends))
-          (write_stored begins.rest at half word (begun m) ends.begins stored.chip new.chips out after begins.alone begins.asks stores ends.chips
-          (goes_then 0 _ m.chips.processor new.chips.processor ends.begins ends.goes) ends.lines);
-      quiet = refl;
+          (clock_at_once begins.rest (begun m) (record (begun m) { chip = stored.chip; chips = new.chips }) (Some (P.Write at half word)) out after
+          begins.alone begins.asks
+          (write_stored at half word (begun m) ends.begins stored.chip new.chips out after begins.alone.leaves.others begins.asks stores ends.chips
+          (goes_then 0 _ m.chips.processor new.chips.processor ends.begins ends.goes) ends.lines));
     }
 
 pub part_write : (at : Addr) (half : Half) (word : ℕ) (m new : MachineValue) (out after : OutFilesValue) → Begins (P.Write at half word) m out
@@ -141,7 +135,7 @@ part_write at half word m new out after begins reads same =
       mid = begun m;
       ask = A.Processor (P.Write at half word);
       begins = begins.first;
-      asks = write_asks begins.rest at half word (begun m) begins.alone begins.asks;
+      asks = processor_asks begins.rest (begun m) (P.Write at half word) begins.alone begins.asks;
       quiet = refl;
       reads = reads;
       same = same;

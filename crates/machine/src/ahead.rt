@@ -1,87 +1,140 @@
-//! Clocks that everybody else leaves to the processor, made at once: nothing is to be done for side and CIAs in
-//! them.
+//! The processor's access and its turn made at once, and both clocks of an access, where everybody else leaves the
+//! slots to it.
 
 ghost use Rattle.std.specs.Prelude.{◌≡◌, ◌<◌, ◌≤◌, ◌+◌, ◌^◌, ℕ, true, false, [], Some, OnOk, OnErr, IfOk};
-ghost use Rattle.out_files.specs.OutFiles.{OutFilesValue};
 ghost use Rattle.serial_model.specs.declared.bus.Ask.TheVariants as A;
 ghost use Rattle.serial_model.specs.declared.bus.ProcessorAsk.TheVariants as P;
 ghost use Rattle.cpu_bus.specs.Bus.{is_slot, wish_shown};
-ghost use Rattle.cpu_bus.specs.Progress.{BeginsAccess, BeginsAnew};
+ghost use Rattle.cpu_bus.specs.Beside.{BeginsAnew, turn_beside_of};
+ghost use Rattle.cpu_bus.specs.declared.TurnBeside.TheVariants as T;
+ghost use Rattle.chip_set.specs.BusCode.{LeavesToPlanes};
+ghost use Rattle.serial_model.specs.Bus.{processor_ask};
 ghost use Rattle.serial_model.specs.Beam.{later_beam};
 ghost use Rattle.serial_model.specs.Processor.{slot_wish};
 ghost use Rattle.serial_model.specs.Turns.{taken_lines};
-ghost use Rattle.machine.specs.Machine.{machine_over, more_reads};
+ghost use Rattle.machine.specs.Machine.{machine_over, more_reads, reads_after};
 ghost use Rattle.machine.specs.Out.{Gives};
-ghost use Rattle.machine.specs.AheadCode.{IsLeftToProcessor, IsLeftThen, IsClockAtOnce};
-ghost use Rattle.machine.specs.AheadCode.{EndsInTwo, IsAccessInTwo, IsAccessInPart};
+ghost use Rattle.machine.specs.AheadCode.{IsLeftToProcessor, IsLeftThen, IsUnseenAtOnce, goes_alone};
+ghost use Rattle.machine.specs.AheadCode.{EndsInTwo, IsAccessInTwo, IsAccessInPart, asks_for_memory};
 
 use crate::machine::Machine;
+use chip_set::TurnBeside;
 use ocs_base::{Addr, Beam, Clock, OutOfMemory};
 use out_files::OutFiles;
 use serial_model::{Half, ProcessorAsk, Side, TraceLine};
 
 impl<S: Side> Machine<S> {
-    /// The first clock of an access of the processor, in which it does not ask yet: nobody has the slot.
+    /// The access of a clock, and the processor's turn behind it, where nobody else has the slot, once the chips
+    /// have asked for it. The answer is whether the two were made: the processor may access a register or a CIA,
+    /// or do what is rare. Nothing changes then.
     #[inline(always)]
-    pub fn pass_first_clock(&mut self)
-        requires alone { (rest : ℕ) × IsLeftToProcessor rest (machine_over S.seen self.old) }
-        requires begins { BeginsAccess self.old.chips.processor }
-        requires count { self.old.t + 1 < 2 ^ 64 }
-        ensures clock { (out : OutFilesValue) → IsClockAtOnce A.Free
-            (machine_over S.seen self.old) out (machine_over S.seen self.new) out }
-        ensures chip { self.new.chip ≡ self.old.chip }
+    pub fn process_alone(&mut self, out: &mut OutFiles) -> Result<bool, OutOfMemory>
+        requires leaves { LeavesToPlanes self.old.beam self.old.chips }
+        requires time { self.old.chip.newest ≤ self.old.t }
+        ensures alone { IfOk result (λ made. made ≡ goes_alone self.old.chips.processor) }
+        ensures made { IfOk result (λ made. made ≡ true
+            → IsUnseenAtOnce (processor_ask (wish_shown self.old.chips.processor))
+            (machine_over S.seen self.old) out.old (machine_over S.seen self.new) out.new) }
+        ensures none { IfOk result (λ made. made ≡ false → self.new ≡ self.old) }
+        ensures quiet { IfOk result (λ made. made ≡ false → out.new ≡ out.old) }
+        ensures few { OnErr result (self.new.chip.reads
+            ≡ reads_after (processor_ask (wish_shown self.old.chips.processor))
+            self.old.chip.reads) }
+        ensures refused { OnErr result (out.new ≡ out.old) }
     {
-        self.chips.pass_first_clock();
-        self.beam.h += 1;
-        self.t += 1;
+        match self.chips.turn_beside() {
+            TurnBeside::Waits { .. } => Ok(self.chips.wait_beside()),
+            TurnBeside::Asks => self.access_alone(out),
+            TurnBeside::GoesOn => {
+                self.end_idle(out)?;
+                Ok(true)
+            }
+            TurnBeside::Other => Ok(false),
+        }
     }
 
-    /// A clock in which the processor reads the word at this address, and goes on with it.
+    /// The end of idle clocks in such a clock.
     #[inline(always)]
-    pub fn read_at_once(&mut self, at: Addr, out: &mut OutFiles) -> Result<(), OutOfMemory>
-        requires alone { (rest : ℕ) × IsLeftToProcessor rest (machine_over S.seen self.old) }
+    fn end_idle(&mut self, out: &mut OutFiles) -> Result<(), OutOfMemory>
+        requires leaves { LeavesToPlanes self.old.beam self.old.chips }
+        requires over { turn_beside_of self.old.chips.processor ≡ T.GoesOn }
+        ensures made { OnOk result (IsUnseenAtOnce A.Free
+            (machine_over S.seen self.old) out.old (machine_over S.seen self.new) out.new) }
+        ensures chip { self.new.chip ≡ self.old.chip }
+        ensures refused { OnErr result (out.new ≡ out.old) }
+    {
+        let begins = self.chips.end_idle();
+        tell_interrupt(&self.beam, begins, out)
+    }
+
+    /// The access that the processor asks for in such a clock, if it is one to memory. The answer says so.
+    #[inline(always)]
+    fn access_alone(&mut self, out: &mut OutFiles) -> Result<bool, OutOfMemory>
+        requires leaves { LeavesToPlanes self.old.beam self.old.chips }
+        requires asks { turn_beside_of self.old.chips.processor ≡ T.Asks }
+        requires time { self.old.chip.newest ≤ self.old.t }
+        ensures alone { IfOk result (λ made. made
+            ≡ asks_for_memory (slot_wish self.old.chips.processor.wait)) }
+        ensures made { IfOk result (λ made. made ≡ true
+            → IsUnseenAtOnce (processor_ask (wish_shown self.old.chips.processor))
+            (machine_over S.seen self.old) out.old (machine_over S.seen self.new) out.new) }
+        ensures none { IfOk result (λ made. made ≡ false → self.new ≡ self.old) }
+        ensures quiet { IfOk result (λ made. made ≡ false → out.new ≡ out.old) }
+        ensures few { OnErr result (self.new.chip.reads
+            ≡ reads_after (processor_ask (wish_shown self.old.chips.processor))
+            self.old.chip.reads) }
+        ensures refused { OnErr result (out.new ≡ out.old) }
+    {
+        match self.chips.next_ask() {
+            Some(ProcessorAsk::Read { at }) => {
+                self.read_alone(at, out)?;
+                Ok(true)
+            }
+            Some(ProcessorAsk::Write { at, half, word }) => {
+                self.write_alone(at, half, word, out)?;
+                Ok(true)
+            }
+            _ => Ok(false),
+        }
+    }
+
+    /// The processor reads the word at this address in such a clock, and goes on with it.
+    #[inline(always)]
+    fn read_alone(&mut self, at: Addr, out: &mut OutFiles) -> Result<(), OutOfMemory>
+        requires leaves { LeavesToPlanes self.old.beam self.old.chips }
         requires waits { is_slot self.old.chips.processor.wait ≡ true }
         requires asks { wish_shown self.old.chips.processor ≡ Some (P.Read at) }
-        requires count { self.old.t + 1 < 2 ^ 64 }
-        ensures clock { OnOk result (IsClockAtOnce (A.Processor (P.Read at))
+        ensures made { OnOk result (IsUnseenAtOnce (A.Processor (P.Read at))
             (machine_over S.seen self.old) out.old (machine_over S.seen self.new) out.new) }
         ensures reads { self.new.chip.reads ≡ more_reads 1 self.old.chip.reads }
         ensures refused { OnErr result (out.new ≡ out.old) }
     {
         let word = self.chip.read(at);
         let begins = self.chips.take_word(word);
-        tell_interrupt(&self.beam, begins, out)?;
-        self.beam.h += 1;
-        self.t += 1;
-        Ok(())
+        tell_interrupt(&self.beam, begins, out)
     }
 
-    /// A clock in which the processor writes this word, or its low byte as one half of a word, at this address, and
-    /// goes on.
+    /// It writes this word, or its low byte as one half of a word, at this address, and goes on.
     #[inline(always)]
-    pub fn write_at_once(
+    fn write_alone(
         &mut self,
         at: Addr,
         half: Half,
         word: u16,
         out: &mut OutFiles,
     ) -> Result<(), OutOfMemory>
-        requires alone { (rest : ℕ) × IsLeftToProcessor rest (machine_over S.seen self.old) }
+        requires leaves { LeavesToPlanes self.old.beam self.old.chips }
         requires waits { is_slot self.old.chips.processor.wait ≡ true }
         requires asks { wish_shown self.old.chips.processor ≡ Some (P.Write at half word) }
         requires time { self.old.chip.newest ≤ self.old.t }
-        requires count { self.old.t + 1 < 2 ^ 64 }
-        ensures clock { OnOk result (IsClockAtOnce (A.Processor (P.Write at half word))
+        ensures made { OnOk result (IsUnseenAtOnce (A.Processor (P.Write at half word))
             (machine_over S.seen self.old) out.old (machine_over S.seen self.new) out.new) }
         ensures reads { self.new.chip.reads ≡ self.old.chip.reads }
         ensures refused { OnErr result (out.new ≡ out.old) }
     {
         self.store(at, half, word)?;
         let begins = self.chips.take_word(0);
-        tell_interrupt(&self.beam, begins, out)?;
-        self.beam.h += 1;
-        self.t += 1;
-        Ok(())
+        tell_interrupt(&self.beam, begins, out)
     }
 
     /// The two clocks of an access to memory that has just begun: in the first the processor does not ask yet, and
@@ -94,6 +147,8 @@ impl<S: Side> Machine<S> {
         requires anew { BeginsAnew self.old.chips.processor }
         requires time { self.old.chip.newest ≤ self.old.t }
         requires count { self.old.t + 2 < 2 ^ 64 }
+        ensures some { IfOk result (λ made. made
+            ≡ asks_for_memory (slot_wish self.old.chips.processor.wait)) }
         ensures clocks { IfOk result (λ made. made ≡ true
             → IsAccessInTwo (machine_over S.seen self.old) out.old
             (machine_over S.seen self.new) out.new) }

@@ -1,27 +1,32 @@
 //! Clocks of a line that refresh, planes, sprites and the Copper leave to the blitter and the processor.
 
-ghost use Rattle.std.specs.Prelude.{◌≡◌, ◌≤◌, ◌<◌, ◌+◌, ◌-◌, ◌^◌, true, is_some, Option, Bool, IfOk, OnOk, OnErr};
+ghost use Rattle.std.specs.Prelude.{◌≡◌, ◌≤◌, ◌<◌, ◌+◌, ◌-◌, ◌^◌, true, false, is_some, Option, IfOk, OnOk, OnErr};
 ghost use Rattle.ocs_base.specs.declared.system.System.{System};
 ghost use Rattle.out_files.specs.OutFiles.{OutFilesValue};
+ghost use Rattle.blit_words.specs.declared.blit.SlotAsk.TheVariants as SlotAsk;
+ghost use Rattle.serial_model.specs.Bus.{blit_owner_ask};
+ghost use Rattle.serial_model.specs.declared.bus.Half.TheVariants as Half;
 ghost use Rattle.serial_model.specs.declared.bus.Ask.TheVariants as A;
 ghost use Rattle.serial_model.specs.declared.bus.Made.TheVariants as M;
-ghost use Rattle.serial_model.specs.Beam.{IsOnScreen, next_place};
+ghost use Rattle.serial_model.specs.Beam.{next_place};
 ghost use Rattle.serial_model.specs.Registers.{is_interlaced};
 ghost use Rattle.serial_model.specs.Side.{no_side};
-ghost use Rattle.serial_model.specs.State.{State};
+ghost use Rattle.serial_model.specs.State.{Chips as ChipsOf, State};
 ghost use Rattle.serial_model.specs.Tick.{ask_of, run_processor, advance_beam};
 ghost use Rattle.chip_set.specs.BusCode.{LeavesToPlanes, LeavesBeside, KeepsBus, KeepsBeside, KeepsCias, KeepsOnBus, CiasRest, IsUnitKept};
 ghost use Rattle.chip_set.specs.BusCode.{ask_beside_planes, is_bus_ask, is_bus_made};
-ghost use Rattle.chip_set.specs.Chips.{CanAsk, CanDo, IsBlitAsk, kept_wish};
+ghost use Rattle.chip_set.specs.Chips.{CanAsk, CanDo, IsBlitAsk, IsChipsOf, kept_wish};
+ghost use Rattle.cpu_bus.specs.Beside.{turn_beside_of, only_waits};
+ghost use Rattle.machine.specs.AheadCode.{IsAccessAtOnce, IsMadeAtOnce};
 ghost use Rattle.machine.specs.Machine.{machine_over, Makes, MakesQuietly};
 ghost use Rattle.machine.specs.Machine.{MakesAccess, HasAskedOf, StoresMade, StaysInPlace, reads_after};
 ghost use Rattle.machine.specs.MachineStepsCode.{AsksInTime};
 
 use crate::machine::Machine;
 use chip_set::{FetchRules, Unit};
-use ocs_base::OutOfMemory;
+use ocs_base::{Addr, OutOfMemory};
 use out_files::OutFiles;
-use serial_model::{Ask, Made, PlaneAsk, Side, TraceLine};
+use serial_model::{Ask, Half, Made, PlaneAsk, Side, TraceLine};
 
 impl<S: Side> Machine<S> {
     /// Third step of such a clock, without a side: the timers tick; and the planes' part of it: the plane
@@ -125,22 +130,64 @@ impl<S: Side> Machine<S> {
         Ok(made)
     }
 
-    /// As `answer_on_bus`, where this plane has the slot: nothing but that the processor may miss it.
+    /// As `answer_on_bus`, where this plane has the slot: nothing but that the processor may miss it; and the
+    /// processor's turn behind it, if it only waits in it. The answer says so; else that is still to come.
     #[inline(always)]
-    pub fn pass_plane(&mut self, ask: &PlaneAsk)
+    pub fn pass_plane(&mut self, ask: &PlaneAsk) -> bool
         requires leaves { LeavesToPlanes self.old.beam self.old.chips }
         requires can { CanAsk (A.Plane ask.now) }
-        ensures access { (out : OutFilesValue) → MakesAccess (A.Plane ask.now) 0
+        ensures only { result ≡ only_waits (turn_beside_of self.old.chips.processor) }
+        ensures waits { result ≡ true → (out : OutFilesValue) → IsMadeAtOnce (A.Plane ask.now)
             (M.Plane ask.now.plane ask.now.at) (machine_over S.seen self.old) out
             (machine_over S.seen self.new) out }
-        ensures able { CanDo (M.Plane ask.now.plane ask.now.at) }
-        ensures memory { StoresMade self.old.t (A.Plane ask.now)
-            (M.Plane ask.now.plane ask.now.at) self.old.chip self.new.chip }
-        ensures reads { self.new.chip.reads ≡ reads_after (A.Plane ask.now) self.old.chip.reads }
-        ensures place { StaysInPlace (machine_over S.seen self.old) (machine_over S.seen self.new) }
+        ensures left { result ≡ false → (out : OutFilesValue) → IsAccessAtOnce
+            (A.Plane ask.now) (M.Plane ask.now.plane ask.now.at)
+            (machine_over S.seen self.old) out (machine_over S.seen self.new) out }
         ensures same { self.new ≡ record self.old { chips = self.new.chips } }
-        ensures bus { KeepsOnBus self.old.chips self.new.chips }
+        ensures busy { is_some self.new.chips.blit ≡ is_some self.old.chips.blit }
     {
-        self.chips.pass_plane();
+        self.chips.wait_beside()
+    }
+
+    /// As `answer_on_bus`, where an area blit writes this word; and the processor's turn behind it, if it only
+    /// waits in it. The answer says so; else that is still to come.
+    #[inline(always)]
+    pub fn write_for_blit(&mut self, at: Addr, word: u16) -> Result<bool, OutOfMemory>
+        requires leaves { LeavesToPlanes self.old.beam self.old.chips }
+        requires asks { blit_owner_ask (kept_wish self.old.chips)
+            ≡ A.Blit (SlotAsk.Write at word) }
+        requires time { self.old.chip.newest ≤ self.old.t }
+        ensures only { IfOk result (λ waited. (c : ChipsOf) → IsChipsOf self.old.chips c
+            → waited ≡ only_waits (turn_beside_of self.old.chips.processor)) }
+        ensures waits { IfOk result (λ waited. waited ≡ true → (out : OutFilesValue)
+            → IsMadeAtOnce (A.Blit (SlotAsk.Write at word)) (M.Stored at Half.Both word)
+            (machine_over S.seen self.old) out (machine_over S.seen self.new) out) }
+        ensures left { IfOk result (λ waited. waited ≡ false → (out : OutFilesValue)
+            → IsAccessAtOnce (A.Blit (SlotAsk.Write at word)) (M.Stored at Half.Both word)
+            (machine_over S.seen self.old) out (machine_over S.seen self.new) out) }
+        ensures reads { self.new.chip.reads ≡ self.old.chip.reads }
+    {
+        self.chips.give_blit(0);
+        self.store(at, Half::Both, word)?;
+        Ok(self.chips.wait_beside())
+    }
+
+    /// The same where it reads the word at this address.
+    #[inline(always)]
+    pub fn read_for_blit(&mut self, at: Addr) -> bool
+        requires leaves { LeavesToPlanes self.old.beam self.old.chips }
+        requires asks { blit_owner_ask (kept_wish self.old.chips) ≡ A.Blit (SlotAsk.Read at) }
+        ensures only { (c : ChipsOf) → IsChipsOf self.old.chips c
+            → result ≡ only_waits (turn_beside_of self.old.chips.processor) }
+        ensures waits { result ≡ true → (out : OutFilesValue)
+            → IsMadeAtOnce (A.Blit (SlotAsk.Read at)) M.Nothing
+            (machine_over S.seen self.old) out (machine_over S.seen self.new) out }
+        ensures left { result ≡ false → (out : OutFilesValue)
+            → IsAccessAtOnce (A.Blit (SlotAsk.Read at)) M.Nothing
+            (machine_over S.seen self.old) out (machine_over S.seen self.new) out }
+    {
+        let word = self.chip.read(at);
+        self.chips.give_blit(word);
+        self.chips.wait_beside()
     }
 }

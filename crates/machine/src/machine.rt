@@ -361,6 +361,8 @@ impl<S: Side> Machine<S> {
         ensures does { (clx : ℕ) (out : OutFilesValue) → OnOk result
             (Does (M.Stored at half word) clx (machine_over S.seen self.old) out
             (machine_over S.seen self.new) out) }
+        ensures stores { OnOk result (self.new.chip
+            ≡ chip_after self.old.t (M.Stored at half word) self.old.chip) }
         ensures same { self.new ≡ record self.old { chip = self.new.chip } }
         ensures kept { OnErr result (self.new ≡ self.old) }
     {

@@ -18,7 +18,7 @@ loop-made-init g c = record {
   count = omega arith;
   can = all_left c.args.limit c.args.left None c.args.rest c.args.claim.now _ c.requires.can;
   still = λ there. refl;
-  anew = anew_view g.S.Side.seen c.args.fore.now _ (sym c.fore.view_is) (c.begins_anew.ensures c.if-not-begins_anew.false);
+  anew = anew_view g.S.Side.seen c.args.fore.now _ (sym c.fore.view_is) (c.begins_anew.ensures.anew c.if-not-begins_anew.false);
 }
 
 pub returns-in_err-access_in_two-clause-part : goal.returns-in_err-access_in_two-clause-part

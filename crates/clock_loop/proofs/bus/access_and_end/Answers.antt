@@ -1,7 +1,7 @@
 use Rattle.std.proofs.lemmas.Result.{on_err_weaker}
 use Rattle.foreground.specs.Fore.{over}
 use Rattle.foreground.proofs.MadeLaws.{on_err, on_ok_two}
-use Rattle.clock_loop.proofs.AheadLaws.{no_files}
+use Rattle.clock_loop.proofs.EndLaws.{no_files}
 use Rattle.clock_loop.proofs.ClockLaws.{late_view, late_access, asked_with, clock_made, accessed_in_part, ended_in_part}
 use Rattle.clock_loop.proofs.bus.access_and_end.Goals as goal
 

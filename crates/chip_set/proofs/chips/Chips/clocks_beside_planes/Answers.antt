@@ -1,4 +1,4 @@
-use Rattle.std.proofs.Common.{◌≡◌, ◌≤◌, ℕ, ◌+◌, ◌-◌, min, false, arith, subst}
+use Rattle.std.proofs.Common.{◌≤◌, ℕ, ◌+◌, ◌-◌, min, arith, subst}
 use Rattle.sprite_dma.specs.Quiet.{ReadsNothing}
 use Rattle.serial_model.specs.Beam.{later_beam}
 use Rattle.chip_set.specs.Chips.{WorkingChips}

@@ -15,3 +15,9 @@ returns-clause-unit c =
     let h : ℕ = c.args.beam.now.h in
     subst (λ (now : WorkingChips). IsUnitKept c.kept_unit.new.unit (h + 1) now.last) (sym c.fetch_in_unit.ensures.moved)
     (unit_later c.kept_unit.new.unit h (h + 1) c.kept_unit.new.self.last (omega arith) c.kept_unit.ensures.unit)
+
+-- where no unit runs
+pub returns-in_err-start-clause-unit : goal.returns-in_err-start-clause-unit
+returns-in_err-start-clause-unit c =
+    let h : ℕ = c.args.beam.now.h in
+    unit_later c.kept_unit.new.unit h (h + 1) c.kept_unit.new.self.last (omega arith) c.kept_unit.ensures.unit
