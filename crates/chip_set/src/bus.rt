@@ -109,17 +109,17 @@ impl Chips {
         self.sprites.quiet(beam, &self.registers, copper)
     }
 
-    /// The planes' part of such a clock: the plane that has its slot, if one has; else the blitter or the
-    /// processor may (`has_blitter_turn`). `answer_on_bus` is to be called next. The unit of bitplane fetch
-    /// that runs is kept for the clocks behind this one.
+    /// The planes' part of such a clock, by what they have their slots in it: the plane that has its slot, if one
+    /// has; else the blitter or the processor may (`has_blitter_turn`). `answer_on_bus` is to be called next. The
+    /// unit of bitplane fetch that runs is kept for the clocks behind this one.
     #[inline(always)]
     pub fn ask_on_bus(
         &mut self,
-        rules: &Option<FetchRules>,
+        rules: &FetchRules,
         beam: &Beam,
         unit: &mut Unit,
     ) -> Option<PlaneAsk>
-        requires leaves { LeavesBeside rules.now beam.now self.old }
+        requires leaves { LeavesBeside (Some rules.now) beam.now self.old }
         requires unit { IsUnitKept unit.old beam.now.h self.old.last }
         ensures ask { (c : ChipsOf) → IsChipsOf self.old c
             → ask_beside_planes result beam.now self.new ≡ ask_at SideAsk.Nothing beam.now c }
@@ -128,15 +128,27 @@ impl Chips {
         ensures wish { IsBlitAsk (ask_beside_planes result beam.now self.new)
             (kept_wish self.new) }
         ensures leaves { LeavesToPlanes beam.now self.new }
-        ensures kept { KeepsBeside rules.now self.old self.new }
+        ensures kept { KeepsBeside (Some rules.now) self.old self.new }
         ensures cias { KeepsCias self.old self.new }
         ensures unit { IsUnitKept unit.new (beam.now.h + 1) self.new.last }
     {
-        match rules {
-            Some(rules) => self.fetch_plane(rules, beam, unit),
-            None => None,
-        }
+        self.fetch_plane(rules, beam, unit)
     }
+
+    /// The planes' part of such a clock in which they have no slot: the blitter or the processor may have it.
+    /// Nothing is done.
+    #[inline(always)]
+    pub fn ask_without_planes(&self, beam: &Beam, unit: &Unit)
+        requires leaves { LeavesBeside None beam.now self.now }
+        requires unit { IsUnitKept unit.now beam.now.h self.now.last }
+        ensures ask { (c : ChipsOf) → IsChipsOf self.now c
+            → ask_beside_planes None beam.now self.now ≡ ask_at SideAsk.Nothing beam.now c }
+        ensures chips { (c : ChipsOf) → IsChipsOf self.now c → HasAsked beam.now c self.now }
+        ensures able { CanAsk (ask_beside_planes None beam.now self.now) }
+        ensures wish { IsBlitAsk (ask_beside_planes None beam.now self.now) (kept_wish self.now) }
+        ensures leaves { LeavesToPlanes beam.now self.now }
+        ensures unit { IsUnitKept unit.now (beam.now.h + 1) self.now.last }
+    {}
 
     /// The planes' part of a clock behind a line's first, by what decides the fetches of the line: the plane
     /// that is fetched at it, if one is, whose pointer has moved then. The rules stay right, and the unit that

@@ -1,7 +1,7 @@
 //! The chips in the third and sixth step of a clock: the CIAs' time and interrupts, and the
 //! processor's part that needs no slot.
 
-ghost use Rattle.std.specs.Prelude.{◌≡◌, ◌<◌, ◌+◌, ◌^◌, ◌==◌, true, not, Some, None};
+ghost use Rattle.std.specs.Prelude.{◌≡◌, ◌<◌, ◌+◌, ◌-◌, ◌^◌, ◌==◌, true, not, Some, None};
 ghost use Rattle.serial_model.specs.State.{Chips as ChipsOf};
 ghost use Rattle.serial_model.specs.Cias.{answer_of_cia, access_cia as access_of_cia, pins_at, fire_pins as fire_pins_of};
 ghost use Rattle.serial_model.specs.Cias.{tick_timers as ticked, line_bits as line_bits_of, time_chips};
@@ -55,6 +55,7 @@ impl Chips {
         ensures chips { (c : ChipsOf) → IsChipsOf self.old c
             → IsChipsOf self.new (time_chips 0 t c) }
         ensures rest { CiasRest (t + 1) result self.new }
+        ensures fewer { 0 < rest → result ≡ rest - 1 }
         ensures kept { self.new ≡ record self.old {
           irq = self.new.irq;
           cia_a = self.new.cia_a;

@@ -1,16 +1,13 @@
 //! Clocks of a line that refresh, sprites and the Copper leave to the planes, the blitter and the processor,
 //! made one behind the other.
 
-ghost use Rattle.std.specs.Prelude.{◌≡◌, ◌<◌, ◌+◌, ◌-◌, ◌^◌, ℕ, true, false, None, IfOk, OnOk, OnErr};
-ghost use Rattle.serial_model.specs.Side.{no_side};
+ghost use Rattle.std.specs.Prelude.{◌≡◌, ◌<◌, ◌≤◌, ◌+◌, ◌-◌, ℕ, true, false, None, IfOk, OnOk, OnErr};
 ghost use Rattle.band_log.specs.Raster.{RasterValue};
-ghost use Rattle.chip_set.specs.BusCode.{LeavesToPlanes, LeavesBeside, LeaveBus, KeepsBeside};
-ghost use Rattle.chip_set.specs.BusCode.{CiasRest, IsUnitKept, ask_beside_planes};
-ghost use Rattle.chip_set.specs.Chips.{CanAsk, IsBlitAsk, kept_wish};
+ghost use Rattle.chip_set.specs.BusCode.{LeaveBus};
+ghost use Rattle.chip_set.specs.BusCode.{IsUnitKept};
 ghost use Rattle.clock_loop.specs.BusRun.{IsOpenForBus, GoesOnBus, AreOnBus, HasRunOnBus, HasRunInPart};
 ghost use Rattle.clock_loop.specs.BusRun.{CanMakeClock, HasMadeClock, HasMadeClockInPart, IsWithinLine};
 ghost use Rattle.clock_loop.specs.BusRun.{HasAskedLate, is_made, stays_left};
-ghost use Rattle.machine.specs.MachineStepsCode.{AsksInTime};
 ghost use Rattle.foreground.specs.Fore.{ForeValue, over, CanGo, IsUnderway};
 ghost use Rattle.clock_loop.specs.LineCode.{AreInLine};
 
@@ -23,7 +20,7 @@ use chip_set::{BlitterClaim, FetchRules, Unit};
 use foreground::Fore;
 use ocs_base::OutOfMemory;
 use out_files::OutFiles;
-use serial_model::{PlaneAsk, Side};
+use serial_model::Side;
 
 /// The clocks of this line that come before the clock `limit`, before the next event of the script and
 /// before quiet clocks are looked for again, as far as nobody but the planes, the blitter and the
@@ -82,7 +79,10 @@ fn clocks_by_claim<S: Side, Q: Raster<S>>(
         return Ok(());
     }
     match rules {
-        Some(_) => clocks_on_bus(fore, &AnyTurn, rules, claim, clocks, limit, raster, out),
+        Some(rules) => {
+            let turn = AnyTurn { rules: *rules };
+            clocks_on_bus(fore, &turn, claim, clocks, limit, raster, out)
+        }
         None if claim.asks() => clocks_of_blit(fore, claim, clocks, limit, raster, out),
         None => clocks_of_processor(fore, claim, clocks, limit, raster, out),
     }
@@ -113,16 +113,7 @@ fn clocks_of_blit<S: Side, Q: Raster<S>>(
 {
     let claim = *claim;
     if claim.asks() {
-        clocks_on_bus(
-            fore,
-            &BlitterTurn,
-            &None,
-            &claim,
-            clocks,
-            limit,
-            raster,
-            out,
-        )
+        clocks_on_bus(fore, &BlitterTurn, &claim, clocks, limit, raster, out)
     } else {
         Ok(())
     }
@@ -155,16 +146,7 @@ fn clocks_of_processor<S: Side, Q: Raster<S>>(
     if claim.asks() {
         Ok(())
     } else {
-        clocks_on_bus(
-            fore,
-            &ProcessorTurn,
-            &None,
-            &claim,
-            clocks,
-            limit,
-            raster,
-            out,
-        )
+        clocks_on_bus(fore, &ProcessorTurn, &claim, clocks, limit, raster, out)
     }
 }
 
@@ -173,7 +155,6 @@ fn clocks_of_processor<S: Side, Q: Raster<S>>(
 fn clocks_on_bus<S: Side, Q: Raster<S>, T: Turn<S>>(
     fore: &mut Fore<S>,
     turn: &T,
-    rules: &Option<FetchRules>,
     claim: &BlitterClaim,
     clocks: u16,
     limit: u64,
@@ -182,7 +163,37 @@ fn clocks_on_bus<S: Side, Q: Raster<S>, T: Turn<S>>(
 ) -> Result<(), OutOfMemory>
     requires fits { CanGo (over S.seen fore.old) (Q.seen raster.old) }
     requires fresh { fore.old.spent ≡ false }
-    requires bus { AreOnBus limit clocks rules.now claim.now (over S.seen fore.old) }
+    requires bus { AreOnBus limit clocks (T.rules turn.now) claim.now (over S.seen fore.old) }
+    ensures runs { OnOk result (HasRunOnBus limit (over S.seen fore.old)
+        (over S.seen fore.new) (Q.seen raster.old) (Q.seen raster.new) out.old out.new) }
+    ensures part { OnErr result (HasRunInPart limit (over S.seen fore.old)
+        (over S.seen fore.new) (Q.seen raster.old) (Q.seen raster.new) out.old out.new) }
+    ensures run { (over S.seen fore.new).run ≡ (over S.seen fore.old).run }
+    ensures fresh { OnOk result (fore.new.spent ≡ false) }
+    ensures still { OnOk result (fore.new.machine.t ≡ fore.old.machine.t
+        → fore.new ≡ fore.old) }
+    ensures spent { OnErr result (fore.new.spent ≡ true) }
+{
+    let end = fore.machine.t + clocks as u64;
+    clocks_up_to(fore, turn, claim, end, limit, raster, out)
+}
+
+/// Those before the clock `end`, one behind the other.
+#[inline(always)]
+fn clocks_up_to<S: Side, Q: Raster<S>, T: Turn<S>>(
+    fore: &mut Fore<S>,
+    turn: &T,
+    claim: &BlitterClaim,
+    end: u64,
+    limit: u64,
+    raster: &mut Q,
+    out: &mut OutFiles,
+) -> Result<(), OutOfMemory>
+    requires fits { CanGo (over S.seen fore.old) (Q.seen raster.old) }
+    requires fresh { fore.old.spent ≡ false }
+    requires before { fore.old.machine.t ≤ end }
+    requires bus { AreOnBus limit (end - fore.old.machine.t) (T.rules turn.now) claim.now
+        (over S.seen fore.old) }
     ensures runs { OnOk result (HasRunOnBus limit (over S.seen fore.old)
         (over S.seen fore.new) (Q.seen raster.old) (Q.seen raster.new) out.old out.new) }
     ensures part { OnErr result (HasRunInPart limit (over S.seen fore.old)
@@ -195,14 +206,16 @@ fn clocks_on_bus<S: Side, Q: Raster<S>, T: Turn<S>>(
 {
     let mut rest = 0;
     let mut unit = Unit::none();
-    let mut left = clocks;
-    while left > 0 {
-        match turn.run_alone(fore, rules, claim, left, rest, limit, out) {
+    while has_more(fore, rest, end) {
+        let left = clocks_left(fore, end);
+        match turn.run_alone(fore, claim, left, rest, limit, out) {
             Ok(made) => {
-                left -= made;
                 rest -= made;
                 if made > 0 {
                     unit = Unit::none();
+                }
+                if is_last(made, left) {
+                    return Ok(());
                 }
             }
             Err(refused) => {
@@ -210,11 +223,9 @@ fn clocks_on_bus<S: Side, Q: Raster<S>, T: Turn<S>>(
                 return Err(refused);
             }
         }
-        if left == 0 {
-            return Ok(());
-        }
-        match clock_on_bus(fore, turn, rules, claim, &mut rest, &mut unit, out) {
-            Ok(Access::Stays) => left -= 1,
+        let most = clocks_left(fore, end) - 1;
+        match clock_on_bus(fore, turn, claim, &mut rest, most, &mut unit, out) {
+            Ok(Access::Stays) => {}
             Ok(Access::Ends) => return Ok(()),
             Ok(Access::Other) => return finish_clock(fore, raster, out),
             Err(refused) => {
@@ -224,6 +235,35 @@ fn clocks_on_bus<S: Side, Q: Raster<S>, T: Turn<S>>(
         }
     }
     Ok(())
+}
+
+/// Whether clocks are left before `end`, where there are at least `rest`: if these are some, nothing else is asked.
+#[inline(always)]
+fn has_more<S: Side>(fore: &Fore<S>, rest: u16, end: u64) -> bool
+    requires { fore.now.machine.t + rest ≤ end }
+    ensures some { result ≡ true → fore.now.machine.t < end }
+    ensures none { result ≡ false → end ≤ fore.now.machine.t }
+{
+    rest > 0 || fore.machine.t < end
+}
+
+/// How many clocks are left before `end`.
+#[inline(always)]
+fn clocks_left<S: Side>(fore: &Fore<S>, end: u64) -> u16
+    requires before { fore.now.machine.t ≤ end }
+    requires line { end ≤ fore.now.machine.t + 226 }
+    ensures { result ≡ end - fore.now.machine.t }
+{
+    (end - fore.machine.t) as u16
+}
+
+/// Whether so many clocks, if they are some, are all that were left.
+#[inline(always)]
+fn is_last(made: u16, left: u16) -> bool
+    ensures last { result ≡ true → made ≡ left }
+    ensures more { result ≡ false → 0 < left → made ≤ left → made < left }
+{
+    made > 0 && made == left
 }
 
 /// How many they are, as far as that is known at their begin, and by what the planes have their slots in
@@ -269,19 +309,19 @@ fn is_open_for_bus<S: Side>(fore: &Fore<S>) -> bool
 /// One of them, if its access is one to memory or nobody's. The answer says so, and whether the bus is known to
 /// be left in further clocks; where the access is another it is still to be made, and the clock to be ended. That
 /// memory was wanted is the caller's to note. In `rest` clocks from this one on nothing is to be done for the
-/// CIAs, and then in how many from the next one on. The unit of bitplane fetch that runs is kept from clock to
-/// clock.
+/// CIAs, and then in how many from the next one on, of which `most` are of interest. The unit of bitplane fetch that
+/// runs is kept from clock to clock.
 #[inline(always)]
 fn clock_on_bus<S: Side, T: Turn<S>>(
     fore: &mut Fore<S>,
     turn: &T,
-    rules: &Option<FetchRules>,
     claim: &BlitterClaim,
     rest: &mut u16,
+    most: u16,
     unit: &mut Unit,
     out: &mut OutFiles,
 ) -> Result<Access, OutOfMemory>
-    requires can { (seen : RasterValue) × CanMakeClock rules.now rest.old claim.now
+    requires can { (seen : RasterValue) × CanMakeClock (T.rules turn.now) rest.old claim.now
         (over S.seen fore.old) seen }
     requires unit { IsUnitKept unit.old fore.old.machine.beam.h fore.old.machine.chips.last }
     ensures made { IfOk result (λ access. is_made access ≡ true → (seen : RasterValue)
@@ -290,14 +330,15 @@ fn clock_on_bus<S: Side, T: Turn<S>>(
         (over S.seen fore.new) seen seen out.old out.new) }
     ensures run { (over S.seen fore.new).run ≡ (over S.seen fore.old).run }
     ensures bus { IfOk result (λ access. stays_left access ≡ true
-        → GoesOnBus rules.now rest.new (over S.seen fore.old) (over S.seen fore.new)) }
+        → GoesOnBus (T.rules turn.now) rest.new (over S.seen fore.old) (over S.seen fore.new)) }
+    ensures few { rest.old ≤ most + 1 → rest.new ≤ most }
     ensures unit { IfOk result (λ access. stays_left access ≡ true
         → IsUnitKept unit.new fore.new.machine.beam.h fore.new.machine.chips.last) }
     ensures asked { IfOk result (λ access. is_made access ≡ false
         → HasAskedLate (over S.seen fore.old) (over S.seen fore.new)) }
     ensures given { IfOk result (λ access. is_made access ≡ false → out.new ≡ out.old) }
 {
-    match ask_on_bus(fore, rules, rest, unit) {
+    match turn.ask(fore, rest, most, unit) {
         Some(ask) => plane_clock(fore, &ask, rest, out),
         None => turn.clock(fore, claim, rest, out),
     }
@@ -349,38 +390,4 @@ fn access_and_end<S: Side, Q: Raster<S>>(
     let ask = fore.machine.chips.late_ask(&fore.machine.beam);
     fore.access_by(&ask, raster, out)?;
     fore.end_clock(out)
-}
-
-/// The third and the fourth step of it, and the plane that has the slot, if one has.
-#[inline(always)]
-fn ask_on_bus<S: Side>(
-    fore: &mut Fore<S>,
-    rules: &Option<FetchRules>,
-    rest: &mut u16,
-    unit: &mut Unit,
-) -> Option<PlaneAsk>
-    requires side { S.seen fore.old.machine.side ≡ no_side }
-    requires leaves { LeavesBeside rules.now fore.old.machine.beam fore.old.machine.chips }
-    requires rest { CiasRest fore.old.machine.t rest.old fore.old.machine.chips }
-    requires unit { IsUnitKept unit.old fore.old.machine.beam.h fore.old.machine.chips.last }
-    requires room { fore.old.machine.t + 1 < 2 ^ 64 }
-    ensures asks { AsksInTime
-        (ask_beside_planes result fore.new.machine.beam fore.new.machine.chips)
-        (over S.seen fore.old).machine (over S.seen fore.new).machine }
-    ensures able { CanAsk
-        (ask_beside_planes result fore.new.machine.beam fore.new.machine.chips) }
-    ensures wish { IsBlitAsk
-        (ask_beside_planes result fore.new.machine.beam fore.new.machine.chips)
-        (kept_wish fore.new.machine.chips) }
-    ensures leaves { LeavesToPlanes fore.new.machine.beam fore.new.machine.chips }
-    ensures bus { KeepsBeside rules.now fore.old.machine.chips fore.new.machine.chips }
-    ensures rest { CiasRest (fore.new.machine.t + 1) rest.new fore.new.machine.chips }
-    ensures unit { IsUnitKept unit.new (fore.new.machine.beam.h + 1)
-        fore.new.machine.chips.last }
-    ensures beam { fore.new.machine.beam ≡ fore.old.machine.beam }
-    ensures side { fore.new.machine.side ≡ fore.old.machine.side }
-    ensures same { fore.new ≡ record fore.old { machine = fore.new.machine } }
-    ensures chip { fore.new.machine.chip ≡ fore.old.machine.chip }
-{
-    fore.machine.ask_on_bus(rules, rest, unit)
 }

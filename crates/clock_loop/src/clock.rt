@@ -76,6 +76,7 @@ pub(crate) fn blit_clock<S: Side>(
     ensures rest { IfOk result (λ access. stays_left access ≡ true
         → CiasRest (fore.old.machine.t + 1) rest.old fore.old.machine.chips
         → CiasRest fore.new.machine.t rest.new fore.new.machine.chips) }
+    ensures few { rest.new ≤ rest.old }
 {
     if let Some((at, word)) = fore.machine.chips.blit_write_in_turn() {
         let waited = fore.machine.write_for_blit(at, word)?;
@@ -104,6 +105,7 @@ pub(crate) fn blit_clock_apart<S: Side>(
     ensures rest { IfOk result (λ access. stays_left access ≡ true
         → CiasRest (fore.old.machine.t + 1) rest.old fore.old.machine.chips
         → CiasRest fore.new.machine.t rest.new fore.new.machine.chips) }
+    ensures few { rest.new ≤ rest.old }
 {
     let access = blit_apart(fore, out)?;
     end_access(fore, access, rest, out)
@@ -131,6 +133,7 @@ fn end_blit<S: Side>(
     ensures made { IfOk result (λ access. is_made access ≡ true) }
     ensures stays { IfOk result (λ access. stays_left access
         ≡ is_some fore.new.machine.chips.blit) }
+    ensures few { rest.new ≤ rest.old }
 {
     end_beside(fore, waited, rest, out)?;
     if fore.machine.chips.is_blitting() {
@@ -157,6 +160,7 @@ fn end_access<S: Side>(
     ensures rest { IfOk result (λ ended. is_made ended ≡ true
         → CiasRest (fore.old.machine.t + 1) rest.old fore.old.machine.chips
         → CiasRest fore.new.machine.t rest.new fore.new.machine.chips) }
+    ensures few { rest.new ≤ rest.old }
 {
     match access {
         Access::Stays => {
@@ -269,6 +273,7 @@ pub(crate) fn plane_clock<S: Side>(
     ensures rest { IfOk result (λ access. stays_left access ≡ true
         → CiasRest (fore.old.machine.t + 1) rest.old fore.old.machine.chips
         → CiasRest fore.new.machine.t rest.new fore.new.machine.chips) }
+    ensures few { rest.new ≤ rest.old }
 {
     fore.log.note_plane(fore.machine.t, ask)?;
     let waited = fore.machine.pass_plane(ask);
@@ -317,6 +322,7 @@ fn end_beside<S: Side>(
     ensures refused { OnErr result (out.new ≡ out.old) }
     ensures rest { OnOk result (CiasRest (fore.old.machine.t + 1) rest.old fore.old.machine.chips
         → CiasRest fore.new.machine.t rest.new fore.new.machine.chips) }
+    ensures few { rest.new ≤ rest.old }
 {
     if !waited {
         let alone = fore.machine.process_beside_cias(out)?;
@@ -348,6 +354,7 @@ fn end_on_bus<S: Side>(
         (CiasRest (fore.old.machine.t + 1) rest.old fore.old.machine.chips
         → CiasRest fore.new.machine.t rest.new fore.new.machine.chips) }
     ensures refused { OnErr result (out.new ≡ out.old) }
+    ensures few { rest.new ≤ rest.old }
 {
     let alone = fore.machine.process_beside_cias(out)?;
     *rest = rest_beside(alone, *rest);
@@ -361,6 +368,7 @@ fn end_on_bus<S: Side>(
 fn rest_beside(alone: bool, rest: u16) -> u16
     ensures alone { alone ≡ true → result ≡ rest }
     ensures accessed { alone ≡ false → result ≡ 0 }
+    ensures few { result ≤ rest }
 {
     if alone { rest } else { 0 }
 }

@@ -1,6 +1,6 @@
 //! Clocks of a line that refresh, planes, sprites and the Copper leave to the blitter and the processor.
 
-ghost use Rattle.std.specs.Prelude.{◌≡◌, ◌≤◌, ◌<◌, ◌+◌, ◌-◌, ◌^◌, true, false, is_some, Option, IfOk, OnOk, OnErr};
+ghost use Rattle.std.specs.Prelude.{◌≡◌, ◌≤◌, ◌<◌, ◌+◌, ◌-◌, ◌^◌, true, false, is_some, Option, None, Some, IfOk, OnOk, OnErr};
 ghost use Rattle.ocs_base.specs.declared.system.System.{System};
 ghost use Rattle.out_files.specs.OutFiles.{OutFilesValue};
 ghost use Rattle.blit_words.specs.declared.blit.SlotAsk.TheVariants as SlotAsk;
@@ -29,19 +29,21 @@ use out_files::OutFiles;
 use serial_model::{Ask, Half, Made, PlaneAsk, Side, TraceLine};
 
 impl<S: Side> Machine<S> {
-    /// Third step of such a clock, without a side: the timers tick; and the planes' part of it: the plane
-    /// that has the slot, if one has. Else `has_blitter_turn` tells who has it. `answer_on_bus` is to be
-    /// called next. In `rest` clocks from this one on nothing is to be done for the CIAs, and then in how many
-    /// from the next one on. The unit of bitplane fetch that runs is kept for the clocks behind this one.
+    /// Third step of such a clock, without a side: the timers tick; and the planes' part of it, by what they have
+    /// their slots in it: the plane that has the slot, if one has. Else `has_blitter_turn` tells who has it.
+    /// `answer_on_bus` is to be called next. In `rest` clocks from this one on nothing is to be done for the
+    /// CIAs, and then in how many from the next one on, of which `most` are of interest. The unit of bitplane
+    /// fetch that runs is kept for the clocks behind this one.
     #[inline(always)]
     pub fn ask_on_bus(
         &mut self,
-        rules: &Option<FetchRules>,
+        rules: &FetchRules,
         rest: &mut u16,
+        most: u16,
         unit: &mut Unit,
     ) -> Option<PlaneAsk>
         requires side { S.seen self.old.side ≡ no_side }
-        requires leaves { LeavesBeside rules.now self.old.beam self.old.chips }
+        requires leaves { LeavesBeside (Some rules.now) self.old.beam self.old.chips }
         requires rest { CiasRest self.old.t rest.old self.old.chips }
         requires unit { IsUnitKept unit.old self.old.beam.h self.old.chips.last }
         requires room { self.old.t + 1 < 2 ^ 64 }
@@ -51,13 +53,40 @@ impl<S: Side> Machine<S> {
         ensures wish { IsBlitAsk (ask_beside_planes result self.new.beam self.new.chips)
             (kept_wish self.new.chips) }
         ensures leaves { LeavesToPlanes self.new.beam self.new.chips }
-        ensures kept { KeepsBeside rules.now self.old.chips self.new.chips }
+        ensures kept { KeepsBeside (Some rules.now) self.old.chips self.new.chips }
         ensures rest { CiasRest (self.new.t + 1) rest.new self.new.chips }
+        ensures most { rest.old ≤ most + 1 → rest.new ≤ most }
         ensures unit { IsUnitKept unit.new (self.new.beam.h + 1) self.new.chips.last }
         ensures same { self.new ≡ record self.old { chips = self.new.chips } }
     {
-        *rest = self.chips.count_or_rest(self.t, *rest);
+        let later = self.chips.count_or_rest(self.t, *rest);
+        *rest = clocks_of_interest(*rest, later, most);
         self.chips.ask_on_bus(rules, &self.beam, unit)
+    }
+
+    /// The same where the planes have no slot: the blitter or the processor may have it.
+    #[inline(always)]
+    pub fn ask_without_planes(&mut self, rest: &mut u16, most: u16, unit: &Unit)
+        requires side { S.seen self.old.side ≡ no_side }
+        requires leaves { LeavesBeside None self.old.beam self.old.chips }
+        requires rest { CiasRest self.old.t rest.old self.old.chips }
+        requires unit { IsUnitKept unit.now self.old.beam.h self.old.chips.last }
+        requires room { self.old.t + 1 < 2 ^ 64 }
+        ensures asks { AsksInTime (ask_beside_planes None self.new.beam self.new.chips)
+            (machine_over S.seen self.old) (machine_over S.seen self.new) }
+        ensures able { CanAsk (ask_beside_planes None self.new.beam self.new.chips) }
+        ensures wish { IsBlitAsk (ask_beside_planes None self.new.beam self.new.chips)
+            (kept_wish self.new.chips) }
+        ensures leaves { LeavesToPlanes self.new.beam self.new.chips }
+        ensures kept { KeepsBeside None self.old.chips self.new.chips }
+        ensures rest { CiasRest (self.new.t + 1) rest.new self.new.chips }
+        ensures most { rest.old ≤ most + 1 → rest.new ≤ most }
+        ensures unit { IsUnitKept unit.now (self.new.beam.h + 1) self.new.chips.last }
+        ensures same { self.new ≡ record self.old { chips = self.new.chips } }
+    {
+        let later = self.chips.count_or_rest(self.t, *rest);
+        *rest = clocks_of_interest(*rest, later, most);
+        self.chips.ask_without_planes(&self.beam, unit);
     }
 
     /// Sixth step, as `process`. The answer says whether the processor left the CIAs alone.
@@ -190,4 +219,14 @@ impl<S: Side> Machine<S> {
         self.chips.give_blit(word);
         self.chips.wait_beside()
     }
+}
+
+/// In how many clocks from the next one on nothing is to be done for the CIAs, where `later` is known of them and
+/// `most` are of interest. It was `rest` a clock before: where that was some, no more than are of interest were known.
+#[inline(always)]
+fn clocks_of_interest(rest: u16, later: u16, most: u16) -> u16
+    ensures known { result ≤ later }
+    ensures most { (0 < rest → later ≡ rest - 1) → rest ≤ most + 1 → result ≤ most }
+{
+    if rest > 0 { later } else { later.min(most) }
 }

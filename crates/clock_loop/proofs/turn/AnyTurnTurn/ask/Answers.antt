@@ -2,7 +2,7 @@ use Rattle.std.proofs.Common.{subst, sym}
 use Rattle.chip_set.specs.BusCode.{CiasRest}
 use Rattle.foreground.specs.Fore.{ForeOf}
 use Rattle.clock_loop.proofs.BusLaws.{unit_view}
-use Rattle.clock_loop.proofs.bus.ask_on_bus.Goals as goal
+use Rattle.clock_loop.proofs.turn.AnyTurnTurn.ask.Goals as goal
 
 pub ask_on_bus-requires-clause-rest : goal.ask_on_bus-requires-clause-rest
 ask_on_bus-requires-clause-rest g c =

@@ -1,11 +1,11 @@
-use Rattle.std.proofs.Common.{◌≡◌, false}
+use Rattle.std.proofs.Common.{◌≡◌, ◌≤◌, ◌+◌, ◌-◌, false}
 use Rattle.chip_set.specs.BusCode.{IsUnitKept}
 use Rattle.clock_loop.specs.BusRun.{CanMakeClocks, HasRunOnBus}
 use Rattle.foreground.specs.Fore.{over, CanGo}
-use Rattle.clock_loop.proofs.bus.clocks_on_bus.Given as goal
+use Rattle.clock_loop.proofs.bus.clocks_up_to.Given as goal
 
-abbrev pub invariant-loop-left : goal.invariant-loop-left
-invariant-loop-left g l =
+abbrev pub invariant-loop-unit : goal.invariant-loop-unit
+invariant-loop-unit g l =
     let seen = g.Q.Raster.seen in
     let of = over g.S.Side.seen in
     record {
@@ -15,8 +15,9 @@ invariant-loop-left g l =
       fresh : l.fore.spent ≡ false;
       still : l.fore.machine.t ≡ l.initial.fore.machine.t → l.fore ≡ l.initial.fore;
       unit : IsUnitKept l.unit l.fore.machine.beam.h l.fore.machine.chips.last;
-      can : CanMakeClocks l.limit l.left l.rules l.rest l.claim (of l.fore);
+      room : l.fore.machine.t + l.rest ≤ l.end;
+      can : CanMakeClocks l.limit (l.end - l.fore.machine.t) (g.T.Turn.rules l.turn) l.rest l.claim (of l.fore);
     }
 
-abbrev pub decreases-loop-left : goal.decreases-loop-left
-decreases-loop-left g l = l.left
+abbrev pub decreases-loop-unit : goal.decreases-loop-unit
+decreases-loop-unit g l = l.end - l.fore.machine.t
