@@ -13,7 +13,7 @@ ghost use Rattle.band_draw.specs.AheadCode.{IsPlaced, IsFetched, first_clock, sp
 
 use crate::progress::Progress;
 use band_log::{Event, Run};
-use mem_versions::MemView;
+use mem_versions::MemReplay;
 use ocs_base::{Addr, Clock, System};
 use serial_model::Side;
 
@@ -32,14 +32,20 @@ impl Progress {
     /// Makes the fetches of bitplanes that come before anything else touches the picture, at most to
     /// the last clock of the line and of the band. The answer is the clock up to which, without it,
     /// nothing else does.
-    pub fn fetch_ahead<S: Side>(&mut self, run: &Run<S>, events: &[Event], view: &MemView) -> u64
-        requires source { IsSource (run_over S.seen run.now) self.old.from self.old.to view.now }
+    pub fn fetch_ahead<S: Side>(
+        &mut self,
+        run: &Run<S>,
+        events: &[Event],
+        view: &mut MemReplay,
+    ) -> u64
+        requires source { IsSource (run_over S.seen run.now) self.old.from self.old.to view.old }
         requires placed { IsPlaced (run_over S.seen run.now) events.now self.old }
         requires screen { self.old.beam.h ≤ 227 }
         ensures fetched { IsFetched (run_over S.seen run.now) events.now self.old self.new result }
         ensures band { result < self.old.to }
         ensures line { self.old.clock < result → self.old.beam.h + (result - self.old.clock)
             ≤ last_clock run.now.script.system self.old.beam.v }
+        ensures view { view.new ≡ view.old }
     {
         let end = self.clock + self.most_clocks(run.script().system());
         let mut next = self.next;
@@ -65,19 +71,20 @@ impl Progress {
 
     /// Makes a fetch of this clock of the line or a later one. That of plane 1 is a load.
     #[inline(always)]
-    fn fetch(&mut self, fetch: &Fetch, view: &MemView)
+    fn fetch(&mut self, fetch: &Fetch, view: &mut MemReplay)
         requires order { self.old.clock ≤ fetch.now.at.0 }
         requires place { self.old.beam.h + (fetch.now.at.0 - self.old.clock) ≤ 227 }
-        requires covered { Covers view.now fetch.now.at.0 }
+        requires covered { Covers view.old fetch.now.at.0 }
         requires few { fetch.now.plane ≤ 6 }
         ensures paints { let h = self.old.beam.h + (fetch.now.at.0 - self.old.clock) in
             Paints (4 * h) (set_picture h (plane_latch fetch.now.plane)
-            (word_then view.now fetch.now.at.0 fetch.now.addr))
+            (word_then view.old fetch.now.at.0 fetch.now.addr))
             self.old.painter self.new.painter }
         ensures keeps { self.new.painter.keeps ≡ self.old.painter.keeps }
         ensures same { self.new ≡ record self.old { painter = self.new.painter } }
+        ensures view { view.new ≡ view.old }
     {
-        let word = view.at(fetch.at, fetch.addr);
+        let word = view.word(fetch.at, fetch.addr);
         if fetch.plane >= 2 {
             self.painter.latch(fetch.plane, word);
             return;

@@ -14,7 +14,7 @@ use crate::band_painter::BandPainter;
 use crate::due::{due_from, first_from};
 use crate::progress::Progress;
 use band_log::{Drawn, Event, Job, Room, Run};
-use mem_versions::MemView;
+use mem_versions::MemReplay;
 use ocs_base::{Beam, Clock};
 use serial_model::{Denise, Side};
 
@@ -35,11 +35,11 @@ pub fn draw<S: Side>(job: Job<S>) -> Drawn<S>
         beam,
         mut picture,
         events,
-        view,
+        mut view,
         mut room,
     } = job;
     let start = begin(&run, from, to, beam, picture.state());
-    let end = draw_into(start, &run, events.list(), &view, &mut room);
+    let end = draw_into(start, &run, events.list(), &mut view, &mut room);
     picture.set(end.closing);
     Drawn {
         clx: end.clx,
@@ -99,13 +99,14 @@ fn draw_into<S: Side>(
     start: Progress,
     run: &Run<S>,
     events: &[Event],
-    view: &MemView,
+    view: &mut MemReplay,
     room: &mut Room,
 ) -> End
-    requires source { IsSource (run_over S.seen run.now) start.from start.to view.now }
+    requires source { IsSource (run_over S.seen run.now) start.from start.to view.old }
     requires at { IsAt (run_over S.seen run.now) events.now room.old start }
-    ensures { IsEnded (run_over S.seen run.now)
+    ensures ended { IsEnded (run_over S.seen run.now)
         start.from start.to room.new result.closing result.clx }
+    ensures view { view.new ≡ view.old }
 {
     let mut progress = start;
     let closing = draw_all(&mut progress, run, events, view, room.pixels_mut());
@@ -120,14 +121,15 @@ fn draw_all<S: Side>(
     p: &mut Progress,
     run: &Run<S>,
     events: &[Event],
-    view: &MemView,
+    view: &mut MemReplay,
     room: &mut [u8],
 ) -> Denise
-    requires source { IsSource (run_over S.seen run.now) p.old.from p.old.to view.now }
+    requires source { IsSource (run_over S.seen run.now) p.old.from p.old.to view.old }
     requires at { IsAt (run_over S.seen run.now) events.now room.old p.old }
     ensures ended { IsEnded (run_over S.seen run.now)
         p.old.from p.old.to room.new result p.new.clx }
     ensures size { length room.new ≡ length room.old }
+    ensures view { view.new ≡ view.old }
 {
     while p.clock < p.to - 1 {
         let before = p.clock;

@@ -14,7 +14,7 @@ ghost use Rattle.band_draw.specs.Given.{IsGiven, filled_after};
 use crate::band_painter::BandPainter;
 use crate::touch::{bus_count, touch_all};
 use band_log::Event;
-use mem_versions::MemView;
+use mem_versions::MemReplay;
 use ocs_base::{Beam, Clock, System};
 use painter::span::put;
 
@@ -58,16 +58,17 @@ pub fn touch_access(
     rest: &[Event],
     coming: usize,
     clock: Clock,
-    view: &MemView,
+    view: &mut MemReplay,
 ) -> usize
     requires place { h ≤ 227 }
-    requires covered { Covers view.now clock.0 }
+    requires covered { Covers view.old clock.0 }
     requires room { clock.0 + 1 < 2 ^ 64 }
-    ensures touched { Paints (4 * h) (touch_by_address h (word_then view.now clock.0)
+    ensures touched { Paints (4 * h) (touch_by_address h (word_then view.old clock.0)
         (bus_touch_of clock.0 coming rest.now)) painter.old painter.new }
     ensures keeps { painter.new.keeps ≡ painter.old.keeps }
     ensures count { result ≡ length (bus_events clock.0 (bus_touch_of clock.0 coming rest.now)) }
     ensures within { result ≤ length rest.now }
+    ensures view { view.new ≡ view.old }
 {
     let count = bus_count(clock.0, coming, rest);
     touch_all(painter, h, &rest[..count], clock, view);

@@ -10,7 +10,7 @@ use crate::clock::{behind, next_place, part, show_clock, touch_access};
 use crate::due::{due_from, find_due};
 use crate::touch::touch_all;
 use band_log::{Cursor, Event, Run};
-use mem_versions::MemView;
+use mem_versions::MemReplay;
 use ocs_base::{Beam, Clock};
 use painter::FieldPlace;
 use serial_model::{Denise, Side};
@@ -44,14 +44,21 @@ impl Progress {
     /// alone is cheaper. Fetches of bitplanes are made before it is shown. Where the script writes nothing
     /// at the clock of the change, and it is not the band's last, the span takes it in, and what its
     /// access does follows.
-    pub fn pass<S: Side>(&mut self, run: &Run<S>, events: &[Event], view: &MemView, room: &mut [u8])
-        requires source { IsSource (run_over S.seen run.now) self.old.from self.old.to view.now }
+    pub fn pass<S: Side>(
+        &mut self,
+        run: &Run<S>,
+        events: &[Event],
+        view: &mut MemReplay,
+        room: &mut [u8],
+    )
+        requires source { IsSource (run_over S.seen run.now) self.old.from self.old.to view.old }
         requires at { IsAt (run_over S.seen run.now) events.now room.old self.old }
         ensures at { IsAt (run_over S.seen run.now) events.now room.new self.new }
         ensures from { self.new.from ≡ self.old.from }
         ensures to { self.new.to ≡ self.old.to }
         ensures clock { self.old.clock ≤ self.new.clock }
         ensures size { length room.new ≡ length room.old }
+        ensures view { view.new ≡ view.old }
     {
         if is_sprite_near(events, self.next, self.clock) {
             return;
@@ -83,8 +90,14 @@ impl Progress {
     }
 
     /// Draws a clock before the last, and comes to the next one.
-    pub fn turn<S: Side>(&mut self, run: &Run<S>, events: &[Event], view: &MemView, room: &mut [u8])
-        requires source { IsSource (run_over S.seen run.now) self.old.from self.old.to view.now }
+    pub fn turn<S: Side>(
+        &mut self,
+        run: &Run<S>,
+        events: &[Event],
+        view: &mut MemReplay,
+        room: &mut [u8],
+    )
+        requires source { IsSource (run_over S.seen run.now) self.old.from self.old.to view.old }
         requires at { IsAt (run_over S.seen run.now) events.now room.old self.old }
         requires more { self.old.clock + 1 < self.old.to }
         ensures at { IsAt (run_over S.seen run.now) events.now room.new self.new }
@@ -92,6 +105,7 @@ impl Progress {
         ensures to { self.new.to ≡ self.old.to }
         ensures clock { self.new.clock ≡ self.old.clock + 1 }
         ensures size { length room.new ≡ length room.old }
+        ensures view { view.new ≡ view.old }
     {
         let due = part(events, self.next, self.sets);
         touch_all(&mut self.painter, self.beam.h, due, Clock(self.clock), view);
@@ -108,8 +122,8 @@ impl Progress {
 
     /// Comes to the next clock behind the picture step of one, with the touch of its access.
     #[inline(always)]
-    fn go_to_next<S: Side>(&mut self, run: &Run<S>, events: &[Event], view: &MemView)
-        requires source { IsSource (run_over S.seen run.now) self.old.from self.old.to view.now }
+    fn go_to_next<S: Side>(&mut self, run: &Run<S>, events: &[Event], view: &mut MemReplay)
+        requires source { IsSource (run_over S.seen run.now) self.old.from self.old.to view.old }
         requires shown { IsShown (run_over S.seen run.now) events.now self.old }
         requires more { self.old.clock + 1 < self.old.to }
         ensures at { (room : List ℕ)
@@ -118,6 +132,7 @@ impl Progress {
         ensures from { self.new.from ≡ self.old.from }
         ensures to { self.new.to ≡ self.old.to }
         ensures clock { self.new.clock ≡ self.old.clock + 1 }
+        ensures view { view.new ≡ view.old }
     {
         let script = run.script();
         let h = self.beam.h;
@@ -140,15 +155,16 @@ impl Progress {
         &mut self,
         run: &Run<S>,
         events: &[Event],
-        view: &MemView,
+        view: &mut MemReplay,
         room: &mut [u8],
     ) -> Denise
-        requires source { IsSource (run_over S.seen run.now) self.old.from self.old.to view.now }
+        requires source { IsSource (run_over S.seen run.now) self.old.from self.old.to view.old }
         requires at { IsAt (run_over S.seen run.now) events.now room.old self.old }
         requires last { self.old.clock + 1 ≡ self.old.to }
         ensures ended { IsEnded (run_over S.seen run.now) self.old.from self.old.to
             room.new result self.new.clx }
         ensures size { length room.new ≡ length room.old }
+        ensures view { view.new ≡ view.old }
     {
         let system = run.script().system();
         let h = self.beam.h;

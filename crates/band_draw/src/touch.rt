@@ -10,7 +10,7 @@ ghost use Rattle.band_draw.specs.TouchedCode.{touched_by};
 
 use crate::band_painter::BandPainter;
 use band_log::Event;
-use mem_versions::MemView;
+use mem_versions::MemReplay;
 use ocs_base::Clock;
 use ocs_base::offset::SPR0DATA;
 
@@ -19,13 +19,20 @@ const LATCHES: u16 = 0x10e;
 
 /// Events at clock `h` of the line in their order. The word of a fetch is that of the colour clock.
 #[inline(always)]
-pub fn touch_all(painter: &mut BandPainter, h: u16, events: &[Event], clock: Clock, view: &MemView)
+pub fn touch_all(
+    painter: &mut BandPainter,
+    h: u16,
+    events: &[Event],
+    clock: Clock,
+    view: &mut MemReplay,
+)
     requires place { h ≤ 227 }
-    requires covered { Covers view.now clock.0 }
+    requires covered { Covers view.old clock.0 }
     ensures paints { Paints (4 * h)
-        (touched_by h (word_then view.now clock.0) (map touch_of_event events.now))
+        (touched_by h (word_then view.old clock.0) (map touch_of_event events.now))
         painter.old painter.new }
     ensures keeps { painter.new.keeps ≡ painter.old.keeps }
+    ensures view { view.new ≡ view.old }
 {
     for event in events {
         touch(painter, h, event, clock, view);
@@ -34,17 +41,18 @@ pub fn touch_all(painter: &mut BandPainter, h: u16, events: &[Event], clock: Clo
 
 /// One event at clock `h` of the line.
 #[inline(always)]
-fn touch(painter: &mut BandPainter, h: u16, event: &Event, clock: Clock, view: &MemView)
+fn touch(painter: &mut BandPainter, h: u16, event: &Event, clock: Clock, view: &mut MemReplay)
     requires place { h ≤ 227 }
-    requires covered { Covers view.now clock.0 }
-    ensures paints { Paints (4 * h) (touch_by_address h (word_then view.now clock.0)
+    requires covered { Covers view.old clock.0 }
+    ensures paints { Paints (4 * h) (touch_by_address h (word_then view.old clock.0)
         (Some (touch_of_event event.now))) painter.old painter.new }
     ensures keeps { painter.new.keeps ≡ painter.old.keeps }
+    ensures view { view.new ≡ view.old }
 {
     match event {
         Event::Set { reg, word, .. } => painter.set(h, reg.offset, *word),
         Event::Plane { plane, addr, .. } => {
-            let word = view.at(clock, *addr);
+            let word = view.word(clock, *addr);
             painter.set(h, LATCHES + 2 * *plane as u16, word);
         }
         Event::Sprite {
@@ -53,7 +61,7 @@ fn touch(painter: &mut BandPainter, h: u16, event: &Event, clock: Clock, view: &
             addr,
             ..
         } => {
-            let word = view.at(clock, *addr);
+            let word = view.word(clock, *addr);
             if *sprite < 8 {
                 painter.fill_sprite(*sprite, *second, word);
                 return;

@@ -4,7 +4,7 @@ use crate::events::Events;
 use crate::picture::Picture;
 use crate::room::Room;
 use crate::run::Run;
-use mem_versions::MemView;
+use mem_versions::MemReplay;
 use ocs_base::{Beam, Clock};
 use std::sync::Arc;
 
@@ -28,7 +28,7 @@ pub struct Job<S> {
     /// What touches the picture state in the band, in the order of happening.
     pub events: Events,
     /// The chip memory at each clock of the band, and at that behind its last.
-    pub view: MemView,
+    pub view: MemReplay,
     /// Room for three bytes of each visible pixel of the band.
     pub room: Room,
 }

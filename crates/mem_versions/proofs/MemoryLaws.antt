@@ -1,13 +1,15 @@
 -- Laws of the memory at a clock.
 use Rattle.std.proofs.Common.{◌≡◌, ℕ, ◌+◌, ◌-◌, ◌<◌, ◌≤◌, ◌≢◌, Bool, true, false, cond, ◌==◌, ◌&&◌, nat_lt, List, [], ◌∷◌}
-use Rattle.std.proofs.Common.{◌++◌, length, take, drop, get_or, refl, sym, ap, subst, ◌∙◌, arith, get_or-set_other, length-set}
+use Rattle.std.proofs.Common.{All, ◌⊎◌, inl, inr, ◌++◌, length, take, drop, get_or, refl, sym, ap, subst, ◌∙◌, arith, get_or-set_other, length-set}
 use Rattle.std.proofs.Math.ListN.{set}
 use Rattle.std.specs.List.{filter}
 use Rattle.std.proofs.lemmas.Bool.Decides.{nat_tests}
+use Rattle.std.proofs.lemmas.Bool.{cases_lt, cases_eq}
 use Rattle.std.proofs.lemmas.Grind.{same_number_lists, get_or-set_at}
-use Rattle.std.proofs.lemmas.List.{take-append-drop, take_more, get_or_past}
-use Rattle.std.proofs.lemmas.List.Elements.{All-drop, All-push, All-weaker}
+use Rattle.std.proofs.lemmas.List.{take-append-drop, take_more, get_or_default, get_or_past}
+use Rattle.std.proofs.lemmas.List.Elements.{All-head, All-tail, All-drop, All-push, All-weaker}
 use Rattle.std.proofs.lemmas.List.Sorted.{IsNonDecreasingBy-drop, IsNonDecreasingBy-push}
+use Rattle.std.specs.List.Sorted.{IsNonDecreasingBy}
 use Rattle.mem_versions.specs.declared.write.Write.{Write}
 use Rattle.mem_versions.specs.MemoryAt.{words_after, memory_at, writes_below, writes_to}
 use Rattle.mem_versions.specs.Chip.{ChipValue}
@@ -172,3 +174,44 @@ IsViewOf-made chip now view from to base writes count =
       memory = λ clock early. ap (λ (words : List ℕ). memory_at clock words view.writes) base
           ∙ memory_at-same now clock view.writes chip.writes chip.base early writes;
     }
+
+-- where no write to a place is of a clock from one on, the word after all writes is that at the clock
+pub words_after-early : (clock place : ℕ) (writes : List Write) (words : List ℕ) → place < length words
+    → All (λ (w : Write). w.place ≡ place → w.clock < clock) writes
+    → get_or (words_after words writes) place 0 ≡ get_or (memory_at clock words writes) place 0
+words_after-early clock place writes words within early =
+    made writes words within early ∙ sym (get_or-memory_at clock place writes words within)
+  where
+    made : (ws : List Write) (now : List ℕ) → place < length now → All (λ (w : Write). w.place ≡ place → w.clock < clock) ws
+        → get_or (words_after now ws) place 0 ≡ word_before place clock ws (get_or now place 0)
+    made [] now inside each = refl
+    made (w ∷ ws) now inside each =
+        made ws (set now w.place w.word) (omega (arith, inside, length-set now w.place w.word))
+        (All-tail (λ (v : Write). v.place ≡ place → v.clock < clock) w ws each)
+        ∙ ap (word_before place clock ws)
+        (by_cases w now inside (All-head (λ (v : Write). v.place ≡ place → v.clock < clock) w ws each) (cases_eq place w.place))
+      where
+        by_cases : (w : Write) (now : List ℕ) → place < length now → (w.place ≡ place → w.clock < clock)
+            → (place ≡ w.place) ⊎ (place ≢ w.place) → get_or (set now w.place w.word) place 0 ≡ cond ((w.place == place) && nat_lt w.clock clock) w.word (get_or now place 0)
+        by_cases w now inside before (inl here) =
+            let lower : w.clock < clock = before (sym here) in
+            let yes : ((w.place == place) && nat_lt w.clock clock) ≡ true = grind (arith, nat_tests) in
+            get_or-set_at now w.place place w.word 0 here (omega arith) ∙ sym (ap (λ (b : Bool). cond b w.word (get_or now place 0)) yes)
+        by_cases w now inside before (inr apart) =
+            let no : ((w.place == place) && nat_lt w.clock clock) ≡ false = grind (arith, nat_tests) in
+            get_or-set_other now w.place place w.word 0 apart ∙ sym (ap (λ (b : Bool). cond b w.word (get_or now place 0)) no)
+
+-- where the last of the first writes is early, and those behind are to other places, no write to a place is late
+pub all_early : (place clock : ℕ) (writes : List Write) (left : ℕ) (e : Write) → IsNonDecreasingBy (λ (w : Write). w.clock) writes
+    → (get_or writes (left - 1) e).clock < clock → left ≤ length writes
+    → ((k : ℕ) (d : Write) → left ≤ k → k < length writes → (get_or writes k d).place ≢ place)
+    → All (λ (w : Write). w.place ≡ place → w.clock < clock) writes
+all_early place clock writes left e stamped early low other k d within here = by_cases (cases_lt k left)
+  where
+    by_cases : (k < left) ⊎ (left ≤ k) → (get_or writes k d).clock < clock
+    by_cases (inl before) =
+        let rise : (get_or writes k d).clock ≤ (get_or writes (left - 1) d).clock = stamped k (left - 1) d (omega arith) (omega arith) in
+        let same : get_or writes (left - 1) d ≡ get_or writes (left - 1) e = get_or_default writes (left - 1) d e (omega arith) in
+        let clocks : (get_or writes (left - 1) d).clock ≡ (get_or writes (left - 1) e).clock = ap (λ (w : Write). w.clock) same in
+        omega (arith, rise, clocks, early)
+    by_cases (inr behind) = absurd (other k d behind within here)

@@ -5,4 +5,5 @@ pub mod Lending
 pub mod MemView
 pub mod MemoryAt
 pub mod PagesCode
+pub mod ReplayCode
 pub mod Sound

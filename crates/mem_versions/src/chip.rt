@@ -224,7 +224,7 @@ impl Chip {
 }
 
 /// How many of the writes have clocks below one: they come first.
-fn count_below(writes: &[Write], clock: u64) -> usize
+pub(crate) fn count_below(writes: &[Write], clock: u64) -> usize
     requires { IsNonDecreasingBy (λ (write : WriteValue). write.clock) writes.now }
     ensures within { result ≤ length writes.now }
     ensures below { take result writes.now ≡ writes_below clock writes.now }
@@ -298,6 +298,43 @@ fn put_word(words: &mut Vec<u16>, place: usize, word: u16)
     if place < words.len() {
         words[place] = word;
     }
+}
+
+/// Takes the first writes out of a list. Where these are all they are not copied. After a refusal all is as
+/// before.
+pub(crate) fn take_first(
+    alloc: Global,
+    writes: &mut Vec<Write>,
+    count: usize,
+) -> Result<Vec<Write>, OutOfMemory>
+    requires { count ≤ length writes.old.items }
+    ensures first { IfOk result (λ list. list.items ≡ take count writes.old.items) }
+    ensures rest { OnOk result (writes.new.items ≡ drop count writes.old.items) }
+    ensures refused { OnErr result (writes.new ≡ writes.old) }
+{
+    if count == writes.len() {
+        let none = Vec::with_capacity(alloc, count)?;
+        return Ok(mem::replace(writes, none));
+    }
+    copy_first(alloc, writes, count)
+}
+
+/// The same where not all are taken. It stands apart, so that where all are taken it costs nothing.
+#[cold]
+#[inline(never)]
+fn copy_first(
+    alloc: Global,
+    writes: &mut Vec<Write>,
+    count: usize,
+) -> Result<Vec<Write>, OutOfMemory>
+    requires { count ≤ length writes.old.items }
+    ensures first { IfOk result (λ list. list.items ≡ take count writes.old.items) }
+    ensures rest { OnOk result (writes.new.items ≡ drop count writes.old.items) }
+    ensures refused { OnErr result (writes.new ≡ writes.old) }
+{
+    let first = Vec::from_slice(alloc, &writes[..count])?;
+    remove_first(writes, count);
+    Ok(first)
 }
 
 /// Removes the first writes.

@@ -13,3 +13,5 @@ mod kept_memory;
 mod latest_states;
 #[cfg(test)]
 mod memory_views;
+#[cfg(test)]
+mod replayed_memory;

@@ -168,7 +168,7 @@ impl Log {
         let bytes = shown - shown_before(system, &self.band.beam);
         let (room, events) = spare.take(bytes as usize, self.band.events.list().len())?;
         let blank = Picture::new(spare.alloc(), Denise::reset())?;
-        let view = chip.cut(Clock(to))?;
+        let view = chip.cut_replay(Clock(to))?;
         let next = OpenBand {
             number: self.band.number + 1,
             from: to,

@@ -1,6 +1,7 @@
 //! The shadow of the picture state: what touches it, and the opening of a line that is made of it.
 
 ghost use Rattle.std.specs.Prelude.{◌≡◌, ◌<◌, ◌/◌, ◌%◌, ◌^◌, ℕ, List, length, count_by, map, false, if◌then◌else◌, Some};
+ghost use Rattle.mem_versions.specs.MemoryAt.{memory_at};
 ghost use Rattle.mem_versions.specs.Chip.{after_reads};
 ghost use Rattle.mem_versions.specs.MemView.{word_then};
 ghost use Rattle.serial_model.specs.declared.picture.Touch.TheVariants as T;
@@ -12,7 +13,7 @@ ghost use Rattle.serial_bands.specs.Shadows.{IsInRange, IsOfRange, AreOfRange, f
 ghost use Rattle.serial_bands.specs.Shadows.{touch_shadow, shadow_of as shadow_of_picture, found_filling, found_shadow, line_opening};
 ghost use Rattle.serial_bands.specs.Fetches.{is_fetched_filling, fetches_in, IsInRangeOf};
 
-use mem_versions::{Chip, MemView};
+use mem_versions::{Chip, MemReplay};
 use ocs_base::{Addr, Clock, Colour};
 use planes::Loads;
 use serial_bands::{Filling, Shadow};
@@ -145,8 +146,9 @@ fn fill(fillings: &mut [Filling], words: &[u16])
 
 /// Looks up, in a view that covers them, the words of the fetches that are left: each is a read of
 /// the chip memory.
-pub fn find_words(shadow: &mut Shadow, view: &MemView, chip: &mut Chip)
-    requires { IsInRangeOf view.now.from view.now.to shadow.old }
+pub fn find_words(shadow: &mut Shadow, view: &MemReplay, chip: &mut Chip)
+    requires range { IsInRangeOf view.now.from view.now.to shadow.old }
+    requires behind { chip.old.base ≡ memory_at view.now.to view.now.base view.now.writes }
     ensures words { shadow.new ≡ found_shadow (word_then view.now) shadow.old }
     ensures reads { chip.new ≡ after_reads chip.old (fetches_in shadow.old) }
 {
@@ -156,8 +158,9 @@ pub fn find_words(shadow: &mut Shadow, view: &MemView, chip: &mut Chip)
 }
 
 /// The same for some of its words.
-fn find_all(fillings: &mut [Filling], view: &MemView, chip: &mut Chip)
-    requires { AreOfRange view.now.from view.now.to fillings.old }
+fn find_all(fillings: &mut [Filling], view: &MemReplay, chip: &mut Chip)
+    requires range { AreOfRange view.now.from view.now.to fillings.old }
+    requires behind { chip.old.base ≡ memory_at view.now.to view.now.base view.now.writes }
     ensures words { fillings.new ≡ map (found_filling (word_then view.now)) fillings.old }
     ensures reads { chip.new ≡ after_reads chip.old (count_by is_fetched_filling fillings.old) }
 {
@@ -168,8 +171,9 @@ fn find_all(fillings: &mut [Filling], view: &MemView, chip: &mut Chip)
 }
 
 /// A filling with its word looked up.
-fn find(filling: Filling, view: &MemView, chip: &mut Chip) -> Filling
-    requires { IsOfRange view.now.from view.now.to filling }
+fn find(filling: Filling, view: &MemReplay, chip: &mut Chip) -> Filling
+    requires range { IsOfRange view.now.from view.now.to filling }
+    requires behind { chip.old.base ≡ memory_at view.now.to view.now.base view.now.writes }
     ensures word { result ≡ found_filling (word_then view.now) filling }
     ensures reads { chip.new
         ≡ after_reads chip.old (if is_fetched_filling filling then 1 else 0) }
@@ -178,7 +182,7 @@ fn find(filling: Filling, view: &MemView, chip: &mut Chip) -> Filling
     match filling {
         Filling::Word { word } => Filling::Word { word },
         Filling::Fetched { at, addr } => Filling::Word {
-            word: chip.resolve(view, at, addr),
+            word: chip.resolve_replay(view, at, addr),
         },
     }
 }

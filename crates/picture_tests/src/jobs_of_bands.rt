@@ -3,7 +3,7 @@
 ghost use Rattle.std.specs.Prelude.{◌≡◌, length};
 
 use band_log::{Denise, Drawn, Event, Events, Job, Picture, Room, Run};
-use mem_versions::{Chip, MemView};
+use mem_versions::{Chip, MemReplay};
 use ocs_base::{Addr, Beam, Clock, OutOfMemory, Script};
 use planes::plane_bits;
 use serial_model::{NoSide, Side};
@@ -135,9 +135,9 @@ fn small_job(alloc: Global) -> Result<Job<NoSide>, OutOfMemory> {
 }
 
 /// A view of the first clock.
-fn small_view(alloc: Global) -> Result<MemView, OutOfMemory> {
+fn small_view(alloc: Global) -> Result<MemReplay, OutOfMemory> {
     let mut chip = Chip::new(alloc, &[7; 8])?;
-    chip.cut(Clock(1))
+    chip.cut_replay(Clock(1))
 }
 
 fn fetch(at: u64) -> Event {

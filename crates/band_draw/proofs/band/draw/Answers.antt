@@ -58,6 +58,6 @@ returns-clause-right g c =
           (sym c.set.ensures)
           (subst (λ r. IsEnded (run_over g.S.Side.seen r) job.from.0 job.to.0 end.new.room end.result.closing end.result.clx) c.deref-2.ensures
           (subst (λ k. IsEnded shared k job.to.0 end.new.room end.result.closing end.result.clx) start.ensures.from
-          (subst (λ k. IsEnded shared start.result.from k end.new.room end.result.closing end.result.clx) start.ensures.to end.ensures))
+          (subst (λ k. IsEnded shared start.result.from k end.new.room end.result.closing end.result.clx) start.ensures.to end.ensures.ended))
           job.number c.requires.parts.band);
     }

@@ -1,4 +1,4 @@
--- All clocks before the next one are drawn.
+-- All clocks before the next one are drawn. The view is the first one.
 use Rattle.std.proofs.Common.{◌≡◌, ◌-◌, length}
 use Rattle.serial_bands.specs.Run.{run_over}
 use Rattle.band_draw.specs.ProgressCode.{IsAt}
@@ -10,6 +10,7 @@ invariant-loop-p g l = record {
   from : l.p.from ≡ l.initial.p.from;
   to : l.p.to ≡ l.initial.p.to;
   size : length l.room ≡ length l.initial.room;
+  view : l.view ≡ l.initial.view;
 }
 
 abbrev pub decreases-loop-p : goal.decreases-loop-p

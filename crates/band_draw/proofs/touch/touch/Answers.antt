@@ -7,4 +7,4 @@ pub returns-then-sprite-lt8-clause-paints : goal.returns-then-sprite-lt8-clause-
 returns-then-sprite-lt8-clause-paints c from p later is =
     rw c.in-Sprite.is
     (subst (λ (w : ℕ). IsBandPainterOf from c.fill_sprite.new.self (set_picture c.args.h (sprite_data c.in-Sprite.sprite c.in-Sprite.second) w p))
-    c.at-word-in-Sprite.ensures (c.fill_sprite.ensures.paints c.args.h from p later is))
+    c.word-word-in-Sprite.ensures.word (c.fill_sprite.ensures.paints c.args.h from p later is))

@@ -8,8 +8,8 @@ use Rattle.serial_bands.specs.Fetches.{is_fetched_filling}
 use Rattle.picture_log.proofs.Fillings.{untouched, range_at, one_if, count_more, reads_twice}
 use Rattle.picture_log.proofs.shadow.find_all.Goals as goal
 
-pub find-requires : goal.find-requires
-find-requires c =
+pub find-requires-clause-range : goal.find-requires-clause-range
+find-requires-clause-range c =
     let i = c.loop-i.i in
     let view = c.args.view.now in
     let fillings = c.args.fillings.now in
@@ -19,7 +19,10 @@ find-requires c =
     c.index-fillings-i.is
     ∙ ap (λ (l : List Filling). slice_index_or l i d) c.loop-i.invariant.words
     ∙ untouched (found_filling (word_then view)) fillings i d within in
-    subst (λ f. IsOfRange view.from view.to f) (sym same) (range_at view.from view.to fillings i d within c.requires)
+    subst (λ f. IsOfRange view.from view.to f) (sym same) (range_at view.from view.to fillings i d within c.requires.range)
+
+pub find-requires-clause-behind : goal.find-requires-clause-behind
+find-requires-clause-behind c = ap (λ (chip : ChipValue). chip.base) c.loop-i.invariant.reads ∙ c.requires.behind
 
 pub loop-i-preserved : goal.loop-i-preserved
 loop-i-preserved c =

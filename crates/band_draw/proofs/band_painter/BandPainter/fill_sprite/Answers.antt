@@ -1,4 +1,4 @@
-use Rattle.std.proofs.Common.{◌≡◌, ◌≢◌, ◌+◌, ◌*◌, ℕ, Bool, true, false, List, subst, sym, arith}
+use Rattle.std.proofs.Common.{◌≢◌, ℕ, Bool, true, false, List, subst, sym, arith}
 use Rattle.planes.specs.PlaneBit.{ShowsSame}
 use Rattle.planes.specs.declared.load.Load.{Load}
 use Rattle.serial_model.specs.Picture.{sprite_data}

@@ -12,4 +12,4 @@ word_found h offset found word old new same paints = subst (λ (n : ℕ). Paints
 pub returns-then-fetch-ge2-clause-paints : goal.returns-then-fetch-ge2-clause-paints
 returns-then-fetch-ge2-clause-paints c =
     let h : ℕ = c.args.self.now.beam.h + (c.args.fetch.now.at.0 - c.args.self.now.clock) in
-    word_found h (0x10e + 2 * c.args.fetch.now.plane) c.at-word.result _ _ _ c.at-word.ensures (c.latch.ensures.paints h)
+    word_found h (0x10e + 2 * c.args.fetch.now.plane) c.word-word.result _ _ _ c.word-word.ensures.word (c.latch.ensures.paints h)

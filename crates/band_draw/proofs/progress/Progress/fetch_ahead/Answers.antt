@@ -1,8 +1,11 @@
-use Rattle.std.proofs.Common.{◌≡◌, ◌≤◌, ◌<◌, ◌+◌, ℕ, slice_get, Some, IfSome, arith, subst, refl, ap, ◌∙◌}
+use Rattle.std.proofs.Common.{◌≡◌, ◌≤◌, ◌<◌, ◌+◌, ◌-◌, ◌*◌, ℕ, slice_get, Some, IfSome, arith, subst, sym, refl, ap, ◌∙◌}
 use Rattle.ocs_base.specs.Script.{ScriptValue}
 use Rattle.ocs_base.specs.Systems.{last_clock}
+use Rattle.mem_versions.specs.MemView.{Covers, word_then}
+use Rattle.serial_model.specs.Picture.{set_picture, plane_latch}
 use Rattle.serial_bands.specs.Run.{run_over}
 use Rattle.serial_bands.specs.declared.event.Event.TheVariants as E
+use Rattle.band_draw.specs.BandPainter.{Paints}
 use Rattle.band_draw.specs.declared.ahead.Fetch.{Fetch}
 use Rattle.band_draw.specs.declared.progress.Progress.{Progress}
 use Rattle.band_draw.proofs.Fetching.{none_fetched, one_fetched, fetched_until, fetch_order, next_left}
@@ -12,6 +15,7 @@ pub loop-fetch-init : goal.loop-fetch-init
 loop-fetch-init g c = record {
   fetched = none_fetched (run_over g.S.Side.seen c.args.run.now) c.args.events.now c.args.self.now c.requires.placed;
   most = omega arith;
+  view = refl;
 }
 
 pub fetch-requires-clause-order : goal.fetch-requires-clause-order
@@ -46,7 +50,8 @@ fetch-requires-clause-covered g c =
     let order =
     fetch_order run c.args.events.now c.args.self.now now c.loop-fetch.reached f.at f.plane f.addr so there
     (omega (arith, before, c.most_clocks.ensures.band)) in
-    c.requires.source.covered f.at.0 (omega (arith, order, c.requires.placed.least)) (omega (arith, before, c.most_clocks.ensures.band))
+    subst (λ v. Covers v f.at.0) (sym c.loop-fetch.invariant.view)
+    (c.requires.source.covered f.at.0 (omega (arith, order, c.requires.placed.least)) (omega (arith, before, c.most_clocks.ensures.band)))
 
 pub loop-fetch-smaller : goal.loop-fetch-smaller
 loop-fetch-smaller g c =
@@ -74,13 +79,20 @@ loop-fetch-preserved g c =
     c.system.ensures ∙ ap (λ (s : ScriptValue). s.system) c.script.ensures.value in
     let line : 0 < count → old.beam.h + count ≤ last_clock c.args.run.now.script.system old.beam.v =
     subst (λ s. 0 < count → old.beam.h + count ≤ last_clock s old.beam.v) system c.most_clocks.ensures.line in
+    let h : ℕ = c.loop-fetch.self.beam.h + (f.at.0 - c.loop-fetch.self.clock) in
+    let paints : Paints (4 * h) (set_picture h (plane_latch f.plane) (word_then c.args.view.now f.at.0 f.addr)) c.loop-fetch.self.painter
+    c.fetch.new.self.painter =
+    subst (λ v. Paints (4 * h) (set_picture h (plane_latch f.plane) (word_then v f.at.0 f.addr)) c.loop-fetch.self.painter
+    c.fetch.new.self.painter) c.loop-fetch.invariant.view c.fetch.ensures.paints in
     record {
       fetched =
-          one_fetched run c.args.view.now c.args.events.now old now (record c.fetch.new.self { next = c.loop-fetch.next + 1 }) c.loop-fetch.reached f.at f.plane f.addr
+          one_fetched run c.args.view.now c.args.events.now old now (record c.fetch.new.self { next = c.loop-fetch.next + 1 })
+          c.loop-fetch.reached f.at f.plane f.addr
           c.requires.source c.requires.placed c.loop-fetch.invariant.fetched there (omega (arith, before, c.most_clocks.ensures.band))
-          (λ some. omega (arith, before, line (omega (arith, before, some)))) few c.fetch.ensures.paints c.fetch.ensures.keeps refl
+          (λ some. omega (arith, before, line (omega (arith, before, some)))) few paints c.fetch.ensures.keeps refl
           (ap (λ (p : Progress). record p { next = c.loop-fetch.next + 1 }) c.fetch.ensures.same);
       most = omega (arith, before);
+      view = c.fetch.ensures.view ∙ c.loop-fetch.invariant.view;
     }
 
 pub returns-clause-fetched : goal.returns-clause-fetched

@@ -77,5 +77,7 @@ returns-clause-ended g c =
     (given.ensures.filled ∙ ap (λ s. filled_after s p.beam.v p.beam.h p.filled) system) given.ensures.size
     (subst (λ l. Paints (4 * p.beam.h) (touch_by_address p.beam.h (word_then c.args.view.now p.clock) (bus_touch_of p.clock 0 l))
     given.new.painter access.new.painter)
-    c.behind-rest.ensures.part access.ensures.touched)
+    c.behind-rest.ensures.part
+    (subst (λ v. Paints (4 * p.beam.h) (touch_by_address p.beam.h (word_then v p.clock) (bus_touch_of p.clock 0 c.behind-rest.result.now))
+    given.new.painter access.new.painter) touched.ensures.view access.ensures.touched))
     c.close.ensures

@@ -117,7 +117,9 @@ no_clock_on n = omega arith
 pub go_to_next-requires-clause-source : goal.go_to_next-requires-clause-source
 go_to_next-requires-clause-source g c =
     let run = run_over g.S.Side.seen c.args.run.now in
-    subst (λ (k : Progress). IsSource run k.from k.to c.args.view.now) (sym c.fetch_ahead-until.ensures.fetched.same) c.requires.source
+    let ahead = c.fetch_ahead-until in
+    subst (λ v. IsSource run ahead.new.self.from ahead.new.self.to v) (sym ahead.ensures.view)
+    (subst (λ (k : Progress). IsSource run k.from k.to c.args.view.now) (sym ahead.ensures.fetched.same) c.requires.source)
 
 pub go_to_next-requires-clause-shown : goal.go_to_next-requires-clause-shown
 go_to_next-requires-clause-shown g c =

@@ -46,6 +46,6 @@ returns-clause-cut g c =
     let run = run_over g.S.Side.seen (arc_value c.args.run.now) in
     let log = c.args.self.now in
     let next : c.replace-band.new.dest ≡ blank_after c.args.to log.band = search rules in
-    subst (λ band. IsCut run c.args.to (record log { band = band }) c.cut.new.self) (sym next)
+    subst (λ band. IsCut run c.args.to (record log { band = band }) c.cut_replay.new.self) (sym next)
     (subst (λ chip. IsCut run c.args.to (record log { band = blank_after c.args.to log.band }) chip) (sym c.in_ok-view.ensures.cut)
     (log_cuts run c.args.to log c.args.chip.now c.requires.ending))

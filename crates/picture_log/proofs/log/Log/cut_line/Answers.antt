@@ -1,7 +1,8 @@
 use Rattle.serial_bands.specs.Run.{run_over}
-use Rattle.std.proofs.Common.{◌≡◌, ap, ◌∙◌, sym, subst}
+use Rattle.std.proofs.Common.{◌≡◌, ap, ◌∙◌, sym, subst, arith}
 use Rattle.std.specs.Arc.{arc_value}
-use Rattle.mem_versions.specs.Chip.{after_reads}
+use Rattle.mem_versions.specs.Chip.{ChipValue, after_reads}
+use Rattle.mem_versions.specs.MemoryAt.{memory_at}
 use Rattle.mem_versions.specs.MemView.{word_then}
 use Rattle.serial_bands.specs.Shadows.{found_shadow, line_opening}
 use Rattle.serial_bands.specs.Fetches.{fetches_in}
@@ -9,6 +10,14 @@ use Rattle.picture_log.specs.declared.log.Log.{Log}
 use Rattle.picture_log.specs.Log.{IsLogOf}
 use Rattle.picture_log.proofs.Beginning.{all_found, line_begins, with_opening}
 use Rattle.picture_log.proofs.log.Log.cut_line.Goals as goal
+
+pub find_words-requires-clause-behind : goal.find_words-requires-clause-behind
+find_words-requires-clause-behind g c =
+    let view = c.in_ok-job.job.view in
+    let is = c.in_ok-job.ensures.view in
+    ap (λ (chip : ChipValue). chip.base) c.in_ok-job.ensures.chip
+    ∙ sym (is.memory c.args.to (omega arith))
+    ∙ ap (λ k. memory_at k view.base view.writes) (sym is.to)
 
 pub opening-requires : goal.opening-requires
 opening-requires g c =

@@ -1,0 +1,11 @@
+-- The writes so far are to changed pages, or above the memory.
+use Rattle.std.proofs.Common.{◌≡◌, ◌*◌, length}
+use Rattle.mem_versions.specs.ReplayCode.{AreNumbered, AreCovered}
+use Rattle.mem_versions.proofs.changed.Changed.new.Given as goal
+
+abbrev pub invariant-loop-write : goal.invariant-loop-write
+invariant-loop-write l = record {
+  size : length l.changed.places ≡ l.pages;
+  numbered : AreNumbered l.changed.places l.changed.numbers;
+  covered : AreCovered l.changed.places l.writes l.write-index (256 * l.pages);
+}
