@@ -192,7 +192,8 @@ words_after-early clock place writes words within early =
         (by_cases w now inside (All-head (λ (v : Write). v.place ≡ place → v.clock < clock) w ws each) (cases_eq place w.place))
       where
         by_cases : (w : Write) (now : List ℕ) → place < length now → (w.place ≡ place → w.clock < clock)
-            → (place ≡ w.place) ⊎ (place ≢ w.place) → get_or (set now w.place w.word) place 0 ≡ cond ((w.place == place) && nat_lt w.clock clock) w.word (get_or now place 0)
+            → (place ≡ w.place) ⊎ (place ≢ w.place)
+            → get_or (set now w.place w.word) place 0 ≡ cond ((w.place == place) && nat_lt w.clock clock) w.word (get_or now place 0)
         by_cases w now inside before (inl here) =
             let lower : w.clock < clock = before (sym here) in
             let yes : ((w.place == place) && nat_lt w.clock clock) ≡ true = grind (arith, nat_tests) in

@@ -1,6 +1,7 @@
 -- Laws of writes in order of place and then of happening.
 use Rattle.std.proofs.Common.{◌≡◌, ℕ, ◌+◌, ◌-◌, ◌/◌, ◌<◌, ◌≤◌, ◌≢◌, Bool, true, false, ◌==◌, ◌&&◌, not, nat_lt, List, length}
-use Rattle.std.proofs.Common.{take, drop, get_or, zero, suc, refl, sym, ap, subst, ◌∙◌, arith, length-take, length-drop, length-set, get_or-set_other, replicate, ◌⊎◌, inl, inr}
+use Rattle.std.proofs.Common.{take, drop, get_or, zero, suc, refl, sym, ap, subst, ◌∙◌, arith, length-take, length-drop, length-set}
+use Rattle.std.proofs.Common.{get_or-set_other, replicate, ◌⊎◌, inl, inr}
 use Rattle.std.proofs.Math.ListN.{set}
 use Rattle.std.specs.Ordering.{is_lt, nat_cmp}
 use Rattle.std.specs.List.Sorted.{IsNonDecreasingBy, IsSortedByKey, IsStableByKey, ties}

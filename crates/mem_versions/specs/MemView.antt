@@ -12,7 +12,7 @@ pub record ViewValue : Type 0 where
   pub to : ℕ
   -- the words at `from`
   pub base : List ℕ
-  -- the writes from there on, in order of place and then of happening
+  -- the writes from there on; those to one place are in order of happening
   pub writes : List Write
 
 -- the view covers the clocks from the one cut to the other, ends included

@@ -64,3 +64,12 @@ pub record IsReplayed (base : List ℕ) (writes : List Write) (changed : Changed
   pub covered : AreCovered changed.places writes (length writes) (length base)
   pub room : length words ≡ 256 * length changed.numbers
   pub now : HoldsWords base changed.places words (words_after base (take next writes))
+
+-- at the clocks from `since` to `until`, both included, the first `next` of the writes are those that are made
+pub record AreMadeBetween (since until : ℕ) (writes : List Write) (next : ℕ) : Type 0 where
+  -- each of them is of a clock below `since`
+  pub made : (k : ℕ) (d : Write) → k < next → (slice_index_or writes k d).clock < since
+  -- no clock is behind `until` and yet below `since`
+  pub order : since ≤ until + 1
+  -- the write behind them, if any, is of the clock `until` or of a later one
+  pub left : (d : Write) → next < length writes → until ≤ (slice_index_or writes next d).clock

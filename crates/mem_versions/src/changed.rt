@@ -28,7 +28,8 @@ impl Model for Changed {
 }
 
 impl Changed {
-    /// The pages that writes are to, of a memory of so many.
+    /// The pages that writes are to, of a memory of so many. Where a write is to the page of the one before it
+    /// the page is not looked at again.
     pub(crate) fn new(alloc: Global, writes: &[Write], pages: usize) -> Result<Changed, OutOfMemory>
         requires { pages ≤ 2048 }
         ensures size { IfOk result (λ changed. length changed.places ≤ pages) }
@@ -44,10 +45,14 @@ impl Changed {
         }
         let places = vec![in alloc; 0u16; pages]?;
         let mut changed = Changed { places, numbers };
+        let mut last = pages;
         for write in writes {
             let page = write.place as usize / PAGE;
-            if page < pages && changed.slot(write.place) == 0 {
-                changed.number(page)?;
+            if page != last {
+                if page < pages && changed.slot(write.place) == 0 {
+                    changed.number(page)?;
+                }
+                last = page;
             }
         }
         Ok(changed)

@@ -1,6 +1,6 @@
 //! The chip memory: present words, writes since the last cut, and the count of reads.
 
-ghost use Rattle.std.specs.Prelude.{◌≡◌, ◌+◌, ◌*◌, ◌/◌, ◌%◌, ◌<◌, ◌≤◌, ◌++◌, true, ℕ, [], length, take, drop, slice_index, slice_set, IfOk, OnOk, OnErr, All};
+ghost use Rattle.std.specs.Prelude.{◌≡◌, ◌+◌, ◌*◌, ◌/◌, ◌%◌, ◌-◌, ◌^◌, ◌<◌, ◌≤◌, ◌++◌, true, ℕ, min, [], length, take, drop, slice_index, slice_set, IfOk, OnOk, OnErr, All};
 ghost use Rattle.std.specs.Borrow.{sem};
 ghost use Rattle.std.specs.List.Sorted.{IsNonDecreasingBy};
 ghost use Rattle.ocs_base.specs.Memory.{words, memory_of};
@@ -95,7 +95,7 @@ impl Chip {
         ensures word { result ≡ word_at self.old at }
         ensures reads { self.new ≡ after_reads self.old 1 }
     {
-        self.reads = self.reads.saturating_add(1);
+        count_read(&mut self.reads);
         present_word(&self.words, at)
     }
 
@@ -217,8 +217,7 @@ impl Chip {
         ensures word { result ≡ word_then view.now c.0 a }
         ensures reads { self.new ≡ after_reads self.old 1 }
     {
-        let reads = self.reads.saturating_add(1);
-        self.reads = reads;
+        count_read(&mut self.reads);
         view.at(c, a)
     }
 }
@@ -279,6 +278,16 @@ pub(crate) fn changed_pages(
         next = history.next_page(next);
     }
     Ok(after)
+}
+
+/// One more read; the count stands still at the greatest u64.
+#[inline(always)]
+pub(crate) fn count_read(reads: &mut u64)
+    ensures { reads.new ≡ min (reads.old + 1) (2 ^ 64 - 1) }
+{
+    if *reads < u64::MAX {
+        *reads += 1;
+    }
 }
 
 /// The present word at an address, 0 above the memory.

@@ -7,7 +7,7 @@ ghost use Rattle.mem_versions.specs.MemView.{Covers, word_then, IsViewOf};
 ghost use Rattle.mem_versions.specs.ReplayCode.{AreCovered, AreNumbered};
 
 use crate::changed::Changed;
-use crate::chip::{Chip, count_below, take_first};
+use crate::chip::{Chip, count_below, count_read, take_first};
 use crate::group::PAGE;
 use crate::pages::Pages;
 use crate::replayed::{Replayed, page_words, word_of};
@@ -99,7 +99,7 @@ impl Chip {
         ensures word { result ≡ word_then replay.now c.0 a }
         ensures reads { self.new ≡ after_reads self.old 1 }
     {
-        self.reads = self.reads.saturating_add(1);
+        count_read(&mut self.reads);
         replay.word_behind(&self.base, c, a)
     }
 }

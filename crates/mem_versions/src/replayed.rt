@@ -1,11 +1,11 @@
 //! The words of the changed pages behind the first of a list's writes.
 
-ghost use Rattle.std.specs.Prelude.{◌≡◌, ◌+◌, ◌-◌, ◌*◌, ◌/◌, ◌%◌, ◌<◌, ◌≤◌, ℕ, false, length, take, slice_index, slice_index_or, slice_set, All, IfOk};
+ghost use Rattle.std.specs.Prelude.{◌≡◌, ◌+◌, ◌-◌, ◌*◌, ◌/◌, ◌%◌, ◌^◌, ◌<◌, ◌≤◌, ℕ, false, length, take, slice_index, slice_index_or, slice_set, All, IfOk};
 ghost use Rattle.std.specs.List.Sorted.{IsNonDecreasingBy};
 ghost use Rattle.mem_versions.specs.declared.write.Write.{Write as WriteValue};
 ghost use Rattle.mem_versions.specs.MemoryAt.{memory_at, words_after, writes_below};
 ghost use Rattle.mem_versions.specs.HistoryCode.{word_before};
-ghost use Rattle.mem_versions.specs.ReplayCode.{AreCovered, AreNumbered, HoldsPages};
+ghost use Rattle.mem_versions.specs.ReplayCode.{AreCovered, AreMadeBetween, AreNumbered, HoldsPages};
 
 use crate::changed::Changed;
 use crate::group::PAGE;
@@ -24,16 +24,21 @@ pub(crate) struct Replayed {
     changed: Changed,
     words: Vec<u16>,
     next: usize,
+    /// From this clock on none of the writes is to be taken back.
+    since: u64,
+    /// Up to this clock, itself included, no further one is to be made.
+    until: u64,
 }
 
 impl Model for Replayed {
-    ghost use Rattle.mem_versions.specs.ReplayCode.{ReplayedValue, IsReplayed};
+    ghost use Rattle.mem_versions.specs.ReplayCode.{ReplayedValue, IsReplayed, AreMadeBetween};
 
     ghost Value = { ReplayedValue };
 
     ghost view = { λ r. record { base = r.base; writes = r.writes.items; next = r.next } };
 
-    ghost invariant = { λ r. IsReplayed r.base r.writes.items r.changed r.words.items r.next };
+    ghost invariant = { λ r. IsReplayed r.base r.writes.items r.changed r.words.items r.next
+        × AreMadeBetween r.since r.until r.writes.items r.next };
 }
 
 impl Replayed {
@@ -53,12 +58,15 @@ impl Replayed {
         requires begun { HoldsPages base changed.numbers words.items (length changed.numbers) }
         ensures { result ≡ record { base = base; writes = writes.items; next = 0 } }
     {
+        let (since, until) = clocks_between(&writes, 0);
         Replayed {
             base,
             writes,
             changed,
             words,
             next: 0,
+            since,
+            until,
         }
     }
 
@@ -80,14 +88,14 @@ impl Replayed {
         ensures base { self.new.base ≡ self.old.base }
         ensures writes { self.new.writes ≡ self.old.writes }
     {
-        if self.next < self.writes.len() && self.writes[self.next].clock < clock {
+        if clock > self.until {
             self.make_writes(clock);
-        } else if self.next > 0 && clock <= self.writes[self.next - 1].clock {
+        } else if clock < self.since {
             self.begin_anew(clock);
         }
     }
 
-    /// Makes the next writes of clocks below one.
+    /// Makes the next writes of clocks below one, and notes for which clocks there is nothing to do then.
     #[inline(never)]
     fn make_writes(&mut self, clock: u64)
         requires { (k : ℕ) (d : WriteValue) → k < self.old.next
@@ -97,22 +105,14 @@ impl Replayed {
         ensures writes { self.new.writes ≡ self.old.writes }
     {
         while self.next < self.writes.len() && self.writes[self.next].clock < clock {
-            self.make_write();
+            let write = self.writes[self.next];
+            let slot = self.changed.slot(write.place);
+            store(&mut self.words, slot, write);
+            self.next += 1;
         }
-    }
-
-    /// Makes the next write.
-    #[inline(always)]
-    fn make_write(&mut self)
-        requires { self.old.next < length self.old.writes }
-        ensures base { self.new.base ≡ self.old.base }
-        ensures writes { self.new.writes ≡ self.old.writes }
-        ensures next { self.new.next ≡ self.old.next + 1 }
-    {
-        let write = self.writes[self.next];
-        let slot = self.changed.slot(write.place);
-        store(&mut self.words, slot, write);
-        self.next += 1;
+        let (since, until) = clocks_between(&self.writes, self.next);
+        self.since = since;
+        self.until = until;
     }
 
     /// Takes all writes back, and makes those of clocks below one.
@@ -135,6 +135,8 @@ impl Replayed {
     {
         put_pages(&self.base, &self.changed.numbers, &mut self.words);
         self.next = 0;
+        self.since = 0;
+        self.until = 0;
     }
 
     /// The word at a place behind the writes that are made, 0 above the memory.
@@ -194,6 +196,28 @@ impl Replayed {
         }
         word
     }
+}
+
+/// The first and the last of the clocks at which the first `next` of the writes are those that are made.
+#[inline(always)]
+fn clocks_between(writes: &[Write], next: usize) -> (u64, u64)
+    requires order { IsNonDecreasingBy (λ (write : WriteValue). write.clock) writes.now }
+    requires within { next ≤ length writes.now }
+    requires early { (k : ℕ) (d : WriteValue) → k < next
+        → (slice_index_or writes.now k d).clock < 2 ^ 64 - 1 }
+    ensures { AreMadeBetween result.0 result.1 writes.now next }
+{
+    let since = if next > 0 {
+        writes[next - 1].clock + 1
+    } else {
+        0
+    };
+    let until = if next < writes.len() {
+        writes[next].clock
+    } else {
+        u64::MAX
+    };
+    (since, until)
 }
 
 /// Stores the word of a write in the page that stands at a slot, if any.

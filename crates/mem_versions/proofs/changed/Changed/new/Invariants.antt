@@ -1,5 +1,5 @@
--- The writes so far are to changed pages, or above the memory.
-use Rattle.std.proofs.Common.{◌≡◌, ◌*◌, length}
+-- The writes so far are to changed pages, or above the memory; so is the last of them.
+use Rattle.std.proofs.Common.{◌≡◌, ◌≤◌, ◌*◌, length, get_or}
 use Rattle.mem_versions.specs.ReplayCode.{AreNumbered, AreCovered}
 use Rattle.mem_versions.proofs.changed.Changed.new.Given as goal
 
@@ -8,4 +8,5 @@ invariant-loop-write l = record {
   size : length l.changed.places ≡ l.pages;
   numbered : AreNumbered l.changed.places l.changed.numbers;
   covered : AreCovered l.changed.places l.writes l.write-index (256 * l.pages);
+  known : get_or l.changed.places l.last 0 ≡ 0 → l.pages ≤ l.last;
 }

@@ -14,5 +14,5 @@ returns-else-index-clock c none k d within here =
     let same = ap (λ (v : ReplayedValue). v.writes) c.self.view_is in
     let is = c.index.ensures ∙ ap (λ (ws : List Write). get_or ws (left - 1) e) same in
     let early = subst (λ (w : Write). w.clock < c.args.clock) is c.if-index-clock.false in
-    let stamped = subst (λ (ws : List Write). IsNonDecreasingBy (λ (w : Write). w.clock) ws) same c.self.invariant.stamped in
+    let stamped = subst (λ (ws : List Write). IsNonDecreasingBy (λ (w : Write). w.clock) ws) same c.self.invariant.0.stamped in
     all_early c.args.place c.args.clock writes left e stamped early c.loop-left.invariant.within c.loop-left.invariant.other k d within here
