@@ -218,9 +218,12 @@ impl BusCpu {
     fn idle_beside(&self, clocks: u32) -> TurnBeside
         ensures { result ≡ idle_beside_by clocks self.now.spent }
     {
-        match self.spent.checked_add(1) {
-            Some(spent) if spent < clocks => TurnBeside::Waits { spent },
-            _ => TurnBeside::GoesOn,
+        if u64::from(self.spent) + 1 < u64::from(clocks) {
+            TurnBeside::Waits {
+                spent: self.spent + 1,
+            }
+        } else {
+            TurnBeside::GoesOn
         }
     }
 
