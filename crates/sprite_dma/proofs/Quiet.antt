@@ -81,6 +81,15 @@ quiet_second b registers kinds slot nothing second = record {
   ask = λ taken. asks_nothing b registers kinds taken nothing;
 }
 
+-- its second slot, two clocks behind its first one
+pub quiet_later_second : (b : Beam) (registers : Registers) (kinds : List SpriteKind) → is_sprite_slot b.h ≡ true
+    → get_or kinds (sprite_of b.h) Nothing ≡ Nothing → b.h % 4 ≡ 1 → ReadsNothing (later_beam 2 b) registers kinds
+quiet_later_second b registers kinds slot nothing first =
+    let few : (b.h ≤ 0x33) × (0x15 ≤ b.h) = (grind (arith, nat_tests, slot), grind (arith, nat_tests, slot)) in
+    let behind : is_sprite_slot (b.h + 2) ≡ true = grind (arith, nat_tests, few, first) in
+    let same : sprite_of (b.h + 2) ≡ sprite_of b.h = omega (arith, few, first) in
+    quiet_second (later_beam 2 b) registers kinds behind (subst (λ sprite. get_or kinds sprite Nothing ≡ Nothing) (sym same) nothing) (omega (arith, first))
+
 pub quiet_first : (b : Beam) (registers : Registers) (kinds : List SpriteKind) → is_sprite_slot b.h ≡ true → get_or kinds (sprite_of b.h) Nothing ≡ Nothing
     → kind_of b.v registers (sprite_of b.h) ≡ Nothing → ReadsNothing b registers kinds
 quiet_first b registers kinds slot nothing kind = record {
@@ -106,6 +115,15 @@ pub more_quiet : (n : ℕ) (b : Beam) (registers : Registers) (kinds : List Spri
     → ((k : ℕ) → k < n → ReadsNothing (later_beam k b) registers kinds) → ReadsNothing (later_beam n b) registers kinds
     → (k : ℕ) → k < n + 2 → ReadsNothing (later_beam k b) registers kinds
 more_quiet n b registers kinds inner odd before now k below = more_by k n b registers kinds inner odd before now (one_of k n below)
+
+-- both slots of a sprite passed, and the clock behind each
+pub more_quiet_pair : (n : ℕ) (b : Beam) (registers : Registers) (kinds : List SpriteKind) → 0 < b.h → (b.h + n) % 2 ≡ 1
+    → ((k : ℕ) → k < n → ReadsNothing (later_beam k b) registers kinds) → ReadsNothing (later_beam n b) registers kinds
+    → ReadsNothing (later_beam 2 (later_beam n b)) registers kinds → (k : ℕ) → k < n + 4 → ReadsNothing (later_beam k b) registers kinds
+more_quiet_pair n b registers kinds inner odd before first second k below =
+    let at : b.h + n + 2 ≡ b.h + (n + 2) = omega arith in
+    more_quiet (n + 2) b registers kinds inner (omega (arith, odd)) (more_quiet n b registers kinds inner odd before first)
+    (subst (λ h. ReadsNothing (record b { h = h }) registers kinds) at second) k (omega (arith, below))
 
 less_or : (k n : ℕ) → (k < n) ⊎ (n ≤ k)
 less_or k n = grind arith

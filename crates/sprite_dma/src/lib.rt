@@ -128,16 +128,20 @@ impl SpriteDma {
             if !self.is_idle_slot(&slot, regs) {
                 return clocks;
             }
-            clocks += 2;
+            // an idle first slot takes the sprite's second one with it
+            clocks += if slot.h % 4 == 1 { 4 } else { 2 };
         }
         most
     }
 
-    /// Whether the sprite of this slot reads nothing on this line, and does not begin to.
+    /// Whether the sprite of this slot reads nothing on this line, and does not begin to. Where this is its first
+    /// slot, it then reads nothing in its second one either, two clocks later.
     #[tactic(auto, using(crate::proofs::Quiet::quiet_second, crate::proofs::Quiet::quiet_first, std::proofs::lemmas::Bool::Decides::nat_tests))]
     fn is_idle_slot(&self, beam: &Beam, regs: &Regs) -> bool
         requires { is_sprite_slot beam.now.h ≡ true }
-        ensures { result ≡ true → ReadsNothing beam.now regs.now self.now }
+        ensures here { result ≡ true → ReadsNothing beam.now regs.now self.now }
+        ensures second { result ≡ true → beam.now.h % 4 ≡ 1
+            → ReadsNothing (later_beam 2 beam.now) regs.now self.now }
     {
         let sprite = (beam.h - 0x15) / 4;
         if !is_nothing(self.kinds[sprite as usize]) {
