@@ -155,7 +155,7 @@ fn end_list(context: &Context, machine: &mut Machine, mask: u16, at: u32)
     if let Mode::Post { reg } | Mode::Pre { reg } = list_mode(&context.fetched.instr) {
         machine.regs.set_address(reg, at);
     }
-    finish_row(context, machine, ones(16, u32::from(mask)));
+    finish_row(context, machine, ones(u32::from(mask)));
 }
 
 /// Stores the next register.

@@ -49,17 +49,14 @@ pub fn is_program(mode: Mode) -> bool
     matches!(mode, Mode::PcDisp | Mode::PcIndex)
 }
 
-/// The 1 bits among the low `places` bits of a number.
-#[tactic(auto, using(crate::proofs::Counting::ones_step, crate::proofs::Counting::ones_none))]
-pub fn ones(places: u8, number: u32) -> u32
-    requires { places ≤ 16 }
-    ensures value { result ≡ ones places number }
-    ensures most { result ≤ places }
+/// The 1 bits among the low sixteen bits of a number.
+#[inline(always)]
+#[tactic(auto, using(crate::proofs::Counting::ones_word))]
+pub fn ones(number: u32) -> u32
+    ensures value { result ≡ ones 16 number }
+    ensures most { result ≤ 16 }
 {
-    if places == 0 {
-        return 0;
-    }
-    number % 2 + ones(places - 1, number / 2)
+    (number % 0x1_0000).count_ones()
 }
 
 /// The pairs 01 and 10 among the low `places` bits of a number and the one above them.
@@ -93,7 +90,7 @@ pub fn clock_count(count: Count, value: u32, sr: u16) -> u32
 {
     match count {
         Count::Nothing => 0,
-        Count::Ones => ones(16, value),
+        Count::Ones => ones(value),
         Count::Turns => turns_before_zero(value),
         Count::Shift => value % 64,
         Count::Condition { c } => u32::from(condition(c, flags_of(sr))),
