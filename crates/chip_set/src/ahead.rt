@@ -44,7 +44,7 @@ impl Chips {
                 true
             }
             TurnBeside::Asks => {
-                self.missed = self.missed.saturating_add(1).min(3);
+                self.missed = if self.missed < 3 { self.missed + 1 } else { 3 };
                 self.processor.wait(1);
                 true
             }
