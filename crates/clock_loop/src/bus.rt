@@ -1,7 +1,7 @@
 //! Clocks of a line that refresh, sprites and the Copper leave to the planes, the blitter and the processor,
 //! made one behind the other.
 
-ghost use Rattle.std.specs.Prelude.{◌≡◌, ◌<◌, ◌≤◌, ◌+◌, ◌-◌, ℕ, true, false, None, IfOk, OnOk, OnErr};
+ghost use Rattle.std.specs.Prelude.{◌≡◌, ◌<◌, ◌≤◌, ◌+◌, ◌-◌, ℕ, true, false, None, Some, IfOk, OnOk, OnErr};
 ghost use Rattle.band_log.specs.Raster.{RasterValue};
 ghost use Rattle.chip_set.specs.BusCode.{LeaveBus};
 ghost use Rattle.chip_set.specs.BusCode.{IsUnitKept};
@@ -79,13 +79,40 @@ fn clocks_by_claim<S: Side, Q: Raster<S>>(
         return Ok(());
     }
     match rules {
-        Some(rules) => {
-            let turn = AnyTurn { rules: *rules };
-            clocks_on_bus(fore, &turn, claim, clocks, limit, raster, out)
-        }
+        Some(rules) => clocks_of_planes(fore, rules, claim, clocks, limit, raster, out),
         None if claim.asks() => clocks_of_blit(fore, claim, clocks, limit, raster, out),
         None => clocks_of_processor(fore, claim, clocks, limit, raster, out),
     }
+}
+
+/// The same where the planes have their slots by these rules. It stands apart, as the two below do: each loop has
+/// the registers of the machine that it runs on for itself.
+#[inline(never)]
+fn clocks_of_planes<S: Side, Q: Raster<S>>(
+    fore: &mut Fore<S>,
+    rules: &FetchRules,
+    claim: &BlitterClaim,
+    clocks: u16,
+    limit: u64,
+    raster: &mut Q,
+    out: &mut OutFiles,
+) -> Result<(), OutOfMemory>
+    requires fits { CanGo (over S.seen fore.old) (Q.seen raster.old) }
+    requires fresh { fore.old.spent ≡ false }
+    requires bus { AreOnBus limit clocks (Some rules.now) claim.now (over S.seen fore.old) }
+    ensures runs { OnOk result (HasRunOnBus limit (over S.seen fore.old)
+        (over S.seen fore.new) (Q.seen raster.old) (Q.seen raster.new) out.old out.new) }
+    ensures part { OnErr result (HasRunInPart limit (over S.seen fore.old)
+        (over S.seen fore.new) (Q.seen raster.old) (Q.seen raster.new) out.old out.new) }
+    ensures run { (over S.seen fore.new).run ≡ (over S.seen fore.old).run }
+    ensures fresh { OnOk result (fore.new.spent ≡ false) }
+    ensures still { OnOk result (fore.new.machine.t ≡ fore.old.machine.t
+        → fore.new ≡ fore.old) }
+    ensures spent { OnErr result (fore.new.spent ≡ true) }
+{
+    let turn = AnyTurn { rules: *rules };
+    let claim = *claim;
+    clocks_on_bus(fore, &turn, &claim, clocks, limit, raster, out)
 }
 
 /// The same where the planes have no slots and the blitter asks; none where it does not.
@@ -279,7 +306,7 @@ fn bus_clocks<S: Side>(fore: &mut Fore<S>, limit: u64) -> (u16, Option<FetchRule
     ensures same { fore.new ≡ fore.old }
 {
     let now = fore.machine.t;
-    if !is_due(&fore.lookout, now) || !fore.machine.chips.is_busy() || !is_open_for_bus(fore) {
+    if !fore.machine.chips.is_busy() || !is_open_for_bus(fore) {
         return (0, None);
     }
     let h = fore.machine.beam.h;

@@ -9,9 +9,11 @@ ghost use Rattle.foreground.specs.Clock.{Rises};
 ghost use Rattle.machine.specs.Machine.{IsSamePlace};
 ghost use Rattle.foreground.specs.Fore.{over, CanGo, IsUnderway, Advances, GivesPart, is_done, looked_up};
 ghost use Rattle.clock_loop.specs.RunTo.{RunsOn, RisesIn, RisesInSome};
+ghost use Rattle.clock_loop.specs.BusRun.{HasRunOnBus, HasRunInPart};
 ghost use Rattle.clock_loop.specs.LineCode.{AreInLine};
 
 use crate::bus::run_on_bus;
+use crate::lookout::is_due;
 use crate::quiet::most_clocks;
 use band_log::Raster;
 use foreground::Fore;
@@ -49,12 +51,72 @@ pub(crate) fn run_in_line<S: Side, Q: Raster<S>>(
         fore.old.machine.chip.reads fore.new.machine.chip.reads) }
 {
     let from = fore.machine.t;
-    run_on_bus(fore, limit, raster, out)?;
-    run_one_by_one(fore, limit, raster, out)?;
+    run_where_due(fore, limit, raster, out)?;
+    run_up_to_look(fore, limit, raster, out)?;
     Ok(from < fore.machine.t)
 }
 
-/// The same, each with all that a clock may have.
+/// Those on the bus, where it is time to look for them.
+#[inline(always)]
+fn run_where_due<S: Side, Q: Raster<S>>(
+    fore: &mut Fore<S>,
+    limit: u64,
+    raster: &mut Q,
+    out: &mut OutFiles,
+) -> Result<(), OutOfMemory>
+    requires fits { CanGo (over S.seen fore.old) (Q.seen raster.old) }
+    requires fresh { fore.old.spent ≡ false }
+    ensures runs { OnOk result (HasRunOnBus limit (over S.seen fore.old)
+        (over S.seen fore.new) (Q.seen raster.old) (Q.seen raster.new) out.old out.new) }
+    ensures part { OnErr result (HasRunInPart limit (over S.seen fore.old)
+        (over S.seen fore.new) (Q.seen raster.old) (Q.seen raster.new) out.old out.new) }
+    ensures run { (over S.seen fore.new).run ≡ (over S.seen fore.old).run }
+    ensures fresh { OnOk result (fore.new.spent ≡ false) }
+    ensures still { OnOk result (fore.new.machine.t ≡ fore.old.machine.t
+        → fore.new ≡ fore.old) }
+    ensures spent { OnErr result (fore.new.spent ≡ true) }
+{
+    if !is_due(&fore.lookout, fore.machine.t) {
+        return Ok(());
+    }
+    run_on_bus(fore, limit, raster, out)
+}
+
+/// Those up to the next look, one by one.
+#[inline(always)]
+#[tactic(auto, using(crate::proofs::RunToLaws::runs_none))]
+fn run_up_to_look<S: Side, Q: Raster<S>>(
+    fore: &mut Fore<S>,
+    limit: u64,
+    raster: &mut Q,
+    out: &mut OutFiles,
+) -> Result<(), OutOfMemory>
+    requires fits { CanGo (over S.seen fore.old) (Q.seen raster.old) }
+    requires fresh { fore.old.spent ≡ false }
+    ensures clocks { OnOk result (RunsOn (over S.seen fore.old) (over S.seen fore.new)
+        (Q.seen raster.old) (Q.seen raster.new) out.old out.new) }
+    ensures on { OnOk result (fore.old.machine.t ≤ fore.new.machine.t) }
+    ensures most { OnOk result (fore.new.machine.t ≤ max fore.old.machine.t limit) }
+    ensures run { (over S.seen fore.new).run ≡ (over S.seen fore.old).run }
+    ensures fresh { OnOk result (fore.new.spent ≡ false) }
+    ensures reads { OnOk result (RisesIn (over S.seen fore.old).run fore.old.machine.t
+        (fore.new.machine.t - fore.old.machine.t)
+        fore.old.machine.chip.reads fore.new.machine.chip.reads) }
+    ensures still { OnOk result (fore.new.machine.t ≡ fore.old.machine.t
+        → fore.new ≡ fore.old) }
+    ensures spent { OnErr result (fore.new.spent ≡ true) }
+    ensures part { OnErr result (GivesPart (over S.seen fore.old)
+        (Q.seen raster.old) (Q.seen raster.new) out.old out.new) }
+    ensures few { OnErr result (RisesInSome limit (over S.seen fore.old).run fore.old.machine.t
+        fore.old.machine.chip.reads fore.new.machine.chip.reads) }
+{
+    if is_due(&fore.lookout, fore.machine.t) || 226 <= fore.machine.beam.h {
+        return Ok(());
+    }
+    run_one_by_one(fore, limit, raster, out)
+}
+
+/// Clocks of this line before the clock `limit` and the next look, each with all that a clock may have.
 #[inline(never)]
 fn run_one_by_one<S: Side, Q: Raster<S>>(
     fore: &mut Fore<S>,

@@ -37,7 +37,7 @@ pub fn note_look(lookout: &mut Lookout, now: u64, h: u16, pays: bool)
     lookout.pause = if pays {
         0
     } else {
-        (lookout.pause.min(LONGEST / 2) * 2 + 1).min(LONGEST)
+        (lookout.pause.min(LONGEST / 2) * 2 + 2).min(LONGEST)
     };
     let mut pause = lookout.pause as u16;
     if h < BEHIND_SPRITES {
