@@ -83,6 +83,10 @@ impl<S: Side> Fore<S> {
         if is_clx_ask(ask) {
             return self.read_clxdat_by(ask, raster, out);
         }
+        if is_fetch_ask(ask) {
+            self.make_fetch(ask, out)?;
+            return Ok(None);
+        }
         let word = self.machine.register_word(ask, 0);
         self.access_by(ask, raster, out)?;
         Ok(word)

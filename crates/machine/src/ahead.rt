@@ -115,7 +115,7 @@ impl<S: Side> Machine<S> {
     }
 
     /// It writes this word, or its low byte as one half of a word, at this address, and goes on.
-    #[inline(always)]
+    #[inline(never)]
     fn write_alone(
         &mut self,
         at: Addr,
