@@ -1,2 +1,4 @@
+pub mod Addresses
 pub mod Quiet
 pub mod RuleLaws
+pub mod Units

@@ -28,7 +28,7 @@ pub quiet_off : (k : ℕ) (b : Beam) (registers : Registers) (last : Option ℕ)
 quiet_off k b registers last none = none_fetched (b.h + k) registers (unit_on (suc k) b registers last) none
 
 -- while a unit runs none begins
-running : (b : Beam) (registers : Registers) (last : Option ℕ) → is_running b.h last ≡ true → begins_unit b registers last ≡ false
+pub running : (b : Beam) (registers : Registers) (last : Option ℕ) → is_running b.h last ≡ true → begins_unit b registers last ≡ false
 running b registers last runs = ap (λ is. not is && (begins_next b.h registers last || begins_first b registers)) runs
 
 -- the unit of this clock goes on to its end
@@ -62,7 +62,7 @@ quiet_in_unit k start b registers last is inner low high none =
     (ap (λ at. fetches_plane registers (slot_plane (high_resolution registers) at)) slot ∙ none)
 
 -- no unit runs
-rests : (h : ℕ) (registers : Registers) (last : Option ℕ) → is_running h last ≡ false → fetched_plane h registers last ≡ None
+pub rests : (h : ℕ) (registers : Registers) (last : Option ℕ) → is_running h last ≡ false → fetched_plane h registers last ≡ None
 rests h registers None none = refl
 rests h registers (Some start) none =
     let plane : ℕ = slot_plane (high_resolution registers) (h - start) in

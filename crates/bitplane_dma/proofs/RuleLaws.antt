@@ -4,6 +4,8 @@ use Rattle.std.proofs.Common.{zero, suc, slice_index, inl, inr, Option, Some, No
 use Rattle.std.proofs.lemmas.Bool.Decides.{nat_tests}
 use Rattle.irq_cia.specs.Bits.{has_bits}
 use Rattle.ocs_base.specs.declared.beam.Beam.{Beam}
+use Rattle.ocs_base.specs.Sizes.{bytes_of}
+use Rattle.ocs_base.specs.declared.chip_size.ChipSize.{ChipSize}
 use Rattle.priority_ham.specs.PlaneCount.{is_hires, planes_of}
 use Rattle.serial_model.specs.PlaneFetch.{fetch_start, fetch_end, plane_dma, high_resolution, is_in_unit}
 use Rattle.serial_model.specs.PlaneFetch.{is_running, has_next, begins_next, begins_first, begins_unit}
@@ -184,8 +186,8 @@ bytes_as v h start plane registers =
 
 -- ---- what a fetch keeps
 
-abbrev rules_by : ℕ → ℕ → ℕ → ℕ → ℕ → ℕ → ℕ → ℕ → ℕ → FetchRules
-rules_by v diwstrt diwstop ddfstrt ddfstop dmacon bplcon0 odd even = record {
+abbrev rules_by : ℕ → ChipSize → ℕ → ℕ → ℕ → ℕ → ℕ → ℕ → ℕ → ℕ → FetchRules
+rules_by v size diwstrt diwstop ddfstrt ddfstop dmacon bplcon0 odd even = record {
   first = if has_bits dmacon 768 && (nat_le (max 0x18 ddfstrt / 4 * 4) 0xd8 && is_window_line v diwstrt diwstop)
       then Some (max 0x18 ddfstrt / 4 * 4)
       else None;
@@ -194,21 +196,32 @@ rules_by v diwstrt diwstop ddfstrt ddfstop dmacon bplcon0 odd even = record {
   slots = slots_by (is_hires bplcon0) (if has_bits dmacon 768 then planes_of bplcon0 else 0);
   odd = odd;
   even = even;
+  size = size;
+  mask = bytes_of size - 2;
 }
+
+-- the size of chip memory stays
+size_kept : (h : ℕ) (last found : Option ℕ) (registers : Registers) → (move_if_fetched h last found registers).size ≡ registers.size
+size_kept h last None registers = refl
+size_kept h None (Some plane) registers = refl
+size_kept h (Some start) (Some plane) registers = refl
 
 pub rules_kept : (v h : ℕ) (last : Option ℕ) (registers : Registers) → IsLastUnit last → rules_of v (move_planes h last registers) ≡ rules_of v registers
 rules_kept v h last registers at =
+    let size : ChipSize = registers.size in
     let old : ℕ → ℕ = λ offset. kept_word registers offset in
     let new : ℕ → ℕ = λ offset. kept_word (move_planes h last registers) offset in
     let same : (offset : ℕ) → IsNoPlanePointer offset → new offset ≡ old offset = λ offset other. kept_word-move_planes h last registers offset at other in
-    ap (λ word. rules_by v word (new 0x90) (new 0x92) (new 0x94) (new 0x96) (new 0x100) (new 0x108) (new 0x10a)) (same 0x8e (inl (omega arith)))
-    ∙ ap (λ word. rules_by v (old 0x8e) word (new 0x92) (new 0x94) (new 0x96) (new 0x100) (new 0x108) (new 0x10a)) (same 0x90 (inl (omega arith)))
-    ∙ ap (λ word. rules_by v (old 0x8e) (old 0x90) word (new 0x94) (new 0x96) (new 0x100) (new 0x108) (new 0x10a)) (same 0x92 (inl (omega arith)))
-    ∙ ap (λ word. rules_by v (old 0x8e) (old 0x90) (old 0x92) word (new 0x96) (new 0x100) (new 0x108) (new 0x10a)) (same 0x94 (inl (omega arith)))
-    ∙ ap (λ word. rules_by v (old 0x8e) (old 0x90) (old 0x92) (old 0x94) word (new 0x100) (new 0x108) (new 0x10a)) (same 0x96 (inl (omega arith)))
-    ∙ ap (λ word. rules_by v (old 0x8e) (old 0x90) (old 0x92) (old 0x94) (old 0x96) word (new 0x108) (new 0x10a)) (same 0x100 (inr (omega arith)))
-    ∙ ap (λ word. rules_by v (old 0x8e) (old 0x90) (old 0x92) (old 0x94) (old 0x96) (old 0x100) word (new 0x10a)) (same 0x108 (inr (omega arith)))
-    ∙ ap (λ word. rules_by v (old 0x8e) (old 0x90) (old 0x92) (old 0x94) (old 0x96) (old 0x100) (old 0x108) word) (same 0x10a (inr (omega arith)))
+    ap (λ (size : ChipSize). rules_by v size (new 0x8e) (new 0x90) (new 0x92) (new 0x94) (new 0x96) (new 0x100) (new 0x108) (new 0x10a))
+    (size_kept h last (fetched_plane h registers last) registers)
+    ∙ ap (λ word. rules_by v size word (new 0x90) (new 0x92) (new 0x94) (new 0x96) (new 0x100) (new 0x108) (new 0x10a)) (same 0x8e (inl (omega arith)))
+    ∙ ap (λ word. rules_by v size (old 0x8e) word (new 0x92) (new 0x94) (new 0x96) (new 0x100) (new 0x108) (new 0x10a)) (same 0x90 (inl (omega arith)))
+    ∙ ap (λ word. rules_by v size (old 0x8e) (old 0x90) word (new 0x94) (new 0x96) (new 0x100) (new 0x108) (new 0x10a)) (same 0x92 (inl (omega arith)))
+    ∙ ap (λ word. rules_by v size (old 0x8e) (old 0x90) (old 0x92) word (new 0x96) (new 0x100) (new 0x108) (new 0x10a)) (same 0x94 (inl (omega arith)))
+    ∙ ap (λ word. rules_by v size (old 0x8e) (old 0x90) (old 0x92) (old 0x94) word (new 0x100) (new 0x108) (new 0x10a)) (same 0x96 (inl (omega arith)))
+    ∙ ap (λ word. rules_by v size (old 0x8e) (old 0x90) (old 0x92) (old 0x94) (old 0x96) word (new 0x108) (new 0x10a)) (same 0x100 (inr (omega arith)))
+    ∙ ap (λ word. rules_by v size (old 0x8e) (old 0x90) (old 0x92) (old 0x94) (old 0x96) (old 0x100) word (new 0x10a)) (same 0x108 (inr (omega arith)))
+    ∙ ap (λ word. rules_by v size (old 0x8e) (old 0x90) (old 0x92) (old 0x94) (old 0x96) (old 0x100) (old 0x108) word) (same 0x10a (inr (omega arith)))
 
 -- ---- the fetch of a clock
 

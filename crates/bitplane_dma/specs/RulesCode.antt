@@ -1,6 +1,7 @@
 -- What decides the fetches of a line, read from the registers once.
 use Rattle.std.specs.Prelude.{ℕ, ◌+◌, ◌-◌, ◌%◌, Bool, false, not, ◌&&◌, ◌||◌, ◌==◌, nat_le, nat_lt, min, if◌then◌else◌}
 use Rattle.std.specs.Prelude.{List, [], ◌∷◌, slice_index, Option, Some, None}
+use Rattle.ocs_base.specs.Sizes.{bytes_of}
 use Rattle.priority_ham.specs.PlaneCount.{planes_of}
 use Rattle.serial_model.specs.PlaneFetch.{fetch_start, fetch_end, plane_dma, high_resolution, is_in_unit, is_running, slot_plane}
 use Rattle.serial_model.specs.PlaneFetch.{is_last_fetch, modulo_bytes}
@@ -38,6 +39,8 @@ rules_of v registers = record {
   slots = slots_by (high_resolution registers) (planes_by registers);
   odd = kept_word registers 0x108;
   even = kept_word registers 0x10a;
+  size = registers.size;
+  mask = bytes_of registers.size - 2;
 }
 
 abbrev pub is_first : ℕ → Option ℕ → Bool

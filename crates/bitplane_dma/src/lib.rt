@@ -28,6 +28,9 @@ pub use rules::FetchRules;
 pub use serial_model::PlaneAsk;
 use std::marker::Model;
 
+/// The first clock of a line at which a unit can begin.
+const FIRST_FETCH: u16 = 0x18;
+
 /// The planes of the slots of a unit; 0 where a slot has none.
 const LOW_RESOLUTION: [u8; 8] = [0, 4, 6, 2, 0, 3, 5, 1];
 
@@ -79,6 +82,11 @@ impl Fetcher {
         ensures ask { result ≡ plane_ask beam.now.h regs.old self.new }
         ensures moved { regs.new ≡ move_planes beam.now.h self.new regs.old }
     {
+        if beam.h != 0 && beam.h < FIRST_FETCH {
+            // By the invariant of `last` no unit began so early.
+            let _ = &self.last;
+            return None;
+        }
         self.begin(beam, regs);
         let start = self.last?;
         fetch(beam.h, start, regs)
@@ -111,12 +119,21 @@ impl Fetcher {
         ensures some { IfSome result (λ start. IsUnitAt start beam.now.h self.new) }
         ensures none { result ≡ None → is_running beam.now.h self.new ≡ false }
     {
-        self.begin_by(rules, beam);
-        let start = self.last?;
-        if beam.h < start || beam.h - start >= 8 {
-            return None;
+        if let Some(start) = self.last {
+            let slot = beam.h.wrapping_sub(start);
+            if slot < 8 {
+                return Some(start);
+            }
+            if slot == 8 && rules.has_next(start) {
+                self.last = Some(beam.h);
+                return self.last;
+            }
         }
-        Some(start)
+        if rules.begins_first(beam.h) {
+            self.last = Some(beam.h);
+            return self.last;
+        }
+        None
     }
 
     /// For how many clocks of this line, from this one on and at most so many, the planes need no slot, while
@@ -363,7 +380,7 @@ fn has_next(start: u16, regs: &Regs) -> bool
 fn fetch_start(regs: &Regs) -> u16
     ensures { result ≡ start_of regs.now }
 {
-    regs.word(Reg::masked(DDFSTRT)).max(0x18) / 4 * 4
+    regs.word(Reg::masked(DDFSTRT)).max(FIRST_FETCH) / 4 * 4
 }
 
 /// The clock from which on no unit is followed by another, by DDFSTOP.
@@ -426,7 +443,7 @@ pub fn fetch_in_unit(rules: &FetchRules, h: u16, start: u16, regs: &mut Regs) ->
         return None;
     }
     let bytes = rules.bytes(h, start, plane);
-    Some(fetch_word(plane, bytes, regs))
+    Some(fetch_word_by(rules, plane, bytes, regs))
 }
 
 /// A plane's pointer moves on by a word and so many bytes more; what it was is where the word is.
@@ -440,6 +457,21 @@ fn fetch_word(plane: u8, bytes: u32, regs: &mut Regs) -> PlaneAsk
     let high = Reg::masked(0xdc + 4 * plane as u16);
     let at = regs.pointer(high);
     regs.set_pointer(high, Addr::sized(at.size, at.raw() + 2 + bytes));
+    PlaneAsk { plane, at }
+}
+
+/// The same by what decides the fetches of the line, which has the size of chip memory.
+#[inline(always)]
+fn fetch_word_by(rules: &FetchRules, plane: u8, bytes: u32, regs: &mut Regs) -> PlaneAsk
+    requires plane { (1 ≤ plane) × (plane ≤ 6) }
+    requires below { bytes < 1048576 }
+    requires rules { (v : ℕ) × (rules.now ≡ rules_of v regs.old) }
+    ensures ask { result ≡ ask_for_plane regs.old plane }
+    ensures moved { regs.new ≡ move_pointer (plane_pointer plane) bytes regs.old }
+{
+    let high = Reg::masked(0xdc + 4 * plane as u16);
+    let at = rules.address(regs.pointer_number(high));
+    regs.set_pointer(high, rules.address(at.raw() + 2 + bytes));
     PlaneAsk { plane, at }
 }
 

@@ -1,12 +1,14 @@
 //! What decides the fetches of a line, read from the registers once.
 
-ghost use Rattle.std.specs.Prelude.{◌≡◌, ◌≤◌, ◌<◌, ℕ, IfSome, slice_index};
+ghost use Rattle.std.specs.Prelude.{◌≡◌, ◌≤◌, ◌<◌, ◌-◌, ℕ, IfSome, nat_lt, slice_index};
+ghost use Rattle.ocs_base.specs.AddressOf.{addr_at};
+ghost use Rattle.ocs_base.specs.Sizes.{bytes_of};
 ghost use Rattle.serial_model.specs.Registers.{Registers};
-ghost use Rattle.bitplane_dma.specs.RulesCode.{rules_of, first_unit, planes_by, begins_by, plane_by, fetched_in_slot as in_slot, bytes_by};
+ghost use Rattle.bitplane_dma.specs.RulesCode.{rules_of, first_unit, is_first, planes_by, begins_by, plane_by, fetched_in_slot as in_slot, bytes_by};
 
 use crate::{fetch_end, fetch_start, has_dma, is_window_line, modulo_bytes, slot_plane};
 use ocs_base::offset::{BPL1MOD, BPL2MOD, BPLCON0};
-use ocs_base::{Beam, Reg};
+use ocs_base::{Addr, Beam, ChipSize, Reg};
 use reg_file::Regs;
 
 /// What decides at which clocks of a line which plane is fetched, and what is added to its pointer, by the
@@ -24,6 +26,9 @@ pub struct FetchRules {
     /// The kept words of BPL1MOD and BPL2MOD.
     odd: u16,
     even: u16,
+    /// The size of chip memory, and the bits of an address in it.
+    size: ChipSize,
+    mask: u32,
 }
 
 impl FetchRules {
@@ -50,6 +55,20 @@ impl FetchRules {
             ],
             odd: regs.word(Reg::masked(BPL1MOD)),
             even: regs.word(Reg::masked(BPL2MOD)),
+            size: regs.size(),
+            mask: regs.size().bytes() - 2,
+        }
+    }
+
+    /// The address that a pointer's number names in the chip memory.
+    #[inline(always)]
+    pub(crate) fn address(&self, raw: u32) -> Addr
+        requires { self.now.mask ≡ bytes_of self.now.size - 2 }
+        ensures { result ≡ addr_at self.now.size raw }
+    {
+        Addr {
+            value: raw & self.mask,
+            size: self.size,
         }
     }
 
@@ -66,6 +85,22 @@ impl FetchRules {
                 return true;
             }
         }
+        self.first == Some(h)
+    }
+
+    /// Whether a further unit follows the one that began at `start`.
+    #[inline(always)]
+    pub(crate) fn has_next(&self, start: u16) -> bool
+        ensures { result ≡ nat_lt start self.now.end }
+    {
+        start < self.end
+    }
+
+    /// Whether the line's first unit begins at clock `h`.
+    #[inline(always)]
+    pub(crate) fn begins_first(&self, h: u16) -> bool
+        ensures { result ≡ is_first h self.now.first }
+    {
         self.first == Some(h)
     }
 
@@ -105,7 +140,7 @@ impl FetchRules {
         ensures value { result ≡ bytes_by self.now h start plane }
         ensures below { result < 1048576 }
     {
-        if self.high && h - start < 4 || start < self.end {
+        if start < self.end || self.high && h - start < 4 {
             return 0;
         }
         modulo_bytes(if plane % 2 == 1 { self.odd } else { self.even })

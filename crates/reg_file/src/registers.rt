@@ -1,6 +1,6 @@
 //! The kept words of the custom registers.
 
-ghost use Rattle.std.specs.Prelude.{◌≡◌, ◌<◌, ◌%◌, true, if◌then◌else◌};
+ghost use Rattle.std.specs.Prelude.{◌≡◌, ◌<◌, ◌%◌, ◌+◌, ◌*◌, true, if◌then◌else◌};
 ghost use Rattle.ocs_base.specs.Sizes.{is_chip_size, size_of_bytes};
 ghost use Rattle.ocs_base.specs.declared.chip_size.ChipSize.TheVariants.{Kib512};
 ghost use Rattle.serial_model.specs.Registers.{no_registers, kept_word, pointer_at, with_pointer, with_word, words_after, effect_of, high_bits as high_bits_of};
@@ -128,19 +128,35 @@ impl Regs {
         self.words[reg.offset as usize / 2]
     }
 
+    /// The size of the chip memory that the pointers are addresses of.
+    #[inline(always)]
+    pub fn size(&self) -> ChipSize
+        ensures { result ≡ self.now.size }
+    {
+        self.size
+    }
+
     /// The address in a pointer: its bits above 15 are the word at `high`, and bits 15 to 1 are those of the
     /// next register's word (Hardware Reference Manual, pointer registers). Bit 0 of BLTAPTL is kept, but is
     /// no part of the address.
-    #[tactic(auto, using(crate::proofs::TableLaws::low_follows))]
     pub fn pointer(&self, high: Reg) -> Addr
         requires { is_pointer_high high.offset ≡ true }
         ensures { result ≡ pointer_at self.now high.offset }
     {
+        Addr::sized(self.size, self.pointer_number(high))
+    }
+
+    /// The two kept words of a pointer as one number, the word at `high` above the next register's: its
+    /// address drops bits of it.
+    #[inline(always)]
+    #[tactic(auto, using(crate::proofs::TableLaws::low_follows))]
+    pub fn pointer_number(&self, high: Reg) -> u32
+        requires { is_pointer_high high.offset ≡ true }
+        ensures { result
+            ≡ 65536 * kept_word self.now high.offset + kept_word self.now (high.offset + 2) }
+    {
         let at = high.offset as usize / 2;
-        Addr::sized(
-            self.size,
-            self.words[at] as u32 * 0x1_0000 + self.words[at + 1] as u32,
-        )
+        self.words[at] as u32 * 0x1_0000 + self.words[at + 1] as u32
     }
 
     /// A pointer gets an address, which is to have the span of the chip memory: the register at `high` its

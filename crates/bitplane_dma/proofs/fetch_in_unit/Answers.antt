@@ -16,13 +16,13 @@ returns-then-plane-eq0-clause-moved c =
 
 pub returns-clause-ask : goal.returns-clause-ask
 returns-clause-ask c =
-    asked_as c.requires.rules.0 c.args.h c.args.start c.slot-plane.result c.args.regs.now c.args.rules.now c.fetch_word.result c.requires.rules.1
+    asked_as c.requires.rules.0 c.args.h c.args.start c.slot-plane.result c.args.regs.now c.args.rules.now c.fetch_word_by.result c.requires.rules.1
     (some_in_unit c.args.rules.now c.args.h c.args.start c.slot-plane.result c.requires.low c.requires.high
-    c.slot-plane.ensures.plane (omega arith)) c.fetch_word.ensures.ask
+    c.slot-plane.ensures.plane (omega arith)) c.fetch_word_by.ensures.ask
 
 pub returns-clause-moved : goal.returns-clause-moved
 returns-clause-moved c =
     moved_as c.requires.rules.0 c.args.h c.args.start c.slot-plane.result c.bytes-bytes.result c.args.regs.now _ c.args.rules.now c.requires.rules.1
     (some_in_unit c.args.rules.now c.args.h c.args.start c.slot-plane.result c.requires.low c.requires.high
     c.slot-plane.ensures.plane (omega arith))
-    c.bytes-bytes.ensures.value c.fetch_word.ensures.moved
+    c.bytes-bytes.ensures.value c.fetch_word_by.ensures.moved
