@@ -12,16 +12,14 @@ use Rattle.serial_model.specs.declared.bus.ProcessorAsk.TheVariants as P
 use Rattle.serial_model.specs.declared.bus.SideAsk.{SideAsk}
 use Rattle.serial_model.specs.declared.processor.Turn.{Turn}
 use Rattle.serial_model.specs.declared.processor.Turn.TheVariants as T
-use Rattle.serial_model.specs.declared.processor.Wait.{Wait}
-use Rattle.serial_model.specs.declared.processor.Wait.TheVariants as W
-use Rattle.serial_model.specs.Bus.{ask_at, missed_after, processor_ask}
+use Rattle.serial_model.specs.Bus.{ask_at, processor_ask}
 use Rattle.serial_model.specs.Made.{word_of}
-use Rattle.serial_model.specs.Processor.{Processor, processor_wait, slot_wish, turn_by, turn_with, turn_of, go_on, stage_after}
+use Rattle.serial_model.specs.Processor.{Processor, processor_wait, slot_wish, turn_with, turn_of, go_on, stage_after}
 use Rattle.serial_model.specs.Side.{IsInTime}
 use Rattle.serial_model.specs.State.{Chips}
 use Rattle.serial_model.specs.Turns.{take_turn, begins_by, run_chips, interrupt_of}
 use Rattle.cpu_bus.specs.declared.BusCpu.{BusCpu}
-use Rattle.cpu_bus.specs.Bus.{IsProcessorOf, GoesOn, is_slot, wish_shown}
+use Rattle.cpu_bus.specs.Bus.{IsProcessorOf, GoesOn, wish_shown}
 use Rattle.chip_set.specs.BusCode.{LeavesToPlanes}
 use Rattle.chip_set.specs.Chips.{WorkingChips, IsChipsOf, HasAsked, HasAccessed, kept_wish, late_ask}
 use Rattle.chip_set.proofs.BusLaws.{turn_of_processor, no_turn, bus_answered}

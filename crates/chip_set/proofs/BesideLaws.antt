@@ -18,9 +18,9 @@ use Rattle.serial_model.specs.declared.processor.Turn.TheVariants as T
 use Rattle.serial_model.specs.declared.processor.Wait.{Wait}
 use Rattle.serial_model.specs.declared.processor.Wait.TheVariants as W
 use Rattle.serial_model.specs.Bus.{is_processor_ask, missed_after}
-use Rattle.serial_model.specs.Processor.{Processor, processor_wait, slot_wish, turn_by, turn_with, turn_of}
+use Rattle.serial_model.specs.Processor.{Processor, processor_wait, slot_wish, turn_with, turn_of}
 use Rattle.serial_model.specs.State.{Chips}
-use Rattle.serial_model.specs.Turns.{take_turn, begins_by, run_chips, interrupt_of, go_on_with, begins_with}
+use Rattle.serial_model.specs.Turns.{begins_by, run_chips, interrupt_of, go_on_with, begins_with}
 use Rattle.cpu_bus.specs.declared.BusCpu.{BusCpu}
 use Rattle.cpu_bus.specs.declared.TurnBeside.{TurnBeside}
 use Rattle.cpu_bus.specs.declared.TurnBeside.TheVariants as B
