@@ -30,6 +30,9 @@ use mem_versions::Chip;
 use ocs_base::{Addr, Beam};
 use serial_model::{Ask, CopperAct, Made, ProcessorAsk};
 
+/// So few clocks behind the last fetch of a line are no run of their own.
+const FEW: u16 = 16;
+
 /// Whether the blitter asks for the slots of such clocks, and whether it gives way to a processor that has
 /// missed three clocks. Both stay as long as such clocks go on.
 #[derive(Clone, Copy)]
@@ -88,7 +91,10 @@ impl Chips {
         let fetches = self
             .fetcher
             .before_last_fetch(beam, &self.registers, clocks);
-        (fetches, Some(self.fetch_rules(beam)))
+        (
+            with_few_behind(fetches, clocks),
+            Some(self.fetch_rules(beam)),
+        )
     }
 
     /// The same, whatever slots the planes need.
@@ -300,6 +306,19 @@ impl Chips {
         self.count_missed(ask);
         self.answer_owner(ask, word);
         made_by(ask, word, &CopperAct::None)
+    }
+}
+
+/// The first so many of some clocks, or all of these where few come behind: one more look takes longer than they do.
+#[inline(always)]
+fn with_few_behind(first: u16, clocks: u16) -> u16
+    requires { first ≤ clocks }
+    ensures { result ≤ clocks }
+{
+    if first > 0 && clocks - first < FEW {
+        clocks
+    } else {
+        first
     }
 }
 
