@@ -13,7 +13,7 @@ ghost use Rattle.clock_loop.specs.BusRun.{HasRunOnBus, HasRunInPart};
 ghost use Rattle.clock_loop.specs.LineCode.{AreInLine};
 
 use crate::bus::run_on_bus;
-use crate::lookout::is_due;
+use crate::lookout::{is_due, note_look};
 use crate::quiet::most_clocks;
 use band_log::Raster;
 use foreground::Fore;
@@ -56,7 +56,8 @@ pub(crate) fn run_in_line<S: Side, Q: Raster<S>>(
     Ok(from < fore.machine.t)
 }
 
-/// Those on the bus, where it is time to look for them.
+/// Those on the bus, where it is time to look for them. There are none where the Copper wants the slot of this
+/// clock: that is a look that has found nothing.
 #[inline(always)]
 fn run_where_due<S: Side, Q: Raster<S>>(
     fore: &mut Fore<S>,
@@ -79,7 +80,24 @@ fn run_where_due<S: Side, Q: Raster<S>>(
     if !is_due(&fore.lookout, fore.machine.t) {
         return Ok(());
     }
+    if fore.machine.chips.copper_wish(&fore.machine.beam).is_some() {
+        look_in_vain(fore);
+        return Ok(());
+    }
     run_on_bus(fore, limit, raster, out)
+}
+
+/// A look at this clock has found nothing.
+#[inline(always)]
+fn look_in_vain<S: Side>(fore: &mut Fore<S>)
+    ensures { fore.new ≡ fore.old }
+{
+    note_look(
+        &mut fore.lookout,
+        fore.machine.t,
+        fore.machine.beam.h,
+        false,
+    );
 }
 
 /// Those up to the next look, one by one.
