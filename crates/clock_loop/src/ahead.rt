@@ -129,8 +129,9 @@ fn accesses_in_two<S: Side>(
         return Ok(0);
     }
     let most = left.min(rest);
+    let last = most.saturating_sub(1);
     let mut made = 0;
-    while most - made >= 2 {
+    while made < last {
         if !access_in_two(fore, claim, left - made, rest - made, limit, out)? {
             return Ok(made);
         }

@@ -297,7 +297,7 @@ impl BusCpu {
 
     /// What follows the access begins, with the level of these interrupts. The answer is whether an interrupt
     /// begins with it. What comes most often is looked for first.
-    #[inline(never)]
+    #[inline(always)]
     fn settle(&mut self, irq: &Irq) -> bool
         ensures goes { (word : ℕ) (p : Processor) → IsAnswered word self.old p
             → GoesOn word (level_of irq.now) p (interrupt_if result (level_of irq.now)) self.new }

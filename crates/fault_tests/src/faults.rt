@@ -21,7 +21,7 @@ part 75 285 0 719 ff0000"
 
 /// The number of the call that fails, the status, how many bytes the files frames, trace and memory have
 /// then (`-` where the file is not there), and what is said. The beam passes what is pending on at every
-/// 32nd line. The line of the trace stands there from line 128 on, and the frame at the end.
+/// 64th line. The line of the trace stands there from line 128 on, and the frame at the end.
 fn faults_in_bands_of_313() -> &'static str {
     "
 0 5 - - - cannot read image
@@ -36,7 +36,7 @@ fn faults_in_bands_of_313() -> &'static str {
 }
 
 /// Of bands of one line 16 are not collected yet, so that line 64 finds the heading and the rows of the
-/// lines 26 to 46, and each 32nd line then 32 rows more; the frame's end finds the rows up to line 295, and
+/// lines 26 to 46, and each 64th line then 64 rows more; the frame's end finds the rows up to line 295, and
 /// the last flush the others.
 fn faults_in_bands_of_1() -> &'static str {
     "
@@ -46,18 +46,14 @@ fn faults_in_bands_of_1() -> &'static str {
 3 6 0 - - cannot write trace
 4 6 0 0 - cannot write memory
 5 6 22687 0 0 cannot write frames
-6 6 79935 0 0 cannot write frames
-7 6 149055 0 0 cannot write frames
-8 6 183615 11 0 cannot write trace
-9 6 218175 23 0 cannot write frames
-10 6 287295 23 0 cannot write frames
-11 6 356415 23 0 cannot write frames
-12 6 425535 23 0 cannot write frames
-13 6 494655 23 0 cannot write frames
-14 6 556215 23 0 cannot write frames
-15 6 600495 23 0 cannot write frames
-16 6 617775 23 262144 cannot write memory
-17 0 617775 23 524288 "
+6 6 114495 0 0 cannot write frames
+7 6 183615 11 0 cannot write trace
+8 6 252735 23 0 cannot write frames
+9 6 390975 23 0 cannot write frames
+10 6 521655 23 0 cannot write frames
+11 6 600495 23 0 cannot write frames
+12 6 617775 23 262144 cannot write memory
+13 0 617775 23 524288 "
 }
 
 /// The words of a line, and what is behind them.

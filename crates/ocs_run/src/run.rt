@@ -289,7 +289,7 @@ fn run_some<Q: Raster<CrewSide>>(
     listen(&beam, fore.side(), audio)
 }
 
-/// Appends what is pending at the first clock of every 32nd line.
+/// Appends what is pending at the first clock of every 64th line.
 fn flush_lines<P: Place>(beam: &Beam, out: &mut OutFiles, place: &mut P) -> Result<(), WriteFault>
     requires { AreGrowable (P.growable place.old) out.old.names }
     ensures together { OnOk result (StayTogether out.old out.new (P.outside place.old).files
@@ -299,10 +299,10 @@ fn flush_lines<P: Place>(beam: &Beam, out: &mut OutFiles, place: &mut P) -> Resu
         (LeavesParts out.old (P.outside place.old).files (P.outside place.new).files []) }
     ensures place { LeavesPlace (WritesFiles result) P.outside P.readable P.growable place.old
         place.new }
-    ensures empty { OnOk result (beam.now.h ≡ 0 → beam.now.v % 32 ≡ 0 → out.new ≡ all_given
+    ensures empty { OnOk result (beam.now.h ≡ 0 → beam.now.v % 64 ≡ 0 → out.new ≡ all_given
         out.old) }
 {
-    if beam.h == 0 && beam.v % 32 == 0 {
+    if beam.h == 0 && beam.v % 64 == 0 {
         return out.flush(place);
     }
     Ok(())

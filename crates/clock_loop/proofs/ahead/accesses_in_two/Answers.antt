@@ -26,7 +26,8 @@ returns-in_err-access_in_two-clause-part g c =
     let of = over g.S.Side.seen in
     let before = c.loop-made-test.true in
     let min = c.min-most.ensures in
-    let some : 0 < c.args.left - c.loop-made.made = omega (arith, before, min) in
+    let last = c.saturating_sub-last.ensures in
+    let some : 0 < c.args.left - c.loop-made.made = omega (arith, before, min, last) in
     let line = (c.loop-made.invariant.can.line some).before in
     on_err c.from_residual.result
     (λ seen. run_and_part_run c.args.limit (of c.args.fore.now) (of c.loop-made.fore) (of c.access_in_two.new.fore) seen seen seen _ _ _
@@ -47,7 +48,8 @@ loop-made-preserved g c =
     let next = of c.access_in_two.new.fore in
     let before = c.loop-made-test.true in
     let min = c.min-most.ensures in
-    let some : 0 < c.args.left - c.loop-made.made = omega (arith, before, min) in
+    let last = c.saturating_sub-last.ensures in
+    let some : 0 < c.args.left - c.loop-made.made = omega (arith, before, min, last) in
     let line = (c.loop-made.invariant.can.line some).before in
     let able = c.loop-made.invariant.able in
     let runs = c.in_ok-access_in_two.ensures.runs c.if-not-branch.false in
@@ -60,8 +62,8 @@ loop-made-preserved g c =
           (c.loop-made.invariant.ran seen) (runs seen);
       run = c.access_in_two.ensures.run ∙ c.loop-made.invariant.run;
       fresh = c.access_in_two.ensures.fresh;
-      most = omega (arith, before, min);
-      rest = omega (arith, before, min);
+      most = omega (arith, before, min, last);
+      rest = omega (arith, before, min, last);
       count = omega (arith, count, all);
       can = fewer_left c.args.limit c.args.left c.loop-made.made 2 c.args.rest None c.args.claim.now next
           (c.in_ok-access_in_two.ensures.can c.if-not-branch.false);
