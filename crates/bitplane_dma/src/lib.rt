@@ -92,21 +92,6 @@ impl Fetcher {
         fetch(beam.h, start, regs)
     }
 
-    /// The same of a clock behind a line's first, by what decides the fetches of the line.
-    #[inline(always)]
-    pub fn step_by(&mut self, rules: &FetchRules, beam: &Beam, regs: &mut Regs) -> Option<PlaneAsk>
-        requires inner { 0 < beam.now.h }
-        requires rules { rules.now ≡ rules_of beam.now.v regs.old }
-        ensures last { self.new ≡ last_unit_at beam.now regs.old self.old }
-        ensures begun { IsLastUnit self.new }
-        ensures ask { result ≡ plane_ask beam.now.h regs.old self.new }
-        ensures moved { regs.new ≡ move_planes beam.now.h self.new regs.old }
-    {
-        self.begin_by(rules, beam);
-        let start = self.last?;
-        fetch_by(rules, beam.h, start, regs)
-    }
-
     /// Where the unit began that runs at this clock, which is not a line's first, by what decides the fetches
     /// of the line: one that begins here has begun. None where none runs.
     #[inline(always)]
@@ -191,24 +176,6 @@ impl Fetcher {
         ensures { self.new ≡ unit_on clocks beam.now regs.now self.old }
     {
         self.last = unit_after(self.last, beam, regs, clocks);
-    }
-
-    /// Begins a unit where one begins at this clock, which is not a line's first.
-    #[inline(always)]
-    fn begin_by(&mut self, rules: &FetchRules, beam: &Beam)
-        requires inner { 0 < beam.now.h }
-        requires rules { (regs : Registers) × (rules.now ≡ rules_of beam.now.v regs) }
-        ensures last { (regs : Registers) → rules.now ≡ rules_of beam.now.v regs
-            → self.new ≡ last_unit_at beam.now regs self.old }
-        ensures begun { IsLastUnit self.new }
-    {
-        let last = self.last;
-        if beam.h % 4 != 0 {
-            return;
-        }
-        if rules.begins(beam.h, last) {
-            self.last = Some(beam.h);
-        }
     }
 
     /// Begins a unit where one begins at this clock. All begin at multiples of four.
@@ -414,18 +381,6 @@ fn fetch(h: u16, start: u16, regs: &mut Regs) -> Option<PlaneAsk>
 {
     let plane = plane_at(h, start, regs)?;
     let bytes = added_bytes(h, start, plane, regs);
-    Some(fetch_word(plane, bytes, regs))
-}
-
-/// The same by what decides the fetches of the line.
-#[inline(always)]
-fn fetch_by(rules: &FetchRules, h: u16, start: u16, regs: &mut Regs) -> Option<PlaneAsk>
-    requires rules { (v : ℕ) × (rules.now ≡ rules_of v regs.old) }
-    ensures ask { result ≡ plane_ask h regs.old (Some start) }
-    ensures moved { regs.new ≡ move_planes h (Some start) regs.old }
-{
-    let plane = rules.plane(h, start)?;
-    let bytes = rules.bytes(h, start, plane);
     Some(fetch_word(plane, bytes, regs))
 }
 

@@ -4,7 +4,7 @@ ghost use Rattle.std.specs.Prelude.{◌≡◌, ◌≤◌, ◌<◌, ◌-◌, ℕ,
 ghost use Rattle.ocs_base.specs.AddressOf.{addr_at};
 ghost use Rattle.ocs_base.specs.Sizes.{bytes_of};
 ghost use Rattle.serial_model.specs.Registers.{Registers};
-ghost use Rattle.bitplane_dma.specs.RulesCode.{rules_of, first_unit, is_first, planes_by, begins_by, plane_by, fetched_in_slot as in_slot, bytes_by};
+ghost use Rattle.bitplane_dma.specs.RulesCode.{rules_of, first_unit, is_first, planes_by, fetched_in_slot as in_slot, bytes_by};
 
 use crate::{fetch_end, fetch_start, has_dma, is_window_line, modulo_bytes, slot_plane};
 use ocs_base::offset::{BPL1MOD, BPL2MOD, BPLCON0};
@@ -72,22 +72,6 @@ impl FetchRules {
         }
     }
 
-    /// Whether a unit begins at clock `h`, which is not a line's first, where the last one began at `last`.
-    #[inline(always)]
-    pub(crate) fn begins(&self, h: u16, last: Option<u16>) -> bool
-        ensures { result ≡ begins_by self.now h last }
-    {
-        if let Some(start) = last {
-            if start <= h && h - start < 8 {
-                return false;
-            }
-            if start <= h && h - start == 8 && start < self.end {
-                return true;
-            }
-        }
-        self.first == Some(h)
-    }
-
     /// Whether a further unit follows the one that began at `start`.
     #[inline(always)]
     pub(crate) fn has_next(&self, start: u16) -> bool
@@ -102,24 +86,6 @@ impl FetchRules {
         ensures { result ≡ is_first h self.now.first }
     {
         self.first == Some(h)
-    }
-
-    /// The plane that is fetched at clock `h`, if one is, where the last unit began at `start`.
-    #[inline(always)]
-    pub(crate) fn plane(&self, h: u16, start: u16) -> Option<u8>
-        requires { (v : ℕ) × (registers : Registers) × (self.now ≡ rules_of v registers) }
-        ensures plane { result ≡ plane_by self.now h start }
-        ensures in_range { IfSome result (λ plane. (1 ≤ plane) × (plane ≤ 6)) }
-        ensures behind { IfSome result (λ plane. start ≤ h) }
-    {
-        if h < start || h - start >= 8 {
-            return None;
-        }
-        let plane = self.slot(h - start);
-        if plane == 0 {
-            return None;
-        }
-        Some(plane)
     }
 
     /// The plane that a slot of a unit fetches; 0 where it fetches none.

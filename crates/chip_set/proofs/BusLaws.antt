@@ -470,7 +470,9 @@ on_if_asks true wish asks = refl
 on_if_asks false wish asks = absurd (false≢true asks)
 
 pub asked_of : (now : WorkingChips) → is_some (kept_wish now) ≡ true → kept_wish now ≡ option_map slot_shown now.blit
-asked_of now asks = ap (λ on. if on then option_map slot_shown now.blit else None) (on_if_asks (blitter_dma now.registers) (option_map slot_shown now.blit) asks)
+asked_of now asks =
+    ap (λ on. if on then option_map slot_shown now.blit else None)
+    (on_if_asks (blitter_dma now.registers) (option_map slot_shown now.blit) asks)
 
 pub cias_beside : (b : Beam) (old new : WorkingChips) → new ≡ with_fetching (fetching_after b (fetching_in old)) old → KeepsCias old new
 cias_beside b old new is = record {

@@ -3,7 +3,7 @@
 ghost use Rattle.std.specs.Prelude.{◌≡◌, ◌≤◌, ◌<◌, ◌+◌};
 
 use crate::written_registers::registers;
-use bitplane_dma::{FetchRules, Fetcher};
+use bitplane_dma::{FetchRules, Fetcher, fetch_in_unit};
 use ocs_base::{Beam, Reg};
 use reg_file::Regs;
 
@@ -253,7 +253,9 @@ fn pointer_by_rules(con0: u16) -> u16 {
     for h in 1..227 {
         let here = place(h);
         let rules = FetchRules::of(&here, &regs);
-        let _ask = fetcher.step_by(&rules, &here, &mut regs);
+        if let Some(start) = fetcher.unit_by(&rules, &here) {
+            let _ask = fetch_in_unit(&rules, h, start, &mut regs);
+        }
     }
     regs.word(Reg::masked(0x0e2))
 }

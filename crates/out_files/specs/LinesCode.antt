@@ -13,7 +13,7 @@ pub record LineStartValue : Type 0 where
   pub v : ℕ
   pub text : List ℕ
 
--- the last three decimal digits of a number
+-- the last three decimal digits of a number, as characters
 abbrev pub three_digits : ℕ → List ℕ
 three_digits n = (48 + n / 100 % 10) ∷ (48 + n / 10 % 10) ∷ (48 + n % 10) ∷ []
 

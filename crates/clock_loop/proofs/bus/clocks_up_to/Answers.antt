@@ -125,8 +125,10 @@ loop-unit-preserved g c =
       fresh = all.fresh;
       still = λ same. absurd (omega (arith, on, count, same));
       unit = c.in-Ok-Stays.ensures.unit (ap stays_left c.in-Ok-Stays.field-0-is);
-      room = (let few = c.clock_on_bus.ensures.few (omega (arith, room, counted, before, fewer, left)) in omega (arith, few, counted, count, before, fewer, left));
-      can = subst (λ k. CanMakeClocks c.args.limit k (g.T.Turn.rules c.args.turn.now) c.clock_on_bus.new.rest c.args.claim.now h) (omega (arith, counted, count, more, left))
+      room = (let few = c.clock_on_bus.ensures.few (omega (arith, room, counted, before, fewer, left)) in
+          omega (arith, few, counted, count, before, fewer, left));
+      can = subst (λ k. CanMakeClocks c.args.limit k (g.T.Turn.rules c.args.turn.now) c.clock_on_bus.new.rest c.args.claim.now h)
+          (omega (arith, counted, count, more, left))
           (next_can c.args.limit _ (g.T.Turn.rules c.args.turn.now) _ _ c.args.claim.now g1 h s s _ _ more c.in-Ok.ensures.can c.clock_on_bus.ensures.run made
           (c.in-Ok-Stays.ensures.bus (ap stays_left c.in-Ok-Stays.field-0-is)));
     }
