@@ -52,11 +52,12 @@ impl<S: Side> Fore<S> {
             log,
             clx,
             spare,
+            gathering,
             ..
         } = self;
         let to = machine.t;
         let job = log.cut_line(spare, run, &mut machine.chip, to, shown)?;
-        submit(job, raster, out, clx, spare)?;
+        submit(job, raster, out, clx, spare, *gathering)?;
         Ok(())
     }
 
@@ -88,10 +89,11 @@ impl<S: Side> Fore<S> {
             log,
             clx,
             spare,
+            gathering,
             ..
         } = self;
         let job = log.close(spare, run, &mut machine.chip, to, shown)?;
-        submit(job, raster, out, clx, spare)?;
+        submit(job, raster, out, clx, spare, *gathering)?;
         let closing = gather_all(raster, out, clx, spare)?;
         Ok(closing)
     }

@@ -6,6 +6,7 @@ ghost use Rattle.std.specs.Arc.{arc_value};
 ghost use Rattle.serial_bands.specs.Run.{run_over};
 ghost use Rattle.foreground.specs.Fore.{over, IsNew, is_done};
 
+use crate::gathering::Gathering;
 use crate::lookout::Lookout;
 use band_log::{Cursor, Run, Spare};
 use machine::Machine;
@@ -38,6 +39,8 @@ pub struct Fore<S> {
     pub lookout: Lookout,
     /// What is left of a band that was gathered.
     pub(crate) spare: Spare,
+    /// When bands are gathered.
+    pub(crate) gathering: Gathering,
 }
 
 impl<S> Model for Fore<S> {
@@ -93,7 +96,17 @@ impl<S: Side> Fore<S> {
             spent: false,
             lookout: Lookout::new(),
             spare: Spare::new(alloc),
+            gathering: Gathering::Soon,
         })
+    }
+
+    /// From now on as many bands may be outstanding as a raster has places, sixteen: for one whose bands are
+    /// drawn on other threads. At first one alone may be, which is the fastest where the raster draws on this
+    /// thread. What the run gives is the same.
+    pub fn gather_late(&mut self)
+        ensures { self.new ≡ self.old }
+    {
+        self.gathering = Gathering::Late;
     }
 
     /// Whether the run has come to its end.

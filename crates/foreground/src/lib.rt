@@ -11,6 +11,7 @@ mod clock;
 mod cuts;
 mod fore;
 mod gather;
+mod gathering;
 mod lookout;
 mod memory_bytes;
 mod memory_sum;

@@ -12,6 +12,7 @@ ghost use Rattle.foreground.specs.Steps.{KeepsClock};
 use crate::checkpoint::Checkpoint;
 use crate::fore::Fore;
 use crate::gather::gather_all;
+use crate::gathering::Gathering;
 use crate::lookout::Lookout;
 use crate::reading::clock_before;
 use band_log::{Cursor, Events, Picture, Raster, Run, Spare};
@@ -170,6 +171,7 @@ impl<S: Side + Copy> Fore<S> {
             spent: false,
             lookout: Lookout::new(),
             spare: Spare::new(alloc),
+            gathering: Gathering::Soon,
         })
     }
 }

@@ -93,7 +93,7 @@ pub fn run_files<
     let Setup { run, side, mut out } = setup;
     let _good = run.script();
     let run = share(alloc, run)?;
-    let fore = Fore::with_side(alloc, shared(&run)?, side)?;
+    let fore = fore_for(alloc, shared(&run)?, side, drawing.workers)?;
     let heard = Recording {
         on: audio.is_some(),
         bytes: Vec::new(alloc),
@@ -162,6 +162,23 @@ fn draw_with_crew<
     { run_whole(fore, crew, out, heard, place) };
     let (answer, _totals) = with_crew(rt, alloc, run, workers, gate, &mut body)?;
     answer
+}
+
+/// The foreground of a run at reset. Where there are workers, it lets bands wait for them.
+fn fore_for(
+    alloc: Global,
+    run: Arc<Run<CrewSide>>,
+    side: CrewSide,
+    workers: u8,
+) -> Result<Fore<CrewSide>, OutOfMemory>
+    requires { side_seen side ≡ side_seen (arc_value run).side }
+    ensures { IfOk result (λ fore. IsNew (run_of (arc_value run)) (fore_of fore)) }
+{
+    let mut fore = Fore::with_side(alloc, run, side)?;
+    if workers > 0 {
+        fore.gather_late();
+    }
+    Ok(fore)
 }
 
 /// The run in an `Arc`, which its jobs share.

@@ -6,20 +6,20 @@ use Rattle.foreground.proofs.GatherLaws.{some_nothing, some_one, fewer_without_f
 use Rattle.foreground.proofs.gather.make_place.Goals as goal
 
 pub gather_one-requires : goal.gather_one-requires
-gather_one-requires g c = omega (arith, c.if-outstanding-lt-PLACES.false, c.outstanding.ensures)
+gather_one-requires g c = omega (arith, c.if-outstanding-places.false, c.outstanding.ensures, c.places-places.ensures.least)
 
-pub returns-then-outstanding-lt-PLACES-clause-few : goal.returns-then-outstanding-lt-PLACES-clause-few
-returns-then-outstanding-lt-PLACES-clause-few g c = λ most. omega (arith, c.if-outstanding-lt-PLACES.true, c.outstanding.ensures)
+pub returns-then-outstanding-places-clause-few : goal.returns-then-outstanding-places-clause-few
+returns-then-outstanding-places-clause-few g c = λ most. omega (arith, c.if-outstanding-places.true, c.outstanding.ensures, c.places-places.ensures.most)
 
-pub returns-then-outstanding-lt-PLACES-clause-gathered : goal.returns-then-outstanding-lt-PLACES-clause-gathered
-returns-then-outstanding-lt-PLACES-clause-gathered g c = some_nothing (g.Q.Raster.seen c.args.raster.now) c.args.out.now c.args.clx.now
+pub returns-then-outstanding-places-clause-gathered : goal.returns-then-outstanding-places-clause-gathered
+returns-then-outstanding-places-clause-gathered g c = some_nothing (g.Q.Raster.seen c.args.raster.now) c.args.out.now c.args.clx.now
 
 pub returns-clause-few : goal.returns-clause-few
 returns-clause-few g c = λ most.
     let seen = g.Q.Raster.seen in
     let fewer : length (seen c.gather_one.new.raster).outstanding + 1 ≡ length (seen c.args.raster.now).outstanding =
     fewer_without_first (seen c.args.raster.now) (seen c.gather_one.new.raster) c.in_ok-gather_one.ensures.taken
-    (omega (arith, c.if-outstanding-lt-PLACES.false, c.outstanding.ensures))
+    (omega (arith, c.if-outstanding-places.false, c.outstanding.ensures, c.places-places.ensures.least))
     in
     omega (arith, fewer, most)
 

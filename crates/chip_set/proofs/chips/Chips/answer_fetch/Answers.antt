@@ -8,7 +8,8 @@ use Rattle.chip_set.proofs.chips.Chips.answer_fetch.Goals as goal
 pub returns-clause-access : goal.returns-clause-access
 returns-clause-access c clx =
     fetch_answered c.args.beam.now clx c.args.chip.now.words c.args.ask.now c.args.self.now c.step_copper-act.new.self
-    c.count_missed.new.self c.read_fetch-word.result c.step_copper-act.result c.made_by_fetch.result c.requires.fetch (c.read_fetch-word.ensures.word c.args.beam.now clx c.args.self.now)
+    c.count_missed.new.self c.read_fetch-word.result c.step_copper-act.result c.made_by_fetch.result c.requires.fetch
+    (c.read_fetch-word.ensures.word c.args.beam.now clx c.args.self.now)
     c.step_copper-act.ensures.chips c.count_missed.ensures c.step_copper-act.ensures.act c.made_by_fetch.ensures
 
 pub returns-clause-able : goal.returns-clause-able
