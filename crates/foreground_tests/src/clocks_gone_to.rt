@@ -6,9 +6,10 @@ ghost use Rattle.ocs_base.specs.Limits.{IsRunnable};
 ghost use Rattle.ocs_base.specs.declared.chip_size.ChipSize.TheVariants.{Kib512};
 
 use band_log::Run;
-use ocs_base::{ChipSize, Script};
+use ocs_base::{ChipSize, OutOfMemory, Script};
 use rewind_loop::{Arrived, Rewind};
 use script_read::read_script;
+use serial_model::NoSide;
 use std::alloc::Global;
 use std::sync::Arc;
 use std::test::Fail;
@@ -34,9 +35,17 @@ fn told_of(alloc: Global, clocks: &[u64]) -> Result<Vec<Arrived>, Fail> {
     let script = three_frames(alloc)?;
     let image = Vec::from_slice(alloc, &[0x12, 0x34, 0, 1, 0, 0, 0, 0])?;
     let run = Arc::new(alloc, Run::new(image, script, 313))?;
+    Ok(told_in(alloc, run, clocks)?)
+}
+
+/// The same of a run.
+fn told_in(
+    alloc: Global,
+    run: Arc<Run<NoSide>>,
+    clocks: &[u64],
+) -> Result<Vec<Arrived>, OutOfMemory> {
     let mut rewind = Rewind::new(alloc, run, 1, 2)?;
-    let told = rewind.go_all(clocks)?;
-    Ok(told)
+    rewind.go_all(clocks)
 }
 
 /// The clock that was gone to, and from where; zeros where there is none.

@@ -3,6 +3,7 @@
 
 ghost use Rattle.std.specs.Prelude.{◌≡◌, ◌≤◌, ◌<◌, ◌+◌, ℕ, [], None, false};
 ghost use Rattle.foreground.specs.Fore.{over, IsUnderway};
+ghost use Rattle.serial_model.specs.Side.{no_side};
 
 use crate::runs::run_of;
 use band_draw::Direct;
@@ -121,44 +122,77 @@ fn run_singly<S: Side, Q: Raster<S>>(
     Ok(())
 }
 
-/// The first 300 clocks of a run, singly or by one call, over a raster that took no band yet.
-fn run_clocks<Q: Raster<NoSide>>(
-    alloc: Global,
-    run: Arc<Run<NoSide>>,
+/// The first 300 clocks of a run, singly or by one call.
+fn run_clocks<S: Side, Q: Raster<S>>(
+    fore: &mut Fore<S>,
     raster: &mut Q,
+    out: &mut OutFiles,
     singly: bool,
-) -> Result<Fore<NoSide>, Fail>
-    requires empty { (Q.seen raster.old).outstanding ≡ [] }
-    requires first { (Q.seen raster.old).next ≡ 0 }
-    requires unbound { (Q.seen raster.old).bound ≡ None }
+) -> Result<(), OutOfMemory>
+    requires fresh { fore.old.spent ≡ false }
+    requires fits { (first : ℕ) × IsUnderway (over S.seen fore.old) first
+        (Q.seen raster.old) }
 {
-    let mut fore = Fore::new(alloc, run)?;
-    let mut out = out_files(alloc)?;
     if singly {
-        run_singly(&mut fore, raster, &mut out)?;
+        run_singly(fore, raster, out)
     } else {
-        run_to(&mut fore, 300, raster, &mut out)?;
+        run_to(fore, 300, raster, out)
     }
-    Ok(fore)
 }
 
-/// The clocks that were done, the line and the clock of it, and the words of DMACON, COLOR00 and COLOR01.
-fn place_and_words(fore: &Fore<NoSide>) -> (u64, u16, u16, [u16; 3]) {
+/// Where a run stands: the clocks that were done, the line and the clock of it, and the words of registers.
+type Stand = (u64, u16, u16, [u16; 3]);
+
+/// Where it stands, with the words of these registers.
+fn stand_of(fore: &Fore<NoSide>, offsets: [u16; 3]) -> Stand {
     let beam = fore.beam();
     let regs = fore.regs();
     let words = [
-        regs.word(Reg::masked(0x096)),
-        regs.word(Reg::masked(0x180)),
-        regs.word(Reg::masked(0x182)),
+        regs.word(Reg::masked(offsets[0])),
+        regs.word(Reg::masked(offsets[1])),
+        regs.word(Reg::masked(offsets[2])),
     ];
     (fore.clocks(), beam.v, beam.h, words)
 }
 
-/// The same behind 300 clocks of the run that waits, singly or by one call.
-fn place_and_words_behind(alloc: Global, singly: bool) -> Result<(u64, u16, u16, [u16; 3]), Fail> {
+/// The same behind its first 300 clocks, singly or by one call.
+fn stand_behind<Q: Raster<NoSide>>(
+    fore: &mut Fore<NoSide>,
+    raster: &mut Q,
+    out: &mut OutFiles,
+    singly: bool,
+    offsets: [u16; 3],
+) -> Result<Stand, OutOfMemory>
+    requires fresh { fore.old.spent ≡ false }
+    requires fits { (first : ℕ) × IsUnderway (over (λ side. no_side) fore.old) first
+        (Q.seen raster.old) }
+{
+    run_clocks(fore, raster, out, singly)?;
+    Ok(stand_of(fore, offsets))
+}
+
+/// The same of a new run, over a raster that took no band yet.
+fn stand_in_run<Q: Raster<NoSide>>(
+    alloc: Global,
+    run: Arc<Run<NoSide>>,
+    raster: &mut Q,
+    singly: bool,
+    offsets: [u16; 3],
+) -> Result<Stand, OutOfMemory>
+    requires empty { (Q.seen raster.old).outstanding ≡ [] }
+    requires first { (Q.seen raster.old).next ≡ 0 }
+    requires unbound { (Q.seen raster.old).bound ≡ None }
+{
+    let mut out = out_files(alloc)?;
+    let mut fore = Fore::new(alloc, run)?;
+    stand_behind(&mut fore, raster, &mut out, singly, offsets)
+}
+
+/// The run that waits, singly or by one call, with the words of DMACON, COLOR00 and COLOR01.
+fn waiting_stand(alloc: Global, singly: bool) -> Result<Stand, Fail> {
     let mut raster = Direct::new(alloc)?;
-    let fore = run_clocks(alloc, waiting_run(alloc)?, &mut raster, singly)?;
-    Ok(place_and_words(&fore))
+    let run = waiting_run(alloc)?;
+    Ok(stand_in_run(alloc, run, &mut raster, singly, [0x096, 0x180, 0x182])?)
 }
 
 /// Of the 300 clocks 227 are those of line 0. The Copper goes on at clock 60 of line 1, and writes at clock
@@ -166,8 +200,8 @@ fn place_and_words_behind(alloc: Global, singly: bool) -> Result<(u64, u16, u16,
 #[test]
 fn a_run_to_a_clock_stands_where_single_clocks_do(rt: HostRuntime) -> Result<(), Fail> {
     let found = [
-        place_and_words_behind(rt.alloc(), false)?,
-        place_and_words_behind(rt.alloc(), true)?,
+        waiting_stand(rt.alloc(), false)?,
+        waiting_stand(rt.alloc(), true)?,
     ];
     assert!(rt; found == [(300, 1, 73, [0x0280, 0x0f00, 0x0123]); 2]);
     Ok(())
@@ -185,18 +219,11 @@ fn fetching_run(alloc: Global) -> Result<Arc<Run<NoSide>>, Fail> {
     )
 }
 
-/// The clocks that were done, and the low words of the pointers of planes 1 and 2.
-fn clocks_and_pointers(fore: &Fore<NoSide>) -> (u64, [u16; 2]) {
-    let regs = fore.regs();
-    let words = [regs.word(Reg::masked(0x0e2)), regs.word(Reg::masked(0x0e6))];
-    (fore.clocks(), words)
-}
-
-/// The same behind 300 clocks of the run that fetches, singly or by one call.
-fn clocks_and_pointers_behind(alloc: Global, singly: bool) -> Result<(u64, [u16; 2]), Fail> {
+/// The same of the run that fetches, with the low words of the pointers of planes 1 and 2, and BPLCON0.
+fn fetching_stand(alloc: Global, singly: bool) -> Result<Stand, Fail> {
     let mut raster = Direct::new(alloc)?;
-    let fore = run_clocks(alloc, fetching_run(alloc)?, &mut raster, singly)?;
-    Ok(clocks_and_pointers(&fore))
+    let run = fetching_run(alloc)?;
+    Ok(stand_in_run(alloc, run, &mut raster, singly, [0x0e2, 0x0e6, 0x100])?)
 }
 
 /// Line 0 has twenty units, of 40 bytes a plane. Up to clock 73 of line 1 plane 2 is fetched at clocks 59 and
@@ -204,9 +231,9 @@ fn clocks_and_pointers_behind(alloc: Global, singly: bool) -> Result<(u64, [u16;
 #[test]
 fn planes_are_fetched_where_single_clocks_fetch_them(rt: HostRuntime) -> Result<(), Fail> {
     let found = [
-        clocks_and_pointers_behind(rt.alloc(), false)?,
-        clocks_and_pointers_behind(rt.alloc(), true)?,
+        fetching_stand(rt.alloc(), false)?,
+        fetching_stand(rt.alloc(), true)?,
     ];
-    assert!(rt; found == [(300, [0x1032, 0x202c]); 2]);
+    assert!(rt; found == [(300, 1, 73, [0x1032, 0x202c, 0x2000]); 2]);
     Ok(())
 }

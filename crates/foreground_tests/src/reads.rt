@@ -43,14 +43,14 @@ fn read_in_run<Q: Raster<NoSide>>(
     alloc: Global,
     run: Arc<Run<NoSide>>,
     raster: &mut Q,
-) -> Result<Option<u16>, Fail>
+) -> Result<Option<u16>, OutOfMemory>
     requires empty { (Q.seen raster.old).outstanding ≡ [] }
     requires first { (Q.seen raster.old).next ≡ 0 }
     requires unbound { (Q.seen raster.old).bound ≡ None }
 {
-    let mut fore = Fore::new(alloc, run)?;
     let mut out = out_files(alloc)?;
-    Ok(read_first(&mut fore, raster, &mut out)?)
+    let mut fore = Fore::new(alloc, run)?;
+    read_first(&mut fore, raster, &mut out)
 }
 
 /// Plane 1 alone, and playfield 2 everywhere: they meet where the word shows, from clock 61 on.
@@ -62,7 +62,7 @@ fn bits_read(alloc: Global, read: &str) -> Result<Option<u16>, Fail> {
     events.push_str(read)?;
     let run = run_of(alloc, &[0; 8], &events, 20)?;
     let mut raster = Direct::new(alloc)?;
-    read_in_run(alloc, run, &mut raster)
+    Ok(read_in_run(alloc, run, &mut raster)?)
 }
 
 /// A read sees the pixels of the clocks before its own, and the bits of every band that is drawn.

