@@ -13,7 +13,6 @@ use Rattle.ocs_io.specs.Numbers.{hex_of, all_bytes, is_lower_hex}
 use Rattle.script_read.specs.Words.{below, hex_number, kept_register, register_named, poke_of, peek_of, joy_of, fire_of, key_of}
 use Rattle.script_read.specs.Words.{act_of, event_in, event_of, poke_with, peek_with, joy_with, fire_with, key_with, timed}
 use Rattle.script_read.specs.Split.{words_of}
-use Rattle.ocs_base.specs.declared.script.Act.{Act}
 use Rattle.ocs_base.specs.declared.system.System.{System}
 use Rattle.ocs_base.specs.declared.system.System.TheVariants.{Pal, Ntsc}
 use Rattle.ocs_base.specs.Systems.{lines}
@@ -151,22 +150,17 @@ pub key-read : (words : List (List ℕ)) (first : List ℕ) (code : Option ℕ) 
 unfolding key_of
 key-read words first code is r = ap key_with r ∙ ap key_of (sym is)
 
--- an event, from what is read of its words
-pub event-read : (system : System) (frames : ℕ) (line at frame v h verb : List ℕ) (args : List (List ℕ)) (f l c : Option ℕ) (act : Option Act)
-    → words_of line ≡ at ∷ frame ∷ v ∷ h ∷ verb ∷ args → bytes_eq at (codes "at") ≡ true
-    → f ≡ below frames frame → l ≡ below (lines system false) v → c ≡ below 227 h → act ≡ act_of verb args
-    → timed f l c act ≡ event_of system frames line
-unfolding event_of event_in
-event-read system frames line at frame v h verb args f l c act is named ff ll cc' aa =
-    (λ i. timed (ff i) (ll i) (cc' i) (aa i))
-    ∙ ap (λ b. if b then timed (below frames frame) (below (lines system false) v) (below 227 h) (act_of verb args) else None) (sym named)
-    ∙ ap (event_in system frames) (sym is)
+-- an event by the words of its line
+pub event-none : (system : System) (frames : ℕ) (line : List ℕ) → length (words_of line) < 5 → event_of system frames line ≡ None
+unfolding event_of
+event-none system frames line few = event_in-none system frames (words_of line) few
 
-pub event-other : (system : System) (frames : ℕ) (line at frame v h verb : List ℕ) (args : List (List ℕ))
-    → words_of line ≡ at ∷ frame ∷ v ∷ h ∷ verb ∷ args → bytes_eq at (codes "at") ≡ false → None ≡ event_of system frames line
+pub event-words : (system : System) (frames : ℕ) (line at frame v h verb : List ℕ) (args : List (List ℕ)) (named : Bool)
+    → words_of line ≡ at ∷ frame ∷ v ∷ h ∷ verb ∷ args → bytes_eq at (codes "at") ≡ named
+    → (if named then timed (below frames frame) (below (lines system false) v) (below 227 h) (act_of verb args) else None) ≡ event_of system frames line
 unfolding event_of event_in
-event-other system frames line at frame v h verb args is other =
-    ap (λ b. if b then timed (below frames frame) (below (lines system false) v) (below 227 h) (act_of verb args) else None) (sym other)
+event-words system frames line at frame v h verb args named is says =
+    ap (λ b. if b then timed (below frames frame) (below (lines system false) v) (below 227 h) (act_of verb args) else None) (sym says)
     ∙ ap (event_in system frames) (sym is)
 
 pub not_one : (words : List (List ℕ)) (first rest : List ℕ) → words ≡ first ∷ words_of rest → length words ≢ 1
@@ -179,7 +173,7 @@ not_two words first second rest is two = omega (arith, ap length is, length-slic
 
 pub ruleset act_laws = (poke_of-none, peek_of-none, joy_of-none, fire_of-none, key_of-none, poke_of, peek_of, joy_of, fire_of, key_of)
 
-pub ruleset event_laws = (event_in-none, event_in)
+pub ruleset event_laws = (event-none)
 
 pub ruleset line_laws = (lines-few)
 

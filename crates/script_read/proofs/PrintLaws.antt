@@ -4,7 +4,6 @@ use Rattle.std.proofs.Common.{flat_map, codes, decimal, refl, sym, ap, subst, �
 use Rattle.script_read.specs.ExtendsCode.{Extends}
 use Rattle.std.proofs.lemmas.List.{take_more}
 use Rattle.std.proofs.lemmas.Grind.{flat_map-append}
-use Rattle.ocs_io.specs.Numbers.{hex_text}
 use Rattle.ocs_base.specs.declared.chip_size.ChipSize.{ChipSize}
 use Rattle.ocs_base.specs.declared.chip_size.ChipSize.TheVariants.{Kib512, Mib1}
 use Rattle.ocs_base.specs.declared.reg.Reg.{Reg}
@@ -15,6 +14,8 @@ use Rattle.ocs_base.specs.Script.{ScriptValue}
 use Rattle.ocs_base.specs.declared.system.System.{System}
 use Rattle.ocs_base.specs.declared.system.System.TheVariants.{Pal, Ntsc}
 use Rattle.script_read.specs.Canonical.{spaced, line_of, line_text, digit_of, act_words, event_text, head_text}
+use Rattle.script_read.specs.NumberCode.{number_part}
+use Rattle.script_read.specs.declared.printer.Number.TheVariants.{Decimal, Register, Word, Code}
 use Rattle.script_read.specs.Canonical.{script_text, HasWords, AllHaveWords, first_text, cpu_text, last_text}
 use Rattle.script_read.specs.Versions.{lowest}
 
@@ -35,69 +36,48 @@ take-front (b ∷ old) part = ap (λ rest. b ∷ rest) (take-front old part)
 pub Extends-cut : (old new : List ℕ) → Extends old new → take (length old) new ≡ old
 Extends-cut old new extends = ap (take (length old)) extends.is ∙ take-front old extends.part
 
-two_steps : (a b c p q : List ℕ) → b ≡ a ++ p → c ≡ b ++ q → c ≡ a ++ (p ++ q)
-two_steps a b c p q first second = second ∙ ap (λ m. m ++ q) first ∙ append_assoc a p q
-
 pub steps-2 : (a b c p q : List ℕ) → b ≡ a ++ p → c ≡ b ++ q → c ≡ a ++ (p ++ q)
-steps-2 = two_steps
+steps-2 a b c p q first second = second ∙ ap (λ m. m ++ q) first ∙ append_assoc a p q
 
 pub steps-3 : (a b c d p q r : List ℕ) → b ≡ a ++ p → c ≡ b ++ q → d ≡ c ++ r → d ≡ a ++ (p ++ (q ++ r))
-steps-3 a b c d p q r first second third = steps-2 a b d p (q ++ r) first (two_steps b c d q r second third)
+steps-3 a b c d p q r first second third = steps-2 a b d p (q ++ r) first (steps-2 b c d q r second third)
 
-pub steps-4 : (a b c d e p q r s : List ℕ) → b ≡ a ++ p → c ≡ b ++ q → d ≡ c ++ r → e ≡ d ++ s → e ≡ a ++ (p ++ (q ++ (r ++ s)))
-steps-4 a b c d e p q r s one two three four = steps-3 a b c e p q (r ++ s) one two (two_steps c d e r s three four)
-
-pub steps-6 : (a b c d e f g p q r s t u : List ℕ) → b ≡ a ++ p → c ≡ b ++ q → d ≡ c ++ r → e ≡ d ++ s → f ≡ e ++ t → g ≡ f ++ u
-    → g ≡ a ++ (p ++ (q ++ (r ++ (s ++ (t ++ u)))))
-steps-6 a b c d e f g p q r s t u one two three four five six =
-    steps-3 a b c g p q (r ++ (s ++ (t ++ u))) one two (steps-3 c d e g r s (t ++ u) three four (two_steps e f g t u five six))
-
-pub poke-text : (act : Act) (reg : Reg) (word n : ℕ) → act ≡ Poke reg word → n ≡ reg.offset
-    → codes " poke" ++ ((32 ∷ hex_text 3 n) ++ (32 ∷ hex_text 4 word)) ≡ spaced (act_words act)
+-- the words of an act
+pub poke-text : (act : Act) (reg : Reg) (word : ℕ) → act ≡ Poke reg word
+    → codes " poke" ++ flat_map number_part (Register reg ∷ Word word ∷ []) ≡ spaced (act_words act)
 unfolding spaced act_words
-poke-text act reg word n is same =
-    ap (λ m. codes " poke" ++ ((32 ∷ hex_text 3 m) ++ (32 ∷ hex_text 4 word))) same
-    ∙ ap (λ t. codes " poke" ++ (32 ∷ (hex_text 3 reg.offset ++ (32 ∷ t)))) (sym (append-nil (hex_text 4 word)))
-    ∙ ap (λ a. spaced (act_words a)) (sym is)
+poke-text act reg word is = ap (λ a. spaced (act_words a)) (sym is)
 
-pub peek-text : (act : Act) (reg : Reg) (n : ℕ) → act ≡ Peek reg → n ≡ reg.offset → codes " peek" ++ (32 ∷ hex_text 3 n) ≡ spaced (act_words act)
+pub peek-text : (act : Act) (reg : Reg) → act ≡ Peek reg → codes " peek" ++ flat_map number_part (Register reg ∷ []) ≡ spaced (act_words act)
 unfolding spaced act_words
-peek-text act reg n is same =
-    ap (λ m. codes " peek" ++ (32 ∷ hex_text 3 m)) same
-    ∙ ap (λ t. codes " peek" ++ (32 ∷ t)) (sym (append-nil (hex_text 3 reg.offset)))
-    ∙ ap (λ a. spaced (act_words a)) (sym is)
+peek-text act reg is = ap (λ a. spaced (act_words a)) (sym is)
 
-pub joy-text : (act : Act) (port word : ℕ) → act ≡ Joy port word → codes " joy" ++ ((32 ∷ decimal port) ++ (32 ∷ hex_text 4 word)) ≡ spaced (act_words act)
+pub joy-text : (act : Act) (port word : ℕ) → act ≡ Joy port word
+    → codes " joy" ++ flat_map number_part (Decimal port ∷ Word word ∷ []) ≡ spaced (act_words act)
 unfolding spaced act_words
-joy-text act port word is =
-    ap (λ t. codes " joy" ++ (32 ∷ (decimal port ++ (32 ∷ t)))) (sym (append-nil (hex_text 4 word)))
-    ∙ ap (λ a. spaced (act_words a)) (sym is)
+joy-text act port word is = ap (λ a. spaced (act_words a)) (sym is)
 
 pub fire-text : (act : Act) (port : ℕ) (down : Bool) (n : ℕ) → act ≡ Fire port down → n ≡ digit_of down
-    → codes " fire" ++ ((32 ∷ decimal port) ++ (32 ∷ decimal n)) ≡ spaced (act_words act)
+    → codes " fire" ++ flat_map number_part (Decimal port ∷ Decimal n ∷ []) ≡ spaced (act_words act)
 unfolding spaced act_words
 fire-text act port down n is same =
-    ap (λ m. codes " fire" ++ ((32 ∷ decimal port) ++ (32 ∷ decimal m))) same
-    ∙ ap (λ t. codes " fire" ++ (32 ∷ (decimal port ++ (32 ∷ t)))) (sym (append-nil (decimal (digit_of down))))
-    ∙ ap (λ a. spaced (act_words a)) (sym is)
+    ap (λ m. codes " fire" ++ flat_map number_part (Decimal port ∷ Decimal m ∷ [])) same ∙ ap (λ a. spaced (act_words a)) (sym is)
 
-pub key-text : (act : Act) (code : ℕ) → act ≡ Key code → codes " key" ++ (32 ∷ hex_text 2 code) ≡ spaced (act_words act)
+pub key-text : (act : Act) (code : ℕ) → act ≡ Key code → codes " key" ++ flat_map number_part (Code code ∷ []) ≡ spaced (act_words act)
 unfolding spaced act_words
-key-text act code is =
-    ap (λ t. codes " key" ++ (32 ∷ t)) (sym (append-nil (hex_text 2 code)))
-    ∙ ap (λ a. spaced (act_words a)) (sym is)
+key-text act code is = ap (λ a. spaced (act_words a)) (sym is)
 
 pub event-text : (at : At)
-    → codes "at" ++ ((32 ∷ decimal at.frame) ++ ((32 ∷ decimal at.v) ++ ((32 ∷ decimal at.h) ++ (spaced (act_words at.act) ++ 10 ∷ [])))) ≡ event_text at
+    → (codes "at" ++ flat_map number_part (Decimal at.frame ∷ Decimal at.v ∷ Decimal at.h ∷ [])) ++ (spaced (act_words at.act) ++ 10 ∷ []) ≡ event_text at
 unfolding event_text line_text line_of spaced
 event-text at = simp append_assoc
 
 -- the number of a line that others follow
-number-text : (number rest : List ℕ) → number ++ (10 ∷ rest) ≡ ((number ++ []) ++ 10 ∷ []) ++ rest
-number-text number rest = sym (append_assoc (number ++ []) (10 ∷ []) rest ∙ ap (λ t. t ++ (10 ∷ rest)) (append-nil number))
+number-text : (number rest : List ℕ) → (number ++ []) ++ (10 ∷ rest) ≡ ((number ++ []) ++ 10 ∷ []) ++ rest
+number-text number rest = sym (append_assoc (number ++ []) (10 ∷ []) rest)
 
 pub head-text : (cpu : Bool) (frames : ℕ) (chip : ChipSize) (system : System) (events : List At)
-    → first_text chip system ++ (cpu_text cpu ++ ((32 ∷ decimal frames) ++ last_text chip system))
+    → first_text chip system ++ ((cpu_text cpu ++ flat_map number_part (Decimal frames ∷ [])) ++ last_text chip system)
     ≡ head_text (lowest chip system) (record { cpu = cpu; frames = frames; chip = chip; system = system; events = events })
 unfolding head_text line_text line_of spaced
 head-text true frames Kib512 Pal events = ap (λ t. codes "ocs 1\ncpu on\nframes " ++ t) (number-text (decimal frames) [])
@@ -122,18 +102,15 @@ pub AllHaveWords-more : (events : List At) (i : ℕ) (d : At) → i < length eve
     → AllHaveWords (take (i + 1) events)
 AllHaveWords-more events i d lt all fits = subst AllHaveWords (sym (take_more events i d lt)) (AllHaveWords-push (take i events) (get_or events i d) all fits)
 
-pub event-more : (old now new : List ℕ) (events : List At) (i : ℕ) (at : At) → i < length events → at ≡ get_or events i at
-    → now ≡ old ++ flat_map event_text (take i events) → new ≡ now ++ event_text at
-    → new ≡ old ++ flat_map event_text (take (i + 1) events)
-event-more old now new events i at lt is first second =
-    second ∙ ap (λ t. t ++ event_text at) first ∙ append_assoc old (flat_map event_text (take i events)) (event_text at)
+-- one text more
+pub text-more : {A : Type 0} (text_of : A → List ℕ) (old now new : List ℕ) (xs : List A) (i : ℕ) (x : A) → i < length xs → x ≡ get_or xs i x
+    → now ≡ old ++ flat_map text_of (take i xs) → new ≡ now ++ text_of x
+    → new ≡ old ++ flat_map text_of (take (i + 1) xs)
+text-more text_of old now new xs i x lt is first second =
+    second ∙ ap (λ t. t ++ text_of x) first ∙ append_assoc old (flat_map text_of (take i xs)) (text_of x)
     ∙ ap (λ t. old ++ t)
-    (sym (ap (flat_map event_text) (take_more events i at lt) ∙ flat_map-append event_text (take i events) (get_or events i at ∷ [])
-    ∙ ap (λ e. flat_map event_text (take i events) ++ (event_text e ++ [])) (sym is)
-    ∙ ap (λ t. flat_map event_text (take i events) ++ t) (append-nil (event_text at))))
-
-pub ruleset words_laws = (AllHaveWords-more)
-
-pub ruleset extends_laws = (Extends-same, Extends-more, Extends-trans, AllHaveWords-more)
+    (sym (ap (flat_map text_of) (take_more xs i x lt) ∙ flat_map-append text_of (take i xs) (get_or xs i x ∷ [])
+    ∙ ap (λ e. flat_map text_of (take i xs) ++ (text_of e ++ [])) (sym is)
+    ∙ ap (λ t. flat_map text_of (take i xs) ++ t) (append-nil (text_of x))))
 
 pub ruleset print_laws = (Extends-cut)

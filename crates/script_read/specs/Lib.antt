@@ -7,5 +7,6 @@ pub mod Verdict
 pub mod CutCode
 pub mod Canonical
 pub mod ExtendsCode
+pub mod NumberCode
 pub mod Printable
 pub mod Said

@@ -2,22 +2,34 @@
 
 ghost use Rattle.std.specs.Prelude.{◌≡◌, ◌^◌, ◌<◌, false, IfSome};
 ghost use Rattle.ocs_base.specs.Systems.{lines};
-ghost use Rattle.script_read.specs.Words.{below, hex_number, register_named, poke_of, peek_of, joy_of, fire_of, key_of, act_of, event_of};
+ghost use Rattle.script_read.specs.Words.{below, hex_number, register_named, poke_of, peek_of, joy_of, fire_of, key_of, act_of, timed, event_of};
 ghost use Rattle.script_read.specs.CutCode.{words_left};
 
-use crate::parts::{event_words, one_word, two_words};
+use crate::cut::EventWords;
+use crate::parts::{event_words, one_word, same_text, two_words};
 use ocs_base::{Act, At, Reg, System};
 use ocs_io::{dec, hex};
 
 /// Reads an event of a run of so many frames for this system; None exactly where the line is none.
-#[tactic(auto, using(crate::proofs::EventLaws::event_laws), unfolding(crate::specs::Words::event_of))]
+#[tactic(auto, using(crate::proofs::EventLaws::event_laws))]
 pub fn read_event(system: System, frames: u32, line: &[u8]) -> Option<At>
     ensures { result ≡ event_of system frames line.now }
 {
     let words = event_words(line)?;
-    if words.at != b"at".as_slice() {
-        return None;
+    if same_text(words.at, b"at") {
+        event_at(system, frames, words)
+    } else {
+        None
     }
+}
+
+/// The event that the words of a line say, the first of which is `at`.
+fn event_at(system: System, frames: u32, words: EventWords<'_>) -> Option<At>
+    ensures { result ≡ timed
+        (below frames words.entry.frame.now) (below (lines system false) words.entry.v.now)
+        (below 227 words.entry.h.now)
+        (act_of words.entry.verb.now (words_left words.entry.args)) }
+{
     let frame = number_below(frames, words.frame)?;
     let v = beam_line(system, words.v)?;
     let h = number_below(227, words.h)? as u16;
@@ -29,15 +41,15 @@ pub fn read_event(system: System, frames: u32, line: &[u8]) -> Option<At>
 fn read_act(verb: &[u8], args: Option<&[u8]>) -> Option<Act>
     ensures { result ≡ act_of verb.now (words_left args.entry) }
 {
-    if verb == b"poke".as_slice() {
+    if same_text(verb, b"poke") {
         read_poke(args)
-    } else if verb == b"peek".as_slice() {
+    } else if same_text(verb, b"peek") {
         read_peek(args)
-    } else if verb == b"joy".as_slice() {
+    } else if same_text(verb, b"joy") {
         read_joy(args)
-    } else if verb == b"fire".as_slice() {
+    } else if same_text(verb, b"fire") {
         read_fire(args)
-    } else if verb == b"key".as_slice() {
+    } else if same_text(verb, b"key") {
         read_key(args)
     } else {
         None

@@ -1,6 +1,6 @@
 //! Lines and words off the front of a text.
 
-ghost use Rattle.std.specs.Prelude.{◌≡◌, ◌==◌, ◌<◌, ◌∷◌, length, IfSome};
+ghost use Rattle.std.specs.Prelude.{◌≡◌, ◌==◌, ◌<◌, ◌∷◌, length, bytes_eq, IfSome};
 ghost use Rattle.std.specs.List.{position};
 ghost use Rattle.script_read.specs.Split.{words_of};
 ghost use Rattle.script_read.specs.CutCode.{words_left, IsNextLine, AreTwo, IsOne, AreEventWords};
@@ -81,6 +81,13 @@ pub fn event_words(line: &[u8]) -> Option<EventWords<'_>>
         verb: verb.text,
         args: verb.rest,
     })
+}
+
+/// Whether two texts are the same.
+pub fn same_text(text: &[u8], other: &[u8]) -> bool
+    ensures { result ≡ bytes_eq text.now other.now }
+{
+    text == other
 }
 
 /// Where a byte stands first.

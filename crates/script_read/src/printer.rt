@@ -1,16 +1,26 @@
 //! Printing a script.
 
-ghost use Rattle.std.specs.Prelude.{◌≡◌, ◌<◌, ◌≤◌, ◌^◌, [], ◌∷◌, ◌++◌, length, flat_map, codes, decimal, OnOk, OnErr};
-ghost use Rattle.ocs_io.specs.Numbers.{hex_text};
+ghost use Rattle.std.specs.Prelude.{◌≡◌, ◌++◌, flat_map, OnOk, OnErr};
 ghost use Rattle.script_read.specs.Canonical.{spaced, act_words, event_text, first_text, cpu_text, last_text};
 ghost use Rattle.script_read.specs.Canonical.{head_text, script_text, digit_of, HasWords, AllHaveWords};
 ghost use Rattle.script_read.specs.ExtendsCode.{Extends};
+ghost use Rattle.script_read.specs.NumberCode.{number_text, number_part};
 ghost use Rattle.script_read.specs.Printable.{IsPrintable};
 ghost use Rattle.script_read.specs.Versions.{lowest};
 ghost use Rattle.script_read.specs.Grammar.{script_of, Good};
 
-use ocs_base::{Act, At, ChipSize, OutOfMemory, Script, System};
+use ocs_base::{Act, At, ChipSize, OutOfMemory, Reg, Script, System};
 use ocs_io::{put_dec, put_hex};
+
+/// A number as a line has it: in decimal, or in hexadecimal digits, three for a register, four for a
+/// word and two for the code of a key.
+#[derive(Clone, Copy)]
+enum Number {
+    Decimal(u64),
+    Register(Reg),
+    Word(u16),
+    Code(u8),
+}
 
 /// Appends the canonical text of a script, in the lowest version that says it: each line ended by a line
 /// feed. It is read again as the same script. After a refusal `into` is as before.
@@ -29,7 +39,6 @@ pub fn print_script(script: &Script, into: &mut Vec<u8>) -> Result<(), OutOfMemo
     printed
 }
 
-#[tactic(auto, using(crate::proofs::PrintLaws::extends_laws))]
 fn put_script(script: &Script, into: &mut Vec<u8>) -> Result<(), OutOfMemory>
     ensures ok { OnOk result (into.new.items ≡ into.old.items ++ script_text script.now) }
     ensures words { OnOk result (AllHaveWords script.now.events) }
@@ -41,20 +50,20 @@ fn put_script(script: &Script, into: &mut Vec<u8>) -> Result<(), OutOfMemory>
     Ok(())
 }
 
-#[tactic(auto, using(crate::proofs::PrintLaws::extends_laws))]
 fn put_head(script: &Script, into: &mut Vec<u8>) -> Result<(), OutOfMemory>
     ensures ok { OnOk result (into.new.items
         ≡ into.old.items ++ head_text (lowest script.now.chip script.now.system) script.now) }
     ensures kept { Extends into.old.items into.new.items }
 {
-    into.extend_from_slice(first_line(script.chip_size(), script.system()))?;
-    into.extend_from_slice(cpu_line(script.cpu()))?;
-    put_number(script.frames() as u64, into)?;
-    into.extend_from_slice(last_lines(script.chip_size(), script.system()))?;
+    let chip = script.chip_size();
+    let system = script.system();
+    let frames = Number::Decimal(script.frames() as u64);
+    into.extend_from_slice(first_line(chip, system))?;
+    put_words(cpu_line(script.cpu()), &[frames], into)?;
+    into.extend_from_slice(last_lines(chip, system))?;
     Ok(())
 }
 
-#[tactic(auto, using(crate::proofs::PrintLaws::extends_laws))]
 fn put_events(events: &[At], into: &mut Vec<u8>) -> Result<(), OutOfMemory>
     ensures ok { OnOk result (into.new.items ≡ into.old.items ++ flat_map event_text events.now) }
     ensures words { OnOk result (AllHaveWords events.now) }
@@ -66,78 +75,81 @@ fn put_events(events: &[At], into: &mut Vec<u8>) -> Result<(), OutOfMemory>
     Ok(())
 }
 
-#[tactic(auto, using(crate::proofs::PrintLaws::extends_laws))]
 fn put_event(at: &At, into: &mut Vec<u8>) -> Result<(), OutOfMemory>
     ensures ok { OnOk result (into.new.items ≡ into.old.items ++ event_text at.now) }
     ensures words { OnOk result (HasWords at.now.act) }
     ensures kept { Extends into.old.items into.new.items }
 {
-    into.extend_from_slice(b"at")?;
-    put_number(at.frame as u64, into)?;
-    put_number(at.v as u64, into)?;
-    put_number(at.h as u64, into)?;
+    let frame = Number::Decimal(at.frame as u64);
+    let v = Number::Decimal(at.v as u64);
+    let h = Number::Decimal(at.h as u64);
+    put_words(b"at", &[frame, v, h], into)?;
     put_act(at.act, into)?;
     into.push(b'\n')?;
     Ok(())
 }
 
-#[tactic(auto, using(crate::proofs::PrintLaws::extends_laws))]
+/// The words of an act, a space before each.
 fn put_act(act: Act, into: &mut Vec<u8>) -> Result<(), OutOfMemory>
     ensures ok { OnOk result (into.new.items ≡ into.old.items ++ spaced (act_words act)) }
-    ensures words { OnOk result (HasWords act) }
+    ensures words { HasWords act }
     ensures kept { Extends into.old.items into.new.items }
 {
     match act {
-        Act::Poke { reg, word } => {
-            into.extend_from_slice(b" poke")?;
-            put_digits(reg.raw(), 3, into)?;
-            put_digits(word, 4, into)?;
-        }
-        Act::Peek { reg } => {
-            into.extend_from_slice(b" peek")?;
-            put_digits(reg.raw(), 3, into)?;
-        }
-        Act::Joy { port, word } => {
-            into.extend_from_slice(b" joy")?;
-            put_number(port as u64, into)?;
-            put_digits(word, 4, into)?;
-        }
-        Act::Fire { port, down } => {
-            into.extend_from_slice(b" fire")?;
-            put_number(port as u64, into)?;
-            put_number(switch(down), into)?;
-        }
-        Act::Key { code } => {
-            into.extend_from_slice(b" key")?;
-            put_digits(code as u16, 2, into)?;
-        }
+        Act::Poke { reg, word } => put_words(
+            b" poke",
+            &[Number::Register(reg), Number::Word(word)],
+            into,
+        ),
+        Act::Peek { reg } => put_words(b" peek", &[Number::Register(reg)], into),
+        Act::Joy { port, word } => put_words(
+            b" joy",
+            &[Number::Decimal(port as u64), Number::Word(word)],
+            into,
+        ),
+        Act::Fire { port, down } => put_words(
+            b" fire",
+            &[Number::Decimal(port as u64), Number::Decimal(switch(down))],
+            into,
+        ),
+        Act::Key { code } => put_words(b" key", &[Number::Code(code)], into),
+    }
+}
+
+/// A word, and numbers after it.
+fn put_words(first: &[u8], numbers: &[Number], into: &mut Vec<u8>) -> Result<(), OutOfMemory>
+    ensures ok { OnOk result (into.new.items
+        ≡ into.old.items ++ (first.now ++ flat_map number_part numbers.now)) }
+    ensures kept { Extends into.old.items into.new.items }
+{
+    into.extend_from_slice(first)?;
+    for number in numbers {
+        put_number(*number, into)?;
     }
     Ok(())
 }
 
-/// A space and a decimal number.
-#[tactic(auto, using(crate::proofs::PrintLaws::extends_laws))]
-fn put_number(n: u64, into: &mut Vec<u8>) -> Result<(), OutOfMemory>
-    ensures ok { OnOk result (into.new.items ≡ into.old.items ++ 32 ∷ decimal n) }
+/// A space and a number.
+fn put_number(number: Number, into: &mut Vec<u8>) -> Result<(), OutOfMemory>
+    ensures ok { OnOk result (into.new.items ≡ into.old.items ++ number_part number) }
     ensures kept { Extends into.old.items into.new.items }
 {
     into.push(b' ')?;
-    put_dec(n, into)?;
+    put_digits(number, into)?;
     Ok(())
 }
 
-/// A space and so many hexadecimal digits.
-#[tactic(auto, using(crate::proofs::PrintLaws::extends_laws))]
-fn put_digits(n: u16, digits: usize, into: &mut Vec<u8>) -> Result<(), OutOfMemory>
-    requires few { 2 ≤ digits }
-    requires many { digits ≤ 4 }
-    requires fits { n < 16 ^ digits }
-    ensures ok { OnOk result (into.new.items ≡ into.old.items ++ 32 ∷ hex_text digits n) }
-    ensures kept { Extends into.old.items into.new.items }
+/// The digits of a number. After a refusal `into` is as before.
+fn put_digits(number: Number, into: &mut Vec<u8>) -> Result<(), OutOfMemory>
+    ensures ok { OnOk result (into.new.items ≡ into.old.items ++ number_text number) }
+    ensures refused { OnErr result (into.new.items ≡ into.old.items) }
 {
-    into.push(b' ')?;
-    put_hex(n, digits, into)?;
-    Ok(())
+    match number {
+        Number::Decimal(n) => put_dec(n, into),
+        Number::Register(reg) => put_hex(reg.raw(), 3, into),
+        Number::Word(word) => put_hex(word, 4, into),
+        Number::Code(code) => put_hex(code as u16, 2, into),
+    }
 }
 
 /// The first line of the lowest version that says a script for this chip memory and system.

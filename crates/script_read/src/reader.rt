@@ -12,7 +12,7 @@ ghost use Rattle.script_read.specs.Verdict.{ReadsAs};
 
 use crate::event::read_event;
 use crate::fault::{BadKind, ScriptFault};
-use crate::parts::{next_line, two_words};
+use crate::parts::{next_line, same_text, two_words};
 use crate::version::{Head, Version};
 use ocs_base::{At, ChipSize, Script, System};
 use ocs_io::dec;
@@ -63,11 +63,11 @@ fn read_header(alloc: Global, text: &[u8]) -> Result<Script, ScriptFault>
 fn version(line: &[u8]) -> Option<Version>
     ensures { result ≡ version_in line.now }
 {
-    if line == b"ocs 1".as_slice() {
+    if same_text(line, b"ocs 1") {
         Some(Version::One)
-    } else if line == b"ocs 2".as_slice() {
+    } else if same_text(line, b"ocs 2") {
         Some(Version::Two)
-    } else if line == b"ocs 3".as_slice() {
+    } else if same_text(line, b"ocs 3") {
         Some(Version::Three)
     } else {
         None
@@ -93,9 +93,9 @@ fn read_cpu(alloc: Global, version: Version, text: &[u8]) -> Result<Script, Scri
 fn cpu(line: &[u8]) -> Option<bool>
     ensures { result ≡ cpu_in line.now }
 {
-    if line == b"cpu on".as_slice() {
+    if same_text(line, b"cpu on") {
         Some(true)
-    } else if line == b"cpu off".as_slice() {
+    } else if same_text(line, b"cpu off") {
         Some(false)
     } else {
         None
@@ -144,7 +144,7 @@ fn frames(line: &[u8]) -> Option<u32>
     ensures { result ≡ frames_in (words_of line.now) }
 {
     let words = two_words(Some(line))?;
-    if words.first == b"frames".as_slice() {
+    if same_text(words.first, b"frames") {
         frame_count(words.second)
     } else {
         None
@@ -211,9 +211,9 @@ fn read_chip(
 fn chip(line: &[u8]) -> Option<ChipSize>
     ensures { result ≡ chip_in line.now }
 {
-    if line == b"chip 512".as_slice() {
+    if same_text(line, b"chip 512") {
         Some(ChipSize::Kib512)
-    } else if line == b"chip 1024".as_slice() {
+    } else if same_text(line, b"chip 1024") {
         Some(ChipSize::Mib1)
     } else {
         None
@@ -239,9 +239,9 @@ fn read_system(alloc: Global, head: Head, text: &[u8]) -> Result<Script, ScriptF
 fn system(line: &[u8]) -> Option<System>
     ensures { result ≡ system_in line.now }
 {
-    if line == b"system pal".as_slice() {
+    if same_text(line, b"system pal") {
         Some(System::Pal)
-    } else if line == b"system ntsc".as_slice() {
+    } else if same_text(line, b"system ntsc") {
         Some(System::Ntsc)
     } else {
         None
@@ -291,7 +291,7 @@ fn read_line(head: Head, number: u32, before: u64, line: &[u8]) -> Result<Option
     if number > GREATEST_LINE {
         return Err(BadKind::Lines);
     }
-    if line == b"end".as_slice() {
+    if same_text(line, b"end") {
         return Ok(None);
     }
     let Some(at) = read_event(head.system, head.frames, line) else {

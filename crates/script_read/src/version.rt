@@ -3,7 +3,7 @@
 use ocs_base::{ChipSize, System};
 
 /// A version of the text, as its first line names it.
-#[derive(Clone, Copy, PartialEq, Eq)]
+#[derive(Clone, Copy)]
 pub enum Version {
     One,
     Two,

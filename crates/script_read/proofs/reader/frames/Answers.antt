@@ -1,9 +1,9 @@
-use Rattle.std.proofs.Common.{sym, ap, ◌∙◌, bytes_eq}
+use Rattle.std.proofs.Common.{sym, ◌∙◌}
 use Rattle.script_read.specs.Split.{words_of}
 use Rattle.script_read.proofs.FrameLaws.{frames-no}
 use Rattle.script_read.proofs.reader.frames.Goals as goal
 
-pub returns-else-eq : goal.returns-else-eq
-returns-else-eq c =
+pub returns-else-same_text : goal.returns-else-same_text
+returns-else-same_text c =
     sym (frames-no (words_of c.args.line.now) c.in_ok-words.words.first.now c.in_ok-words.words.second.now c.in_ok-words.ensures
-    (ap (bytes_eq c.in_ok-words.words.first.now) (sym c.as_slice.ensures) ∙ sym c.eq.ensures ∙ c.if-eq.false))
+    (sym c.same_text.ensures ∙ c.if-same_text.false))
