@@ -30,9 +30,3 @@ impl From<OutOfMemory> for TextFault {
         TextFault::OutOfMemory
     }
 }
-
-impl From<&'static str> for TextFault {
-    fn from(missing: &'static str) -> TextFault {
-        TextFault::Untold(missing)
-    }
-}

@@ -3,8 +3,10 @@
 #![tactic(auto)]
 
 pub mod bars;
+mod bytes;
 pub mod fault;
 pub mod inputs;
+mod lines;
 pub mod outputs;
 pub mod told;
 

@@ -1,8 +1,9 @@
 //! The frames, the trace and the memory that a run is to give, by its text.
 
+use crate::bytes::{Kind, push_told};
 use crate::fault::TextFault;
-use crate::inputs::{push_all, push_image};
-use crate::told::{address, colour, first, number, told, words};
+use crate::lines::{push_lines, trace_form};
+use crate::told::{colour, first, number, told};
 use std::alloc::Global;
 
 /// A frame's heading, and how many rows it has, by the system that is told.
@@ -43,87 +44,27 @@ struct Part {
 /// The trace.
 pub fn trace(alloc: Global, run: &str) -> Result<String, TextFault> {
     let mut trace = String::new(alloc);
-    push_trace(&mut trace, run)?;
-    Ok(trace)
-}
-
-/// Appends the trace.
-fn push_trace(trace: &mut String, run: &str) -> Result<(), TextFault> {
-    for line in run.lines() {
-        if let Some(line) = told(line, "then") {
-            push_all(trace, &[line, "\n"])?;
-        }
-        if let Some(events) = told(line, "at") {
-            push_traced(trace, events)?;
-        }
-    }
-    Ok(())
-}
-
-/// Appends the lines that pokes and peeks make in the trace.
-fn push_traced(trace: &mut String, events: &str) -> Result<(), TextFault> {
-    let (time, events) = events.split_once(": ").ok_or("a time is told")?;
-    for event in events.split_whitespace() {
-        push_access(trace, time, event)?;
-    }
-    Ok(())
-}
-
-/// Appends the line of a poke or a peek in the trace.
-fn push_access(trace: &mut String, time: &str, event: &str) -> Result<(), TextFault> {
-    if let Some((register, word)) = event.split_once('=') {
-        return push_all(trace, &[time, " W ", register, " ", word, " S\n"]);
-    }
-    let (register, word) = event.split_once('?').ok_or("a poke or a peek is told")?;
-    push_all(trace, &[time, " R ", register, " ", word, " S\n"])
+    push_lines(&mut trace, trace_form(), run).and(Ok(trace))
 }
 
 /// Memory at the end.
 pub fn memory(alloc: Global, run: &str) -> Result<Vec<u8>, TextFault> {
     let mut memory = Vec::new(alloc);
-    push_memory(&mut memory, run)?;
-    Ok(memory)
+    push_memory(&mut memory, run).and(Ok(memory))
 }
 
 /// Appends memory at the end.
 fn push_memory(memory: &mut Vec<u8>, run: &str) -> Result<(), TextFault> {
-    push_image(memory, run)?;
+    push_told(memory, Kind::Image, run)?;
     memory.resize(chip_bytes(run), 0)?;
-    for line in run.lines() {
-        if let Some(left) = told(line, "left") {
-            put(memory, left)?;
-        }
-    }
-    Ok(())
-}
-
-/// Puts words to an address, both as they are told.
-fn put(memory: &mut [u8], left: &str) -> Result<(), TextFault> {
-    let (at, text) = left.split_once(' ').ok_or("words are told")?;
-    let mut at = address(at)?;
-    for item in text.split_whitespace() {
-        let (count, word) = words(item)?;
-        for _ in 0..count {
-            at = put_word(memory, at, word)?;
-        }
-    }
-    Ok(())
-}
-
-/// Puts a word to an address. The answer is the one behind it.
-fn put_word(memory: &mut [u8], at: usize, word: u16) -> Result<usize, TextFault> {
-    let end = at.saturating_add(2);
-    let place = memory.get_mut(at..end).ok_or("the words end in memory")?;
-    if place.len() == 2 {
-        place.copy_from_slice(&word.to_be_bytes());
-    }
-    Ok(end)
+    push_told(memory, Kind::Left, run)
 }
 
 /// The frames file, of equal frames.
 pub fn frames(alloc: Global, run: &str) -> Result<Vec<u8>, TextFault> {
+    let count = number(first(run, "frames", "1"))?;
     let mut frames = Vec::new(alloc);
-    for _ in 0..number(first(run, "frames", "1"))? {
+    for _ in 0..count {
         push_frame(alloc, run, &mut frames)?;
     }
     Ok(frames)
@@ -135,28 +76,8 @@ fn push_frame(alloc: Global, run: &str, frames: &mut Vec<u8>) -> Result<(), Text
     if first(run, "pixels", "").is_empty() {
         push_parts(alloc, run, frames)
     } else {
-        push_pixels(run, frames)
+        push_told(frames, Kind::Pixels, run)
     }
-}
-
-/// Appends so many pixels of a colour for each line that tells so.
-fn push_pixels(run: &str, frames: &mut Vec<u8>) -> Result<(), TextFault> {
-    for line in run.lines() {
-        if let Some(pixels) = told(line, "pixels") {
-            push_same(pixels, frames)?;
-        }
-    }
-    Ok(())
-}
-
-/// Appends so many pixels of one colour.
-fn push_same(pixels: &str, frames: &mut Vec<u8>) -> Result<(), TextFault> {
-    let (count, told_colour) = pixels.split_once(' ').ok_or("a colour is told")?;
-    let colour = colour(told_colour)?;
-    for _ in 0..number(count)? {
-        frames.extend_from_slice(&colour)?;
-    }
-    Ok(())
 }
 
 /// Appends the pixels of a frame that is told by its ground and parts.
@@ -185,8 +106,8 @@ fn push_rows(
 /// Appends the parts of a frame.
 fn read_parts(run: &str, parts: &mut Vec<Part>) -> Result<(), TextFault> {
     for line in run.lines() {
-        if let Some(told_part) = told(line, "part") {
-            parts.push(read_part(told_part)?)?;
+        if let Some(text) = told(line, "part") {
+            parts.push(read_part(text)?)?;
         }
     }
     Ok(())
@@ -205,9 +126,17 @@ fn read_part(text: &str) -> Result<Part, TextFault> {
 
 /// Two numbers, and what is told behind them.
 fn read_pair(text: &str) -> Result<([u64; 2], &str), TextFault> {
-    let (first, rest) = text.split_once(' ').ok_or("two numbers are told")?;
-    let (last, rest) = rest.split_once(' ').ok_or("two numbers are told")?;
-    Ok(([number(first)?, number(last)?], rest))
+    let Some((first, rest)) = text.split_once(' ') else {
+        return Err(TextFault::Untold("two numbers are told"));
+    };
+    let Some((last, rest)) = rest.split_once(' ') else {
+        return Err(TextFault::Untold("two numbers are told"));
+    };
+    match (number(first), number(last)) {
+        (Ok(first), Ok(last)) => Ok(([first, last], rest)),
+        (Err(fault), _) => Err(fault),
+        (_, Err(fault)) => Err(fault),
+    }
 }
 
 /// Whether a number lies between two, or is one of them.

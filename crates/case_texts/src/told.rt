@@ -41,37 +41,52 @@ pub fn first<'a>(run: &'a str, word: &str, or: &'a str) -> &'a str {
 
 /// A decimal number.
 pub fn number(text: &str) -> Result<u64, TextFault> {
-    Ok(dec(text.as_bytes()).ok_or("a number is told")?)
+    dec(text.as_bytes()).ok_or(TextFault::Untold("a number is told"))
 }
 
 /// A hexadecimal number.
 pub fn word(text: &str) -> Result<u16, TextFault> {
-    Ok(hex(text.as_bytes()).ok_or("a word is told")?)
+    hex(text.as_bytes()).ok_or(TextFault::Untold("a word is told"))
+}
+
+/// Two hexadecimal numbers.
+fn two_words(first: &str, second: &str) -> Option<(u16, u16)> {
+    match (hex(first.as_bytes()), hex(second.as_bytes())) {
+        (Some(first), Some(second)) => Some((first, second)),
+        _ => None,
+    }
 }
 
 /// An address, of at most eight hexadecimal digits.
 pub fn address(text: &str) -> Result<usize, TextFault> {
     let split = text.len().saturating_sub(4);
-    let low = word(text.get(split..).unwrap_or(""))?;
-    if split == 0 {
-        return Ok(low as usize);
+    let high = if split == 0 {
+        "0"
+    } else {
+        text.get(..split).unwrap_or("")
+    };
+    match two_words(high, text.get(split..).unwrap_or("")) {
+        Some((high, low)) => Ok(high as usize * 0x1_0000 + low as usize),
+        None => Err(TextFault::Untold("a word is told")),
     }
-    let high = word(text.get(..split).unwrap_or(""))?;
-    Ok(high as usize * 0x1_0000 + low as usize)
 }
 
 /// A word, and how often it stands there.
 pub fn words(item: &str) -> Result<(u64, u16), TextFault> {
-    match item.split_once('*') {
-        Some((count, digits)) => Ok((number(count)?, word(digits)?)),
-        None => Ok((1, word(item)?)),
+    let (count, digits) = item.split_once('*').unwrap_or(("1", item));
+    match (number(count), word(digits)) {
+        (Ok(count), Ok(word)) => Ok((count, word)),
+        (Err(fault), _) => Err(fault),
+        (_, Err(fault)) => Err(fault),
     }
 }
 
 /// A colour, of three bytes in hexadecimal.
 pub fn colour(text: &str) -> Result<[u8; 3], TextFault> {
-    let red = word(text.get(0..2).unwrap_or(""))?;
-    let rest = word(text.get(2..6).unwrap_or(""))?;
+    let red = text.get(0..2).unwrap_or("");
+    let Some((red, rest)) = two_words(red, text.get(2..6).unwrap_or("")) else {
+        return Err(TextFault::Untold("a word is told"));
+    };
     let [green, blue] = rest.to_be_bytes();
     Ok([red.to_be_bytes()[1], green, blue])
 }
