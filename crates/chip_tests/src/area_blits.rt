@@ -145,9 +145,11 @@ fn is_asked(con0: u16, asks: &[u32; 4]) -> bool {
 
 #[test]
 fn asks_of_each_code(rt: HostRuntime) {
+    let mut right = true;
     for (con0, asks) in &ASKS {
-        assert!(rt; is_asked(*con0, asks), "{con0}");
+        right &= is_asked(*con0, asks);
     }
+    assert!(rt; right);
 }
 
 /// Whether a blit of two rows of two words reads at these addresses, by BLTCON1; it rests behind each read.

@@ -23,6 +23,16 @@ fn goes(lace: bool, system: System, before: Place, after: Place) -> bool {
 /// Frame, line, clock and LOF.
 type Place = (u32, u16, u16, bool);
 
+/// Whether the beam goes as each row says: LACE, a place and the next one.
+fn goes_in_each_row(system: System, rows: &[(bool, Place, Place)]) -> bool {
+    for (lace, before, after) in rows {
+        if !goes(*lace, system, *before, *after) {
+            return false;
+        }
+    }
+    true
+}
+
 /// LACE, a place and the next one.
 static NEXT_PLACES: [(bool, Place, Place); 10] = [
     (true, (0, 0, 0, true), (0, 0, 1, true)),
@@ -39,9 +49,7 @@ static NEXT_PLACES: [(bool, Place, Place); 10] = [
 
 #[test]
 fn next_places(rt: HostRuntime) {
-    for (lace, before, after) in &NEXT_PLACES {
-        assert!(rt; goes(*lace, System::Pal, *before, *after), "{before:?}");
-    }
+    assert!(rt; goes_in_each_row(System::Pal, &NEXT_PLACES));
 }
 
 /// LACE, a place of NTSC and the next one.
@@ -60,9 +68,7 @@ static NEXT_PLACES_OF_NTSC: [(bool, Place, Place); 10] = [
 
 #[test]
 fn next_places_of_ntsc(rt: HostRuntime) {
-    for (lace, before, after) in &NEXT_PLACES_OF_NTSC {
-        assert!(rt; goes(*lace, System::Ntsc, *before, *after), "{before:?}");
-    }
+    assert!(rt; goes_in_each_row(System::Ntsc, &NEXT_PLACES_OF_NTSC));
 }
 
 /// Whether a field with LACE begins after so many clocks, and is long or short.

@@ -1,8 +1,7 @@
 //! A bus on which a side is alone.
 
-use ocs_base::{Beam, OutOfMemory, Reg};
+use ocs_base::{Beam, Reg};
 use serial_model::{Side, SideAsk};
-use std::alloc::Global;
 
 /// DMAEN, and the bits of the disk and of the four channels.
 pub const DISK: u16 = 0x0210;
@@ -11,90 +10,30 @@ pub const ZERO: u16 = 0x0201;
 
 pub const ALL: u16 = 0x020f;
 
-/// What happens to a side, and what it answers: a register is written; a tick of a clock of a line
-/// requests these bits; so many ticks request nothing; it asks at a clock for the slot at an address, or for
-/// none; it is given a word; from a clock on it is quiet for so many clocks, of a hundred; so many clocks from
-/// one on are passed over at once, each of the two up to 100.
+/// What happens to a side, and what it answers. Clocks are those of line 0.
 #[derive(Clone, Copy)]
 pub enum Step {
-    Poke {
-        reg: u16,
-        word: u16,
-    },
-    Tick {
-        h: u16,
-        dmacon: u16,
-        bits: u16,
-    },
-    Quiet {
-        count: u32,
-        dmacon: u16,
-    },
-    Ask {
-        h: u16,
-        dmacon: u16,
-        at: Option<u32>,
-    },
-    Give {
-        word: u16,
-    },
-    Still {
-        h: u16,
-        dmacon: u16,
-        clocks: u16,
-    },
-    Skip {
-        h: u16,
-        dmacon: u16,
-        clocks: u16,
-    },
+    /// A register is written with a word.
+    Poke(u16, u16),
+    /// A tick of a clock, with this DMACON, requests these bits.
+    Tick(u16, u16, u16),
+    /// So many ticks, with this DMACON, request nothing.
+    Quiet(u32, u16),
+    /// It asks at a clock, with this DMACON, for the slot at an address, or for none.
+    Ask(u16, u16, Option<u32>),
+    /// It is given a word.
+    Give(u16),
+    /// From a clock on, with this DMACON, it is quiet for so many clocks, of a hundred.
+    Still(u16, u16, u16),
+    /// From a clock on, with this DMACON, so many clocks are passed over at once; each of the two up to 100.
+    Skip(u16, u16, u16),
 }
 
-pub fn poke(reg: u16, word: u16) -> Step {
-    Step::Poke { reg, word }
-}
-
-pub fn tick(h: u16, dmacon: u16, bits: u16) -> Step {
-    Step::Tick { h, dmacon, bits }
-}
-
-pub fn quiet(count: u32, dmacon: u16) -> Step {
-    Step::Quiet { count, dmacon }
-}
-
-pub fn ask(h: u16, dmacon: u16, at: u32) -> Step {
-    Step::Ask {
-        h,
-        dmacon,
-        at: Some(at),
-    }
-}
-
-pub fn ask_nothing(h: u16, dmacon: u16) -> Step {
-    Step::Ask {
-        h,
-        dmacon,
-        at: None,
-    }
-}
-
-pub fn give(word: u16) -> Step {
-    Step::Give { word }
-}
-
-pub fn still(h: u16, dmacon: u16, clocks: u16) -> Step {
-    Step::Still { h, dmacon, clocks }
-}
-
-pub fn skip(h: u16, dmacon: u16, clocks: u16) -> Step {
-    Step::Skip { h, dmacon, clocks }
-}
-
-/// A clock of line 0.
-fn beam(h: u16) -> Beam {
+/// A clock of a line.
+fn place(v: u16, h: u16) -> Beam {
     Beam {
         frame: 0,
-        v: 0,
+        v,
         h,
         lof: true,
     }
@@ -112,36 +51,36 @@ fn address(ask: SideAsk) -> Option<u32> {
 /// Whether the side answers as a step says.
 fn answers<S: Side>(side: &mut S, step: Step) -> bool {
     match step {
-        Step::Poke { reg, word } => {
+        Step::Poke(reg, word) => {
             side.poke(Reg::masked(reg), word);
             true
         }
-        Step::Tick { h, dmacon, bits } => side.tick(&beam(h), dmacon) == bits,
-        Step::Quiet { count, dmacon } => is_quiet(side, count, dmacon),
-        Step::Ask { h, dmacon, at } => address(side.ask(&beam(h), dmacon)) == at,
-        Step::Give { word } => {
+        Step::Tick(h, dmacon, bits) => side.tick(&place(0, h), dmacon) == bits,
+        Step::Quiet(count, dmacon) => is_quiet(side, count, dmacon),
+        Step::Ask(h, dmacon, at) => address(side.ask(&place(0, h), dmacon)) == at,
+        Step::Give(word) => {
             side.give(word);
             true
         }
-        Step::Still { h, dmacon, clocks } => side.quiet(&beam(h), dmacon, 100) == clocks,
-        Step::Skip { h, dmacon, clocks } => skips(side, h, dmacon, clocks),
+        Step::Still(h, dmacon, clocks) => side.quiet(&place(0, h), dmacon, 100) == clocks,
+        Step::Skip(h, dmacon, clocks) => skips(side, h, dmacon, clocks),
     }
 }
 
 /// Passes over so many clocks from clock `h` on, where both are 100 at most.
 fn skips<S: Side>(side: &mut S, h: u16, dmacon: u16, clocks: u16) -> bool {
-    let place = beam(h);
-    if place.h > 100 || clocks > 100 {
+    let first = place(0, h);
+    if first.h > 100 || clocks > 100 {
         return false;
     }
-    side.skip(&place, dmacon, clocks);
+    side.skip(&first, dmacon, clocks);
     true
 }
 
 /// Whether so many ticks request nothing, at a clock at which nothing is asked for.
 fn is_quiet<S: Side>(side: &mut S, count: u32, dmacon: u16) -> bool {
     for _ in 0..count {
-        if side.tick(&beam(100), dmacon) != 0 {
+        if side.tick(&place(0, 100), dmacon) != 0 {
             return false;
         }
     }
@@ -158,46 +97,62 @@ pub fn passes<S: Side>(side: &mut S, steps: &[Step]) -> bool {
     true
 }
 
+/// What a side answers at a clock: the bits that it requests; and the address of the slot for which it asks, with
+/// the word that it stores or is given.
+pub type Answer = (u16, Option<(u32, u16)>);
+
+/// What a side answers at a clock of a line, at which it gets the slot for which it asks. Where it reads, it is
+/// given `word`.
+pub fn clock<S: Side>(side: &mut S, v: u16, h: u16, dmacon: u16, word: u16) -> Answer {
+    let beam = place(v, h);
+    let bits = side.tick(&beam, dmacon);
+    let slot = match side.ask(&beam, dmacon) {
+        SideAsk::Nothing => None,
+        SideAsk::Disk { at, word: stored } => Some((at.raw(), stored)),
+        SideAsk::Audio { at, .. } => Some((at.raw(), word)),
+    };
+    if let Some((_, word)) = slot {
+        side.give(word);
+    }
+    (bits, slot)
+}
+
 /// What a side does in some lines of 227 clocks: the clocks at which it requests interrupts, with the
 /// bits, and those at which it asks for a slot, with the address and the word that it stores or is given.
-#[derive(Drop)]
 pub struct Lines {
-    pub requests: Vec<(u32, u16)>,
-    pub asks: Vec<(u32, u32, u16)>,
+    pub requests: &'static [(u32, u16)],
+    pub asks: &'static [(u32, u32, u16)],
 }
 
 impl Lines {
-    pub fn new(alloc: Global) -> Lines {
-        Lines {
-            requests: Vec::new(alloc),
-            asks: Vec::new(alloc),
+    /// What it answers at a clock.
+    fn answer(&self, clock: u32) -> Answer {
+        let mut bits = 0;
+        for (at, requested) in self.requests {
+            if *at == clock {
+                bits = *requested;
+            }
         }
+        let mut slot = None;
+        for (at, address, word) in self.asks {
+            if *at == clock {
+                slot = Some((*address, *word));
+            }
+        }
+        (bits, slot)
     }
 
-    /// One clock, at which the side gets the slot for which it asks. Where it reads, it is given `word`.
-    pub fn clock<S: Side>(
-        &mut self,
-        side: &mut S,
-        beam: &Beam,
-        dmacon: u16,
-        word: u16,
-    ) -> Result<(), OutOfMemory> {
-        let clock = 227 * u32::from(beam.v) + u32::from(beam.h);
-        let bits = side.tick(beam, dmacon);
-        if bits != 0 {
-            self.requests.push((clock, bits))?;
-        }
-        match side.ask(beam, dmacon) {
-            SideAsk::Nothing => {}
-            SideAsk::Disk { at, word: stored } => {
-                self.asks.push((clock, at.raw(), stored))?;
-                side.give(stored);
-            }
-            SideAsk::Audio { at, .. } => {
-                self.asks.push((clock, at.raw(), word))?;
-                side.give(word);
+    /// Whether a side does this in so many lines, and nothing else. Where it reads, it is given `word`.
+    pub fn are_met<S: Side>(&self, side: &mut S, lines: u16, dmacon: u16, word: u16) -> bool {
+        let mut passed = 0u32;
+        for v in 0..lines {
+            for h in 0..227 {
+                if clock(side, v, h, dmacon, word) != self.answer(passed) {
+                    return false;
+                }
+                passed = passed.wrapping_add(1);
             }
         }
-        Ok(())
+        true
     }
 }

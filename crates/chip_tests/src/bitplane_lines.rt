@@ -7,6 +7,15 @@ use bitplane_dma::{FetchRules, Fetcher, fetch_in_unit};
 use ocs_base::{Beam, Reg};
 use reg_file::Regs;
 
+/// Does the writes of a clock, each given by its clock, register and word.
+fn write_at(regs: &mut Regs, h: u16, writes: &[(u16, u16, u16)]) {
+    for (at, offset, word) in writes {
+        if *at == h {
+            let _effect = regs.poke(Reg::masked(*offset), *word, false);
+        }
+    }
+}
+
 /// Runs a line from its first clock, with register writes at their clocks. The answer is how many fetches
 /// there were, and the clock and plane of the first and of the last of them.
 fn line(v: u16, regs: &mut Regs, writes: &[(u16, u16, u16)]) -> (u16, (u16, u8), (u16, u8)) {
@@ -15,11 +24,7 @@ fn line(v: u16, regs: &mut Regs, writes: &[(u16, u16, u16)]) -> (u16, (u16, u8),
     let mut first = (0, 0);
     let mut last = (0, 0);
     for h in 0..227 {
-        for (at, offset, word) in writes.iter().copied() {
-            if at == h {
-                let _effect = regs.poke(Reg::masked(offset), word, false);
-            }
-        }
+        write_at(regs, h, writes);
         let beam = Beam {
             frame: 0,
             v,
@@ -81,10 +86,11 @@ fn fetches(v: u16, start: u16, stop: u16, dma: u16, con0: u16) -> Fetches {
 
 #[test]
 fn fetches_of_a_line(rt: HostRuntime) {
+    let mut right = true;
     for (v, start, stop, dma, con0, want) in &FETCHES {
-        let found = fetches(*v, *start, *stop, *dma, *con0);
-        assert!(rt; found == *want, "{v} {start} {stop} {dma} {con0}");
+        right &= fetches(*v, *start, *stop, *dma, *con0) == *want;
     }
+    assert!(rt; right);
 }
 
 /// DDFSTOP below the running unit ends the train at once, with the modulo, and a later DDFSTRT

@@ -26,7 +26,10 @@ fn after(at: u32, first: u16, second: u16, beam: &Beam, busy: bool) -> Copper {
 
 /// The address of the word that a Copper asks for.
 fn wanted(copper: &Copper) -> Option<u32> {
-    copper.wants().map(|at| at.raw())
+    match copper.wants() {
+        Some(at) => Some(at.raw()),
+        None => None,
+    }
 }
 
 /// The offset and the word of a write.
@@ -46,23 +49,13 @@ fn stepped(copper: &mut Copper, fetched: Option<u16>) -> (Option<(u16, u16)>, Op
 #[test]
 fn a_move_waits_for_its_slots(rt: HostRuntime) {
     let mut copper = Copper::start(Addr::at(0x100));
-    let found = [
-        stepped(&mut copper, None),
-        stepped(&mut copper, Some(0x0180)),
-        stepped(&mut copper, None),
-        stepped(&mut copper, Some(0x0f00)),
-        stepped(&mut copper, Some(0xff82)),
-        stepped(&mut copper, Some(0x0001)),
-    ];
-    let want = [
-        (None, Some(0x100)),
-        (None, Some(0x102)),
-        (None, Some(0x102)),
-        (Some((0x180, 0x0f00)), Some(0x104)),
-        (None, Some(0x106)),
-        (Some((0x182, 0x0001)), Some(0x108)),
-    ];
-    assert!(rt; found == want);
+    let mut right = stepped(&mut copper, None) == (None, Some(0x100));
+    right &= stepped(&mut copper, Some(0x0180)) == (None, Some(0x102));
+    right &= stepped(&mut copper, None) == (None, Some(0x102));
+    right &= stepped(&mut copper, Some(0x0f00)) == (Some((0x180, 0x0f00)), Some(0x104));
+    right &= stepped(&mut copper, Some(0xff82)) == (None, Some(0x106));
+    right &= stepped(&mut copper, Some(0x0001)) == (Some((0x182, 0x0001)), Some(0x108));
+    assert!(rt; right);
 }
 
 /// Whether a MOVE with this first word writes where it is allowed, and else stops the Copper until a jump.
@@ -127,11 +120,12 @@ fn asked_around(first: u16, second: u16, busy: bool, v: u16, h: u16) -> [Option<
 
 #[test]
 fn waits_end_from_their_place_on(rt: HostRuntime) {
+    let mut right = true;
     for (first, second, busy, v, h, holds) in &WAITS {
         let next = if *holds { Some(12) } else { None };
-        let found = asked_around(*first, *second, *busy, *v, *h);
-        assert!(rt; found == [None, next], "{first} {v} {h}");
+        right &= asked_around(*first, *second, *busy, *v, *h) == [None, next];
     }
+    assert!(rt; right);
 }
 
 /// The address that is asked for behind a SKIP at an address.
@@ -157,17 +151,10 @@ fn a_jump_drops_the_first_word(rt: HostRuntime) {
     let mut copper = Copper::start(Addr::at(0x100));
     copper.step(Some(0x0182), &beam(0, 0), false, false);
     copper.jump(Addr::at(0x40));
-    let found = [
-        (None, wanted(&copper)),
-        stepped(&mut copper, Some(0x0180)),
-        stepped(&mut copper, Some(0x0123)),
-    ];
-    let want = [
-        (None, Some(0x40)),
-        (None, Some(0x42)),
-        (Some((0x180, 0x0123)), Some(0x44)),
-    ];
-    assert!(rt; found == want);
+    let mut right = wanted(&copper) == Some(0x40);
+    right &= stepped(&mut copper, Some(0x0180)) == (None, Some(0x42));
+    right &= stepped(&mut copper, Some(0x0123)) == (Some((0x180, 0x0123)), Some(0x44));
+    assert!(rt; right);
 }
 
 /// For how many clocks from clock `h` of line `v` on, at most 100, a Copper that has read these two words

@@ -1,10 +1,10 @@
 //! Disk reading step by step.
 
-use crate::bench::{DISK, Step, ask, ask_nothing, give, passes, poke, skip, still, tick};
+use crate::bench::Step::{Ask, Give, Poke, Skip, Still, Tick};
+use crate::bench::{DISK, Step, passes};
 use disk_dma::Disk;
-use ocs_base::{ChipSize, OutOfMemory};
+use ocs_base::ChipSize;
 use std::alloc::Global;
-use std::test::Fail;
 
 const PTH: u16 = 0x020;
 
@@ -16,242 +16,228 @@ const SYNC: u16 = 0x07e;
 
 const ADK: u16 = 0x09e;
 
-/// Whether a disk with the track 1111 4489 2222 3333, which is no word of DSKSYNC yet, answers as the
-/// steps say.
-fn answers(alloc: Global, size: ChipSize, steps: &[Step]) -> Result<bool, OutOfMemory> {
+/// Whether there is memory for a disk with the track 1111 4489 2222 3333, which is no word of DSKSYNC yet,
+/// and it answers as the steps say.
+fn answers(alloc: Global, size: ChipSize, steps: &[Step]) -> bool {
     let track = [0x11, 0x11, 0x44, 0x89, 0x22, 0x22, 0x33, 0x33];
-    let mut disk = match size {
-        ChipSize::Kib512 => Disk::new(alloc, &track, 0x8_0000)?,
-        ChipSize::Mib1 => Disk::new(alloc, &track, 0x10_0000)?,
-    };
-    Ok(passes(&mut disk, steps))
+    match Disk::new(alloc, &track, size.bytes()) {
+        Ok(mut disk) => passes(&mut disk, steps),
+        Err(_) => false,
+    }
 }
 
 /// One write of DSKLEN arms alone; the second starts, whatever the first one's length was.
 #[test]
-fn the_second_write_starts(rt: HostRuntime) -> Result<(), Fail> {
-    let one = [poke(LEN, 0x8001), tick(6, DISK, 0), ask_nothing(7, DISK)];
-    let arms = answers(rt.alloc(), ChipSize::Kib512, &one)?;
-    let two = [
-        poke(LEN, 0x8000),
-        poke(LEN, 0x8001),
-        tick(6, DISK, 0),
-        ask(7, DISK, 0),
-        give(0),
-        tick(8, DISK, 2),
+fn the_second_write_starts(rt: HostRuntime) {
+    let one = &[Poke(LEN, 0x8001), Tick(6, DISK, 0), Ask(7, DISK, None)];
+    let two = &[
+        Poke(LEN, 0x8000),
+        Poke(LEN, 0x8001),
+        Tick(6, DISK, 0),
+        Ask(7, DISK, Some(0)),
+        Give(0),
+        Tick(8, DISK, 2),
     ];
-    let starts = answers(rt.alloc(), ChipSize::Kib512, &two)?;
-    assert!(rt; arms && starts);
-    Ok(())
+    let mut right = answers(rt.alloc(), ChipSize::Kib512, one);
+    right &= answers(rt.alloc(), ChipSize::Kib512, two);
+    assert!(rt; right);
 }
 
 /// It is quiet up to the next word that arrives, at clocks 6 and 120; where a word waits behind its three clocks
 /// alone, and never where a transfer is over. The word that arrives among clocks passed over joins.
 #[test]
-fn a_disk_is_quiet_between_words(rt: HostRuntime) -> Result<(), Fail> {
-    let steps = [
-        still(1, DISK, 5),
-        still(6, DISK, 0),
-        still(7, DISK, 100),
-        still(100, DISK, 20),
-        poke(LEN, 0x8001),
-        poke(LEN, 0x8001),
-        skip(100, DISK, 21),
-        still(7, DISK, 0),
-        still(12, DISK, 100),
-        ask(7, DISK, 0),
-        give(0),
-        still(12, DISK, 0),
-        tick(13, DISK, 2),
-        still(1, DISK, 5),
+fn a_disk_is_quiet_between_words(rt: HostRuntime) {
+    let steps = &[
+        Still(1, DISK, 5),
+        Still(6, DISK, 0),
+        Still(7, DISK, 100),
+        Still(100, DISK, 20),
+        Poke(LEN, 0x8001),
+        Poke(LEN, 0x8001),
+        Skip(100, DISK, 21),
+        Still(7, DISK, 0),
+        Still(12, DISK, 100),
+        Ask(7, DISK, Some(0)),
+        Give(0),
+        Still(12, DISK, 0),
+        Tick(13, DISK, 2),
+        Still(1, DISK, 5),
     ];
-    assert!(rt; answers(rt.alloc(), ChipSize::Kib512, &steps)?);
-    Ok(())
+    assert!(rt; answers(rt.alloc(), ChipSize::Kib512, steps));
 }
 
 /// It asks at clocks 7, 9 and 11 alone, and only while DMAEN and DSKEN are set.
 #[test]
-fn three_clocks_are_the_disks(rt: HostRuntime) -> Result<(), Fail> {
-    let steps = [
-        poke(LEN, 0x8003),
-        poke(LEN, 0x8003),
-        tick(120, DISK, 0),
-        ask(7, DISK, 0),
-        ask(9, DISK, 0),
-        ask(11, DISK, 0),
-        ask_nothing(8, DISK),
-        ask_nothing(13, DISK),
-        ask_nothing(7, 0x0200),
-        ask_nothing(7, 0x0010),
+fn three_clocks_are_the_disks(rt: HostRuntime) {
+    let steps = &[
+        Poke(LEN, 0x8003),
+        Poke(LEN, 0x8003),
+        Tick(120, DISK, 0),
+        Ask(7, DISK, Some(0)),
+        Ask(9, DISK, Some(0)),
+        Ask(11, DISK, Some(0)),
+        Ask(8, DISK, None),
+        Ask(13, DISK, None),
+        Ask(7, 0x0200, None),
+        Ask(7, 0x0010, None),
     ];
-    assert!(rt; answers(rt.alloc(), ChipSize::Kib512, &steps)?);
-    Ok(())
+    assert!(rt; answers(rt.alloc(), ChipSize::Kib512, steps));
 }
 
 /// Whether a write of this word to DSKLEN ends a transfer.
-fn is_ended_by(alloc: Global, word: u16) -> Result<bool, OutOfMemory> {
+fn is_ended_by(alloc: Global, word: u16) -> bool {
     let steps = [
-        poke(LEN, 0x8003),
-        poke(LEN, 0x8003),
-        tick(6, DISK, 0),
-        poke(LEN, word),
-        ask_nothing(7, DISK),
-        tick(120, DISK, 0),
-        ask_nothing(7, DISK),
-        poke(LEN, 0x8001),
-        tick(6, DISK, 0),
-        ask_nothing(7, DISK),
+        Poke(LEN, 0x8003),
+        Poke(LEN, 0x8003),
+        Tick(6, DISK, 0),
+        Poke(LEN, word),
+        Ask(7, DISK, None),
+        Tick(120, DISK, 0),
+        Ask(7, DISK, None),
+        Poke(LEN, 0x8001),
+        Tick(6, DISK, 0),
+        Ask(7, DISK, None),
     ];
     answers(alloc, ChipSize::Kib512, &steps)
 }
 
 /// A write with bit 15 clear, or with bit 14 set, ends a transfer and what waits of it.
 #[test]
-fn a_write_ends_a_transfer(rt: HostRuntime) -> Result<(), Fail> {
-    let found = [
-        is_ended_by(rt.alloc(), 0x0000)?,
-        is_ended_by(rt.alloc(), 0x4001)?,
-        is_ended_by(rt.alloc(), 0x7fff)?,
-        is_ended_by(rt.alloc(), 0xc001)?,
-    ];
-    assert!(rt; found == [true; 4]);
-    Ok(())
+fn a_write_ends_a_transfer(rt: HostRuntime) {
+    let mut right = true;
+    for word in &[0x0000, 0x4001, 0x7fff, 0xc001] {
+        right &= is_ended_by(rt.alloc(), *word);
+    }
+    assert!(rt; right);
 }
 
 /// A write that only arms leaves a running transfer as it is.
 #[test]
-fn arming_ends_nothing(rt: HostRuntime) -> Result<(), Fail> {
-    let steps = [
-        poke(LEN, 0x8002),
-        poke(LEN, 0x8002),
-        tick(6, DISK, 0),
-        poke(LEN, 0x8001),
-        ask(7, DISK, 0),
-        give(0),
-        tick(120, DISK, 0),
-        ask(9, DISK, 2),
-        give(0),
-        tick(8, DISK, 2),
+fn arming_ends_nothing(rt: HostRuntime) {
+    let steps = &[
+        Poke(LEN, 0x8002),
+        Poke(LEN, 0x8002),
+        Tick(6, DISK, 0),
+        Poke(LEN, 0x8001),
+        Ask(7, DISK, Some(0)),
+        Give(0),
+        Tick(120, DISK, 0),
+        Ask(9, DISK, Some(2)),
+        Give(0),
+        Tick(8, DISK, 2),
     ];
-    assert!(rt; answers(rt.alloc(), ChipSize::Kib512, &steps)?);
-    Ok(())
+    assert!(rt; answers(rt.alloc(), ChipSize::Kib512, steps));
 }
 
 /// A transfer of no words is done at the next tick.
 #[test]
-fn no_words_are_done_at_once(rt: HostRuntime) -> Result<(), Fail> {
-    let steps = [
-        poke(LEN, 0x8000),
-        poke(LEN, 0x8000),
-        tick(6, DISK, 2),
-        tick(7, DISK, 0),
-        ask_nothing(7, DISK),
+fn no_words_are_done_at_once(rt: HostRuntime) {
+    let steps = &[
+        Poke(LEN, 0x8000),
+        Poke(LEN, 0x8000),
+        Tick(6, DISK, 2),
+        Tick(7, DISK, 0),
+        Ask(7, DISK, None),
     ];
-    assert!(rt; answers(rt.alloc(), ChipSize::Kib512, &steps)?);
-    Ok(())
+    assert!(rt; answers(rt.alloc(), ChipSize::Kib512, steps));
 }
 
 /// Three words can wait. A fourth is lost, and still wanted: the word after it takes its place.
 #[test]
-fn a_lost_word_is_still_wanted(rt: HostRuntime) -> Result<(), Fail> {
-    let full = [
-        poke(LEN, 0x8004),
-        poke(LEN, 0x8004),
-        tick(6, DISK, 0),
-        tick(120, DISK, 0),
-        tick(6, DISK, 0),
-        tick(120, DISK, 0),
-        give(0),
-        give(0),
-        give(0),
-        ask_nothing(7, DISK),
-        tick(8, DISK, 0),
-        tick(6, DISK, 0),
-        ask(7, DISK, 6),
-        give(0),
-        tick(8, DISK, 2),
+fn a_lost_word_is_still_wanted(rt: HostRuntime) {
+    let steps = &[
+        Poke(LEN, 0x8004),
+        Poke(LEN, 0x8004),
+        Tick(6, DISK, 0),
+        Tick(120, DISK, 0),
+        Tick(6, DISK, 0),
+        Tick(120, DISK, 0),
+        Give(0),
+        Give(0),
+        Give(0),
+        Ask(7, DISK, None),
+        Tick(8, DISK, 0),
+        Tick(6, DISK, 0),
+        Ask(7, DISK, Some(6)),
+        Give(0),
+        Tick(8, DISK, 2),
     ];
-    assert!(rt; answers(rt.alloc(), ChipSize::Kib512, &full)?);
-    Ok(())
+    assert!(rt; answers(rt.alloc(), ChipSize::Kib512, steps));
 }
 
 /// With WORDSYNC the word of DSKSYNC itself does not join, and requests DSKSYN.
 #[test]
-fn the_sync_word_opens_the_way(rt: HostRuntime) -> Result<(), Fail> {
-    let closed = [
-        poke(ADK, 0x8400),
-        poke(SYNC, 0x4489),
-        poke(LEN, 0x8001),
-        poke(LEN, 0x8001),
-        tick(6, DISK, 0),
-        ask_nothing(7, DISK),
-        tick(120, DISK, 0x1000),
-        ask_nothing(7, DISK),
-        tick(6, DISK, 0),
-        ask(7, DISK, 0),
+fn the_sync_word_opens_the_way(rt: HostRuntime) {
+    let steps = &[
+        Poke(ADK, 0x8400),
+        Poke(SYNC, 0x4489),
+        Poke(LEN, 0x8001),
+        Poke(LEN, 0x8001),
+        Tick(6, DISK, 0),
+        Ask(7, DISK, None),
+        Tick(120, DISK, 0x1000),
+        Ask(7, DISK, None),
+        Tick(6, DISK, 0),
+        Ask(7, DISK, Some(0)),
     ];
-    assert!(rt; answers(rt.alloc(), ChipSize::Kib512, &closed)?);
-    Ok(())
+    assert!(rt; answers(rt.alloc(), ChipSize::Kib512, steps));
 }
 
 #[test]
-fn without_wordsync_every_word_joins(rt: HostRuntime) -> Result<(), Fail> {
-    let open = [
-        poke(ADK, 0x8400),
-        poke(ADK, 0x0400),
-        poke(SYNC, 0x4489),
-        poke(LEN, 0x8001),
-        poke(LEN, 0x8001),
-        tick(6, DISK, 0),
-        ask(7, DISK, 0),
+fn without_wordsync_every_word_joins(rt: HostRuntime) {
+    let steps = &[
+        Poke(ADK, 0x8400),
+        Poke(ADK, 0x0400),
+        Poke(SYNC, 0x4489),
+        Poke(LEN, 0x8001),
+        Poke(LEN, 0x8001),
+        Tick(6, DISK, 0),
+        Ask(7, DISK, Some(0)),
     ];
-    assert!(rt; answers(rt.alloc(), ChipSize::Kib512, &open)?);
-    Ok(())
+    assert!(rt; answers(rt.alloc(), ChipSize::Kib512, steps));
 }
 
 /// DSKSYN is requested at each match, whatever DMACON and DSKLEN say.
 #[test]
-fn each_match_is_requested(rt: HostRuntime) -> Result<(), Fail> {
-    let idle = [
-        poke(SYNC, 0x4489),
-        tick(6, 0, 0),
-        tick(120, 0, 0x1000),
-        tick(120, 0, 0),
+fn each_match_is_requested(rt: HostRuntime) {
+    let steps = &[
+        Poke(SYNC, 0x4489),
+        Tick(6, 0, 0),
+        Tick(120, 0, 0x1000),
+        Tick(120, 0, 0),
     ];
-    assert!(rt; answers(rt.alloc(), ChipSize::Kib512, &idle)?);
-    Ok(())
+    assert!(rt; answers(rt.alloc(), ChipSize::Kib512, steps));
 }
 
 /// A start forgets that the word of DSKSYNC has passed.
 #[test]
-fn a_start_waits_for_the_sync_word(rt: HostRuntime) -> Result<(), Fail> {
-    let steps = [
-        poke(SYNC, 0x1111),
-        poke(ADK, 0x8400),
-        tick(6, DISK, 0x1000),
-        poke(LEN, 0x8001),
-        poke(LEN, 0x8001),
-        tick(6, DISK, 0),
-        ask_nothing(7, DISK),
+fn a_start_waits_for_the_sync_word(rt: HostRuntime) {
+    let steps = &[
+        Poke(SYNC, 0x1111),
+        Poke(ADK, 0x8400),
+        Tick(6, DISK, 0x1000),
+        Poke(LEN, 0x8001),
+        Poke(LEN, 0x8001),
+        Tick(6, DISK, 0),
+        Ask(7, DISK, None),
     ];
-    assert!(rt; answers(rt.alloc(), ChipSize::Kib512, &steps)?);
-    Ok(())
+    assert!(rt; answers(rt.alloc(), ChipSize::Kib512, steps));
 }
 
 /// Whether the pointer goes from 7FFFE to one address, and behind a write of its high half to another.
-fn goes_to(alloc: Global, size: ChipSize, second: u32, third: u32) -> Result<bool, OutOfMemory> {
+fn goes_to(alloc: Global, size: ChipSize, second: u32, third: u32) -> bool {
     let steps = [
-        poke(PTH, 0x0007),
-        poke(PTL, 0xffff),
-        poke(LEN, 0x8002),
-        poke(LEN, 0x8002),
-        tick(6, DISK, 0),
-        ask(7, DISK, 0x7_fffe),
-        give(0),
-        tick(120, DISK, 0),
-        ask(7, DISK, second),
-        poke(PTH, 0x000d),
-        ask(7, DISK, third),
+        Poke(PTH, 0x0007),
+        Poke(PTL, 0xffff),
+        Poke(LEN, 0x8002),
+        Poke(LEN, 0x8002),
+        Tick(6, DISK, 0),
+        Ask(7, DISK, Some(0x7_fffe)),
+        Give(0),
+        Tick(120, DISK, 0),
+        Ask(7, DISK, Some(second)),
+        Poke(PTH, 0x000d),
+        Ask(7, DISK, Some(third)),
     ];
     answers(alloc, size, &steps)
 }
@@ -259,9 +245,8 @@ fn goes_to(alloc: Global, size: ChipSize, second: u32, third: u32) -> Result<boo
 /// The pointer wraps at the size of chip memory, and a write of a half of it leaves the other half as it is
 /// by then.
 #[test]
-fn pointers_wrap_at_the_memory(rt: HostRuntime) -> Result<(), Fail> {
-    let small = goes_to(rt.alloc(), ChipSize::Kib512, 0, 0x5_0000)?;
-    let great = goes_to(rt.alloc(), ChipSize::Mib1, 0x8_0000, 0xd_0000)?;
-    assert!(rt; small && great);
-    Ok(())
+fn pointers_wrap_at_the_memory(rt: HostRuntime) {
+    let mut right = goes_to(rt.alloc(), ChipSize::Kib512, 0, 0x5_0000);
+    right &= goes_to(rt.alloc(), ChipSize::Mib1, 0x8_0000, 0xd_0000);
+    assert!(rt; right);
 }

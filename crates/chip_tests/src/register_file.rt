@@ -1,5 +1,6 @@
 //! Each public call once; the words are worked by hand from the manual's registers.
 
+use crate::written_registers::registers;
 use ocs_base::{Addr, Beam, Reg};
 use reg_file::{Effect, Live, Regs};
 
@@ -114,10 +115,7 @@ fn is_read(regs: &Regs) -> bool {
 
 #[test]
 fn reads(rt: HostRuntime) {
-    let mut regs = Regs::reset();
-    let _kept = regs.poke(Reg::masked(0x096), 0x8240, false);
-    let _shown = regs.poke(Reg::masked(0x180), 0x0fff, false);
-    let _asked = regs.poke(Reg::masked(0x09c), 0x8020, false);
+    let regs = registers(&[(0x096, 0x8240), (0x180, 0x0fff), (0x09c, 0x8020)]);
     assert!(rt; is_read(&regs));
 }
 
@@ -140,15 +138,12 @@ fn live(v: u16, h: u16, set: bool, joy0: u16, joy1: u16) -> Live {
 #[test]
 #[tactic(auto, using(reg_file::proofs::TableLaws::bits_law))]
 fn pointers(rt: HostRuntime) {
-    let mut regs = Regs::reset();
-    for (offset, word) in [
+    let mut regs = registers(&[
         (0x080, 0xfffd),
         (0x082, 0x1235),
         (0x050, 0x0001),
         (0x052, 0x8001),
-    ] {
-        let _effect = regs.poke(Reg::masked(offset), word, false);
-    }
+    ]);
     let poked = [
         regs.pointer(Reg::masked(0x080)).raw(),
         regs.pointer(Reg::masked(0x050)).raw(),
@@ -168,8 +163,8 @@ fn pointers(rt: HostRuntime) {
 #[tactic(auto, using(reg_file::proofs::TableLaws::bits_law))]
 fn pointers_of_1_mib(rt: HostRuntime) {
     let mut regs = Regs::reset_for(0x10_0000);
-    for (offset, word) in [(0x080, 0xfffd), (0x082, 0x1235)] {
-        let _effect = regs.poke(Reg::masked(offset), word, false);
+    for (offset, word) in &[(0x080, 0xfffd), (0x082, 0x1235)] {
+        let _effect = regs.poke(Reg::masked(*offset), *word, false);
     }
     let poked = regs.pointer(Reg::masked(0x080)).raw();
     regs.set_pointer(Reg::masked(0x13c), Addr::wide(0xe_fffe));

@@ -1,8 +1,7 @@
 //! Audio channels step by step.
 
-use crate::bench::{
-    ALL, Step, ZERO, ask, ask_nothing, give, passes, poke, quiet, skip, still, tick,
-};
+use crate::bench::Step::{Ask, Give, Poke, Quiet, Skip, Still, Tick};
+use crate::bench::{ALL, Step, ZERO, passes};
 use ocs_base::ChipSize;
 use paula_audio::Paula;
 
@@ -17,21 +16,14 @@ const PER: u16 = 0x0a6;
 
 const VOL: u16 = 0x0a8;
 
-fn reset(size: ChipSize) -> Paula {
-    match size {
-        ChipSize::Kib512 => Paula::reset(0x8_0000),
-        ChipSize::Mib1 => Paula::reset(0x10_0000),
-    }
-}
-
 /// Whether a Paula with a memory of this size answers as the steps say.
 fn answers(size: ChipSize, steps: &[Step]) -> bool {
-    passes(&mut reset(size), steps)
+    passes(&mut Paula::reset(size.bytes()), steps)
 }
 
 /// What is heard after the steps, if the channels answer as they say.
 fn heard(steps: &[Step]) -> Option<(u8, u8)> {
-    let mut paula = reset(ChipSize::Kib512);
+    let mut paula = Paula::reset(0x8_0000);
     if passes(&mut paula, steps) {
         Some(paula.pair())
     } else {
@@ -42,43 +34,48 @@ fn heard(steps: &[Step]) -> Option<(u8, u8)> {
 /// The high byte of a word at some volume, as it is heard on the left.
 fn byte_at(sample: u16, volume: u16) -> Option<(u8, u8)> {
     heard(&[
-        poke(VOL, volume),
-        poke(LEN, 2),
-        poke(PER, 9),
-        tick(13, ZERO, 0x80),
-        give(sample),
-        tick(14, ZERO, 0),
+        Poke(VOL, volume),
+        Poke(LEN, 2),
+        Poke(PER, 9),
+        Tick(13, ZERO, 0x80),
+        Give(sample),
+        Tick(14, ZERO, 0),
     ])
 }
 
 /// The first word begins at the tick behind its slot, and not at the tick that makes the channel on.
 #[test]
 fn a_word_begins_behind_its_slot(rt: HostRuntime) {
-    let start = [
-        poke(VOL, 64),
-        poke(LEN, 2),
-        poke(PER, 9),
-        tick(13, ZERO, 0x80),
+    let before = &[
+        Poke(VOL, 64),
+        Poke(LEN, 2),
+        Poke(PER, 9),
+        Tick(13, ZERO, 0x80),
     ];
-    let found = [
-        heard(&start),
-        heard(&[start[0], start[1], start[2], start[3], give(0x4000)]),
-        byte_at(0x4000, 64),
+    let at_its_slot = &[
+        Poke(VOL, 64),
+        Poke(LEN, 2),
+        Poke(PER, 9),
+        Tick(13, ZERO, 0x80),
+        Give(0x4000),
     ];
-    assert!(rt; found == [Some((0, 0)), Some((0, 0)), Some((0x20, 0))]);
+    let mut right = heard(before) == Some((0, 0));
+    right &= heard(at_its_slot) == Some((0, 0));
+    right &= byte_at(0x4000, 64) == Some((0x20, 0));
+    assert!(rt; right);
 }
 
 /// What is heard of the word 40C0, each half of which sounds for nine clocks, so many clocks behind the first
 /// that it sounds, passed over at once.
 fn heard_past(clocks: u16) -> Option<(u8, u8)> {
     heard(&[
-        poke(VOL, 64),
-        poke(LEN, 2),
-        poke(PER, 9),
-        tick(13, ZERO, 0x80),
-        give(0x40c0),
-        tick(14, ZERO, 0),
-        skip(20, ZERO, clocks),
+        Poke(VOL, 64),
+        Poke(LEN, 2),
+        Poke(PER, 9),
+        Tick(13, ZERO, 0x80),
+        Give(0x40c0),
+        Tick(14, ZERO, 0),
+        Skip(20, ZERO, clocks),
     ])
 }
 
@@ -95,56 +92,56 @@ fn halves_begin_among_clocks_passed_over(rt: HostRuntime) {
 /// it always, and never where a request is due or it begins.
 #[test]
 fn a_channel_is_quiet_but_for_its_own_clock(rt: HostRuntime) {
-    let steps = [
-        poke(LEN, 2),
-        poke(PER, 90),
-        still(1, 0, 100),
-        still(1, ZERO, 0),
-        tick(13, ZERO, 0x80),
-        still(1, ZERO, 12),
-        still(14, ZERO, 100),
-        give(1),
-        tick(14, ZERO, 0),
-        tick(13, ZERO, 0),
-        give(2),
-        still(1, ZERO, 0),
-        tick(14, ZERO, 0x80),
-        still(1, ZERO, 100),
-        skip(20, ZERO, 80),
-        still(1, ZERO, 12),
+    let steps = &[
+        Poke(LEN, 2),
+        Poke(PER, 90),
+        Still(1, 0, 100),
+        Still(1, ZERO, 0),
+        Tick(13, ZERO, 0x80),
+        Still(1, ZERO, 12),
+        Still(14, ZERO, 100),
+        Give(1),
+        Tick(14, ZERO, 0),
+        Tick(13, ZERO, 0),
+        Give(2),
+        Still(1, ZERO, 0),
+        Tick(14, ZERO, 0x80),
+        Still(1, ZERO, 100),
+        Skip(20, ZERO, 80),
+        Still(1, ZERO, 12),
     ];
-    assert!(rt; answers(ChipSize::Kib512, &steps));
+    assert!(rt; answers(ChipSize::Kib512, steps));
 }
 
 /// A request that is due is made as the channel goes off; then the channel begins anew.
 #[test]
 fn a_request_outlives_its_channel(rt: HostRuntime) {
-    let steps = [
-        poke(LCL, 8),
-        poke(LEN, 1),
-        poke(PER, 9),
-        tick(13, ZERO, 0x80),
-        ask(13, ZERO, 8),
-        give(0x4000),
-        tick(14, 0x0200, 0x80),
-        tick(15, 0x0200, 0),
-        ask_nothing(13, ZERO),
-        tick(16, ZERO, 0x80),
-        tick(17, ZERO, 0),
+    let steps = &[
+        Poke(LCL, 8),
+        Poke(LEN, 1),
+        Poke(PER, 9),
+        Tick(13, ZERO, 0x80),
+        Ask(13, ZERO, Some(8)),
+        Give(0x4000),
+        Tick(14, 0x0200, 0x80),
+        Tick(15, 0x0200, 0),
+        Ask(13, ZERO, None),
+        Tick(16, ZERO, 0x80),
+        Tick(17, ZERO, 0),
     ];
-    assert!(rt; answers(ChipSize::Kib512, &steps));
+    assert!(rt; answers(ChipSize::Kib512, steps));
 }
 
 /// What is heard of channel 0 behind a tick with this DMACON.
 fn heard_with(dmacon: u16) -> Option<(u8, u8)> {
     heard(&[
-        poke(VOL, 64),
-        poke(LEN, 2),
-        poke(PER, 9),
-        tick(13, ZERO, 0x80),
-        give(0x4000),
-        tick(14, ZERO, 0),
-        tick(15, dmacon & 0x0201, 0),
+        Poke(VOL, 64),
+        Poke(LEN, 2),
+        Poke(PER, 9),
+        Tick(13, ZERO, 0x80),
+        Give(0x4000),
+        Tick(14, ZERO, 0),
+        Tick(15, dmacon & 0x0201, 0),
     ])
 }
 
@@ -163,82 +160,83 @@ fn a_channel_that_is_off_is_silent(rt: HostRuntime) {
 /// After the last word the pointer and the length are loaded again, and the next tick requests AUD0.
 #[test]
 fn a_sample_begins_anew(rt: HostRuntime) {
-    let steps = [
-        poke(LCL, 8),
-        poke(LEN, 2),
-        poke(PER, 1),
-        tick(13, ZERO, 0x80),
-        give(1),
-        tick(14, ZERO, 0),
-        ask(13, ZERO, 10),
-        tick(13, ZERO, 0),
-        give(2),
-        tick(14, ZERO, 0x80),
-        ask(13, ZERO, 8),
+    let steps = &[
+        Poke(LCL, 8),
+        Poke(LEN, 2),
+        Poke(PER, 1),
+        Tick(13, ZERO, 0x80),
+        Give(1),
+        Tick(14, ZERO, 0),
+        Ask(13, ZERO, Some(10)),
+        Tick(13, ZERO, 0),
+        Give(2),
+        Tick(14, ZERO, 0x80),
+        Ask(13, ZERO, Some(8)),
     ];
-    assert!(rt; answers(ChipSize::Kib512, &steps));
+    assert!(rt; answers(ChipSize::Kib512, steps));
 }
 
 /// A word goes to the channel whose clock the last tick was, and to none where it was no channel's.
 #[test]
 fn words_go_by_the_clock(rt: HostRuntime) {
-    let start = [poke(LEN + 16, 2), poke(LEN, 2), tick(15, ALL, 0x780)];
-    let to_one = [
-        start[0],
-        start[1],
-        start[2],
-        give(7),
-        ask(13, ALL, 0),
-        ask_nothing(15, ALL),
+    let to_one = &[
+        Poke(LEN + 16, 2),
+        Poke(LEN, 2),
+        Tick(15, ALL, 0x780),
+        Give(7),
+        Ask(13, ALL, Some(0)),
+        Ask(15, ALL, None),
     ];
-    let goes_to_one = answers(ChipSize::Kib512, &to_one);
-    let to_none = [
-        start[0],
-        start[1],
-        start[2],
-        tick(14, ALL, 0),
-        give(7),
-        ask(13, ALL, 0),
-        ask(15, ALL, 0),
+    let to_none = &[
+        Poke(LEN + 16, 2),
+        Poke(LEN, 2),
+        Tick(15, ALL, 0x780),
+        Tick(14, ALL, 0),
+        Give(7),
+        Ask(13, ALL, Some(0)),
+        Ask(15, ALL, Some(0)),
     ];
-    assert!(rt; goes_to_one && answers(ChipSize::Kib512, &to_none));
+    let mut right = answers(ChipSize::Kib512, to_one);
+    right &= answers(ChipSize::Kib512, to_none);
+    assert!(rt; right);
 }
 
 /// A channel that is off or holds a word takes none: its pointer stays.
 #[test]
 fn a_word_too_many_is_lost(rt: HostRuntime) {
-    let held = [
-        poke(LEN, 3),
-        poke(PER, 1),
-        tick(13, ZERO, 0x80),
-        give(1),
-        give(2),
-        tick(14, ZERO, 0),
-        ask(13, ZERO, 2),
+    let held = &[
+        Poke(LEN, 3),
+        Poke(PER, 1),
+        Tick(13, ZERO, 0x80),
+        Give(1),
+        Give(2),
+        Tick(14, ZERO, 0),
+        Ask(13, ZERO, Some(2)),
     ];
-    let is_lost = answers(ChipSize::Kib512, &held);
-    let off = [
-        poke(LEN, 1),
-        tick(13, 0, 0),
-        give(1),
-        tick(13, ZERO, 0x80),
-        tick(14, ZERO, 0),
-        ask(13, ZERO, 0),
+    let off = &[
+        Poke(LEN, 1),
+        Tick(13, 0, 0),
+        Give(1),
+        Tick(13, ZERO, 0x80),
+        Tick(14, ZERO, 0),
+        Ask(13, ZERO, Some(0)),
     ];
-    assert!(rt; is_lost && answers(ChipSize::Kib512, &off));
+    let mut right = answers(ChipSize::Kib512, held);
+    right &= answers(ChipSize::Kib512, off);
+    assert!(rt; right);
 }
 
 /// What is heard of the channel with this first register, clock, bit of DMACON and of INTREQ.
 fn heard_of(first: u16, h: u16, dmacon: u16, bits: u16) -> Option<(u8, u8)> {
     heard(&[
-        poke(first | 2, 8),
-        poke(first | 4, 2),
-        poke(first | 6, 9),
-        poke(first | 8, 64),
-        tick(h, dmacon, bits),
-        ask(h, dmacon, 8),
-        give(0x4000),
-        tick(100, dmacon, 0),
+        Poke(first | 2, 8),
+        Poke(first | 4, 2),
+        Poke(first | 6, 9),
+        Poke(first | 8, 64),
+        Tick(h, dmacon, bits),
+        Ask(h, dmacon, Some(8)),
+        Give(0x4000),
+        Tick(100, dmacon, 0),
     ])
 }
 
@@ -259,7 +257,7 @@ fn channels_are_apart(rt: HostRuntime) {
 #[test]
 fn volumes_end_at_64(rt: HostRuntime) {
     let mut right = true;
-    for (volume, left) in [
+    for (volume, left) in &[
         (0, 0),
         (1, 0),
         (32, 0x10),
@@ -268,7 +266,7 @@ fn volumes_end_at_64(rt: HostRuntime) {
         (0x80, 0),
         (0xc0, 0x20),
     ] {
-        right &= byte_at(0x4000, volume) == Some((left, 0));
+        right &= byte_at(0x4000, *volume) == Some((*left, 0));
     }
     assert!(rt; right);
 }
@@ -277,7 +275,7 @@ fn volumes_end_at_64(rt: HostRuntime) {
 #[test]
 fn levels_are_rounded_down(rt: HostRuntime) {
     let mut right = true;
-    for (sample, volume, left) in [
+    for (sample, volume, left) in &[
         (0xff00, 32, 0xff),
         (0xff00, 64, 0xff),
         (0x0100, 32, 0x00),
@@ -285,7 +283,7 @@ fn levels_are_rounded_down(rt: HostRuntime) {
         (0x7f00, 64, 0x3f),
         (0x8100, 64, 0xc0),
     ] {
-        right &= byte_at(sample, volume) == Some((left, 0));
+        right &= byte_at(*sample, *volume) == Some((*left, 0));
     }
     assert!(rt; right);
 }
@@ -293,26 +291,28 @@ fn levels_are_rounded_down(rt: HostRuntime) {
 /// A length of 0 is of 65,536 words, and a period of 0 of 65,536 clocks.
 #[test]
 fn nothing_means_65536(rt: HostRuntime) {
-    let long = [
-        poke(LCL, 8),
-        tick(13, ZERO, 0x80),
-        give(0x4000),
-        tick(14, ZERO, 0),
-        ask(13, ZERO, 10),
+    let long = &[
+        Poke(LCL, 8),
+        Tick(13, ZERO, 0x80),
+        Give(0x4000),
+        Tick(14, ZERO, 0),
+        Ask(13, ZERO, Some(10)),
     ];
-    let found = [heard_behind(65_535), heard_behind(65_536)];
-    assert!(rt; answers(ChipSize::Kib512, &long) && found == [Some((0x20, 0)), Some((0xe0, 0))]);
+    let mut right = answers(ChipSize::Kib512, long);
+    right &= heard_behind(65_535) == Some((0x20, 0));
+    right &= heard_behind(65_536) == Some((0xe0, 0));
+    assert!(rt; right);
 }
 
 /// What is heard of the word 40C0 with a period of 0, behind so many clocks.
 fn heard_behind(clocks: u32) -> Option<(u8, u8)> {
     heard(&[
-        poke(VOL, 64),
-        poke(LEN, 9),
-        tick(13, ZERO, 0x80),
-        give(0x40c0),
-        tick(14, ZERO, 0),
-        quiet(clocks, ZERO),
+        Poke(VOL, 64),
+        Poke(LEN, 9),
+        Tick(13, ZERO, 0x80),
+        Give(0x40c0),
+        Tick(14, ZERO, 0),
+        Quiet(clocks, ZERO),
     ])
 }
 
@@ -321,14 +321,14 @@ fn goes_on_at(size: ChipSize, second: u32) -> bool {
     answers(
         size,
         &[
-            poke(LCH, 0x0007),
-            poke(LCL, 0xffff),
-            poke(LEN, 3),
-            tick(13, ZERO, 0x80),
-            ask(13, ZERO, 0x7_fffe),
-            give(0),
-            tick(14, ZERO, 0),
-            ask(13, ZERO, second),
+            Poke(LCH, 0x0007),
+            Poke(LCL, 0xffff),
+            Poke(LEN, 3),
+            Tick(13, ZERO, 0x80),
+            Ask(13, ZERO, Some(0x7_fffe)),
+            Give(0),
+            Tick(14, ZERO, 0),
+            Ask(13, ZERO, Some(second)),
         ],
     )
 }
@@ -336,15 +336,17 @@ fn goes_on_at(size: ChipSize, second: u32) -> bool {
 /// The pointer wraps at the size of chip memory.
 #[test]
 fn pointers_wrap_at_the_memory(rt: HostRuntime) {
-    let wraps = goes_on_at(ChipSize::Kib512, 0) && goes_on_at(ChipSize::Mib1, 0x8_0000);
-    let end = [
-        poke(LCH, 0x000f),
-        poke(LCL, 0xfffe),
-        poke(LEN, 3),
-        tick(13, ZERO, 0x80),
-        give(0),
-        tick(14, ZERO, 0),
-        ask(13, ZERO, 0),
+    let end = &[
+        Poke(LCH, 0x000f),
+        Poke(LCL, 0xfffe),
+        Poke(LEN, 3),
+        Tick(13, ZERO, 0x80),
+        Give(0),
+        Tick(14, ZERO, 0),
+        Ask(13, ZERO, Some(0)),
     ];
-    assert!(rt; wraps && answers(ChipSize::Mib1, &end));
+    let mut right = goes_on_at(ChipSize::Kib512, 0);
+    right &= goes_on_at(ChipSize::Mib1, 0x8_0000);
+    right &= answers(ChipSize::Mib1, end);
+    assert!(rt; right);
 }

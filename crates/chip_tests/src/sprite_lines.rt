@@ -66,12 +66,11 @@ fn read_on(v: u16, pos: u16, ctl: u16) -> (u16, u16) {
 
 #[test]
 fn lines_of_a_sprite(rt: HostRuntime) {
+    let mut right = true;
     for (v, pos, ctl, controls, words) in &LINES {
-        assert!(rt;
-            read_on(*v, *pos, *ctl) == (*controls, *words),
-            "{v} {pos} {ctl}"
-        );
+        right &= read_on(*v, *pos, *ctl) == (*controls, *words);
     }
+    assert!(rt; right);
 }
 
 /// Whether a sprite asks for a control word there.

@@ -6,8 +6,8 @@ use reg_file::Regs;
 /// The registers after these writes.
 pub fn registers(words: &[(u16, u16)]) -> Regs {
     let mut regs = Regs::reset();
-    for (offset, word) in words.iter().copied() {
-        let _effect = regs.poke(Reg::masked(offset), word, false);
+    for (offset, word) in words {
+        let _effect = regs.poke(Reg::masked(*offset), *word, false);
     }
     regs
 }
