@@ -28,17 +28,28 @@ fn clocks_to_go_on(cpu: &mut BusCpu, word: u16) -> u32 {
     99
 }
 
-/// The processor after its reset, with these words of a program given.
-fn after(words: &[u16]) -> BusCpu {
-    let mut cpu = BusCpu::reset(ChipSize::Kib512, true);
-    for word in [0, 0x1000, 0, 8] {
-        let _clocks = clocks_to_go_on(&mut cpu, word);
-    }
-    let _idle = clocks_to_go_on(&mut cpu, 0);
+/// Gives the processor these words, one at each access or stretch of idle clocks.
+fn give_words(cpu: &mut BusCpu, words: &[u16]) {
     for word in words {
-        let _clocks = clocks_to_go_on(&mut cpu, *word);
+        let _clocks = clocks_to_go_on(cpu, *word);
     }
+}
+
+/// SSP and PC, which are read at reset.
+static AT_RESET: [u16; 4] = [0, 0x1000, 0, 8];
+
+/// A processor with a chip memory of this size after its reset, with these words of a program given.
+fn after_with(chip: ChipSize, words: &[u16]) -> BusCpu {
+    let mut cpu = BusCpu::reset(chip, true);
+    give_words(&mut cpu, &AT_RESET);
+    let _idle = clocks_to_go_on(&mut cpu, 0);
+    give_words(&mut cpu, words);
     cpu
+}
+
+/// The processor with 512 KiB after its reset, with these words of a program given.
+fn after(words: &[u16]) -> BusCpu {
+    after_with(ChipSize::Kib512, words)
 }
 
 /// Whether a processor asks for its slot at the second clock of an access, and goes on with the word given there.
@@ -132,14 +143,7 @@ fn where_a_write_to_memory_goes(rt: HostRuntime) {
 /// What a processor with a chip memory of this size asks for when it reads the word at 080000:
 /// MOVE.W 00080000,D0.
 fn wish_above_512_kib(chip: ChipSize) -> Option<ProcessorAsk> {
-    let mut cpu = BusCpu::reset(chip, true);
-    for word in [0, 0x1000, 0, 8] {
-        let _clocks = clocks_to_go_on(&mut cpu, word);
-    }
-    let _idle = clocks_to_go_on(&mut cpu, 0);
-    for word in [0x3039, 0x0008, 0x0000] {
-        let _clocks = clocks_to_go_on(&mut cpu, word);
-    }
+    let mut cpu = after_with(chip, &[0x3039, 0x0008, 0x0000]);
     cpu.wait(1);
     cpu.wish()
 }
@@ -176,9 +180,7 @@ fn stopped(sr: u16) -> BusCpu {
 #[test]
 fn clocks_at_which_it_only_waits(rt: HostRuntime) {
     let mut reset = BusCpu::reset(ChipSize::Kib512, true);
-    for word in [0, 0x1000, 0, 8] {
-        let _clocks = clocks_to_go_on(&mut reset, word);
-    }
+    give_words(&mut reset, &AT_RESET);
     let found = [
         reset.quiet(&Irq::reset()),
         quiet_after(&[0x1039, 0x00bf, 0xe001]),

@@ -4,8 +4,8 @@ use irq_cia::{Cia, Irq};
 
 /// Writes bytes to registers, each after its number.
 fn write_all(cia: &mut Cia, bytes: &[(u8, u8)]) {
-    for (reg, byte) in bytes.iter().copied() {
-        cia.poke(reg % 16, byte);
+    for (reg, byte) in bytes {
+        cia.poke(*reg % 16, *byte);
     }
 }
 

@@ -54,7 +54,7 @@ fn has_frame(kind: &Trap, sr: u16, words: &[u16]) -> bool {
 
 #[test]
 fn short_frames(rt: HostRuntime) {
-    let kinds = [
+    let kinds = &[
         Trap::Illegal,
         Trap::Privilege,
         Trap::LineA,
@@ -67,7 +67,7 @@ fn short_frames(rt: HostRuntime) {
         Trap::Number { v: 2 },
     ];
     let mut right = true;
-    for kind in &kinds {
+    for kind in kinds {
         right &= has_frame(kind, 0x8704, &[0x3456, 0x0012, 0x8704]);
     }
     assert!(rt; right);

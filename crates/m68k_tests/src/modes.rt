@@ -27,7 +27,7 @@ fn number(place: Place68) -> u32 {
 
 #[test]
 fn places_of_modes(rt: HostRuntime) {
-    let cases = [
+    let cases = &[
         (Mode::Dn { reg: 3 }, 3),
         (Mode::An { reg: 7 }, 107),
         (Mode::Ind { reg: 6 }, 0x6000),
@@ -39,7 +39,7 @@ fn places_of_modes(rt: HostRuntime) {
         (Mode::Imm, 0x9000),
     ];
     let mut right = true;
-    for (mode, want) in &cases {
+    for (mode, want) in cases {
         right &= is_place(mode, *want);
     }
     assert!(rt; right);
@@ -98,7 +98,7 @@ fn wrapping_steps_and_indices(rt: HostRuntime) {
 
 #[test]
 fn words_of_modes(rt: HostRuntime) {
-    let modes = [
+    let modes = &[
         (Mode::Dn { reg: 0 }, 0),
         (Mode::Pre { reg: 7 }, 0),
         (Mode::Disp { reg: 1 }, 1),
@@ -109,7 +109,7 @@ fn words_of_modes(rt: HostRuntime) {
         (Mode::PcIndex, 1),
     ];
     let mut right = true;
-    for (mode, want) in &modes {
+    for (mode, want) in modes {
         right &= extension_words(mode, Size::Byte) == *want;
         right &= extension_words(mode, Size::Long) == *want;
     }

@@ -71,7 +71,7 @@ static IMMEDIATE: [Case; 7] = [
     },
 ];
 
-static SUMS: [Case; 20] = [
+static UNARY_AND_QUICK: [Case; 9] = [
     // NEGX.B D1 with X.
     Case {
         set: &[(Sr, 0x2714)],
@@ -150,6 +150,9 @@ static SUMS: [Case; 20] = [
         clocks: 10,
         after: &[],
     },
+];
+
+static SUMS: [Case; 11] = [
     // SUB.W A0,D0.
     Case {
         set: &[],
@@ -412,6 +415,11 @@ static DECIMAL: [Case; 4] = [
 #[test]
 fn immediates(rt: HostRuntime) {
     assert!(rt; first_fault(&IMMEDIATE, 0).is_none());
+}
+
+#[test]
+fn unary_and_quick_operations(rt: HostRuntime) {
+    assert!(rt; first_fault(&UNARY_AND_QUICK, 0).is_none());
 }
 
 #[test]

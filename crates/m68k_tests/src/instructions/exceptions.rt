@@ -2,9 +2,9 @@
 
 use super::Reg::{D, Pc, Sr, Ssp};
 use super::Want::{H, I, R, W};
-use super::{Case, Cpu, CpuRegs, at_code, first_fault, memory, registers, step, wanted};
+use super::{Case, Cpu, CpuRegs, Want, at_code, first_fault, memory, registers, step, wanted};
 
-static TRAPS: [Case; 21] = [
+static REFUSED: [Case; 10] = [
     // ILLEGAL.
     Case {
         set: &[],
@@ -165,6 +165,9 @@ static TRAPS: [Case; 21] = [
         clocks: 17,
         after: &[(Pc, 0xe10), (Ssp, 0xbfa), (Sr, 0x2700)],
     },
+];
+
+static TRAPS: [Case; 11] = [
     // DIVU D5,D0 by 0: C is clear.
     Case {
         set: &[(Sr, 0x2701)],
@@ -629,6 +632,11 @@ static WAITING: [Case; 1] = [
 ];
 
 #[test]
+fn refused_opcodes(rt: HostRuntime) {
+    assert!(rt; first_fault(&REFUSED, 0).is_none());
+}
+
+#[test]
 fn traps(rt: HostRuntime) {
     assert!(rt; first_fault(&TRAPS, 0).is_none());
 }
@@ -648,30 +656,57 @@ fn stop_waits(rt: HostRuntime) {
     assert!(rt; first_fault(&WAITING, 0).is_none());
 }
 
-/// STOP ends with the first idle clock at which the level is above its mask.
+/// Whether STOP ends with the first idle clock at which the level is above its mask.
+fn is_ended(cpu: &mut Cpu, memory: &mut [u16; 2048]) -> bool {
+    for (level, want) in &[(7, None), (0, None), (0, None), (0, None), (1, Some(1))] {
+        if step(cpu, memory, *level).1 != *want {
+            return false;
+        }
+    }
+    true
+}
+
+/// Whether the processor asks for these in turn, at an interrupt level.
+fn asks_for(cpu: &mut Cpu, memory: &mut [u16; 2048], level: u8, wants: &[Want]) -> bool {
+    for want in wants {
+        if cpu.ask() != wanted(*want) {
+            return false;
+        }
+        step(cpu, memory, level);
+    }
+    true
+}
+
+/// PC and SR, and the vector of level 1.
+static ENTRY_OF_LEVEL_1: [Want; 6] = [
+    W(0xbfe, 0x414),
+    W(0xbfc, 0),
+    W(0xbfa, 0x2000),
+    R(0x64),
+    R(0x66),
+    I(12),
+];
+
+/// STOP ends with the interrupt, which is entered.
 #[test]
 fn stop_ends_by_an_interrupt(rt: HostRuntime) {
     let case = &WAITING[0];
     let mut memory = memory(case, &registers(case));
     let mut cpu = at_code(&mut memory);
-    let mut right = true;
-    for (level, want) in &[(7, None), (0, None), (0, None), (0, None), (1, Some(1))] {
-        right &= step(&mut cpu, &mut memory, *level).1 == *want;
-    }
-    // PC and SR, and the vector of level 1.
-    let wants = [
-        W(0xbfe, 0x414),
-        W(0xbfc, 0),
-        W(0xbfa, 0x2000),
-        R(0x64),
-        R(0x66),
-        I(12),
-    ];
-    for want in &wants {
-        right &= cpu.ask() == wanted(*want);
-        step(&mut cpu, &mut memory, 1);
-    }
+    let mut right = is_ended(&mut cpu, &mut memory);
+    right &= asks_for(&mut cpu, &mut memory, 1, &ENTRY_OF_LEVEL_1);
     assert!(rt; right && cpu.regs().pc == 0xe32 && cpu.regs().sr == 0x2100);
+}
+
+/// Whether it is stopped as each row says, and has its mask, before each step at level 0.
+fn stops_as(cpu: &mut Cpu, memory: &mut [u16; 2048], rows: &[(bool, u8)]) -> bool {
+    for (is_stopped, mask) in rows {
+        if cpu.is_stopped() != *is_stopped || cpu.mask() != *mask {
+            return false;
+        }
+        step(cpu, memory, 0);
+    }
+    true
 }
 
 /// Whether it is stopped, and its mask, before STOP #2000h, behind each of its two words, and behind each of
@@ -681,13 +716,8 @@ fn what_stop_stops(rt: HostRuntime) {
     let case = &WAITING[0];
     let mut memory = memory(case, &registers(case));
     let mut cpu = at_code(&mut memory);
-    let mut found = [(false, 0); 5];
-    for place in 0..5 {
-        found[place] = (cpu.is_stopped(), cpu.mask());
-        step(&mut cpu, &mut memory, 0);
-    }
-    let want = [(false, 7), (false, 7), (true, 0), (true, 0), (true, 0)];
-    assert!(rt; found == want);
+    let rows = &[(false, 7), (false, 7), (true, 0), (true, 0), (true, 0)];
+    assert!(rt; stops_as(&mut cpu, &mut memory, rows));
 }
 
 /// Whether these are the registers behind a reset.
@@ -702,13 +732,7 @@ fn reset(rt: HostRuntime) {
     let case = &WAITING[0];
     let mut memory = memory(case, &registers(case));
     let mut cpu = Cpu::reset();
-    let mut right = true;
-    for want in &[R(0), R(2), R(4), R(6), I(12), R(0x400)] {
-        right &= cpu.ask() == wanted(*want);
-        if let R(0x400) = *want {
-            break;
-        }
-        step(&mut cpu, &mut memory, 7);
-    }
+    let mut right = asks_for(&mut cpu, &mut memory, 7, &[R(0), R(2), R(4), R(6), I(12)]);
+    right &= cpu.ask() == wanted(R(0x400));
     assert!(rt; right && is_reset(cpu.regs()));
 }

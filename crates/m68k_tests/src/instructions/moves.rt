@@ -4,7 +4,7 @@ use super::Reg::{A, D, Sr, Ssp, Usp};
 use super::Want::{B, C, I, R, W};
 use super::{Case, first_fault};
 
-static MOVES: [Case; 17] = [
+static MOVES: [Case; 10] = [
     // MOVE.W D0,D1.
     Case {
         set: &[],
@@ -102,6 +102,9 @@ static MOVES: [Case; 17] = [
         clocks: 6,
         after: &[(A(0), 0x0800_0802)],
     },
+];
+
+static IN_REGISTERS: [Case; 7] = [
     // MOVEQ #-1,D0.
     Case {
         set: &[],
@@ -454,6 +457,11 @@ static STATUS: [Case; 10] = [
 #[test]
 fn moves(rt: HostRuntime) {
     assert!(rt; first_fault(&MOVES, 0).is_none());
+}
+
+#[test]
+fn moves_in_registers(rt: HostRuntime) {
+    assert!(rt; first_fault(&IN_REGISTERS, 0).is_none());
 }
 
 #[test]

@@ -51,12 +51,18 @@ fn all_opcodes_of_moveq(rt: HostRuntime) {
     assert!(rt; right);
 }
 
+/// Whether an opcode leaves these longs in D0 and D2.
+fn leaves(cpu: &mut Cpu, opcode: u16, d0: u32, d2: u32) -> bool {
+    give(cpu, opcode);
+    cpu.regs().d[0] == d0 && cpu.regs().d[2] == d2
+}
+
 /// MOVEQ #1,D0 and MOVEQ #11h,D2, which are kept at the same place, in turns.
 #[test]
 fn opcodes_that_share_a_place(rt: HostRuntime) {
     let mut cpu = at_code(&mut memory(&NOTHING, &registers(&NOTHING)));
     let mut right = true;
-    for (opcode, d0, d2) in [
+    for (opcode, d0, d2) in &[
         (0x7001, 1, 0xffff_fffe),
         (0x7411, 1, 0x11),
         (0x7000, 0, 0x11),
@@ -64,8 +70,7 @@ fn opcodes_that_share_a_place(rt: HostRuntime) {
         (0x7001, 1, 0x10),
         (0x7411, 1, 0x11),
     ] {
-        give(&mut cpu, opcode);
-        right &= cpu.regs().d[0] == d0 && cpu.regs().d[2] == d2;
+        right &= leaves(&mut cpu, *opcode, *d0, *d2);
     }
     assert!(rt; right);
 }

@@ -56,13 +56,13 @@ fn extension_and_exchange(rt: HostRuntime) {
 #[test]
 fn sums(rt: HostRuntime) {
     let mut right = true;
-    for (a, b, value, after) in [
+    for (a, b, value, after) in &[
         (0x7f, 0x01, 0x80, 0b01010),
         (0x80, 0x80, 0x00, 0b10111),
         (0xff, 0x01, 0x00, 0b10101),
         (0x1234_5601, 0xffff_ff02, 0x03, 0),
     ] {
-        right &= gives(op_add(Byte, a, b, flags(0b11111)), value, after);
+        right &= gives(op_add(Byte, *a, *b, flags(0b11111)), *value, *after);
     }
     right &= gives(op_add(Word, 0x7fff, 0x7fff, flags(0)), 0xfffe, 0b01010);
     right &= gives(
@@ -70,13 +70,13 @@ fn sums(rt: HostRuntime) {
         0x7fff_ffff,
         0b10011,
     );
-    for (a, b, before, value, after) in [
+    for (a, b, before, value, after) in &[
         (0xff, 0x00, 0b10100, 0x00, 0b10101),
         (0xff, 0x00, 0b10000, 0x00, 0b10001),
         (0x01, 0x01, 0b00100, 0x02, 0),
         (0x7f, 0x00, 0b10000, 0x80, 0b01010),
     ] {
-        right &= gives(op_addx(Byte, a, b, flags(before)), value, after);
+        right &= gives(op_addx(Byte, *a, *b, flags(*before)), *value, *after);
     }
     assert!(rt; right);
 }
@@ -84,13 +84,13 @@ fn sums(rt: HostRuntime) {
 #[test]
 fn differences(rt: HostRuntime) {
     let mut right = true;
-    for (a, b, value, after) in [
+    for (a, b, value, after) in &[
         (0x80, 0x01, 0x7f, 0b00010),
         (0x00, 0x01, 0xff, 0b11001),
         (0x7f, 0xff, 0x80, 0b11011),
         (0x05, 0x05, 0x00, 0b00100),
     ] {
-        right &= gives(op_sub(Byte, a, b, flags(0b10000)), value, after);
+        right &= gives(op_sub(Byte, *a, *b, flags(0b10000)), *value, *after);
     }
     right &= gives(op_sub(Long, 0, 0x8000_0000, flags(0)), 0x8000_0000, 0b11011);
     right &= gives(op_neg(Byte, 0x80, 0, flags(0)), 0x80, 0b11011);
@@ -117,14 +117,14 @@ fn differences_with_x(rt: HostRuntime) {
 #[test]
 fn bounds(rt: HostRuntime) {
     let mut right = true;
-    for (a, b, before, after) in [
+    for (a, b, before, after) in &[
         (0x8000, 0x7fff, 0, 0b01000),
         (0x0005, 0x0004, 0b01111, 0b00111),
         (0x0004, 0x0004, 0b11111, 0b11111),
         (0xffff, 0x8000, 0, 0b01000),
         (0x0000, 0xffff, 0b01000, 0),
     ] {
-        right &= gives(op_chk(Word, a, b, flags(before)), a, after);
+        right &= gives(op_chk(Word, *a, *b, flags(*before)), *a, *after);
     }
     assert!(rt; right);
 }
@@ -132,16 +132,16 @@ fn bounds(rt: HostRuntime) {
 #[test]
 fn decimal_digits(rt: HostRuntime) {
     let mut right = true;
-    for (a, b, before, value, after) in [
+    for (a, b, before, value, after) in &[
         (0x09, 0x01, 0b00100, 0x10, 0),
         (0x99, 0x01, 0b00100, 0x00, 0b10101),
         (0x45, 0x38, 0, 0x83, 0),
         (0x99, 0x99, 0b10000, 0x99, 0b10001),
         (0x01, 0x01, 0b01010, 0x02, 0b01010),
     ] {
-        right &= gives(op_abcd(Byte, a, b, flags(before)), value, after);
+        right &= gives(op_abcd(Byte, *a, *b, flags(*before)), *value, *after);
     }
-    for (a, b, before, value, after) in [
+    for (a, b, before, value, after) in &[
         (0x10, 0x01, 0b00100, 0x09, 0),
         (0x00, 0x01, 0, 0x99, 0b10001),
         (0x00, 0x00, 0b10100, 0x99, 0b10001),
@@ -149,7 +149,7 @@ fn decimal_digits(rt: HostRuntime) {
         (0x20, 0x20, 0b10000, 0x99, 0b10001),
         (0x10, 0x00, 0b10000, 0x09, 0),
     ] {
-        right &= gives(op_sbcd(Byte, a, b, flags(before)), value, after);
+        right &= gives(op_sbcd(Byte, *a, *b, flags(*before)), *value, *after);
     }
     right &= gives(op_nbcd(Byte, 0x00, 0, flags(0b00100)), 0x00, 0b00100);
     right &= gives(op_nbcd(Byte, 0x01, 0, flags(0)), 0x99, 0b10001);

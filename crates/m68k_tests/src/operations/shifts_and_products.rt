@@ -10,7 +10,7 @@ use m68k_decode::Size::{Byte, Long, Word};
 #[test]
 fn arithmetic_left(rt: HostRuntime) {
     let mut right = true;
-    for (a, count, value, after) in [
+    for (a, count, value, after) in &[
         (0x40, 1, 0x80, 0b01010),
         (0xc0, 1, 0x80, 0b11001),
         (0x40, 2, 0x00, 0b10111),
@@ -18,21 +18,21 @@ fn arithmetic_left(rt: HostRuntime) {
         (0xff, 7, 0x80, 0b11001),
         (0xff, 8, 0x00, 0b10111),
     ] {
-        right &= gives(op_asl(Byte, a, count, flags(0)), value, after);
+        right &= gives(op_asl(Byte, *a, *count, flags(0)), *value, *after);
     }
     right &= gives(
         op_asl(Long, 0x8000_0001, 0, flags(0b10001)),
         0x8000_0001,
         0b11000,
     );
-    for (count, value, after) in [
+    for (count, value, after) in &[
         (31, 0x8000_0000, 0b01010),
         (32, 0, 0b10111),
         (33, 0, 0b00110),
         (63, 0, 0b00110),
         (64, 1, 0b00000),
     ] {
-        right &= gives(op_asl(Long, 1, count, flags(0)), value, after);
+        right &= gives(op_asl(Long, 1, *count, flags(0)), *value, *after);
     }
     assert!(rt; right);
 }
@@ -40,7 +40,7 @@ fn arithmetic_left(rt: HostRuntime) {
 #[test]
 fn arithmetic_right(rt: HostRuntime) {
     let mut right = true;
-    for (count, value, after) in [
+    for (count, value, after) in &[
         (0, 0x8000_0000, 0b11000),
         (31, 0xffff_ffff, 0b01000),
         (32, 0xffff_ffff, 0b11001),
@@ -48,9 +48,9 @@ fn arithmetic_right(rt: HostRuntime) {
         (63, 0xffff_ffff, 0b11001),
     ] {
         right &= gives(
-            op_asr(Long, 0x8000_0000, count, flags(0b10011)),
-            value,
-            after,
+            op_asr(Long, 0x8000_0000, *count, flags(0b10011)),
+            *value,
+            *after,
         );
     }
     right &= gives(op_asr(Byte, 0x81, 1, flags(0)), 0xc0, 0b11001);
@@ -67,7 +67,7 @@ fn logical_shifts(rt: HostRuntime) {
     right &= gives(op_lsl(Word, 1, 17, flags(0b10000)), 0, 0b00100);
     right &= gives(op_lsl(Long, 1, 64, flags(0b10011)), 1, 0b10000);
     right &= gives(op_lsr(Byte, 0xff81, 1, flags(0)), 0x40, 0b10001);
-    for (count, value, after) in [
+    for (count, value, after) in &[
         (0, 0x8000_0000, 0b01000),
         (31, 1, 0b00000),
         (32, 0, 0b10101),
@@ -75,9 +75,9 @@ fn logical_shifts(rt: HostRuntime) {
         (63, 0, 0b00100),
     ] {
         right &= gives(
-            op_lsr(Long, 0x8000_0000, count, flags(0b00011)),
-            value,
-            after,
+            op_lsr(Long, 0x8000_0000, *count, flags(0b00011)),
+            *value,
+            *after,
         );
     }
     assert!(rt; right);
@@ -104,14 +104,14 @@ fn rotations(rt: HostRuntime) {
 #[test]
 fn rotations_through_x(rt: HostRuntime) {
     let mut right = true;
-    for (a, count, before, value, after) in [
+    for (a, count, before, value, after) in &[
         (0x80, 1, 0, 0x00, 0b10101),
         (0x80, 2, 0, 0x01, 0),
         (0x00, 1, 0b10000, 0x01, 0),
         (0x01, 0, 0b10000, 0x01, 0b10001),
         (0x81, 9, 0b10000, 0x81, 0b11001),
     ] {
-        right &= gives(op_roxl(Byte, a, count, flags(before)), value, after);
+        right &= gives(op_roxl(Byte, *a, *count, flags(*before)), *value, *after);
     }
     right &= gives(
         op_roxl(Long, 0x1234_5678, 33, flags(0b10000)),
@@ -159,7 +159,7 @@ fn quotients(rt: HostRuntime) {
         0x1_0000,
         0b11110,
     );
-    for (a, b, value, after) in [
+    for (a, b, value, after) in &[
         (0x8000_0000, 0xffff, 0x8000_0000, 0b00010),
         (0xffff_fff9, 0x0002, 0xffff_fffd, 0b01000),
         (0x0000_0007, 0xfffe, 0x0001_fffd, 0b01000),
@@ -167,7 +167,7 @@ fn quotients(rt: HostRuntime) {
         (0x0000_8000, 0x0001, 0x0000_8000, 0b00010),
         (0xffff_7fff, 0x0001, 0xffff_7fff, 0b00010),
     ] {
-        right &= gives(op_divs(Word, a, b, flags(0b00001)), value, after);
+        right &= gives(op_divs(Word, *a, *b, flags(0b00001)), *value, *after);
     }
     assert!(rt; right);
 }
