@@ -188,43 +188,50 @@ fn note_line(log: &mut SlotLog, v: u16) -> Result<(), OutOfMemory> {
     Ok(())
 }
 
-/// The text of a log of these lines.
-fn text_of(alloc: Global, lines: &[u16]) -> Result<Vec<u8>, OutOfMemory> {
-    let mut log = SlotLog::new(alloc, System::Pal);
+/// Notes these lines.
+fn note_lines(log: &mut SlotLog, lines: &[u16]) -> Result<(), OutOfMemory> {
     for v in lines {
-        note_line(&mut log, *v)?;
+        note_line(log, *v)?;
     }
-    Ok(Vec::from_slice(alloc, log.text())?)
-}
-
-/// The text of the first line of a frame, of free lines, and of the first line of another.
-fn five_lines(alloc: Global) -> Result<Vec<u8>, OutOfMemory> {
-    let mut text = Vec::from_slice(alloc, &FIRST)?;
-    text.extend_from_slice(&FREE_LINES)?;
-    text.extend_from_slice(&AGAIN)?;
-    Ok(text)
-}
-
-#[test]
-fn each_kind_of_entry_and_lines_that_are_guessed(rt: HostRuntime) -> Result<(), OutOfMemory> {
-    let text = text_of(rt.alloc(), &[0, 1, 2, 3, 0])?;
-    let expected = five_lines(rt.alloc())?;
-    assert!(rt; text.as_slice() == expected.as_slice());
     Ok(())
 }
 
-/// The headings of both systems.
-fn headings(alloc: Global) -> Result<Vec<u8>, OutOfMemory> {
-    let mut text = Vec::new(alloc);
-    put_heading(System::Pal, 3, 10, 524_288, &mut text)?;
-    put_heading(System::Ntsc, 0, 1, 1_048_576, &mut text)?;
-    Ok(text)
+/// Whether a text is that of the first line of a frame, of free lines, and of the first line of another.
+fn is_of_five_lines(text: &[u8]) -> bool {
+    text.get(..111) == Some(FIRST.as_slice())
+        && text.get(111..127) == Some(FREE_LINES.as_slice())
+        && text.get(127..) == Some(AGAIN.as_slice())
+}
+
+/// Whether those lines have that text in a log.
+fn logs_five_lines(log: &mut SlotLog) -> bool {
+    note_lines(log, &[0, 1, 2, 3, 0]).is_ok() && is_of_five_lines(log.text())
+}
+
+/// The same in a log of its own.
+fn has_five_lines(alloc: Global) -> bool {
+    logs_five_lines(&mut SlotLog::new(alloc, System::Pal))
 }
 
 #[test]
-fn both_headings(rt: HostRuntime) -> Result<(), OutOfMemory> {
-    let text = headings(rt.alloc())?;
+fn each_kind_of_entry_and_lines_that_are_guessed(rt: HostRuntime) {
+    assert!(rt; has_five_lines(rt.alloc()));
+}
+
+/// Whether the headings of both systems are appended to an empty text.
+fn puts_headings(text: &mut Vec<u8>) -> bool {
     let expected = b"ocs-slots 2 pal 3 10 524288\nocs-slots 2 ntsc 0 1 1048576\n";
-    assert!(rt; text.as_slice() == expected.as_slice());
-    Ok(())
+    put_heading(System::Pal, 3, 10, 524_288, text).is_ok()
+        && put_heading(System::Ntsc, 0, 1, 1_048_576, text).is_ok()
+        && text.as_slice() == expected.as_slice()
+}
+
+/// The same with a text of its own.
+fn has_headings(alloc: Global) -> bool {
+    puts_headings(&mut Vec::new(alloc))
+}
+
+#[test]
+fn both_headings(rt: HostRuntime) {
+    assert!(rt; has_headings(rt.alloc()));
 }

@@ -1,7 +1,8 @@
 //! Places of three scenes; the numbers are worked by hand from the rules.
 
-use ocs_base::{Act, At, OutOfMemory, Reg, Script};
+use ocs_base::{Act, At, Reg, Script};
 use scene_gen::scene;
+use std::alloc::Global;
 
 fn word_at(image: &[u8], address: usize) -> Option<u16> {
     let high = image.get(address)?;
@@ -27,6 +28,14 @@ fn has_words(image: &[u8], words: &[(usize, u16)]) -> bool {
         }
     }
     true
+}
+
+/// Whether the image of a scene has 48 KiB, and each of these words at its address.
+fn has_image(alloc: Global, number: u32, words: &[(usize, u16)]) -> bool {
+    match scene(alloc, number) {
+        Ok((image, _)) => image.len() == 49_152 && has_words(image.as_slice(), words),
+        Err(_) => false,
+    }
 }
 
 /// Addresses and words of scene 0.
@@ -70,10 +79,8 @@ static WORDS_OF_SCENE_0: [(usize, u16); 36] = [
 ];
 
 #[test]
-fn image_of_scene_0(rt: HostRuntime) -> Result<(), OutOfMemory> {
-    let (image, _) = scene(rt.alloc(), 0)?;
-    assert!(rt; image.len() == 49_152 && has_words(image.as_slice(), &WORDS_OF_SCENE_0));
-    Ok(())
+fn image_of_scene_0(rt: HostRuntime) {
+    assert!(rt; has_image(rt.alloc(), 0, &WORDS_OF_SCENE_0));
 }
 
 /// Addresses and words of scene 5.
@@ -85,10 +92,8 @@ static WORDS_OF_SCENE_5: [(usize, u16); 4] = [
 ];
 
 #[test]
-fn image_of_scene_5(rt: HostRuntime) -> Result<(), OutOfMemory> {
-    let (image, _) = scene(rt.alloc(), 5)?;
-    assert!(rt; has_words(image.as_slice(), &WORDS_OF_SCENE_5));
-    Ok(())
+fn image_of_scene_5(rt: HostRuntime) {
+    assert!(rt; has_image(rt.alloc(), 5, &WORDS_OF_SCENE_5));
 }
 
 /// Addresses and words of the last scene.
@@ -101,10 +106,8 @@ static WORDS_OF_THE_LAST_SCENE: [(usize, u16); 5] = [
 ];
 
 #[test]
-fn image_of_the_last_scene(rt: HostRuntime) -> Result<(), OutOfMemory> {
-    let (image, _) = scene(rt.alloc(), u32::MAX)?;
-    assert!(rt; has_words(image.as_slice(), &WORDS_OF_THE_LAST_SCENE));
-    Ok(())
+fn image_of_the_last_scene(rt: HostRuntime) {
+    assert!(rt; has_image(rt.alloc(), u32::MAX, &WORDS_OF_THE_LAST_SCENE));
 }
 
 /// Frame, line, clock, register and word of a write.
@@ -153,12 +156,20 @@ fn has_last_peek(script: &Script) -> bool {
     script.events().get(103) == Some(&peek)
 }
 
+/// Whether the script of a scene is one of 105 events that reads CLXDAT at last, and has each of these writes
+/// at its place.
+fn has_script(alloc: Global, number: u32, writes: &[(usize, Write)]) -> bool {
+    match scene(alloc, number) {
+        Ok((_, script)) => {
+            is_of_105_events(&script) && has_writes(&script, writes) && has_last_peek(&script)
+        }
+        Err(_) => false,
+    }
+}
+
 #[test]
-fn script_of_scene_0(rt: HostRuntime) -> Result<(), OutOfMemory> {
-    let (_, script) = scene(rt.alloc(), 0)?;
-    let has_events = has_writes(&script, &WRITES_OF_SCENE_0) && has_last_peek(&script);
-    assert!(rt; is_of_105_events(&script) && has_events);
-    Ok(())
+fn script_of_scene_0(rt: HostRuntime) {
+    assert!(rt; has_script(rt.alloc(), 0, &WRITES_OF_SCENE_0));
 }
 
 /// Places and writes of the last scene.
@@ -172,8 +183,6 @@ static WRITES_OF_THE_LAST_SCENE: [(usize, Write); 6] = [
 ];
 
 #[test]
-fn script_of_the_last_scene(rt: HostRuntime) -> Result<(), OutOfMemory> {
-    let (_, script) = scene(rt.alloc(), u32::MAX)?;
-    assert!(rt; has_writes(&script, &WRITES_OF_THE_LAST_SCENE));
-    Ok(())
+fn script_of_the_last_scene(rt: HostRuntime) {
+    assert!(rt; has_script(rt.alloc(), u32::MAX, &WRITES_OF_THE_LAST_SCENE));
 }

@@ -1,10 +1,9 @@
 //! The three versions of the text. The texts, lines and kinds are worked by hand from the grammar.
 
-use crate::texts::{are_bad, good, is_bad, prints};
+use crate::texts::{are_bad, is_bad, prints};
 use ocs_base::{Act, Script, System};
-use script_read::BadKind;
+use script_read::{BadKind, read_script};
 use std::alloc::Global;
-use std::test::Fail;
 
 /// Texts of later versions, and the line that is bad and its kind.
 static HEADS: [(&[u8], u32, BadKind); 18] = [
@@ -123,19 +122,27 @@ static CHIP_MEMORIES: [(&[u8], u32); 7] = [
     ),
 ];
 
-/// Whether each text is good, and has this chip memory.
-fn have_memories(alloc: Global, cases: &[(&[u8], u32)]) -> Result<bool, Fail> {
-    let mut right = true;
-    for (text, bytes) in cases {
-        right &= good(alloc, text)?.chip() == *bytes;
+/// Whether a text is good, and has this chip memory.
+fn has_memory(alloc: Global, text: &[u8], bytes: u32) -> bool {
+    match read_script(alloc, text) {
+        Ok(script) => script.chip() == bytes,
+        Err(_) => false,
     }
-    Ok(right)
+}
+
+/// Whether each text is good, and has its chip memory.
+fn have_memories(alloc: Global, cases: &[(&[u8], u32)]) -> bool {
+    for (text, bytes) in cases {
+        if !has_memory(alloc, text, *bytes) {
+            return false;
+        }
+    }
+    true
 }
 
 #[test]
-fn chip_memory_by_text(rt: HostRuntime) -> Result<(), Fail> {
-    assert!(rt; have_memories(rt.alloc(), &CHIP_MEMORIES)?);
-    Ok(())
+fn chip_memory_by_text(rt: HostRuntime) {
+    assert!(rt; have_memories(rt.alloc(), &CHIP_MEMORIES));
 }
 
 /// Whether a script is one of this system with so many frames, and with a processor or not.
@@ -151,14 +158,21 @@ fn has_both_events(script: &Script) -> bool {
         && events[0].act == Act::Key { code: 0x45 }
 }
 
+/// Whether a text is good and its script is that.
+fn reads_both_events(alloc: Global, text: &[u8]) -> bool {
+    match read_script(alloc, text) {
+        Ok(script) => has_both_events(&script),
+        Err(_) => false,
+    }
+}
+
 /// The first event of version 2 stands on line 5.
 #[test]
-fn events_of_version_2(rt: HostRuntime) -> Result<(), Fail> {
+fn events_of_version_2(rt: HostRuntime) {
     let text = b"ocs 2\ncpu on\nframes 2\nchip 1024\nat 0 5 6 key 45\nat 1 311 226 peek 002\nend\n";
     let early = b"ocs 2\ncpu on\nframes 2\nchip 1024\nat 0 5 6 key 45\nat 0 5 5 key 45\nend\n";
-    let is_read = has_both_events(&good(rt.alloc(), text)?);
+    let is_read = reads_both_events(rt.alloc(), text);
     assert!(rt; is_read && is_bad(rt.alloc(), early, 6, BadKind::Order));
-    Ok(())
 }
 
 /// Whether the one event of a script is on this line.
@@ -167,49 +181,59 @@ fn has_one_event(script: &Script, v: u16) -> bool {
     events.len() == 1 && events[0].v == v
 }
 
+/// Whether the script of a text is of NTSC with one frame and no processor, and its one event on line 261.
+fn reads_ntsc(alloc: Global, text: &[u8]) -> bool {
+    match read_script(alloc, text) {
+        Ok(script) => { has_head(&script, System::Ntsc, 1, false) && has_one_event(&script, 261) }
+        Err(_) => false,
+    }
+}
+
 #[test]
-fn events_of_ntsc(rt: HostRuntime) -> Result<(), Fail> {
+fn events_of_ntsc(rt: HostRuntime) {
     let late = b"ocs 3\ncpu off\nframes 1\nchip 512\nsystem ntsc\nat 0 262 0 poke 180 0f00\nend\n";
     let last =
         b"ocs 3\ncpu off\nframes 1\nchip 512\nsystem ntsc\nat 0 261 226 poke 180 0f00\nend\n";
-    let script = good(rt.alloc(), last)?;
-    let is_read = has_head(&script, System::Ntsc, 1, false) && has_one_event(&script, 261);
+    let is_read = reads_ntsc(rt.alloc(), last);
     assert!(rt; is_read && is_bad(rt.alloc(), late, 6, BadKind::Event));
-    Ok(())
+}
+
+/// Whether the script of a text is of PAL with two frames and a processor, and its one event on line 311.
+fn reads_pal(alloc: Global, text: &[u8]) -> bool {
+    match read_script(alloc, text) {
+        Ok(script) => has_head(&script, System::Pal, 2, true) && has_one_event(&script, 311),
+        Err(_) => false,
+    }
 }
 
 #[test]
-fn events_of_pal(rt: HostRuntime) -> Result<(), Fail> {
+fn events_of_pal(rt: HostRuntime) {
     let last = b"ocs 3\ncpu on\nframes 2\nchip 512\nsystem pal\nat 1 311 226 peek 002\nend\n";
     let below = b"ocs 3\ncpu on\nframes 2\nchip 512\nsystem pal\nat 1 312 0 peek 002\nend\n";
-    let script = good(rt.alloc(), last)?;
-    let is_read = has_head(&script, System::Pal, 2, true) && has_one_event(&script, 311);
+    let is_read = reads_pal(rt.alloc(), last);
     assert!(rt; is_read && is_bad(rt.alloc(), below, 6, BadKind::Event));
-    Ok(())
 }
 
 #[test]
-fn version_2_is_of_pal(rt: HostRuntime) -> Result<(), Fail> {
+fn version_2_is_of_pal(rt: HostRuntime) {
     let second = b"ocs 2\ncpu on\nframes 2\nchip 512\nat 1 311 226 peek 002\nend\n";
-    assert!(rt; good(rt.alloc(), second)?.system() == System::Pal);
-    Ok(())
+    assert!(rt; reads_pal(rt.alloc(), second));
 }
 
 #[test]
-fn the_lowest_version_is_printed(rt: HostRuntime) -> Result<(), Fail> {
+fn the_lowest_version_is_printed(rt: HostRuntime) {
     let ntsc =
         b"ocs 3\ncpu on\nframes 10\nchip 512\nsystem ntsc\nat 0 100 100 poke 180 0f00\nend\n";
     let third = b"ocs 3\ncpu off\nframes 1\nchip 512\nsystem pal\nend\n";
     let second = b"ocs 2\ncpu off\nframes 1\nchip 512\nend\n";
     let first = b"ocs 1\ncpu off\nframes 1\nend\n";
     let found = [
-        prints(rt.alloc(), ntsc, ntsc)?,
-        prints(rt.alloc(), third, first)?,
-        prints(rt.alloc(), second, first)?,
-        prints(rt.alloc(), first, first)?,
+        prints(rt.alloc(), ntsc, ntsc),
+        prints(rt.alloc(), third, first),
+        prints(rt.alloc(), second, first),
+        prints(rt.alloc(), first, first),
     ];
     assert!(rt; found == [true; 4]);
-    Ok(())
 }
 
 #[test]
@@ -219,15 +243,14 @@ fn names_of_kinds(rt: HostRuntime) {
 
 /// 1 MiB of chip memory is said from version 2 on.
 #[test]
-fn one_mib_is_printed(rt: HostRuntime) -> Result<(), Fail> {
+fn one_mib_is_printed(rt: HostRuntime) {
     let second = b"ocs 2\ncpu on\nframes 2\nchip 1024\nat 1 311 226 peek 002\nend\n";
     let pal = b"ocs 3\ncpu on\nframes 2\nchip 1024\nsystem pal\nat 1 311 226 peek 002\nend\n";
     let ntsc = b"ocs 3\ncpu off\nframes 10\nchip 1024\nsystem ntsc\nat 9 261 226 key 0a\nend\n";
     let found = [
-        prints(rt.alloc(), second, second)?,
-        prints(rt.alloc(), pal, second)?,
-        prints(rt.alloc(), ntsc, ntsc)?,
+        prints(rt.alloc(), second, second),
+        prints(rt.alloc(), pal, second),
+        prints(rt.alloc(), ntsc, ntsc),
     ];
     assert!(rt; found == [true; 3]);
-    Ok(())
 }

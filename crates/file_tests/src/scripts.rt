@@ -1,27 +1,38 @@
 //! Each public call once with ample memory. The texts, lines and kinds are worked by hand from the grammar.
 
-use crate::texts::{are_bad, good, is_bad, prints};
-use ocs_base::{Act, Script};
+use crate::texts::{are_bad, is_bad, prints};
+use ocs_base::{Act, OutOfMemory, Script};
 use script_read::{BadKind, read_script};
 use std::alloc::Global;
-use std::test::Fail;
 
 /// A script without events.
 const SHORT: &[u8] = b"ocs 1\ncpu off\nframes 1\nend\n";
 
-/// Whether an event's line after three head lines is bad, and of that kind.
-fn is_bad_event(alloc: Global, event: &[u8], kind: BadKind) -> Result<bool, Fail> {
-    let mut text = Vec::from_slice(alloc, b"ocs 1\ncpu off\nframes 2\nat 0 5 6 peek 002\n")?;
+/// Appends three head lines, an event, this event, and the end.
+fn put_event(text: &mut Vec<u8>, event: &[u8]) -> Result<(), OutOfMemory> {
+    text.extend_from_slice(b"ocs 1\ncpu off\nframes 2\nat 0 5 6 peek 002\n")?;
     text.extend_from_slice(event)?;
     text.extend_from_slice(b"\nend\n")?;
-    Ok(is_bad(alloc, text.as_slice(), 5, kind))
+    Ok(())
+}
+
+/// Whether an event's line after three head lines and an event is bad, and of that kind.
+fn is_bad_event(alloc: Global, event: &[u8], kind: BadKind) -> bool {
+    let mut text = Vec::new(alloc);
+    put_event(&mut text, event).is_ok() && is_bad(alloc, text.as_slice(), 5, kind)
+}
+
+/// Whether a script has no processor, one frame and no events.
+fn is_short(alloc: Global, text: &[u8]) -> bool {
+    match read_script(alloc, text) {
+        Ok(short) => !short.cpu() && short.frames() == 1 && short.events().is_empty(),
+        Err(_) => false,
+    }
 }
 
 #[test]
-fn a_script_without_events_is_read(rt: HostRuntime) -> Result<(), Fail> {
-    let short = good(rt.alloc(), SHORT)?;
-    assert!(rt; !short.cpu() && short.frames() == 1 && short.events().is_empty());
-    Ok(())
+fn a_script_without_events_is_read(rt: HostRuntime) {
+    assert!(rt; is_short(rt.alloc(), SHORT));
 }
 
 /// Whether a script has a processor, 1000 frames and two events, of which the second is button 1 down.
@@ -34,12 +45,19 @@ fn is_of_1000_frames(script: &Script) -> bool {
     script.cpu() && script.frames() == 1000 && events.len() == 2 && events[1].act == down
 }
 
+/// Whether a text is good and its script is that.
+fn has_1000_frames(alloc: Global, text: &[u8]) -> bool {
+    match read_script(alloc, text) {
+        Ok(script) => is_of_1000_frames(&script),
+        Err(_) => false,
+    }
+}
+
 #[test]
-fn scripts_are_read(rt: HostRuntime) -> Result<(), Fail> {
+fn scripts_are_read(rt: HostRuntime) {
     let text =
         b"ocs 1\ncpu on\nframes 1000\nat 999 311 226 poke 1fe ffff\nat 999 311 226 fire 1 1\nend";
-    assert!(rt; is_of_1000_frames(&good(rt.alloc(), text)?));
-    Ok(())
+    assert!(rt; has_1000_frames(rt.alloc(), text));
 }
 
 /// Texts, and the line that is bad and its kind.
@@ -96,88 +114,88 @@ static EVENTS: [&[u8]; 26] = [
 ];
 
 /// Whether each line is bad, and no event.
-fn are_bad_events(alloc: Global, events: &[&[u8]]) -> Result<bool, Fail> {
-    let mut right = true;
+fn are_bad_events(alloc: Global, events: &[&[u8]]) -> bool {
     for event in events {
-        right &= is_bad_event(alloc, event, BadKind::Event)?;
+        if !is_bad_event(alloc, event, BadKind::Event) {
+            return false;
+        }
     }
-    Ok(right)
+    true
 }
 
 #[test]
-fn events_that_are_bad(rt: HostRuntime) -> Result<(), Fail> {
-    assert!(rt; are_bad_events(rt.alloc(), &EVENTS)?);
-    Ok(())
+fn events_that_are_bad(rt: HostRuntime) {
+    assert!(rt; are_bad_events(rt.alloc(), &EVENTS));
 }
 
 #[test]
-fn events_out_of_order(rt: HostRuntime) -> Result<(), Fail> {
-    let clock = is_bad_event(rt.alloc(), b"at 0 5 5 peek 002", BadKind::Order)?;
-    let line = is_bad_event(rt.alloc(), b"at 0 4 226 key 45", BadKind::Order)?;
+fn events_out_of_order(rt: HostRuntime) {
+    let clock = is_bad_event(rt.alloc(), b"at 0 5 5 peek 002", BadKind::Order);
+    let line = is_bad_event(rt.alloc(), b"at 0 4 226 key 45", BadKind::Order);
     assert!(rt; clock && line);
-    Ok(())
 }
 
-/// A text of so many equal events after three head lines.
-fn long_text(alloc: Global, events: u32) -> Result<Vec<u8>, Fail> {
-    let mut text = Vec::from_slice(alloc, b"ocs 1\ncpu off\nframes 1\n")?;
+/// Appends three head lines and so many equal events.
+fn put_events(text: &mut Vec<u8>, events: u32) -> Result<(), OutOfMemory> {
+    text.extend_from_slice(b"ocs 1\ncpu off\nframes 1\n")?;
     for _ in 0..events {
         text.extend_from_slice(b"at 0 0 0 poke 180 0fff\n")?;
     }
-    Ok(text)
+    Ok(())
+}
+
+/// Appends the last line.
+fn put_end(text: &mut Vec<u8>) -> bool {
+    text.extend_from_slice(b"end\n").is_ok()
 }
 
 /// Whether a text of 99,999 lines is good with its end, and has too many lines with another.
-fn ends_once(alloc: Global, text: &mut Vec<u8>) -> Result<bool, Fail> {
-    text.extend_from_slice(b"end\n")?;
-    let is_good = read_script(alloc, text.as_slice()).is_ok();
-    text.extend_from_slice(b"end\n")?;
-    Ok(is_good && is_bad(alloc, text.as_slice(), 100_001, BadKind::Lines))
+fn ends_once(alloc: Global, text: &mut Vec<u8>) -> bool {
+    put_events(text, 99_996).is_ok()
+        && put_end(text)
+        && read_script(alloc, text.as_slice()).is_ok()
+        && put_end(text)
+        && is_bad(alloc, text.as_slice(), 100_001, BadKind::Lines)
 }
 
 /// Whether a text of 100,000 lines lacks its end, and has too many lines with it.
-fn ends_never(alloc: Global, text: &mut Vec<u8>) -> Result<bool, Fail> {
-    let lacks_end = is_bad(alloc, text.as_slice(), 100_001, BadKind::Missing);
-    text.extend_from_slice(b"end\n")?;
-    Ok(lacks_end && is_bad(alloc, text.as_slice(), 100_001, BadKind::Lines))
+fn ends_never(alloc: Global, text: &mut Vec<u8>) -> bool {
+    put_events(text, 99_997).is_ok()
+        && is_bad(alloc, text.as_slice(), 100_001, BadKind::Missing)
+        && put_end(text)
+        && is_bad(alloc, text.as_slice(), 100_001, BadKind::Lines)
 }
 
 #[test]
-fn texts_of_many_lines(rt: HostRuntime) -> Result<(), Fail> {
-    let mut most = long_text(rt.alloc(), 99_996)?;
-    assert!(rt; ends_once(rt.alloc(), &mut most)?);
-    Ok(())
+fn texts_of_many_lines(rt: HostRuntime) {
+    assert!(rt; ends_once(rt.alloc(), &mut Vec::new(rt.alloc())));
 }
 
 #[test]
-fn texts_of_too_many_lines(rt: HostRuntime) -> Result<(), Fail> {
-    let mut more = long_text(rt.alloc(), 99_997)?;
-    assert!(rt; ends_never(rt.alloc(), &mut more)?);
-    Ok(())
+fn texts_of_too_many_lines(rt: HostRuntime) {
+    assert!(rt; ends_never(rt.alloc(), &mut Vec::new(rt.alloc())));
 }
 
 /// Whether a script without events is bad behind its end where its text has the greatest size, and too long
 /// with one byte more.
-fn grows_too_long(alloc: Global, bytes: &mut Vec<u8>) -> Result<bool, Fail> {
-    bytes.resize(4_194_304, b'\n')?;
-    let is_extra = is_bad(alloc, bytes.as_slice(), 5, BadKind::Extra);
-    bytes.push(b'\n')?;
-    Ok(is_extra && is_bad(alloc, bytes.as_slice(), 0, BadKind::Long))
+fn grows_too_long(alloc: Global, bytes: &mut Vec<u8>) -> bool {
+    bytes.extend_from_slice(SHORT).is_ok()
+        && bytes.resize(4_194_304, b'\n').is_ok()
+        && is_bad(alloc, bytes.as_slice(), 5, BadKind::Extra)
+        && bytes.push(b'\n').is_ok()
+        && is_bad(alloc, bytes.as_slice(), 0, BadKind::Long)
 }
 
 #[test]
-fn texts_that_are_long(rt: HostRuntime) -> Result<(), Fail> {
-    let mut bytes = Vec::from_slice(rt.alloc(), SHORT)?;
-    assert!(rt; grows_too_long(rt.alloc(), &mut bytes)?);
-    Ok(())
+fn texts_that_are_long(rt: HostRuntime) {
+    assert!(rt; grows_too_long(rt.alloc(), &mut Vec::new(rt.alloc())));
 }
 
 #[test]
-fn scripts_are_printed(rt: HostRuntime) -> Result<(), Fail> {
+fn scripts_are_printed(rt: HostRuntime) {
     let lines =
         b"ocs 1\ncpu on\nframes 2\nat 0 0 0 poke 00e 00ff\nat 0 0 1 peek 1fe\nat 0 1 0 joy 1 0203\nat 1 0 0 fire 0 1\nat 1 0 0 key 0a\nend\n";
-    let long = prints(rt.alloc(), lines, lines)?;
-    let short = prints(rt.alloc(), SHORT, SHORT)?;
+    let long = prints(rt.alloc(), lines, lines);
+    let short = prints(rt.alloc(), SHORT, SHORT);
     assert!(rt; long && short && SHORT.len() == 27 && BadKind::Missing.name() == "missing");
-    Ok(())
 }
