@@ -3,12 +3,12 @@
 use run_cases::CaseFault;
 use run_cases::case::check;
 
-fn frames_told() -> [&'static str; 2] {
-    [
-        "run Nothing is written: a frame has 242 rows.
+static NTSC_RUNS: [&str; 5] = [
+    // Frames.
+    "run Nothing is written: a frame has 242 rows.
 system ntsc
 image 4*0000",
-        "run COLOR00 is red from clock 100 of line 100 on, which is row 80.
+    "run COLOR00 is red from clock 100 of line 100 on, which is row 80.
 bands 1 20 313
 workers 0 2
 system ntsc
@@ -16,12 +16,8 @@ image 4*0000
 at 0 100 100: 180=0f00
 part 80 80 212 719 ff0000
 part 81 241 0 719 ff0000",
-    ]
-}
-
-fn places_told() -> [&'static str; 3] {
-    [
-        "run The first line that is shown is line 20, and the last one line 261.
+    // Lines and fields.
+    "run The first line that is shown is line 20, and the last one line 261.
 system ntsc
 image 4*0000
 at 0 19 226: 180=0f00
@@ -30,28 +26,22 @@ at 0 261 226: 180=000f 004?8001 006?05e2
 part 0 0 0 715 ff0000
 part 241 241 716 719 0000ff
 ground 00ff00",
-        "run Of an interlaced frame the second field is short.
+    "run Of an interlaced frame the second field is short.
 frames 2
 system ntsc
 image 4*0000
 at 0 0 0: 100=0004
 at 1 10 0: 004?0000",
-        "run A script of version 3 for PAL is one of version 1.
+    "run A script of version 3 for PAL is one of version 1.
 system pal
 image 4*0000
 at 0 100 100: 180=0f00
 at 0 311 226: 004?8001 006?37e2
 part 74 74 212 719 ff0000
 part 75 285 0 719 ff0000",
-    ]
-}
+];
 
 #[test]
-fn frames_of_ntsc(rt: HostRuntime) -> Result<(), CaseFault> {
-    check(&rt, rt.alloc(), &frames_told())
-}
-
-#[test]
-fn places_of_ntsc(rt: HostRuntime) -> Result<(), CaseFault> {
-    check(&rt, rt.alloc(), &places_told())
+fn runs_of_ntsc(rt: HostRuntime) -> Result<(), CaseFault> {
+    check(&rt, rt.alloc(), &NTSC_RUNS)
 }
