@@ -27,10 +27,11 @@ use Rattle.rewind_loop.proofs.LineLaws.{IsLater, clocks_on, least_last}
 use Rattle.ocs_run.specs.Audio.{audio_text, is_sampled, sampled, IsHeard, with_audio, grown_audio, MayHaveMade, MayHaveGrown}
 use Rattle.ocs_words.specs.Order.{IsFourth, IsFourthName}
 use Rattle.ocs_run.specs.Prefix.{IsPartOf, LeavesPrefixesOver, LeavesFiles}
+use Rattle.ocs_run.specs.RestCode.{WritesRest, WritesPart}
 use Rattle.ocs_run.specs.Run.{HasFilesOver, HasAllFiles}
 use Rattle.ocs_run.specs.UnderwayCode.{AreUnsampled, CanRun, IsFresh, IsWritten, EndsFromStart}
 use Rattle.ocs_run.specs.declared.audio.Recording.{Recording}
-use Rattle.ocs_run.proofs.RunLaws.{HasFiles-run, begins_created}
+use Rattle.ocs_run.proofs.RunLaws.{HasFiles-run, LeavesPrefixes-memory, begins_created}
 use Rattle.ocs_run.proofs.PrefixLaws.{LeavesPrefixes-all, LeavesPrefixes-whole, one_end}
 
 -- ---- what is taken
@@ -338,16 +339,44 @@ IsAllButAudio-run of name base mid now after run fore last out created given kep
       fourth = fourth;
     }
 
-pub HasAllFiles-run : {T E : Type 0} (answer : Result T E) (audio : Option (List ℕ)) (base after last : Option Files) (run : RunValue) (names : OutNames)
-    (clocks : ℕ) (bytes : List ℕ) → IsAllButAudio audio base after run names clocks bytes → OnOk answer (last ≡ grown_audio audio after bytes)
-    → OnOk answer (HasAllFiles audio run.side run.image run.script names base last)
-HasAllFiles-run (Ok done) audio base after last run names clocks bytes is grew =
-    HasAllFiles-grown run.side run.image run.script names audio base after last clocks bytes is.fourth is.end is.taken is.has grew
-HasAllFiles-run (Err fault) audio base after last run names clocks bytes is grew = tt
+-- what is written behind the last clock, by the answer for the audio file
+pub WritesRest-grown : {T E : Type 0} (answer : Result T E) (audio : Option (List ℕ)) (out : OutFilesValue) (memory bytes : List ℕ)
+    (before mid after : Option Files) → Completes out before mid memory → OnOk answer (after ≡ grown_audio audio mid bytes)
+    → OnOk answer (WritesRest audio out memory bytes before after)
+WritesRest-grown (Ok done) audio out memory bytes before mid after completes grown =
+    record { mid = mid; completes = completes; grown = grown }
+WritesRest-grown (Err fault) audio out memory bytes before mid after completes grown = tt
 
-pub LeavesFiles-run : {T E : Type 0} (answer : Result T E) (audio : Option (List ℕ)) (base after last : Option Files) (run : RunValue) (names : OutNames)
-    (clocks : ℕ) (bytes : List ℕ) → IsAllButAudio audio base after run names clocks bytes → OnErr answer (MayHaveGrown audio bytes after last)
-    → OnErr answer (LeavesFiles audio run.side run.image run.script names base last)
-LeavesFiles-run (Ok done) audio base after last run names clocks bytes is part = tt
-LeavesFiles-run (Err fault) audio base after last run names clocks bytes is part =
-    LeavesFiles-grown run.side run.image run.script names audio base after last clocks bytes is.fourth is.end is.taken is.has part
+pub WritesPart-grown : {T E : Type 0} (answer : Result T E) (audio : Option (List ℕ)) (out : OutFilesValue) (memory bytes : List ℕ)
+    (before mid after : Option Files) → Completes out before mid memory → OnErr answer (MayHaveGrown audio bytes mid after)
+    → OnErr answer (WritesPart audio out memory bytes before after)
+WritesPart-grown (Ok done) audio out memory bytes before mid after completes grown = tt
+WritesPart-grown (Err fault) audio out memory bytes before mid after completes grown =
+    inr (record { mid = mid; completes = completes; grown = grown })
+
+pub HasAllFiles-rest : {A : Type 0} (of : A → List ℕ) (name : Option A) (base mid now after : Option Files) (run : RunValue) (fore last : ForeValue)
+    (out created given : OutFilesValue) (kept : Recording) → IsFourthName out.names (option_map of name) → IsFresh run.script.system out
+    → created ≡ out → Begins created (with_audio (option_map of name) base []) mid → IsNew run fore → 1 ≤ run.script.frames
+    → EndsFromStart run fore last created given mid now → last.run ≡ fore.run → given.names ≡ created.names → kept.on ≡ is_some name
+    → IsHeard kept last → WritesRest (option_map of name) given (memory_text last.machine.chip.words) kept.bytes.items now after
+    → HasAllFiles (option_map of name) run.side run.image run.script out.names base after
+HasAllFiles-rest of name base mid now after run fore last out created given kept fourth fresh same begins new some ends ran names on heard rest =
+    let all = IsAllButAudio-run of name base mid now rest.mid run fore last out created given kept fourth fresh same begins new some ends ran names
+    rest.completes on heard in
+    HasAllFiles-grown run.side run.image run.script out.names (option_map of name) base rest.mid after last.machine.t kept.bytes.items
+    all.fourth all.end all.taken all.has rest.grown
+
+pub LeavesFiles-rest : {A : Type 0} (of : A → List ℕ) (name : Option A) (base mid now after : Option Files) (run : RunValue) (fore last : ForeValue)
+    (out created given : OutFilesValue) (kept : Recording) → IsFourthName out.names (option_map of name) → IsFresh run.script.system out
+    → created ≡ out → Begins created (with_audio (option_map of name) base []) mid → IsNew run fore → 1 ≤ run.script.frames
+    → EndsFromStart run fore last created given mid now → last.run ≡ fore.run → given.names ≡ created.names → kept.on ≡ is_some name
+    → IsHeard kept last → WritesPart (option_map of name) given (memory_text last.machine.chip.words) kept.bytes.items now after
+    → LeavesFiles (option_map of name) run.side run.image run.script out.names base after
+LeavesFiles-rest of name base mid now after run fore last out created given kept fourth fresh same begins new some ends ran names on heard (inl parts) =
+    LeavesFiles-empty run.side run.image run.script out.names (option_map of name) base after
+    (LeavesPrefixes-memory (with_audio (option_map of name) base []) mid now after run fore last out created given fresh same begins new ends ran names parts)
+LeavesFiles-rest of name base mid now after run fore last out created given kept fourth fresh same begins new some ends ran names on heard (inr part) =
+    let all = IsAllButAudio-run of name base mid now part.mid run fore last out created given kept fourth fresh same begins new some ends ran names
+    part.completes on heard in
+    LeavesFiles-grown run.side run.image run.script out.names (option_map of name) base part.mid after last.machine.t kept.bytes.items
+    all.fourth all.end all.taken all.has part.grown

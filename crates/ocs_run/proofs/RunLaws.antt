@@ -188,6 +188,10 @@ pub ok_then : {T E : Type 0} (r : Result T E) (P Q : Type 0) → OnOk r P → (P
 ok_then (Ok v) P Q p f = f p
 ok_then (Err e) P Q p f = tt
 
+pub err_then : {T E : Type 0} (r : Result T E) (P Q : Type 0) → OnErr r P → (P → Q) → OnErr r Q
+err_then (Ok v) P Q p f = tt
+err_then (Err e) P Q p f = f p
+
 abbrev RunParts : RunValue → OutNames → Option Files → Option Files → Type 0
 RunParts run names base files = (clocks : ℕ) × HasParts run.side run.image run.script names base files clocks
 

@@ -2,6 +2,7 @@ pub mod Audio
 pub mod Command
 pub mod PlaceCode
 pub mod Prefix
+pub mod RestCode
 pub mod RewindAnswers
 pub mod RewindText
 pub mod Run

@@ -1,22 +1,23 @@
 //! A run: the clocks from reset to the last of the script's frames, and the files.
 
-ghost use Rattle.std.specs.Prelude.{◌≡◌, ◌≤◌, ◌<◌, ◌%◌, ◌+◌, ◌^◌, [], true, false, option_map, OnOk, OnErr, IfOk, IfErr};
+ghost use Rattle.std.specs.Prelude.{◌≡◌, ◌≤◌, ◌<◌, ◌%◌, ◌+◌, ◌^◌, [], true, false, is_some, option_map, OnOk, OnErr, IfOk, IfErr};
 ghost use Rattle.std.specs.Arc.{arc_value};
 ghost use Rattle.out_files.specs.declared.fault.WriteFault.TheVariants as WriteFault;
 ghost use Rattle.out_files.specs.Answers.{AreGrowable};
 ghost use Rattle.out_files.specs.OutFiles.{all_given};
-ghost use Rattle.out_files.specs.Together.{Completes, LeavesParts, StayTogether};
+ghost use Rattle.out_files.specs.Together.{Begins, Completes, LeavesParts, StayTogether};
 ghost use Rattle.serial_model.specs.MemoryText.{memory_text};
 ghost use Rattle.crew.specs.Crew.{crew_seen};
 ghost use Rattle.foreground.specs.Fore.{is_done, IsNew};
 ghost use Rattle.clock_loop.specs.RunTo.{RunsOn};
 ghost use Rattle.crew.specs.Crew.{side_seen};
-ghost use Rattle.ocs_run.specs.Audio.{is_sampled, IsHeard};
+ghost use Rattle.ocs_run.specs.Audio.{is_sampled, with_audio, IsAudioGrowable, IsHeard};
 ghost use Rattle.ocs_words.specs.Order.{IsFourthName};
 ghost use Rattle.out_files.specs.Places.{LeavesPlace, WritesFiles};
 ghost use Rattle.ocs_run.specs.PlaceCode.{WritesRun};
 ghost use Rattle.ocs_run.specs.Prefix.{LeavesFiles};
 ghost use Rattle.ocs_run.specs.Run.{HasAllFiles};
+ghost use Rattle.ocs_run.specs.RestCode.{MayHaveCreated, WritesRest, WritesPart};
 ghost use Rattle.ocs_run.specs.UnderwayCode.{AreUnsampled, fore_of, run_of, CanRun, Runs, IsStopped, IsFresh, Ends, IsCut, EndsFromStart, IsCutFromStart, IsOfSameRun};
 
 use crate::audio::{Recording, clocks_to_sample, create_audio, listen, write_audio};
@@ -61,6 +62,13 @@ struct Underway {
     heard: Recording,
 }
 
+/// A run that has begun: itself, which its jobs share, and what changes with each clock.
+#[derive(Drop)]
+struct Begun {
+    run: Arc<Run<CrewSide>>,
+    underway: Underway,
+}
+
 /// Runs the script over the image, in bands of `height` lines that so many workers draw, and writes
 /// the three files, and the audio file where a name is given for it. They are created once the machine
 /// is made, the audio file last. Without a fault they are the texts of the run, whole; after one each of
@@ -90,18 +98,106 @@ pub fn run_files<
     ensures place { WritesRun (option_map (λ n. n.now) audio.entry) result (P.outside place.old)
         (P.outside place.new) }
 {
-    let Setup { run, side, mut out } = setup;
-    let _good = run.script();
+    let _good = setup.run.script();
+    let begun = begin(alloc, setup, drawing.workers, audio.is_some())?;
+    run_begun(rt, alloc, drawing, begun, audio, place)
+}
+
+/// The foreground of a run at reset, and nothing sounded yet. No file is created.
+fn begin(alloc: Global, setup: Setup, workers: u8, on: bool) -> Result<Begun, WriteFault>
+    requires side { side_seen setup.side ≡ side_seen setup.run.side }
+    ensures run { IfOk result (λ begun. arc_value begun.run ≡ setup.run) }
+    ensures out { IfOk result (λ begun. begun.underway.out ≡ setup.out) }
+    ensures new { IfOk result (λ begun. IsNew (run_of setup.run) (fore_of begun.underway.fore)) }
+    ensures silent { IfOk result (λ begun. begun.underway.heard.bytes.items ≡ []) }
+    ensures on { IfOk result (λ begun. begun.underway.heard.on ≡ on) }
+    ensures memory { IfErr result (λ fault. fault ≡ WriteFault.OutOfMemory) }
+{
+    let Setup { run, side, out } = setup;
     let run = share(alloc, run)?;
-    let fore = fore_for(alloc, shared(&run)?, side, drawing.workers)?;
+    let fore = fore_for(alloc, &run, side, workers)?;
     let heard = Recording {
-        on: audio.is_some(),
+        on,
         bytes: Vec::new(alloc),
     };
+    let underway = Underway { fore, out, heard };
+    Ok(Begun { run, underway })
+}
+
+/// Creates the files of a run that has begun, runs all its clocks, and writes what is left.
+fn run_begun<
+    R: Threads + Wait + Clone + Drop + Send + Sync + 'static,
+    P: Place,
+    G: Gate + Drop + Send + Sync + 'static,
+>(
+    rt: &R,
+    alloc: Global,
+    drawing: Drawing<G>,
+    begun: Begun,
+    audio: Option<&str>,
+    place: &mut P,
+) -> Result<(), Fault>
+    requires workers { drawing.workers ≤ 32 }
+    requires some { 1 ≤ (arc_value begun.run).script.frames }
+    requires fresh { IsFresh (arc_value begun.run).script.system begun.underway.out }
+    requires new { IsNew (run_of (arc_value begun.run)) (fore_of begun.underway.fore) }
+    requires silent { begun.underway.heard.bytes.items ≡ [] }
+    requires on { begun.underway.heard.on ≡ is_some audio }
+    requires apart { IsFourthName begun.underway.out.names (option_map (λ n. n.now) audio) }
+    ensures done { OnOk result (HasAllFiles (option_map (λ n. n.now) audio.entry)
+        (side_seen (arc_value begun.run).side) (arc_value begun.run).image
+        (arc_value begun.run).script begun.underway.out.names
+        (P.outside place.old).files (P.outside place.new).files) }
+    ensures stopped { OnErr result (LeavesFiles (option_map (λ n. n.now) audio.entry)
+        (side_seen (arc_value begun.run).side) (arc_value begun.run).image
+        (arc_value begun.run).script begun.underway.out.names
+        (P.outside place.old).files (P.outside place.new).files) }
+    ensures place { WritesRun (option_map (λ n. n.now) audio.entry) result (P.outside place.old)
+        (P.outside place.new) }
+{
+    let Begun { run, mut underway } = begun;
+    create_files(&mut underway.out, audio, place)?;
+    draw_with_crew(rt, alloc, drawing, run, &mut underway, place)?;
+    write_rest(underway, audio, place)
+}
+
+/// Creates the three files and then the audio file, where a run has one, all empty.
+fn create_files<P: Place>(
+    out: &mut OutFiles,
+    audio: Option<&str>,
+    place: &mut P,
+) -> Result<(), Fault>
+    requires apart { IsFourthName out.old.names (option_map (λ n. n.now) audio) }
+    ensures same { out.new ≡ out.old }
+    ensures begins { OnOk result (Begins out.new
+        (with_audio (option_map (λ n. n.now) audio.entry) (P.outside place.old).files [])
+        (P.outside place.new).files) }
+    ensures growable { OnOk result (AreGrowable (P.growable place.new) out.old.names) }
+    ensures audio { OnOk result
+        (IsAudioGrowable (P.growable place.new) (option_map (λ n. n.now) audio.entry)) }
+    ensures stopped { OnErr result (MayHaveCreated (option_map (λ n. n.now) audio.entry)
+        out.old.names (P.outside place.old).files (P.outside place.new).files) }
+    ensures place { WritesRun (option_map (λ n. n.now) audio.entry) result (P.outside place.old)
+        (P.outside place.new) }
+{
     out.create(place)?;
     create_audio(audio, place)?;
-    let mut underway = Underway { fore, out, heard };
-    draw_with_crew(rt, alloc, drawing, run, &mut underway, place)?;
+    Ok(())
+}
+
+/// Appends the words of chip memory to the memory file, and what was sounded to the audio file.
+fn write_rest<P: Place>(underway: Underway, audio: Option<&str>, place: &mut P) -> Result<(), Fault>
+    requires growable { AreGrowable (P.growable place.old) underway.out.names }
+    requires audio { IsAudioGrowable (P.growable place.old) (option_map (λ n. n.now) audio) }
+    ensures done { OnOk result (WritesRest (option_map (λ n. n.now) audio.entry) underway.out
+        (memory_text underway.fore.machine.chip.words) underway.heard.bytes.items
+        (P.outside place.old).files (P.outside place.new).files) }
+    ensures stopped { OnErr result (WritesPart (option_map (λ n. n.now) audio.entry) underway.out
+        (memory_text underway.fore.machine.chip.words) underway.heard.bytes.items
+        (P.outside place.old).files (P.outside place.new).files) }
+    ensures place { WritesRun (option_map (λ n. n.now) audio.entry) result (P.outside place.old)
+        (P.outside place.new) }
+{
     let Underway {
         fore,
         mut out,
@@ -167,14 +263,15 @@ fn draw_with_crew<
 /// The foreground of a run at reset. Where there are workers, it lets bands wait for them.
 fn fore_for(
     alloc: Global,
-    run: Arc<Run<CrewSide>>,
+    run: &Arc<Run<CrewSide>>,
     side: CrewSide,
     workers: u8,
-) -> Result<Fore<CrewSide>, OutOfMemory>
-    requires { side_seen side ≡ side_seen (arc_value run).side }
-    ensures { IfOk result (λ fore. IsNew (run_of (arc_value run)) (fore_of fore)) }
+) -> Result<Fore<CrewSide>, WriteFault>
+    requires { side_seen side ≡ side_seen (arc_value run.now).side }
+    ensures fore { IfOk result (λ fore. IsNew (run_of (arc_value run.now)) (fore_of fore)) }
+    ensures memory { IfErr result (λ fault. fault ≡ WriteFault.OutOfMemory) }
 {
-    let mut fore = Fore::with_side(alloc, run, side)?;
+    let mut fore = Fore::with_side(alloc, shared(run)?, side)?;
     if workers > 0 {
         fore.gather_late();
     }
