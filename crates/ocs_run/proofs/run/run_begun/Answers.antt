@@ -1,7 +1,10 @@
-use Rattle.std.proofs.Common.{List, ℕ, Option, OnOk, OnErr, ◌∙◌}
+use Rattle.std.proofs.Common.{[], ◌∙◌}
 use Rattle.std.specs.Prelude.{option_map}
 use Rattle.std.specs.Arc.{arc_value}
 use Rattle.crew.specs.Crew.{side_seen}
+use Rattle.ocs_run.specs.Audio.{with_audio}
+use Rattle.ocs_run.specs.Prefix.{LeavesFiles}
+use Rattle.ocs_run.specs.UnderwayCode.{run_of, fore_of}
 use Rattle.ocs_run.proofs.AudioLaws.{LeavesFiles-empty, HasAllFiles-rest, LeavesFiles-rest}
 use Rattle.ocs_run.proofs.FaultLaws.{WritesRun-err, WritesRun-again, fault_of_all}
 use Rattle.ocs_run.proofs.KeptLaws.{OnlyWrites-none, OnlyWrites-more}
@@ -10,8 +13,11 @@ use Rattle.ocs_run.proofs.run.run_begun.Goals as goal
 
 pub returns-in_err-create_files-clause-stopped : goal.returns-in_err-create_files-clause-stopped
 returns-in_err-create_files-clause-stopped g c =
-    on_err _ _ (c.in_err-create_files.ensures.stopped (side_seen (arc_value c.args.begun.run).side) (arc_value c.args.begun.run).image
-    (arc_value c.args.begun.run).script)
+    let run = arc_value c.args.begun.run in
+    let left : LeavesFiles (option_map (λ n. n.now) c.args.audio) (side_seen run.side) run.image run.script c.args.begun.underway.out.names
+    (g.P.Place.outside c.args.place.now).files (g.P.Place.outside c.create_files.new.place).files =
+    c.in_err-create_files.ensures.stopped (side_seen run.side) run.image run.script in
+    on_err _ _ left
 
 pub returns-in_err-create_files-clause-place : goal.returns-in_err-create_files-clause-place
 returns-in_err-create_files-clause-place g c =
@@ -20,8 +26,14 @@ returns-in_err-create_files-clause-place g c =
 
 pub returns-in_err-draw_with_crew-clause-stopped : goal.returns-in_err-draw_with_crew-clause-stopped
 returns-in_err-draw_with_crew-clause-stopped g c =
-    on_err _ _ (LeavesFiles-empty _ _ _ _ (option_map (λ n. n.now) c.args.audio) _ _
-    (LeavesPrefixes-run _ _ _ _ _ _ _ c.requires.fresh c.create_files.ensures.same c.in_ok-create_files.ensures.begins c.requires.new
+    let run = arc_value c.args.begun.run in
+    let audio = option_map (λ n. n.now) c.args.audio in
+    let base = (g.P.Place.outside c.args.place.now).files in
+    let mid = (g.P.Place.outside c.create_files.new.place).files in
+    let after = (g.P.Place.outside c.draw_with_crew.new.place).files in
+    on_err _ _ (LeavesFiles-empty (side_seen run.side) run.image run.script c.args.begun.underway.out.names audio base after
+    (LeavesPrefixes-run (with_audio audio base []) mid after (run_of run) (fore_of c.args.begun.underway.fore) c.args.begun.underway.out
+    c.create_files.new.out c.requires.fresh c.create_files.ensures.same c.in_ok-create_files.ensures.begins c.requires.new
     c.in_err-draw_with_crew.ensures.stopped))
 
 pub returns-in_err-draw_with_crew-clause-place : goal.returns-in_err-draw_with_crew-clause-place
@@ -31,15 +43,27 @@ returns-in_err-draw_with_crew-clause-place g c =
 
 pub returns-clause-done : goal.returns-clause-done
 returns-clause-done g c =
+    let base = (g.P.Place.outside c.args.place.now).files in
+    let mid = (g.P.Place.outside c.create_files.new.place).files in
+    let now = (g.P.Place.outside c.draw_with_crew.new.place).files in
+    let after = (g.P.Place.outside c.write_rest.new.place).files in
     let drawn = c.in_ok-draw_with_crew.ensures in
-    ok_then _ _ _ c.write_rest.ensures.done (HasAllFiles-rest (λ n. n.now) c.args.audio _ _ _ _ _ _ _ _ _ _ c.draw_with_crew.new.underway.heard
+    ok_then c.write_rest.result _ _ c.write_rest.ensures.done (HasAllFiles-rest (λ n. n.now) c.args.audio base mid now after
+    (run_of (arc_value c.args.begun.run)) (fore_of c.args.begun.underway.fore) (fore_of c.draw_with_crew.new.underway.fore)
+    c.args.begun.underway.out c.create_files.new.out c.draw_with_crew.new.underway.out c.draw_with_crew.new.underway.heard
     c.requires.apart c.requires.fresh c.create_files.ensures.same c.in_ok-create_files.ensures.begins c.requires.new c.requires.some
     drawn.done drawn.same.run drawn.same.names (drawn.on ∙ c.requires.on) drawn.same.heard)
 
 pub returns-clause-stopped : goal.returns-clause-stopped
 returns-clause-stopped g c =
+    let base = (g.P.Place.outside c.args.place.now).files in
+    let mid = (g.P.Place.outside c.create_files.new.place).files in
+    let now = (g.P.Place.outside c.draw_with_crew.new.place).files in
+    let after = (g.P.Place.outside c.write_rest.new.place).files in
     let drawn = c.in_ok-draw_with_crew.ensures in
-    err_then _ _ _ c.write_rest.ensures.stopped (LeavesFiles-rest (λ n. n.now) c.args.audio _ _ _ _ _ _ _ _ _ _ c.draw_with_crew.new.underway.heard
+    err_then c.write_rest.result _ _ c.write_rest.ensures.stopped (LeavesFiles-rest (λ n. n.now) c.args.audio base mid now after
+    (run_of (arc_value c.args.begun.run)) (fore_of c.args.begun.underway.fore) (fore_of c.draw_with_crew.new.underway.fore)
+    c.args.begun.underway.out c.create_files.new.out c.draw_with_crew.new.underway.out c.draw_with_crew.new.underway.heard
     c.requires.apart c.requires.fresh c.create_files.ensures.same c.in_ok-create_files.ensures.begins c.requires.new c.requires.some
     drawn.done drawn.same.run drawn.same.names (drawn.on ∙ c.requires.on) drawn.same.heard)
 
