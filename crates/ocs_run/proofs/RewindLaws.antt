@@ -5,25 +5,26 @@ use Rattle.ocs_base.specs.Limits.{IsRunnable}
 use Rattle.ocs_base.specs.Script.{ScriptValue}
 use Rattle.rewind_loop.specs.Places.{first_place, due_in, arrivals}
 use Rattle.rewind_loop.specs.Present.{told_of}
-use Rattle.rewind_loop.specs.declared.arrived.Arrived.{Arrived}
 use Rattle.serial_bands.specs.Run.{RunValue, IsEndOf}
 use Rattle.serial_model.specs.Side.{no_side}
 use Rattle.serial_model.proofs.EndLaws.{has_end}
 use Rattle.ocs_run.specs.RewindText.{line_of, run_of, AreLines}
 
-module _ (image : List ℕ) (script : ScriptValue) (every keep : ℕ) (clocks : List ℕ) (told : List Arrived) (run : RunValue) (frames : ℕ) where
-  -- of a run of the script over the image, of which it was told
+module _ (image : List ℕ) (script : ScriptValue) (every keep : ℕ) (clocks : List ℕ) (run : RunValue) (frames : ℕ) where
+  -- what is said where the clocks were gone to in a run with this end
+  said_by : RunValue → ℕ → ℕ → List ℕ
+  said_by r n end = flat_map line_of (map (told_of r) (arrivals (due_in r n) keep end clocks first_place))
+
+  -- of a run of the script over the image
   pub AreLines-told : (text : List ℕ) → IsRunnable script → run ≡ run_of image script → frames ≡ every
-      → ((end : ℕ) → IsEndOf run end → told ≡ map (told_of run) (arrivals (due_in run frames) keep end clocks first_place))
-      → text ≡ flat_map line_of told → AreLines image script every keep clocks text
-  AreLines-told text good run_is frames_are tells is =
+      → ((end : ℕ) → IsEndOf run end → text ≡ flat_map line_of (map (told_of run) (arrivals (due_in run frames) keep end clocks first_place)))
+      → AreLines image script every keep clocks text
+  unfolding said_by
+  AreLines-told text good run_is frames_are says =
       let last = has_end no_side image script good in
       let ends : IsEndOf run last.0 = subst (λ (r : RunValue). IsEndOf r last.0) (sym run_is) last.1 in
       record {
         end = last.0;
         ends = last.1;
-        is = is ∙ ap (λ list. flat_map line_of list)
-            (tells last.0 ends
-            ∙ ap (λ n. map (told_of run) (arrivals (due_in run n) keep last.0 clocks first_place)) frames_are
-            ∙ ap (λ (r : RunValue). map (told_of r) (arrivals (due_in r every) keep last.0 clocks first_place)) run_is);
+        is = says last.0 ends ∙ ap (λ n. said_by run n last.0) frames_are ∙ ap (λ (r : RunValue). said_by r every last.0) run_is;
       }

@@ -1,11 +1,15 @@
 //! The command `rewind`: the clocks of a run that are asked for are gone to, and a line is said of each.
 
-ghost use Rattle.std.specs.Prelude.{◌≡◌, ◌≤◌, true, IfOk};
+ghost use Rattle.std.specs.Prelude.{◌≡◌, ◌≤◌, ℕ, map, true, IfOk};
+ghost use Rattle.std.specs.List.{flat_map};
 ghost use Rattle.ocs_base.specs.Image.{is_image, fits_chip};
 ghost use Rattle.ocs_base.specs.Limits.{IsRunnable};
 ghost use Rattle.ocs_words.specs.AskedCode.{rewind_value, HasRanges};
 ghost use Rattle.ocs_run.specs.RewindAnswers.{RewindAnswers};
-ghost use Rattle.ocs_run.specs.RewindText.{AreLines};
+ghost use Rattle.ocs_run.specs.RewindText.{AreLines, line_of};
+ghost use Rattle.rewind_loop.specs.Places.{Place as RunPlace, due_in, arrivals};
+ghost use Rattle.rewind_loop.specs.Present.{IsPresent, run_in, told_of};
+ghost use Rattle.serial_bands.specs.Run.{IsEndOf};
 
 use crate::rewind_text::make_lines;
 use band_log::Run;
@@ -61,6 +65,18 @@ fn tell_clocks(
 {
     let run = Arc::new(alloc, Run::over(image, script, BAND_LINES, NoSide))?;
     let mut rewind = Rewind::new(alloc, run, order.every as u32, order.keep as usize)?;
-    let told = rewind.go_all(order.clocks.as_slice())?;
+    go_and_tell(alloc, order.clocks.as_slice(), &mut rewind)
+}
+
+/// Goes to clocks one after another, and makes the lines that are said of them.
+fn go_and_tell(alloc: Global, clocks: &[u64], rewind: &mut Rewind) -> Result<Vec<u8>, OutOfMemory>
+    requires every { 1 ≤ rewind.old.every }
+    requires at { (keep : ℕ) × (p : RunPlace) × IsPresent keep p rewind.old }
+    ensures { IfOk result (λ text. (keep end : ℕ) (p : RunPlace)
+        → IsPresent keep p rewind.old → IsEndOf (run_in rewind.old) end
+        → text.items ≡ flat_map line_of (map (told_of (run_in rewind.old))
+        (arrivals (due_in (run_in rewind.old) rewind.old.every) keep end clocks.now p))) }
+{
+    let told = rewind.go_all(clocks)?;
     make_lines(alloc, &told)
 }

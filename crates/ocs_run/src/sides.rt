@@ -1,18 +1,20 @@
 //! What stands beside the chips as a run begins: nothing, the four channels of sound, or a disk.
 
-ghost use Rattle.std.specs.Prelude.{◌≡◌, IfOk, IfErr};
+ghost use Rattle.std.specs.Prelude.{◌≡◌, true, IfOk, IfErr};
 ghost use Rattle.crew.specs.Crew.{side_seen};
+ghost use Rattle.disk_dma.specs.Disk.{disk_side, new_disk};
 ghost use Rattle.disk_dma.specs.Track.{is_track as good_track};
 ghost use Rattle.ocs_base.specs.Sizes.{bytes_of};
 ghost use Rattle.ocs_io.specs.Place.{OnlyReads};
 ghost use Rattle.ocs_words.specs.AskedCode.{extra_value};
+ghost use Rattle.ocs_words.specs.Order.{TrackFile};
 ghost use Rattle.ocs_run.specs.Sides.{ReadableTrack, IsSideOf, IsSideFault, IsTrackOf, IsTrackFault};
 ghost use Rattle.out_files.specs.Places.{LeavesPlace};
 ghost use Rattle.serial_model.specs.Side.{FitsSide};
 
 use crew::CrewSide;
 use disk_dma::Disk;
-use ocs_base::ChipSize;
+use ocs_base::{ChipSize, OutOfMemory};
 use ocs_io::{Place, ReadRefusal};
 use ocs_words::{Extra, Fault};
 use paula_audio::Paula;
@@ -53,14 +55,45 @@ pub fn read_sides<P: Place>(
             first: CrewSide::Sound(Paula::reset(chip.bytes())),
             second: CrewSide::Sound(Paula::reset(chip.bytes())),
         }),
-        Extra::Track(name) => {
-            let track = read_track(alloc, name, place)?;
-            Ok(Sides {
-                first: CrewSide::Reading(Disk::new(alloc, &track, chip.bytes())?),
-                second: CrewSide::Reading(Disk::new(alloc, &track, chip.bytes())?),
-            })
-        }
+        Extra::Track(name) => read_disks(alloc, name, chip, place),
     }
+}
+
+/// Reads the track of a disk, and makes that disk twice.
+fn read_disks<P: Place>(
+    alloc: Global,
+    name: &str,
+    chip: ChipSize,
+    place: &mut P,
+) -> Result<Sides, Fault>
+    requires { P.readable place.old name.now }
+    ensures side { IfOk result (λ sides. IsSideOf (P.outside place.old) chip (TrackFile name.now)
+        (side_seen sides.first)) }
+    ensures same { IfOk result (λ sides. side_seen sides.second ≡ side_seen sides.first) }
+    ensures fits { IfOk result (λ sides. FitsSide (bytes_of chip) (side_seen sides.first)) }
+    ensures fault { IfErr result (IsTrackFault (P.outside place.old) (P.outside place.new)
+        name.now) }
+    ensures place { LeavesPlace OnlyReads P.outside P.readable P.growable place.old place.new }
+{
+    let track = read_track(alloc, name, place)?;
+    let sides = make_disks(alloc, &track, chip)?;
+    Ok(sides)
+}
+
+/// A disk with this track, twice.
+fn make_disks(alloc: Global, track: &[u8], chip: ChipSize) -> Result<Sides, OutOfMemory>
+    requires { good_track track.now ≡ true }
+    ensures side { IfOk result (λ sides. side_seen sides.first
+        ≡ disk_side (new_disk track.now chip)) }
+    ensures same { IfOk result (λ sides. side_seen sides.second ≡ side_seen sides.first) }
+    ensures fits { IfOk result (λ sides. FitsSide (bytes_of chip) (side_seen sides.first)) }
+{
+    let first = Disk::new(alloc, track, chip.bytes())?;
+    let second = Disk::new(alloc, track, chip.bytes())?;
+    Ok(Sides {
+        first: CrewSide::Reading(first),
+        second: CrewSide::Reading(second),
+    })
 }
 
 /// Reads the track: an even number of 2 to 32,768 bytes.

@@ -17,10 +17,10 @@ returns c =
     let every : ℕ = c.in_ok-rewind.rewind.every in
     let run_is : run ≡ run_of c.args.image.items c.args.script =
     ap (λ r. run_over (λ side. no_side) r) (c.in_ok-rewind.ensures.run ∙ c.in_ok-run.ensures.ok ∙ c.over.ensures) in
-    IfOk-weaker c.make_lines.result _ _
-    (λ text is. AreLines-told c.args.image.items c.args.script o.every o.keep o.clocks.items c.in_ok-told.told.items run every text.items
+    IfOk-weaker c.go_and_tell.result _ _
+    (λ text says. AreLines-told c.args.image.items c.args.script o.every o.keep o.clocks.items run every text.items
     c.requires.script run_is c.in_ok-rewind.ensures.every
-    (λ end ends. c.in_ok-told.ensures o.keep end first_place c.in_ok-rewind.ensures.first ends
-    ∙ ap (λ (clocks : List ℕ). map (told_of run) (arrivals (due_in run every) o.keep end clocks first_place)) c.as_slice.ensures.value)
-    (is ∙ ap (λ list. flat_map line_of list) c.deref.ensures.value))
-    c.make_lines.ensures
+    (λ end ends. says o.keep end first_place c.in_ok-rewind.ensures.first ends
+    ∙ ap (λ (clocks : List ℕ). flat_map line_of (map (told_of run) (arrivals (due_in run every) o.keep end clocks first_place)))
+    c.as_slice.ensures.value))
+    c.go_and_tell.ensures

@@ -1,4 +1,4 @@
-use Rattle.std.proofs.Common.{subst, sym}
+use Rattle.std.proofs.Common.{subst}
 use Rattle.run_side.specs.declared.side.RunSide.{RunSide}
 use Rattle.serial_bands.specs.Run.{RunOf}
 use Rattle.foreground.specs.Fore.{IsNew}

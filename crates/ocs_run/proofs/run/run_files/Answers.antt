@@ -1,4 +1,4 @@
-use Rattle.std.proofs.Common.{◌≤◌, List, ℕ, Option, OnOk, OnErr, refl, subst, sym, ap}
+use Rattle.std.proofs.Common.{◌≤◌, OnOk, OnErr, refl, subst, sym}
 use Rattle.std.specs.Prelude.{option_map}
 use Rattle.std.specs.Arc.{arc_value}
 use Rattle.crew.specs.Crew.{side_seen}

@@ -1,4 +1,4 @@
-use Rattle.std.proofs.Common.{Option, List, ℕ, inl}
+use Rattle.std.proofs.Common.{inl}
 use Rattle.std.specs.Prelude.{option_map}
 use Rattle.ocs_run.proofs.FaultLaws.{WritesRun-err, fault_of_all}
 use Rattle.ocs_run.proofs.KeptLaws.{OnlyWrites-none, OnlyWrites-more}
