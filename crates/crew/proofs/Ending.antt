@@ -5,7 +5,7 @@ use Rattle.atomic_table.specs.Seated.{TableId}
 use Rattle.serial_model.specs.Side.{SideValue}
 use Rattle.serial_bands.specs.Run.{RunOf, run_over}
 use Rattle.band_board.specs.declared.view.View.{View}
-use Rattle.band_board.specs.View.{new_front, after_split, after_close, after_join}
+use Rattle.band_board.specs.View.{new_front, after_close, after_join}
 use Rattle.band_board.specs.Steps.{IsAllIn, HoldsEachOnce}
 use Rattle.crew.specs.Parts.{outstanding_of, seen_of, mark_of}
 use Rattle.crew.specs.TotalsCode.{AreTotals}
@@ -19,13 +19,13 @@ use Rattle.crew.specs.declared.worker.Worker.{Worker}
 use Rattle.crew.proofs.Gathering.{length-outstanding}
 
 -- a front that has only made hands is seen as a new crew
-pub starts_new : {S : Type 0} (seen : S → SideValue) (z : TableId) (run : RunOf S) (first split hired : View (RunOf S)) (n : ℕ) → first ≡ new_front run
-    → split ≡ after_split first → HasHired split hired n
+pub starts_new : {S : Type 0} (seen : S → SideValue) (z : TableId) (run : RunOf S) (first hired : View (RunOf S)) (n : ℕ) → first ≡ new_front run
+    → HasHired first hired n
     → (seen_of seen z hired ≡ record { outstanding = []; next = 0; bound = Some (run_over seen run); mark = mark_of z hired.hands; tint = 0 })
-    × (hired.hands ≡ n + 1)
-starts_new {S} seen z run first split hired n is_new makes hires =
-    let made : hired ≡ record (after_split (new_front run)) { hands = 0 + 1 + n } =
-    hires ∙ ap (λ (v : View (RunOf S)). record v { hands = v.hands + n }) (makes ∙ ap (λ (v : View (RunOf S)). after_split v) is_new) in
+    × (hired.hands ≡ n)
+starts_new {S} seen z run first hired n is_new hires =
+    let made : hired ≡ record (new_front run) { hands = 0 + n } =
+    hires ∙ ap (λ (v : View (RunOf S)). record v { hands = v.hands + n }) is_new in
     let hands = ap (λ (v : View (RunOf S)). v.hands) made in (
       subst
           (λ (v : View (RunOf S)). seen_of seen z v

@@ -4,3 +4,4 @@ mod Counting
 mod Marks
 mod Ending
 mod Drawing
+mod Hiring

@@ -6,11 +6,15 @@ use Rattle.std.specs.Borrow.{MutBor}
 use mathlib.Core.List.{Mem}
 use denote.RattleType.{RattleType}
 use Rattle.atomic_table.specs.Seated.{TableId}
-use Rattle.serial_bands.specs.Run.{RunValue}
+use Rattle.run_side.specs.declared.side.RunSide.{RunSide}
+use Rattle.serial_bands.specs.Run.{RunOf, RunValue}
 use Rattle.band_board.specs.declared.view.View.{View}
 use Rattle.band_board.specs.View.{after_close}
 use Rattle.band_board.specs.Steps.{band_count, HoldsEachOnce}
-use Rattle.band_board.specs.Answers.{front_view, hand_view}
+use Rattle.band_board.specs.declared.board.Board.{Board}
+use Rattle.band_board.specs.declared.front.Front.{Front}
+use Rattle.band_board.specs.declared.work.Work.{Ghosts}
+use Rattle.band_board.specs.Answers.{front_view, hand_view, IsFrontOf}
 use Rattle.crew.specs.declared.crew.Crew.{Crew}
 use Rattle.crew.specs.declared.worker.Worker.{Worker}
 use Rattle.crew.specs.declared.closed.Closed.{Closed}
@@ -29,6 +33,33 @@ module _ {R G : Type 0} where
   -- each worker has the board of this table
   abbrev pub AreWorkersOf : TableId → List (Worker R G) → Type 0
   AreWorkersOf z workers = All (λ (worker : Worker R G). (arc_value worker.board).table.shared.table_id ≡ z) workers
+
+  module _ {W S J D : Type 0} {kind : Ghosts W S J D} where
+    -- a worker has the board and the hand that its front made since
+    pub record IsHired (board : Board W S J D) (old new : Front W S J D kind) (worker : Worker R G) : Type 0 where
+      pub front_of : IsFrontOf board new
+      pub hands : HasHired (front_view old) (front_view new) 1
+      pub has_board : (arc_value worker.board).table.shared.table_id ≡ board.table.shared.table_id
+
+    -- so many workers have the board and the hands that its front made since
+    pub record AreHired (board : Board W S J D) (old new : Front W S J D kind) (workers : List (Worker R G)) (count : ℕ) : Type 0 where
+      pub front_of : IsFrontOf board new
+      pub hands : HasHired (front_view old) (front_view new) count
+      pub boards : AreWorkersOf board.table.shared.table_id workers
+      pub all : length workers ≡ count
+
+  -- so many workers have the board of the crew, and its front has made their hands and one more since it was seen so
+  pub record AreHiredWith (old : View (RunOf RunSide)) (crew : Crew R G) (workers : List (Worker R G)) (count : ℕ) : Type 0 where
+    pub hands : HasHired old (front_view crew.front) (count + 1)
+    pub boards : AreWorkersOf (arc_value crew.board).table.shared.table_id workers
+    pub all : length workers ≡ count
+
+  -- a crew that is bound to the run, with nothing outstanding, whose next number is 0, and so many workers of its board
+  pub record IsCrewWith (run : RunValue) (crew : Crew R G) (workers : List (Worker R G)) (count : ℕ) : Type 0 where
+    pub starts : IsNewCrew run crew
+    pub hands : (front_view crew.front).hands ≡ count + 1
+    pub boards : AreWorkersOf (arc_value crew.board).table.shared.table_id workers
+    pub all : length workers ≡ count
 
   module _ {T F : Type 0} (g : Mut F (MutBor (Crew R G) × Unit {0}) (T × (MutBor (Crew R G) × Unit {0}))) where
     -- the body may be called on a crew, and leaves there a crew of the same mark

@@ -1,10 +1,12 @@
 //! The start and the end of a crew.
 
-ghost use Rattle.std.specs.Prelude.{◌≡◌, ◌+◌, ◌≤◌, length, IfOk, OnErr};
+ghost use Rattle.std.specs.Prelude.{◌≡◌, ◌+◌, ◌≤◌, [], length, IfOk, OnErr};
 ghost use Rattle.std.specs.Arc.{arc_value};
 ghost use Rattle.serial_bands.specs.Run.{run_over};
 ghost use Rattle.band_board.specs.Answers.{front_view, IsFrontOf};
-ghost use Rattle.crew.specs.Crewed.{TakesCrew, TakesNewCrews, IsStatic, AreWorkersOf, HasHired, Ran, RanWithCrew};
+ghost use Rattle.crew.specs.Parts.{IsStart};
+ghost use Rattle.crew.specs.Crewed.{TakesCrew, TakesNewCrews, IsStatic, AreWorkersOf, IsHired, AreHired, AreHiredWith};
+ghost use Rattle.crew.specs.Crewed.{IsCrewWith, Ran, RanWithCrew};
 
 use crate::bands::{Bands, CrewSide};
 use crate::closed::{Closed, Totals};
@@ -49,43 +51,90 @@ pub fn with_crew<
         (run_over ⟦<CrewSide as Side>⟧.seen (arc_value run)) workers ran.0 body.new ran.1) }
     ensures unchanged { OnErr result (body.new ≡ body.old) }
 {
-    let (board, mut front) = Board::new(alloc, run)?;
-    let board = Arc::new(alloc, board)?;
-    let gate = Arc::new(alloc, gate)?;
-    let hand = front.split(&board);
-    let hired = hire_all(rt, alloc, &board, &gate, &mut front, workers)?;
-    let crew = Crew::new(rt.clone()?, board, gate, front, hand);
+    let (crew, hired) = new_crew(rt, alloc, run, workers, gate)?;
     let (answer, closed) = run_crew(rt, hired, crew, body);
     Ok((answer, closed.totals()))
 }
 
-/// So many workers of a board, each with the next hand of its front.
-fn hire_all<R: Clone, G: Drop>(
+/// A crew of the run that has offered nothing yet, and so many workers of its board.
+fn new_crew<R: Clone + Drop, G: Drop>(
+    rt: &R,
+    alloc: Global,
+    run: Arc<Run<CrewSide>>,
+    workers: u8,
+    gate: G,
+) -> Result<(Crew<R, G>, Vec<Worker<R, G>>), OutOfMemory>
+    requires { workers ≤ 32 }
+    ensures { IfOk result (λ made. IsCrewWith (run_over ⟦<CrewSide as Side>⟧.seen (arc_value run))
+        made.0 made.1.items workers) }
+{
+    let (board, front) = Board::new(alloc, run)?;
+    let board = Arc::new(alloc, board)?;
+    let gate = Arc::new(alloc, gate)?;
+    hire_crew(rt, alloc, board, gate, front, workers)
+}
+
+/// The crew of a new front, on the front's first hand, and so many workers with the next ones.
+fn hire_crew<R: Clone + Drop, G: Drop>(
+    rt: &R,
+    alloc: Global,
+    board: Arc<Board<Bands>>,
+    gate: Arc<G>,
+    mut front: Front<Bands>,
+    workers: u8,
+) -> Result<(Crew<R, G>, Vec<Worker<R, G>>), OutOfMemory>
+    requires front { IsFrontOf (arc_value board) front }
+    requires start { IsStart (front_view front) }
+    requires few { (front_view front).hands + workers ≤ 32 }
+    ensures { IfOk result (λ made. AreHiredWith (front_view front) made.0 made.1.items workers) }
+{
+    let hand = front.split(&board);
+    let (own, hired) = hire_all(rt, alloc, &board, &gate, &mut front, workers)?;
+    Ok((Crew::new(own, board, gate, front, hand), hired))
+}
+
+/// So many workers of a board, each with the next hand of its front, and a runtime for their crew.
+fn hire_all<R: Clone + Drop, G: Drop>(
     rt: &R,
     alloc: Global,
     board: &Arc<Board<Bands>>,
     gate: &Arc<G>,
     front: &mut Front<Bands>,
     workers: u8,
-) -> Result<Vec<Worker<R, G>>, OutOfMemory>
+) -> Result<(R, Vec<Worker<R, G>>), OutOfMemory>
     requires front { IsFrontOf (arc_value board.now) front.old }
     requires few { (front_view front.old).hands + workers ≤ 33 }
-    ensures front { IfOk result (λ hired. IsFrontOf (arc_value board.now) front.new) }
-    ensures hands { IfOk result (λ hired. HasHired (front_view front.old) (front_view front.new)
+    ensures { IfOk result (λ made. AreHired (arc_value board.now) front.old front.new made.1.items
         workers) }
-    ensures workers { IfOk result (λ hired. AreWorkersOf
-        (arc_value board.now).table.shared.table_id hired.items) }
-    ensures count { IfOk result (λ hired. length hired.items ≡ workers) }
 {
     let mut hired = Vec::with_capacity(alloc, usize::from(workers))?;
+    let own = hire_into(&mut hired, rt, board, gate, front, workers)?;
+    Ok((own, hired))
+}
+
+/// Fills an empty list with so many workers, and gives a runtime for their crew.
+fn hire_into<R: Clone + Drop, G: Drop>(
+    hired: &mut Vec<Worker<R, G>>,
+    rt: &R,
+    board: &Arc<Board<Bands>>,
+    gate: &Arc<G>,
+    front: &mut Front<Bands>,
+    workers: u8,
+) -> Result<R, OutOfMemory>
+    requires empty { hired.old.items ≡ [] }
+    requires front { IsFrontOf (arc_value board.now) front.old }
+    requires few { (front_view front.old).hands + workers ≤ 33 }
+    ensures { IfOk result (λ own. AreHired (arc_value board.now) front.old front.new hired.new.items
+        workers) }
+{
     for _made in 0..workers {
         hired.push(hire(rt, board, gate, front)?)?;
     }
-    Ok(hired)
+    Ok(rt.clone()?)
 }
 
 /// A worker of a board, with the next hand of its front.
-fn hire<R: Clone, G: Drop>(
+fn hire<R: Clone + Drop, G: Drop>(
     rt: &R,
     board: &Arc<Board<Bands>>,
     gate: &Arc<G>,
@@ -93,10 +142,7 @@ fn hire<R: Clone, G: Drop>(
 ) -> Result<Worker<R, G>, OutOfMemory>
     requires front { IsFrontOf (arc_value board.now) front.old }
     requires few { (front_view front.old).hands + 1 ≤ 33 }
-    ensures front { IfOk result (λ worker. IsFrontOf (arc_value board.now) front.new) }
-    ensures hands { IfOk result (λ worker. HasHired (front_view front.old) (front_view front.new)
-        1) }
-    ensures board { IfOk result (λ worker. arc_value worker.board ≡ arc_value board.now) }
+    ensures { IfOk result (λ worker. IsHired (arc_value board.now) front.old front.new worker) }
 {
     let theirs = Arc::try_clone(board)?;
     let gate = Arc::try_clone(gate)?;

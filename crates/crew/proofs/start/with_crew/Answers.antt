@@ -1,35 +1,31 @@
 use Rattle.std.proofs.Common.{◌≤◌, length, ap, ◌∙◌, arith}
-use Rattle.std.specs.Arc.{arc_value}
 use Rattle.band_board.specs.Answers.{front_view, hand_view}
 use Rattle.run_side.specs.declared.side.RunSide.{RunSide}
 use Rattle.serial_bands.specs.Run.{RunOf}
 use Rattle.band_board.specs.declared.view.View.{View}
 use Rattle.crew.proofs.Marks.{same_table}
-use Rattle.crew.proofs.Ending.{starts_new, all_drawn}
+use Rattle.crew.proofs.Ending.{all_drawn}
 use Rattle.crew.proofs.start.with_crew.Goals as goal
 
 pub returns-clause-ran : goal.returns-clause-ran
 returns-clause-ran g c =
-    let crew = c.new-crew.result in
+    let crew = c.in_ok-crew.crew in
+    let made = c.in_ok-crew.ensures in
     let ran = c.run_crew-answer.ensures in
     let closed = c.run_crew-answer.result.1 in
     let totals = c.totals.ensures in
-    let table = (arc_value crew.board).table.shared.table_id in
-    let hires = c.new-crew.ensures.front ∙ c.in_ok-hired.ensures.hands in
     let left = ran.left in
     let v = front_view left.front in
     let sum = left.is_crew.behind in
     let behind : v.collected ≤ v.published = omega arith in
-    let starts =
-    starts_new _ table (arc_value c.args.run) _ _ (front_view crew.front) c.args.workers c.in_ok-board.ensures.view c.split-hand.ensures.view hires in
-    let hands = (same_table _ _ _ _ ran.same).1 ∙ starts.1 in
-    let workers = ran.joined ∙ c.in_ok-hired.ensures.count in
+    let hands = (same_table _ _ _ _ ran.same).1 ∙ made.hands in
+    let workers = ran.joined ∙ made.all in
     let drawn =
     all_drawn _ v (front_view closed.front) (hand_view closed.hand) (hand_view left.hand) _ _ c.args.workers ran.front ran.hand workers hands
     left.is_crew.run_is behind totals in
     record {
       crew = crew;
-      starts = starts.0;
+      starts = made.starts;
       left = left;
       called = ran.called;
       same = ran.same;
