@@ -1,15 +1,28 @@
 -- What a crew does with its outstanding bands: it is seen as a raster through the view of its front. `seen` tells what a side does.
-use Rattle.std.proofs.Common.{◌≡◌, ◌≢◌, ℕ, zero, suc, ◌+◌, ◌-◌, ◌<◌, ◌≤◌, List, [], ◌∷◌, ◌++◌, length, drop, Option, Some, None, option_map}
+use Rattle.std.proofs.Common.{◌≡◌, ◌≢◌, ℕ, zero, suc, ◌+◌, ◌-◌, ◌<◌, ◌≤◌, List, [], ◌∷◌, ◌++◌, length, drop, Option, Some, None, option_map, false}
 use Rattle.std.proofs.Common.{sym, ap, ◌∙◌, refl, subst, arith}
 use Rattle.atomic_table.specs.Seated.{TableId}
 use Rattle.std.proofs.lemmas.Option.{none-some}
 use Rattle.serial_model.specs.Side.{SideValue}
-use Rattle.serial_bands.specs.Run.{RunOf, RunValue, run_over}
+use Rattle.serial_bands.specs.Run.{RunOf, RunValue, run_over, IsGoodRun}
 use Rattle.band_log.specs.declared.job.Drawn.{Drawn}
 use Rattle.band_log.specs.Raster.{Outstanding, Takes, with_submitted, without_first, IsRightForFirst}
 use Rattle.band_board.specs.declared.view.View.{View}
-use Rattle.band_board.specs.View.{after_offer}
-use Rattle.crew.specs.Parts.{run_bands, bands_of, outstanding_of, seen_of, GathersFirst}
+use Rattle.band_board.specs.declared.front.Collected.{Collected}
+use Rattle.band_board.specs.declared.front.Collected.TheVariants.{Got, NotYet}
+use Rattle.band_board.specs.View.{after_watch, after_offer, after_collection}
+use Rattle.band_board.specs.Steps.{RightFor}
+use Rattle.band_board.specs.declared.board.Board.{Board}
+use Rattle.band_board.specs.declared.front.Front.{Front}
+use Rattle.band_board.specs.declared.hand.Hand.{Hand}
+use Rattle.band_board.specs.declared.work.Work.{Ghosts}
+use Rattle.band_board.specs.Answers.{front_view, IsFrontOf, CollectsFirst}
+use Rattle.band_log.specs.declared.job.Job.{Job}
+use Rattle.band_log.specs.Right.{IsRightJob}
+use Rattle.ocs_base.specs.Limits.{IsRunnable}
+use Rattle.ocs_base.specs.Script.{ScriptValue}
+use Rattle.crew.specs.Bands.{IsRightBand, IsDrawnBand}
+use Rattle.crew.specs.Parts.{run_bands, bands_of, outstanding_of, seen_of, IsCrew, IsSteady, GathersFirst}
 
 length-run_bands : (run : RunValue) (from n : ℕ) → length (run_bands run from n) ≡ n
 length-run_bands run from zero = refl
@@ -94,3 +107,62 @@ module _ {S : Type 0} (seen : S → SideValue) where
       (λ (o : Option (RunOf S)). IsRightForFirst seen 0 (bands_of (option_map (run_over seen) o) v.collected (v.published - v.collected)) drawn)
       (sym right.1)
       (subst (λ m. IsRightForFirst seen 0 (run_bands (run_over seen right.0) v.collected m) drawn) (sym count) right.2)
+
+  -- a job that is right for a run which a front takes is right for the front's own run
+  pub right_for : (run : Option (RunOf S)) (read r : RunOf S) (n : ℕ) (job : Job S) → run ≢ None
+      → Takes (option_map (run_over seen) run) (run_over seen r) → read ≡ r → IsGoodRun read → IsRightJob seen (run_over seen r) n job
+      → RightFor (IsRightBand seen) run n job
+  right_for None read r n job is takes same good right = absurd (is refl)
+  right_for (Some q) read r n job is takes same good right = (
+    q,
+    refl,
+    (
+      subst (λ (s : ScriptValue). IsRunnable s) (ap (λ (v : RunOf S). v.script) same ∙ sym (ap (λ (v : RunValue). v.script) takes)) good.script,
+      subst (λ (v : RunValue). IsRightJob seen v n job) (sym takes) right,
+    ),
+  )
+
+  -- a crew that has offered a band has one more outstanding
+  pub crew_offers : {W J D : Type 0} {kind : Ghosts W (RunOf S) J D} (board : Board W (RunOf S) J D) (old new : Front W (RunOf S) J D kind)
+      (hand : Hand W (RunOf S) J D kind) (waiting : ℕ) → IsCrew board old hand waiting → IsFrontOf board new
+      → front_view new ≡ after_offer (front_view old) → length (outstanding_of seen (front_view old)) < 16 → IsCrew board new hand (waiting + 1)
+  crew_offers {W} {J} {D} {kind} board old new hand waiting is front_of offers few =
+      let behind = is.behind in
+      let count = length-outstanding (front_view old) is.run_is in
+      let collected = ap (λ (v : View (RunOf S)). v.collected) offers in
+      let published = ap (λ (v : View (RunOf S)). v.published) offers in
+      record {
+        front_of = front_of;
+        free = is.free;
+        run_is = subst (λ (v : View (RunOf S)). v.run ≢ None) (sym offers) is.run_is;
+        joined = ap (λ (v : View (RunOf S)). v.joined) offers ∙ is.joined;
+        behind = omega arith;
+        few = omega arith;
+      }
+
+  -- a front that has looked and then collects its first band gathers it
+  pub gathers_first : (first old new : View (RunOf S)) (number : ℕ) (drawn : Drawn S) (word : ℕ) → IsSteady first old → number ≡ old.collected
+      → RightFor (IsDrawnBand seen) old.run number drawn → new ≡ after_collection (after_watch old word) → GathersFirst seen first new drawn
+  gathers_first first old new number drawn word steady at right same =
+      let looks = (after_watch old word).looks in
+      let was : number ≡ first.collected = at ∙ ap (λ (v : View (RunOf S)). v.collected) steady in
+      record {
+        view = subst (λ (w : View (RunOf S)). w ≡ record first { looks = w.looks; noted = w.noted; collected = first.collected + 1 })
+            (sym same) (ap (λ (v : View (RunOf S)). record v { looks = looks; noted = false; collected = v.collected + 1 }) steady);
+        right = subst (λ (r : Option (RunOf S)). RightFor (IsDrawnBand seen) r first.collected drawn) (ap (λ (v : View (RunOf S)). v.run) steady)
+            (subst (λ n. RightFor (IsDrawnBand seen) old.run n drawn) was right);
+      }
+
+  -- one that collects nothing has looked
+  pub steady_unless : {W J : Type 0} (first old new : View (RunOf S)) (got : Collected W (RunOf S) J (Drawn S)) → IsSteady first old
+      → ((n : ℕ) (drawn : Drawn S) → got ≡ Got n drawn → ⊥) → CollectsFirst (IsDrawnBand seen) old new got → IsSteady first new
+  steady_unless first old new (Got n drawn) steady never collects = absurd (never n drawn refl)
+  steady_unless first old new (NotYet word) steady never collects =
+      let looks = (after_watch old word).looks in
+      let noted = (after_watch old word).noted in
+      subst (λ (w : View (RunOf S)). IsSteady first w) (sym collects.1)
+      (ap (λ (v : View (RunOf S)). record v { looks = looks; noted = noted }) steady)
+
+  -- and has as many outstanding
+  pub still_some : (first old : View (RunOf S)) → IsSteady first old → first.collected < first.published → old.collected < old.published
+  still_some first old steady some = subst (λ (v : View (RunOf S)). v.collected < v.published) (sym steady) some

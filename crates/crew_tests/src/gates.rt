@@ -9,44 +9,86 @@ use std::alloc::Global;
 use std::sync::{Arc, Wait};
 use std::thread::Threads;
 
-/// The status of the command with these words and this gate.
+/// Appends the words of a text.
+fn push_words(owned: &mut Vec<String>, alloc: Global, words: &str) -> Result<(), OutOfMemory> {
+    for word in words.split_whitespace() {
+        owned.push(String::from_str(alloc, word)?)?;
+    }
+    Ok(())
+}
+
+/// The words of a text.
+fn words_of(alloc: Global, words: &str) -> Result<Vec<String>, OutOfMemory> {
+    let mut owned = Vec::new(alloc);
+    push_words(&mut owned, alloc, words).and(Ok(owned))
+}
+
+/// The bands that a gate holds: from a number up to, not including, another.
+#[derive(Clone, Copy)]
+struct Held {
+    from: u64,
+    to: u64,
+}
+
+/// The status of the command with these words, while a gate that tells these counts holds bands.
 fn status<R: Threads + Wait + Clone + Drop + Send + Sync + 'static>(
     rt: &R,
     alloc: Global,
     words: &str,
-    gate: Watch,
+    told: &Arc<Told>,
+    held: Held,
     shelf: &mut Shelf,
 ) -> Result<u8, OutOfMemory> {
-    let mut owned = Vec::new(alloc);
-    for word in words.split_whitespace() {
-        owned.push(String::from_str(alloc, word)?)?;
-    }
+    let owned = words_of(alloc, words)?;
+    let gate = Watch::over(told, held.from, held.to)?;
     Ok(ocs_main(rt, alloc, &owned, shelf, gate))
 }
 
-/// A shelf with the image and the script of the bars.
-fn shelf_of_bars(alloc: Global) -> Result<Shelf, OutOfMemory> {
-    let mut shelf = Shelf::new(alloc);
+/// The status of such a command, how often its gate was waited for in vain, and how often it was told of band 0
+/// and of a band behind those that it holds.
+fn counts<R: Threads + Wait + Clone + Drop + Send + Sync + 'static>(
+    rt: &R,
+    alloc: Global,
+    words: &str,
+    held: Held,
+    shelf: &mut Shelf,
+) -> Result<(u8, [u64; 3]), OutOfMemory> {
+    let told = Arc::new(alloc, Told::new())?;
+    let status = status(rt, alloc, words, &told, held, shelf)?;
+    Ok((status, told.counts()))
+}
+
+/// Puts the image and the script of the bars on a shelf.
+fn put_bars(shelf: &mut Shelf, alloc: Global) -> Result<(), OutOfMemory> {
     shelf.put("image", &image(alloc)?)?;
-    shelf.put("script", SCRIPT.as_bytes())?;
-    Ok(shelf)
+    shelf.put("script", SCRIPT.as_bytes())
 }
 
 /// The status of a command, how often its gate was waited for in vain, how often it was told of band 0 and
 /// of a band behind those that it holds, and whether it shows the bars.
 type Answer = (u8, [u64; 3], bool);
 
-/// That of the bars in bands of 20 lines with two workers, while a gate holds the bands before one.
+/// That of the bars in bands of 20 lines with two workers on a shelf, while a gate holds the bands before one.
+fn answer_on_shelf<R: Threads + Wait + Clone + Drop + Send + Sync + 'static>(
+    rt: &R,
+    alloc: Global,
+    to: u64,
+    shelf: &mut Shelf,
+) -> Result<Answer, OutOfMemory> {
+    put_bars(shelf, alloc)?;
+    let words = "run image script frames trace memory 20 2";
+    let (status, counts) = counts(rt, alloc, words, Held { from: 0, to }, shelf)?;
+    Ok((status, counts, shows_bars(alloc, shelf)?))
+}
+
+/// The same on a shelf of its own.
 fn answer_of_bars<R: Threads + Wait + Clone + Drop + Send + Sync + 'static>(
     rt: &R,
     alloc: Global,
     to: u64,
 ) -> Result<Answer, OutOfMemory> {
-    let told = Arc::new(alloc, Told::new())?;
-    let mut shelf = shelf_of_bars(alloc)?;
-    let words = "run image script frames trace memory 20 2";
-    let status = status(rt, alloc, words, Watch::over(&told, 0, to)?, &mut shelf)?;
-    Ok((status, told.counts(), shows_bars(alloc, &shelf)?))
+    let mut shelf = Shelf::new(alloc);
+    answer_on_shelf(rt, alloc, to, &mut shelf)
 }
 
 /// Band 0 is held until another is begun, by the other worker or the caller.
@@ -68,17 +110,13 @@ fn answer_of_scene<R: Threads + Wait + Clone + Drop + Send + Sync + 'static>(
     rt: &R,
     alloc: Global,
 ) -> Result<Answer, OutOfMemory> {
-    let told = Arc::new(alloc, Told::new())?;
     let mut shelf = Shelf::new(alloc);
-    let status = status(
-        rt,
-        alloc,
-        "gen 0 20 2",
-        Watch::over(&told, 1, 3)?,
-        &mut shelf,
-    )?;
-    let says = shelf.said().starts_with(b"frames 10\npicture ");
-    Ok((status, told.counts(), says))
+    let (status, counts) = counts(rt, alloc, "gen 0 20 2", Held { from: 1, to: 3 }, &mut shelf)?;
+    Ok((
+        status,
+        counts,
+        shelf.said().starts_with(b"frames 10\npicture "),
+    ))
 }
 
 /// So it is where a scene is run. Its band 0 ends where the processor reads CLXDAT, which waits for it; then

@@ -111,16 +111,69 @@ fn run_of_bars(alloc: Global) -> Result<Arc<Run<CrewSide>>, Fail>
     Ok(Arc::new(alloc, Run::over(image, script, 20, CrewSide::Nothing))?)
 }
 
+/// Writes the files of a run.
+fn write_files(out: &mut OutFiles, shelf: &mut Shelf) -> Result<(), Fail> {
+    out.create(shelf)?;
+    out.flush(shelf)?;
+    Ok(())
+}
+
 /// A shelf with the files of a run.
-fn shelf_with(alloc: Global, out: OutFiles) -> Result<Shelf, Fail> {
-    let mut out = out;
+fn shelf_with(alloc: Global, out: &mut OutFiles) -> Result<Shelf, Fail> {
     let mut shelf = Shelf::new(alloc);
-    out.create(&mut shelf)?;
-    out.flush(&mut shelf)?;
+    write_files(out, &mut shelf)?;
     Ok(shelf)
 }
 
-/// A run over a crew of these workers: its files, and who drew its bands.
+/// The foreground at reset of a run.
+fn fore_of_run(alloc: Global, run: &Arc<Run<CrewSide>>) -> Result<Fore<CrewSide>, OutOfMemory>
+    requires { side_seen (arc_value run.now).side ≡ no_side }
+    ensures { IfOk result (λ fore. IsNew (run_of (arc_value run.now)) (fore_of fore)) }
+{
+    Fore::with_side(alloc, Arc::try_clone(run)?, CrewSide::Nothing)
+}
+
+/// The files of a run over a crew of these workers, and who drew its bands.
+fn shelf_over_crew<R: Threads + Wait + Clone + Drop + Send + Sync + 'static>(
+    rt: &R,
+    alloc: Global,
+    workers: Workers<'_>,
+    run: Arc<Run<CrewSide>>,
+    fore: &mut Fore<CrewSide>,
+    out: &mut OutFiles,
+) -> Result<(Shelf, Totals), Fail>
+    requires workers { workers.count ≤ 32 }
+    requires new { IsNew (run_of (arc_value run)) (fore_of fore.old) }
+{
+    let totals = draw_over_crew(rt, alloc, workers, run, fore, out)?;
+    Ok((shelf_with(alloc, out)?, totals))
+}
+
+/// The same with output files of its own.
+fn files_over_crew<R: Threads + Wait + Clone + Drop + Send + Sync + 'static>(
+    rt: &R,
+    alloc: Global,
+    workers: Workers<'_>,
+    run: Arc<Run<CrewSide>>,
+    fore: &mut Fore<CrewSide>,
+) -> Result<(Shelf, Totals), Fail>
+    requires workers { workers.count ≤ 32 }
+    requires new { IsNew (run_of (arc_value run)) (fore_of fore.old) }
+{
+    let mut out = out_files(alloc)?;
+    shelf_over_crew(rt, alloc, workers, run, fore, &mut out)
+}
+
+/// The bars' run, and its foreground at reset.
+fn start_of_bars(alloc: Global) -> Result<(Arc<Run<CrewSide>>, Fore<CrewSide>), Fail>
+    ensures { IfOk result (λ made. IsNew (run_of (arc_value made.0)) (fore_of made.1)) }
+{
+    let run = run_of_bars(alloc)?;
+    let fore = fore_of_run(alloc, &run)?;
+    Ok((run, fore))
+}
+
+/// The files of the bars' run over a crew of these workers, and who drew its bands.
 fn run_over_crew<R: Threads + Wait + Clone + Drop + Send + Sync + 'static>(
     rt: &R,
     alloc: Global,
@@ -128,42 +181,56 @@ fn run_over_crew<R: Threads + Wait + Clone + Drop + Send + Sync + 'static>(
 ) -> Result<(Shelf, Totals), Fail>
     requires { workers.count ≤ 32 }
 {
-    let run = run_of_bars(alloc)?;
-    let mut fore = Fore::with_side(alloc, Arc::try_clone(&run)?, CrewSide::Nothing)?;
-    let mut out = out_files(alloc)?;
-    let totals = draw_over_crew(rt, alloc, workers, run, &mut fore, &mut out)?;
-    Ok((shelf_with(alloc, out)?, totals))
+    let (run, mut fore) = start_of_bars(alloc)?;
+    files_over_crew(rt, alloc, workers, run, &mut fore)
+}
+
+/// Whether a run shows the bars, how often someone waited in vain, and who drew its bands.
+type Answer = (bool, u64, Totals);
+
+/// That of a run over a crew of these workers.
+fn answer_of_workers<R: Threads + Wait + Clone + Drop + Send + Sync + 'static>(
+    rt: &R,
+    alloc: Global,
+    workers: Workers<'_>,
+) -> Result<Answer, Fail>
+    requires { workers.count ≤ 32 }
+{
+    let (shelf, totals) = run_over_crew(rt, alloc, workers)?;
+    Ok((shows_bars(alloc, &shelf)?, workers.told.counts()[0], totals))
+}
+
+/// That of so many workers, of whose bands nobody was told before, and for whom the clock loop may wait.
+fn answer_of_crew<R: Threads + Wait + Clone + Drop + Send + Sync + 'static>(
+    rt: &R,
+    alloc: Global,
+    count: u8,
+    waits: bool,
+) -> Result<Answer, Fail>
+    requires { count ≤ 32 }
+{
+    let told = Arc::new(alloc, Told::new())?;
+    let workers = Workers {
+        count,
+        told: &told,
+        waits,
+    };
+    answer_of_workers(rt, alloc, workers)
 }
 
 /// The one worker begins with band 0 while the clock loop, which has submitted it, collects nothing yet.
 #[test]
 fn a_worker_does_not_wait_to_be_collected(rt: HostRuntime) -> Result<(), Fail> {
-    let alloc = rt.alloc();
-    let told = Arc::new(alloc, Told::new())?;
-    let workers = Workers {
-        count: 1,
-        told: &told,
-        waits: true,
-    };
-    let (shelf, totals) = run_over_crew(&rt, alloc, workers)?;
-    let shows = shows_bars(alloc, &shelf)?;
+    let (shows, in_vain, totals) = answer_of_crew(&rt, rt.alloc(), 1, true)?;
     let all = totals.by_hands.saturating_add(totals.by_front);
-    assert!(rt; shows && told.counts()[0] == 0 && totals.by_hands > 0 && all == BANDS);
+    assert!(rt; shows && in_vain == 0 && totals.by_hands > 0 && all == BANDS);
     Ok(())
 }
 
 /// Without a worker the crew draws every band itself.
 #[test]
 fn a_crew_without_workers_draws_itself(rt: HostRuntime) -> Result<(), Fail> {
-    let alloc = rt.alloc();
-    let told = Arc::new(alloc, Told::new())?;
-    let workers = Workers {
-        count: 0,
-        told: &told,
-        waits: false,
-    };
-    let (shelf, totals) = run_over_crew(&rt, alloc, workers)?;
-    let shows = shows_bars(alloc, &shelf)?;
+    let (shows, _in_vain, totals) = answer_of_crew(&rt, rt.alloc(), 0, false)?;
     assert!(rt; shows && totals.by_hands == 0 && totals.by_front == BANDS);
     Ok(())
 }

@@ -1,4 +1,4 @@
-use Rattle.std.proofs.Common.{length, sym, ap, ◌∙◌, arith}
+use Rattle.std.proofs.Common.{length, sym, ap, ◌∙◌, refl, arith}
 use Rattle.band_board.specs.declared.view.View.{View}
 use Rattle.run_side.specs.declared.side.RunSide.{RunSide}
 use Rattle.serial_bands.specs.Run.{RunOf}
@@ -51,3 +51,23 @@ returns g t c =
       hand = c.join.ensures.hand ∙ ran.hand;
       joined = omega arith;
     }
+
+pub body-answer-requires : goal.body-answer-requires
+body-answer-requires g t c = c.requires.body.takes _ refl
+
+pub run_crew-answer-requires-clause-statics : goal.run_crew-answer-requires-clause-statics
+run_crew-answer-requires-clause-statics g t c κs within = c.requires.statics
+
+pub run_crew-answer-requires-clause-few : goal.run_crew-answer-requires-clause-few
+run_crew-answer-requires-clause-few g t c κs within =
+    let fewer = one_fewer _ _ c.in-Some.worker c.in-Some.ensures.items in
+    omega (arith, fewer, c.requires.few)
+
+pub run_crew-answer-requires-clause-body : goal.run_crew-answer-requires-clause-body
+run_crew-answer-requires-clause-body g t c κs within = c.requires.body
+
+pub join-requires-clause-few : goal.join-requires-clause-few
+join-requires-clause-few g t c =
+    let fewer = one_fewer _ _ c.in-Some.worker c.in-Some.ensures.items in
+    let ran = c.run_crew-answer.ensures in
+    omega (arith, fewer, ran.joined, c.requires.few)

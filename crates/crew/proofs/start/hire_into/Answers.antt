@@ -1,4 +1,3 @@
-use Rattle.std.specs.Arc.{arc_value}
 use Rattle.crew.proofs.Hiring.{none_hired, one_more_hired}
 use Rattle.crew.proofs.start.hire_into.Goals as goal
 

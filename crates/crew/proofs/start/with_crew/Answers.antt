@@ -36,3 +36,15 @@ returns-clause-ran g c =
       once = drawn.0;
       sum = drawn.1;
     }
+
+pub run_crew-answer-requires-clause-few : goal.run_crew-answer-requires-clause-few
+run_crew-answer-requires-clause-few g c κs within = let made = c.in_ok-crew.ensures in omega (arith, made.all, c.requires.workers)
+
+pub run_crew-answer-requires-clause-workers : goal.run_crew-answer-requires-clause-workers
+run_crew-answer-requires-clause-workers g c κs within = let made = c.in_ok-crew.ensures in made.boards
+
+pub run_crew-answer-requires-clause-body : goal.run_crew-answer-requires-clause-body
+run_crew-answer-requires-clause-body g c κs within = let made = c.in_ok-crew.ensures in c.requires.body c.in_ok-crew.crew made.starts
+
+pub returns-clause-unchanged : goal.returns-clause-unchanged
+returns-clause-unchanged g c = tt
