@@ -6,8 +6,8 @@ ghost use Rattle.serial_bands.specs.Run.{IsEndOf};
 ghost use Rattle.foreground.specs.Fore.{is_done};
 ghost use Rattle.rewind_loop.specs.Places.{Place, first_place, is_due as due_of, due_in, is_that, last_of, visited};
 ghost use Rattle.rewind_loop.specs.Places.{reached_from, run_to as ran_to, gone_to, arrival_at, arrivals};
-ghost use Rattle.rewind_loop.specs.Present.{IsPresent, run_in, fore_of, told_of};
-ghost use Rattle.rewind_loop.specs.StepsCode.{GoesOn, line_limit};
+ghost use Rattle.rewind_loop.specs.Present.{IsPresent, run_in, fore_of, raster_of, told_of};
+ghost use Rattle.rewind_loop.specs.StepsCode.{GoesBack, GoesOn, line_limit, starting_with};
 
 use crate::arrived::Arrived;
 use band_draw::Direct;
@@ -51,14 +51,16 @@ impl Rewind {
         ensures every { IfOk result (λ rewind. rewind.every ≡ every) }
         ensures first { IfOk result (IsPresent keep first_place) }
     {
+        let fore = Fore::new(alloc, Arc::try_clone(&run)?)?;
+        let (raster, ring, out) = empty_parts(alloc, keep)?;
         Ok(Rewind {
             alloc,
-            run: Arc::try_clone(&run)?,
+            run,
             every,
-            fore: Fore::new(alloc, run)?,
-            raster: Direct::new(alloc)?,
-            ring: Ring::new(alloc, keep)?,
-            out: unread_files(alloc)?,
+            fore,
+            raster,
+            ring,
+            out,
         })
     }
 
@@ -148,19 +150,24 @@ impl Rewind {
         if self.fore.clocks() <= clock {
             return Ok(());
         }
+        let (fore, band) = self.load_best(clock)?;
+        self.fore = fore;
+        self.raster = Direct::starting(self.alloc, band)?;
+        self.ring.cut_after(Clock(clock));
+        Ok(())
+    }
+
+    /// The foreground of the best checkpoint for a clock, or at reset, and the number of the band with which
+    /// its raster begins.
+    fn load_best(&self, clock: u64) -> Result<(Fore<NoSide>, u64), OutOfMemory>
+        requires at { (keep : ℕ) × (p : Place) × IsPresent keep p self.now }
+        requires above { clock < self.now.fore.machine.t }
+        ensures { IfOk result (λ made. GoesBack clock self.now made.0 made.1) }
+    {
+        let run = Arc::try_clone(&self.run)?;
         match self.ring.best(Clock(clock)) {
-            Some((_, kept)) => {
-                self.fore = Fore::load(self.alloc, Arc::try_clone(&self.run)?, kept)?;
-                self.raster = Direct::starting(self.alloc, kept.band())?;
-                self.ring.cut_after(Clock(clock));
-                Ok(())
-            }
-            None => {
-                self.fore = Fore::new(self.alloc, Arc::try_clone(&self.run)?)?;
-                self.raster = Direct::new(self.alloc)?;
-                self.ring.cut_after(Clock(clock));
-                Ok(())
-            }
+            Some((_, kept)) => Ok((Fore::load(self.alloc, run, kept)?, kept.band())),
+            None => Ok((Fore::new(self.alloc, run)?, 0)),
         }
     }
 
@@ -254,6 +261,21 @@ fn is_due(beam: &Beam, every: u32) -> bool
     ensures { result ≡ due_of every beam.now }
 {
     beam.v == 0 && beam.h == 0 && beam.frame % every == 0
+}
+
+/// A raster without bands, an empty ring, and files that nobody reads.
+fn empty_parts(
+    alloc: Global,
+    keep: usize,
+) -> Result<(Direct<NoSide>, Ring<Checkpoint<NoSide>>, OutFiles), OutOfMemory>
+    requires { 1 ≤ keep }
+    ensures raster { IfOk result (λ parts. raster_of parts.0 ≡ starting_with 0) }
+    ensures ring { IfOk result (λ parts. parts.1 ≡ record { entries = []; keep = keep }) }
+{
+    let raster = Direct::new(alloc)?;
+    let ring = Ring::new(alloc, keep)?;
+    let out = unread_files(alloc)?;
+    Ok((raster, ring, out))
 }
 
 /// Files that nobody reads, with nothing pending.

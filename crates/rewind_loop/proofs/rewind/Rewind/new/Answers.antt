@@ -1,17 +1,20 @@
 -- At reset it stands at the first place.
-use Rattle.std.proofs.Common.{sym, subst}
-use Rattle.serial_bands.specs.Run.{RunOf}
-use Rattle.serial_model.specs.declared.side.NoSide.{NoSide}
+use Rattle.std.proofs.Common.{refl, subst}
 use Rattle.std.specs.Arc.{arc_value}
-use Rattle.rewind_loop.specs.Places.{first_place}
-use Rattle.rewind_loop.specs.Present.{AreAt, run_of, fore_of, raster_of}
+use Rattle.foreground.specs.Fore.{IsNew}
+use Rattle.rewind_loop.specs.Present.{run_of, fore_of, raster_of}
 use Rattle.rewind_loop.proofs.PresentLaws.{present_first}
 use Rattle.rewind_loop.proofs.rewind.Rewind.new.Goals as goal
 
+pub returns-clause-run : goal.returns-clause-run
+returns-clause-run c = refl
+
+pub returns-clause-every : goal.returns-clause-every
+returns-clause-every c = refl
+
 pub returns-clause-first : goal.returns-clause-first
 returns-clause-first c =
-    let P : RunOf NoSide → Type 0 =
-    λ run. AreAt (run_of run) c.args.keep first_place (fore_of c.in_ok-new.field-0) (raster_of c.in_ok-new-2.field-0) c.in_ok-new-3.field-0 in
-    subst P (sym c.in_ok-try_clone.ensures)
-    (present_first (run_of (arc_value c.args.run)) c.args.keep (fore_of c.in_ok-new.field-0) (raster_of c.in_ok-new-2.field-0) c.in_ok-new-3.field-0
-    c.in_ok-new.ensures c.in_ok-new-2.ensures c.in_ok-new-3.ensures)
+    let fore = fore_of c.in_ok-fore.fore in
+    present_first (run_of (arc_value c.args.run)) c.args.keep fore (raster_of c.in_ok-raster.raster) c.in_ok-raster.ring
+    (subst (λ run. IsNew (run_of run) fore) c.in_ok-try_clone.ensures c.in_ok-fore.ensures) c.in_ok-raster.ensures.raster
+    c.in_ok-raster.ensures.ring
