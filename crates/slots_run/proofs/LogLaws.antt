@@ -1,5 +1,6 @@
 -- The log that was made is that of the frames.
-use Rattle.std.proofs.Common.{◌≡◌, ℕ, ◌-◌, ◌<◌, ◌≤◌, min, List, ◌++◌, ap, sym, subst, ◌∙◌, inl, inr, arith}
+use Rattle.std.proofs.Common.{◌≡◌, ℕ, ◌-◌, ◌<◌, ◌≤◌, min, List, ◌++◌, Result, Ok, Err, OnOk, IfOk, ap, sym, subst, ◌∙◌, inl, inr, arith}
+use Rattle.std.specs.Result.{result_and}
 use Rattle.std.proofs.lemmas.Bool.{cases_lt}
 use Rattle.ocs_base.specs.Script.{ScriptValue}
 use Rattle.ocs_base.specs.Sizes.{bytes_of}
@@ -12,6 +13,11 @@ use Rattle.slot_log.specs.SlotLog.{SlotLogValue, log_of, log_text, slots_file}
 use Rattle.slots_run.specs.Log.{slot_clocks, run_of, IsFirstOf, IsLogOf}
 use Rattle.slots_run.specs.SlotRunCode.{run_in, Stands, Comes}
 use Rattle.slots_run.specs.declared.slot_run.SlotRun.{SlotRun}
+
+-- what holds where a call is not refused holds of what is answered behind it
+pub and_holds : {T U E : Type 0} (r : Result T E) (u : U) (P : U → Type 0) (Q : Type 0) → (Q → P u) → OnOk r Q → IfOk (result_and r (Ok u)) P
+and_holds (Ok done) u P Q gives is = gives is
+and_holds (Err refused) u P Q gives is = tt
 
 module _ (run : RunValue) (r : SlotRun) (stands : Stands r) (is : run_in r ≡ run) where
   place_is : beam_at run r.fore.machine.t ≡ r.fore.machine.beam

@@ -1,5 +1,5 @@
 -- A run of which the slots are looked at: where it stands, and what its calls make of that.
-use Rattle.std.specs.Prelude.{◌≡◌, ◌≤◌, ◌<◌, ℕ, ◌+◌, false}
+use Rattle.std.specs.Prelude.{◌≡◌, ◌≤◌, ◌<◌, ℕ, ◌+◌, [], None, false}
 use Rattle.band_draw.specs.Direct.{DirectValue, seen_of}
 use Rattle.band_log.specs.Raster.{RasterValue}
 use Rattle.foreground.specs.Fore.{ForeOf, ForeValue, over, IsUnderway}
@@ -14,6 +14,10 @@ fore_of fore = over (λ side. no_side) fore
 
 abbrev pub raster_of : DirectValue NoSide → RasterValue
 raster_of raster = seen_of (λ side. no_side) raster
+
+-- such a raster without bands
+abbrev pub empty_raster : RasterValue
+empty_raster = record { outstanding = []; next = 0; bound = None; mark = 0; tint = 0 }
 
 -- the run, and the frame of the present clock
 abbrev pub run_in : SlotRun → RunValue

@@ -1,8 +1,10 @@
 //! The log of the slots of frames of a run, as a text.
 
-ghost use Rattle.std.specs.Prelude.{◌≡◌, ◌≤◌, true, IfOk};
+ghost use Rattle.std.specs.Prelude.{◌≡◌, ◌≤◌, ℕ, true, [], List, IfOk, OnOk};
 ghost use Rattle.ocs_base.specs.Image.{is_image, fits_chip};
 ghost use Rattle.ocs_base.specs.Limits.{IsRunnable};
+ghost use Rattle.ocs_base.specs.Script.{ScriptValue};
+ghost use Rattle.slot_log.specs.SlotLog.{log_of};
 ghost use Rattle.slots_run.specs.Log.{IsLogOf, run_of};
 ghost use Rattle.slots_run.specs.SlotRunCode.{run_in, Stands};
 
@@ -19,7 +21,6 @@ const BAND_LINES: u16 = 313;
 
 /// The log of the slots of the frames `from` up to `to`, which is not among them, of the run of a good script
 /// over a good image that fits its chip memory: of those of these frames that the run has.
-#[tactic(auto, unfolding(slot_log::specs::SlotLog::slots_file))]
 pub fn make_log(
     alloc: Global,
     image: Vec<u8>,
@@ -34,17 +35,40 @@ pub fn make_log(
     ensures { IfOk result (λ text. IsLogOf image.items script from to text.items) }
 {
     let system = script.system();
+    let mut run = begin_run(alloc, image, script)?;
+    let mut log = SlotLog::new(alloc, system);
+    let mut text = Vec::new(alloc);
+    put_log(from, to, &mut run, &mut log, &mut text).and(Ok(text))
+}
+
+/// Appends the log of these frames to an empty text, from a run at its reset and a log that has no clock yet.
+/// After a refusal a part may have been appended.
+fn put_log(
+    from: u32,
+    to: u32,
+    run: &mut SlotRun,
+    log: &mut SlotLog,
+    text: &mut Vec<u8>,
+) -> Result<(), OutOfMemory>
+    requires stands { Stands run.old }
+    requires first { run.old.fore.machine.t ≡ 0 }
+    requires order { from ≤ to }
+    requires none { log.old ≡ log_of (run_in run.old).script.system [] }
+    requires empty { text.old.items ≡ [] }
+    ensures { OnOk result ((image : List ℕ) (script : ScriptValue)
+        → run_in run.old ≡ run_of image script
+        → IsLogOf image script from to text.new.items) }
+{
+    let script = run.script();
+    let system = script.system();
     let bytes = script.chip();
     let frames = script.frames();
-    let mut run = begin_run(alloc, image, script)?;
     run.go_to_frame(from.min(frames))?;
-    let mut text = Vec::new(alloc);
-    put_heading(system, from, to, bytes, &mut text)?;
-    run.put_memory(&mut text)?;
-    let mut log = SlotLog::new(alloc, system);
-    run.note_to_frame(to.min(frames), &mut log)?;
+    put_heading(system, from, to, bytes, text)?;
+    run.put_memory(text)?;
+    run.note_to_frame(to.min(frames), log)?;
     text.extend_from_slice(log.text())?;
-    Ok(text)
+    Ok(())
 }
 
 /// The run at its reset.

@@ -8,13 +8,13 @@ ghost use Rattle.serial_model.specs.Side.{no_side};
 ghost use Rattle.slot_log.specs.Entry.{SlotClock};
 ghost use Rattle.slot_log.specs.SlotLog.{log_of};
 ghost use Rattle.slots_run.specs.Log.{slot_clock, slot_clocks};
-ghost use Rattle.slots_run.specs.SlotRunCode.{run_in, frame_in, Stands, GoesOn, Comes};
+ghost use Rattle.slots_run.specs.SlotRunCode.{run_in, frame_in, raster_of, empty_raster, Stands, GoesOn, Comes};
 
 use band_draw::Direct;
 use band_log::Run;
 use clock_loop::run_to;
 use foreground::Fore;
-use ocs_base::{Beam, OutOfMemory};
+use ocs_base::{Beam, OutOfMemory, Script};
 use out_files::OutFiles;
 use serial_model::NoSide;
 use slot_log::SlotLog;
@@ -38,12 +38,21 @@ impl SlotRun {
         ensures run { IfOk result (λ r. run_in r ≡ run_over (λ side. no_side) (arc_value run)) }
         ensures first { IfOk result (λ r. r.fore.machine.t ≡ 0) }
     {
+        let fore = Fore::new(alloc, run)?;
+        let (raster, out) = empty_parts(alloc)?;
         Ok(SlotRun {
             alloc,
-            fore: Fore::new(alloc, run)?,
-            raster: Direct::new(alloc)?,
-            out: unread_files(alloc)?,
+            fore,
+            raster,
+            out,
         })
+    }
+
+    /// The script of the run.
+    pub fn script(&self) -> &Script
+        ensures { result.now ≡ (run_in self.now).script }
+    {
+        self.fore.run.script()
     }
 
     /// Goes on to the first clock of a frame, or to the run's end where that is the number of its frames.
@@ -118,6 +127,15 @@ impl SlotRun {
         log.note(&beam, &slot.ask, slot.read)?;
         Ok(())
     }
+}
+
+/// A raster without bands, and files that nobody reads.
+fn empty_parts(alloc: Global) -> Result<(Direct<NoSide>, OutFiles), OutOfMemory>
+    ensures { IfOk result (λ parts. raster_of parts.0 ≡ empty_raster) }
+{
+    let raster = Direct::new(alloc)?;
+    let out = unread_files(alloc)?;
+    Ok((raster, out))
 }
 
 /// Files that nobody reads, with nothing pending.

@@ -9,7 +9,7 @@ pub returns-clause-stands : goal.returns-clause-stands
 returns-clause-stands c = record {
   first = 0;
   stands =
-      stands_new (run_over (λ side. no_side) (arc_value c.args.run)) (fore_of c.in_ok-new.field-0) (raster_of c.in_ok-new-2.field-0) c.in_ok-new.ensures
-      c.in_ok-new-2.ensures;
-  fresh = c.in_ok-new.ensures.fresh;
+      stands_new (run_over (λ side. no_side) (arc_value c.args.run)) (fore_of c.in_ok-fore.fore) (raster_of c.in_ok-raster.raster) c.in_ok-fore.ensures
+      c.in_ok-raster.ensures;
+  fresh = c.in_ok-fore.ensures.fresh;
 }
