@@ -1,18 +1,22 @@
 -- A run that goes back to a checkpoint, or to reset.
 use Rattle.std.proofs.Common.{◌≡◌, ℕ, ◌-◌, ◌<◌, ◌≤◌, not, nat_lt, List, [], length, All, Option, Some, None, ◌⊎◌, inl, inr, slice_index_or}
 use Rattle.std.proofs.Common.{refl, sym, ap, ◌∙◌, arith, subst}
+use Rattle.std.specs.Arc.{arc_value}
 use Rattle.std.specs.Option.{option_map}
 use Rattle.std.proofs.lemmas.List.{nil_from_length}
 use Rattle.std.proofs.lemmas.List.Elements.{All-filter}
 use Rattle.std.proofs.lemmas.Option.{slice_get_cases, none-some}
 use Rattle.ocs_rewind.specs.Ring.{RingOf, EntryOf, last_entry, best_of, up_to}
 use Rattle.serial_model.specs.Side.{no_side}
+use Rattle.serial_model.specs.declared.side.NoSide.{NoSide}
 use Rattle.serial_bands.specs.Run.{RunValue}
 use Rattle.band_log.specs.Raster.{RasterValue, Takes}
 use Rattle.foreground.specs.Checkpoint.{fore_from}
-use Rattle.foreground.specs.Fore.{ForeValue, IsUnderway, IsNew}
+use Rattle.foreground.specs.Fore.{ForeOf, ForeValue, IsUnderway, IsNew}
 use Rattle.rewind_loop.specs.Places.{Place, last_of, clocks_to, back_to, reached_from}
-use Rattle.rewind_loop.specs.Present.{Checkpoint, clock_of, IsEntryOf, AreAt}
+use Rattle.rewind_loop.specs.Present.{Checkpoint, clock_of, IsEntryOf, AreAt, IsPresent, run_of, run_in, fore_of, raster_of}
+use Rattle.rewind_loop.specs.StepsCode.{GoesBack, starting_with}
+use Rattle.rewind_loop.specs.declared.rewind.Rewind.{Rewind}
 use Rattle.rewind_loop.proofs.ClockLaws.{last_clock, clocks_up_to, last_holds}
 use Rattle.rewind_loop.proofs.PlaceLaws.{reached_here, reached_back}
 use Rattle.rewind_loop.proofs.PresentLaws.{present_first}
@@ -90,3 +94,16 @@ module _ (run : RunValue) (keep : ℕ) (p : Place) (fore : ForeValue) (raster : 
       ∙ ap (λ n. let r : RingOf Checkpoint = record { entries = []; keep = n } in r) is.kept.room in
       subst (λ (q : Place). AreAt run keep q new after (record ring { entries = up_to clock ring.entries })) (sym (turns_back None high best))
       (present_first run keep new after (record ring { entries = up_to clock ring.entries }) made begun empty)
+
+-- a run that goes on with such a foreground and raster, once its ring is cut
+pub went_back : (old mid : Rewind) (clock band : ℕ) (fore : ForeOf NoSide) (ring : RingOf Checkpoint) → mid.run ≡ old.run → mid.ring ≡ old.ring
+    → mid.fore ≡ fore → raster_of mid.raster ≡ starting_with band → ring ≡ record mid.ring { entries = up_to clock mid.ring.entries }
+    → GoesBack clock old fore band → (keep : ℕ) (p : Place) → IsPresent keep p old
+    → AreAt (run_in mid) keep (reached_from clock p) (fore_of mid.fore) (raster_of mid.raster) ring
+went_back old mid clock band fore ring run same_ring same_fore begun cut goes keep p is =
+    let q : Place = reached_from clock p in
+    let cut_is : ring ≡ record old.ring { entries = up_to clock old.ring.entries } =
+    cut ∙ ap (λ (r : RingOf Checkpoint). record r { entries = up_to clock r.entries }) same_ring in
+    subst (λ r. AreAt r keep q (fore_of mid.fore) (raster_of mid.raster) ring) (sym (ap (λ r. run_of (arc_value r)) run))
+    (subst (λ f. AreAt (run_in old) keep q (fore_of f) (raster_of mid.raster) ring) (sym same_fore)
+    (subst (AreAt (run_in old) keep q (fore_of fore) (raster_of mid.raster)) (sym cut_is) (goes keep p is (raster_of mid.raster) begun)))

@@ -3,10 +3,10 @@
 ghost use Rattle.std.specs.Prelude.{◌≡◌, ◌≤◌, ◌<◌, ℕ, true, false, [], map, IfOk, OnOk};
 ghost use Rattle.std.specs.Arc.{arc_value};
 ghost use Rattle.serial_bands.specs.Run.{IsEndOf};
-ghost use Rattle.foreground.specs.Fore.{is_done};
+ghost use Rattle.foreground.specs.Fore.{IsNew, is_done};
 ghost use Rattle.rewind_loop.specs.Places.{Place, first_place, is_due as due_of, due_in, is_that, last_of, visited};
 ghost use Rattle.rewind_loop.specs.Places.{reached_from, run_to as ran_to, gone_to, arrival_at, arrivals};
-ghost use Rattle.rewind_loop.specs.Present.{IsPresent, run_in, fore_of, raster_of, told_of};
+ghost use Rattle.rewind_loop.specs.Present.{IsPresent, run_in, run_of, fore_of, raster_of, told_of};
 ghost use Rattle.rewind_loop.specs.StepsCode.{GoesBack, GoesOn, line_limit, starting_with};
 
 use crate::arrived::Arrived;
@@ -52,6 +52,23 @@ impl Rewind {
         ensures first { IfOk result (IsPresent keep first_place) }
     {
         let fore = Fore::new(alloc, Arc::try_clone(&run)?)?;
+        Rewind::begun(alloc, run, every, keep, fore)
+    }
+
+    /// A run at its reset, of which this is the foreground.
+    fn begun(
+        alloc: Global,
+        run: Arc<Run<NoSide>>,
+        every: u32,
+        keep: usize,
+        fore: Fore<NoSide>,
+    ) -> Result<Rewind, OutOfMemory>
+        requires keep { 1 ≤ keep }
+        requires new { IsNew (run_of (arc_value run)) (fore_of fore) }
+        ensures run { IfOk result (λ rewind. arc_value rewind.run ≡ arc_value run) }
+        ensures every { IfOk result (λ rewind. rewind.every ≡ every) }
+        ensures first { IfOk result (IsPresent keep first_place) }
+    {
         let (raster, ring, out) = empty_parts(alloc, keep)?;
         Ok(Rewind {
             alloc,
@@ -151,9 +168,21 @@ impl Rewind {
             return Ok(());
         }
         let (fore, band) = self.load_best(clock)?;
+        self.begin_at(fore, band)?;
+        self.ring.cut_after(Clock(clock));
+        Ok(())
+    }
+
+    /// The run goes on with a foreground, and with a raster that begins with a band.
+    fn begin_at(&mut self, fore: Fore<NoSide>, band: u64) -> Result<(), OutOfMemory>
+        ensures run { self.new.run ≡ self.old.run }
+        ensures every { self.new.every ≡ self.old.every }
+        ensures ring { self.new.ring ≡ self.old.ring }
+        ensures fore { OnOk result (self.new.fore ≡ fore) }
+        ensures raster { OnOk result (raster_of self.new.raster ≡ starting_with band) }
+    {
         self.fore = fore;
         self.raster = Direct::starting(self.alloc, band)?;
-        self.ring.cut_after(Clock(clock));
         Ok(())
     }
 

@@ -1,7 +1,6 @@
 -- The run stands where the clock is reached from.
-use Rattle.std.proofs.Common.{◌<◌, sym, arith, subst}
-use Rattle.rewind_loop.specs.Places.{reached_from}
-use Rattle.rewind_loop.specs.Present.{AreAt, run_in, fore_of, raster_of}
+use Rattle.std.proofs.Common.{arith}
+use Rattle.rewind_loop.proofs.BackLaws.{went_back}
 use Rattle.rewind_loop.proofs.rewind.Rewind.go_back.Goals as goal
 
 pub load_best-requires-clause-above : goal.load_best-requires-clause-above
@@ -9,7 +8,5 @@ load_best-requires-clause-above c = omega (arith, c.clocks.ensures, c.if-clocks-
 
 pub returns-clause-back : goal.returns-clause-back
 returns-clause-back c keep p is =
-    let self = c.args.self.now in
-    let raster = raster_of c.in_ok-self.field-0 in
-    subst (AreAt (run_in self) keep (reached_from c.args.clock p) (fore_of c.in_ok-fore.fore) raster) (sym c.cut_after.ensures)
-    (c.in_ok-fore.ensures keep p is raster c.in_ok-self.ensures)
+    went_back c.args.self.now c.begin_at.new.self c.args.clock c.in_ok-fore.band c.in_ok-fore.fore c.cut_after.new.self c.begin_at.ensures.run
+    c.begin_at.ensures.ring c.in_ok-begin_at.ensures.fore c.in_ok-begin_at.ensures.raster c.cut_after.ensures c.in_ok-fore.ensures keep p is
