@@ -14,6 +14,10 @@ use Rattle.slots_run.specs.Log.{slot_clocks, run_of, IsFirstOf, IsLogOf}
 use Rattle.slots_run.specs.SlotRunCode.{run_in, Stands, Comes}
 use Rattle.slots_run.specs.declared.slot_run.SlotRun.{SlotRun}
 
+pub if_ok_then : {T E : Type 0} {P Q : T → Type 0} (r : Result T E) → ((x : T) → P x → Q x) → IfOk r P → IfOk r Q
+if_ok_then (Ok x) gives is = gives x is
+if_ok_then (Err refused) gives is = tt
+
 -- what holds where a call is not refused holds of what is answered behind it
 pub and_holds : {T U E : Type 0} (r : Result T E) (u : U) (P : U → Type 0) (Q : Type 0) → (Q → P u) → OnOk r Q → IfOk (result_and r (Ok u)) P
 and_holds (Ok done) u P Q gives is = gives is

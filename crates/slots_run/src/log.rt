@@ -34,11 +34,22 @@ pub fn make_log(
     requires order { from ≤ to }
     ensures { IfOk result (λ text. IsLogOf image.items script from to text.items) }
 {
-    let system = script.system();
     let mut run = begin_run(alloc, image, script)?;
+    make_text(alloc, from, to, &mut run)
+}
+
+/// The log of these frames, from a run at its reset.
+fn make_text(alloc: Global, from: u32, to: u32, run: &mut SlotRun) -> Result<Vec<u8>, OutOfMemory>
+    requires stands { Stands run.old }
+    requires first { run.old.fore.machine.t ≡ 0 }
+    requires order { from ≤ to }
+    ensures { IfOk result (λ text. (image : List ℕ) (script : ScriptValue)
+        → run_in run.old ≡ run_of image script → IsLogOf image script from to text.items) }
+{
+    let system = run.script().system();
     let mut log = SlotLog::new(alloc, system);
     let mut text = Vec::new(alloc);
-    put_log(from, to, &mut run, &mut log, &mut text).and(Ok(text))
+    put_log(from, to, run, &mut log, &mut text).and(Ok(text))
 }
 
 /// Appends the log of these frames to an empty text, from a run at its reset and a log that has no clock yet.

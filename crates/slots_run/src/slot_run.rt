@@ -8,7 +8,8 @@ ghost use Rattle.serial_model.specs.Side.{no_side};
 ghost use Rattle.slot_log.specs.Entry.{SlotClock};
 ghost use Rattle.slot_log.specs.SlotLog.{log_of};
 ghost use Rattle.slots_run.specs.Log.{slot_clock, slot_clocks};
-ghost use Rattle.slots_run.specs.SlotRunCode.{run_in, frame_in, raster_of, empty_raster, Stands, GoesOn, Comes};
+ghost use Rattle.foreground.specs.Fore.{IsNew};
+ghost use Rattle.slots_run.specs.SlotRunCode.{run_in, frame_in, fore_of, raster_of, empty_raster, Stands, GoesOn, Comes};
 
 use band_draw::Direct;
 use band_log::Run;
@@ -39,6 +40,16 @@ impl SlotRun {
         ensures first { IfOk result (λ r. r.fore.machine.t ≡ 0) }
     {
         let fore = Fore::new(alloc, run)?;
+        SlotRun::begun(alloc, fore)
+    }
+
+    /// A run at its reset, of which this is the foreground.
+    fn begun(alloc: Global, fore: Fore<NoSide>) -> Result<SlotRun, OutOfMemory>
+        requires { IsNew (fore_of fore).run (fore_of fore) }
+        ensures stands { IfOk result Stands }
+        ensures run { IfOk result (λ r. run_in r ≡ (fore_of fore).run) }
+        ensures first { IfOk result (λ r. r.fore.machine.t ≡ 0) }
+    {
         let (raster, out) = empty_parts(alloc)?;
         Ok(SlotRun {
             alloc,

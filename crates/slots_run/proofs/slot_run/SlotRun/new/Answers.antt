@@ -1,15 +1,10 @@
-use Rattle.std.specs.Arc.{arc_value}
-use Rattle.serial_bands.specs.Run.{run_over}
-use Rattle.serial_model.specs.Side.{no_side}
-use Rattle.slots_run.specs.SlotRunCode.{fore_of, raster_of}
-use Rattle.slots_run.proofs.SlotRunLaws.{stands_new}
+use Rattle.std.proofs.Common.{◌≡◌, IfOk, sym, subst}
+use Rattle.foreground.specs.Fore.{IsNew}
+use Rattle.slots_run.specs.SlotRunCode.{run_in, fore_of}
 use Rattle.slots_run.proofs.slot_run.SlotRun.new.Goals as goal
 
-pub returns-clause-stands : goal.returns-clause-stands
-returns-clause-stands c = record {
-  first = 0;
-  stands =
-      stands_new (run_over (λ side. no_side) (arc_value c.args.run)) (fore_of c.in_ok-fore.fore) (raster_of c.in_ok-raster.raster) c.in_ok-fore.ensures
-      c.in_ok-raster.ensures;
-  fresh = c.in_ok-fore.ensures.fresh;
-}
+pub begun-requires : goal.begun-requires
+begun-requires c = subst (λ run. IsNew run (fore_of c.in_ok-fore.fore)) (sym c.in_ok-fore.ensures.run_of) c.in_ok-fore.ensures
+
+pub returns-clause-run : goal.returns-clause-run
+returns-clause-run c = subst (λ run. IfOk c.begun.result (λ r. run_in r ≡ run)) c.in_ok-fore.ensures.run_of c.begun.ensures.run
