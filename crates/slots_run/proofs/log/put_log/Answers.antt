@@ -16,6 +16,33 @@ go_to_frame-requires-clause-least c =
     let zero : frame_in c.args.run.now ≡ 0 = frame_at_reset c.args.run.now c.requires.stands c.requires.first in
     omega (arith, zero)
 
+pub go_to_frame-requires-clause-stands : goal.go_to_frame-requires-clause-stands
+go_to_frame-requires-clause-stands c = c.requires.stands
+
+pub go_to_frame-requires-clause-most : goal.go_to_frame-requires-clause-most
+go_to_frame-requires-clause-most c =
+    let frames : c.frames-frames.result ≡ (run_in c.args.run.now).script.frames =
+    c.frames-frames.ensures ∙ ap (λ (s : ScriptValue). s.frames) c.script-script.ensures in
+    omega (arith, c.min.ensures, frames)
+
+pub put_memory-requires : goal.put_memory-requires
+put_memory-requires c = record { stands = c.in_ok-go_to_frame.ensures.stands }
+
+pub note_to_frame-requires-clause-stands : goal.note_to_frame-requires-clause-stands
+note_to_frame-requires-clause-stands c = c.in_ok-put_memory.ensures.stands
+
+pub note_to_frame-requires-clause-least : goal.note_to_frame-requires-clause-least
+note_to_frame-requires-clause-least c =
+    omega (arith, c.in_ok-put_memory.ensures.frame, c.in_ok-go_to_frame.ensures.there, c.min.ensures, c.min-2.ensures, c.requires.order)
+
+pub note_to_frame-requires-clause-most : goal.note_to_frame-requires-clause-most
+note_to_frame-requires-clause-most c =
+    let frames : c.frames-frames.result ≡ (run_in c.args.run.now).script.frames =
+    c.frames-frames.ensures ∙ ap (λ (s : ScriptValue). s.frames) c.script-script.ensures in
+    let same : (run_in c.put_memory.new.self).script.frames ≡ (run_in c.args.run.now).script.frames =
+    ap (λ (r : RunValue). r.script.frames) (c.in_ok-put_memory.ensures.run ∙ c.in_ok-go_to_frame.ensures.run) in
+    omega (arith, c.min-2.ensures, frames, same)
+
 pub note_to_frame-requires-clause-none : goal.note_to_frame-requires-clause-none
 note_to_frame-requires-clause-none c =
     c.requires.none ∙ ap (λ s. log_of s []) (sym (ap (λ (l : SlotLogValue). l.system) c.requires.none))

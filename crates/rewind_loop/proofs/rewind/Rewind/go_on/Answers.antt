@@ -1,5 +1,5 @@
 -- Clocks of a line that the foreground goes on are clocks of the run.
-use Rattle.std.proofs.Common.{◌≡◌, ◌≤◌, ◌<◌, min, ap, ◌∙◌, sym, arith, subst}
+use Rattle.std.proofs.Common.{◌≡◌, ◌≤◌, ◌<◌, min, refl, ap, ◌∙◌, sym, arith, subst}
 use Rattle.ocs_base.specs.declared.beam.Beam.{Beam}
 use Rattle.serial_bands.specs.Run.{beam_at}
 use Rattle.foreground.specs.Fore.{ForeValue}
@@ -7,6 +7,24 @@ use Rattle.rewind_loop.specs.Present.{run_in, fore_of, raster_of}
 use Rattle.rewind_loop.specs.StepsCode.{line_limit}
 use Rattle.rewind_loop.proofs.LineLaws.{none_in_line, later_clock, ran_on, above_here, come_below}
 use Rattle.rewind_loop.proofs.rewind.Rewind.go_on.Goals as goal
+
+pub returns-in_err-renew_at_frame-clause-run : goal.returns-in_err-renew_at_frame-clause-run
+returns-in_err-renew_at_frame-clause-run c = refl
+
+pub returns-in_err-renew_at_frame-clause-every : goal.returns-in_err-renew_at_frame-clause-every
+returns-in_err-renew_at_frame-clause-every c = refl
+
+pub returns-in_err-run_to-clause-run : goal.returns-in_err-run_to-clause-run
+returns-in_err-run_to-clause-run c = refl
+
+pub returns-in_err-run_to-clause-every : goal.returns-in_err-run_to-clause-every
+returns-in_err-run_to-clause-every c = refl
+
+pub returns-clause-run : goal.returns-clause-run
+returns-clause-run c = refl
+
+pub returns-clause-every : goal.returns-clause-every
+returns-clause-every c = refl
 
 pub returns-clause-goes : goal.returns-clause-goes
 returns-clause-goes c =

@@ -1,11 +1,35 @@
 -- The run goes back where it has to, and on from there.
-use Rattle.std.proofs.Common.{sym, ap, subst, min, ◌∙◌}
+use Rattle.std.proofs.Common.{◌≤◌, sym, ap, subst, min, ◌∙◌}
 use Rattle.serial_bands.specs.Run.{IsEndOf, RunValue}
 use Rattle.rewind_loop.specs.Places.{Place, reached_from, run_to as ran_to}
 use Rattle.rewind_loop.specs.Present.{IsPresent, run_in, told_of}
 use Rattle.rewind_loop.proofs.GoLaws.{same_run, same_due}
 use Rattle.rewind_loop.proofs.PlaceLaws.{reached_low}
 use Rattle.rewind_loop.proofs.rewind.Rewind.go_to.Goals as goal
+
+pub go_back-requires : goal.go_back-requires
+go_back-requires c = record { at = c.requires.at }
+
+pub run_to-requires-clause-every : goal.run_to-requires-clause-every
+run_to-requires-clause-every c = subst (λ n. 1 ≤ n) (sym c.go_back.ensures.every) c.requires.every
+
+pub returns-in_err-go_back-clause-run : goal.returns-in_err-go_back-clause-run
+returns-in_err-go_back-clause-run c = c.go_back.ensures.run
+
+pub returns-in_err-run_to-clause-run : goal.returns-in_err-run_to-clause-run
+returns-in_err-run_to-clause-run c = c.run_to.ensures.run ∙ c.go_back.ensures.run
+
+pub returns-clause-run : goal.returns-clause-run
+returns-clause-run c = c.tell.ensures.run ∙ c.run_to.ensures.run ∙ c.go_back.ensures.run
+
+pub returns-in_err-go_back-clause-every : goal.returns-in_err-go_back-clause-every
+returns-in_err-go_back-clause-every c = c.go_back.ensures.every
+
+pub returns-in_err-run_to-clause-every : goal.returns-in_err-run_to-clause-every
+returns-in_err-run_to-clause-every c = c.run_to.ensures.every ∙ c.go_back.ensures.every
+
+pub returns-clause-every : goal.returns-clause-every
+returns-clause-every c = c.tell.ensures.every ∙ c.run_to.ensures.every ∙ c.go_back.ensures.every
 
 pub run_to-requires-clause-at : goal.run_to-requires-clause-at
 run_to-requires-clause-at c =
