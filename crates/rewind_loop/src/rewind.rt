@@ -52,11 +52,11 @@ impl Rewind {
         ensures first { IfOk result (IsPresent keep first_place) }
     {
         let fore = Fore::new(alloc, Arc::try_clone(&run)?)?;
-        Rewind::begun(alloc, run, every, keep, fore)
+        Rewind::at_reset(alloc, run, every, keep, fore)
     }
 
     /// A run at its reset, of which this is the foreground.
-    fn begun(
+    fn at_reset(
         alloc: Global,
         run: Arc<Run<NoSide>>,
         every: u32,

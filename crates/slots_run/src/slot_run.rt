@@ -40,11 +40,11 @@ impl SlotRun {
         ensures first { IfOk result (λ r. r.fore.machine.t ≡ 0) }
     {
         let fore = Fore::new(alloc, run)?;
-        SlotRun::begun(alloc, fore)
+        SlotRun::at_reset(alloc, fore)
     }
 
     /// A run at its reset, of which this is the foreground.
-    fn begun(alloc: Global, fore: Fore<NoSide>) -> Result<SlotRun, OutOfMemory>
+    fn at_reset(alloc: Global, fore: Fore<NoSide>) -> Result<SlotRun, OutOfMemory>
         requires { IsNew (fore_of fore).run (fore_of fore) }
         ensures stands { IfOk result Stands }
         ensures run { IfOk result (λ r. run_in r ≡ (fore_of fore).run) }

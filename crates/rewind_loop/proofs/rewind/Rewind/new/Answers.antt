@@ -4,5 +4,5 @@ use Rattle.foreground.specs.Fore.{IsNew}
 use Rattle.rewind_loop.specs.Present.{run_of, fore_of}
 use Rattle.rewind_loop.proofs.rewind.Rewind.new.Goals as goal
 
-pub begun-requires-clause-new : goal.begun-requires-clause-new
-begun-requires-clause-new c = subst (λ run. IsNew (run_of run) (fore_of c.in_ok-fore.fore)) c.in_ok-try_clone.ensures c.in_ok-fore.ensures
+pub at_reset-requires-clause-new : goal.at_reset-requires-clause-new
+at_reset-requires-clause-new c = subst (λ run. IsNew (run_of run) (fore_of c.in_ok-fore.fore)) c.in_ok-try_clone.ensures c.in_ok-fore.ensures

@@ -1,7 +1,7 @@
 use Rattle.std.proofs.Common.{refl}
 use Rattle.slots_run.specs.SlotRunCode.{fore_of, raster_of}
 use Rattle.slots_run.proofs.SlotRunLaws.{stands_new}
-use Rattle.slots_run.proofs.slot_run.SlotRun.begun.Goals as goal
+use Rattle.slots_run.proofs.slot_run.SlotRun.at_reset.Goals as goal
 
 pub returns-clause-stands : goal.returns-clause-stands
 returns-clause-stands c = record {

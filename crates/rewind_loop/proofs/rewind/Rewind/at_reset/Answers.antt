@@ -3,7 +3,7 @@ use Rattle.std.proofs.Common.{refl}
 use Rattle.std.specs.Arc.{arc_value}
 use Rattle.rewind_loop.specs.Present.{run_of, fore_of, raster_of}
 use Rattle.rewind_loop.proofs.PresentLaws.{present_first}
-use Rattle.rewind_loop.proofs.rewind.Rewind.begun.Goals as goal
+use Rattle.rewind_loop.proofs.rewind.Rewind.at_reset.Goals as goal
 
 pub returns-clause-run : goal.returns-clause-run
 returns-clause-run c = refl
