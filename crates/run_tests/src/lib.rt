@@ -1,6 +1,7 @@
 //! The worked runs of the command line, as tests: images and scripts, and the files that come of
 //! them; runs with sound and with a disk; clocks of a run that are gone to, and the lines that are said of
-//! them. All are worked by hand. Nothing of it is part of the program.
+//! them; and logs of the slots of a run, with what each of their statuses says and leaves. All are worked by
+//! hand. Nothing of it is part of the program.
 #![tactic(auto)]
 
 #[cfg(test)]
@@ -29,6 +30,12 @@ mod rewinds;
 mod side_slots;
 #[cfg(test)]
 mod sides;
+#[cfg(test)]
+mod slot_answers;
+#[cfg(test)]
+mod slot_cases;
+#[cfg(test)]
+mod slot_logs;
 #[cfg(test)]
 mod sound;
 #[cfg(test)]

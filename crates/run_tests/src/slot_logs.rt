@@ -1,6 +1,6 @@
 //! The logs of frames.
 
-use crate::cases::{bytes, inputs, run_told, status};
+use crate::slot_cases::{bytes, inputs, run_told, status};
 use case_texts::outputs::memory;
 use ocs_io::Shelf;
 use run_cases::CaseFault;

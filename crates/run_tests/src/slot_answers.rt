@@ -1,6 +1,6 @@
 //! What each status says, and what it leaves of the files.
 
-use crate::cases::{inputs, status};
+use crate::slot_cases::{inputs, status};
 use ocs_io::{Place, ReadRefusal, Shelf, WriteRefusal};
 use run_cases::CaseFault;
 use run_cases::place::shelf;
