@@ -118,13 +118,6 @@ fn write_files(out: &mut OutFiles, shelf: &mut Shelf) -> Result<(), Fail> {
     Ok(())
 }
 
-/// A shelf with the files of a run.
-fn shelf_with(alloc: Global, out: &mut OutFiles) -> Result<Shelf, Fail> {
-    let mut shelf = Shelf::new(alloc);
-    write_files(out, &mut shelf)?;
-    Ok(shelf)
-}
-
 /// The foreground at reset of a run.
 fn fore_of_run(alloc: Global, run: &Arc<Run<CrewSide>>) -> Result<Fore<CrewSide>, OutOfMemory>
     requires { side_seen (arc_value run.now).side ≡ no_side }
@@ -133,20 +126,22 @@ fn fore_of_run(alloc: Global, run: &Arc<Run<CrewSide>>) -> Result<Fore<CrewSide>
     Fore::with_side(alloc, Arc::try_clone(run)?, CrewSide::Nothing)
 }
 
-/// The files of a run over a crew of these workers, and who drew its bands.
-fn shelf_over_crew<R: Threads + Wait + Clone + Drop + Send + Sync + 'static>(
+/// Runs over a crew of these workers and writes the files. The answer says who drew its bands.
+fn write_over_crew<R: Threads + Wait + Clone + Drop + Send + Sync + 'static>(
     rt: &R,
     alloc: Global,
     workers: Workers<'_>,
     run: Arc<Run<CrewSide>>,
     fore: &mut Fore<CrewSide>,
     out: &mut OutFiles,
-) -> Result<(Shelf, Totals), Fail>
+    shelf: &mut Shelf,
+) -> Result<Totals, Fail>
     requires workers { workers.count ≤ 32 }
     requires new { IsNew (run_of (arc_value run)) (fore_of fore.old) }
 {
     let totals = draw_over_crew(rt, alloc, workers, run, fore, out)?;
-    Ok((shelf_with(alloc, out)?, totals))
+    write_files(out, shelf)?;
+    Ok(totals)
 }
 
 /// The same with output files of its own.
@@ -156,39 +151,46 @@ fn files_over_crew<R: Threads + Wait + Clone + Drop + Send + Sync + 'static>(
     workers: Workers<'_>,
     run: Arc<Run<CrewSide>>,
     fore: &mut Fore<CrewSide>,
-) -> Result<(Shelf, Totals), Fail>
+    shelf: &mut Shelf,
+) -> Result<Totals, Fail>
     requires workers { workers.count ≤ 32 }
     requires new { IsNew (run_of (arc_value run)) (fore_of fore.old) }
 {
     let mut out = out_files(alloc)?;
-    shelf_over_crew(rt, alloc, workers, run, fore, &mut out)
+    write_over_crew(rt, alloc, workers, run, fore, &mut out, shelf)
 }
 
-/// The bars' run, and its foreground at reset.
-fn start_of_bars(alloc: Global) -> Result<(Arc<Run<CrewSide>>, Fore<CrewSide>), Fail>
-    ensures { IfOk result (λ made. IsNew (run_of (arc_value made.0)) (fore_of made.1)) }
-{
-    let run = run_of_bars(alloc)?;
-    let fore = fore_of_run(alloc, &run)?;
-    Ok((run, fore))
-}
-
-/// The files of the bars' run over a crew of these workers, and who drew its bands.
+/// The same with the bars' run from reset on.
 fn run_over_crew<R: Threads + Wait + Clone + Drop + Send + Sync + 'static>(
     rt: &R,
     alloc: Global,
     workers: Workers<'_>,
-) -> Result<(Shelf, Totals), Fail>
+    shelf: &mut Shelf,
+) -> Result<Totals, Fail>
     requires { workers.count ≤ 32 }
 {
-    let (run, mut fore) = start_of_bars(alloc)?;
-    files_over_crew(rt, alloc, workers, run, &mut fore)
+    let run = run_of_bars(alloc)?;
+    let mut fore = fore_of_run(alloc, &run)?;
+    files_over_crew(rt, alloc, workers, run, &mut fore, shelf)
 }
 
 /// Whether a run shows the bars, how often someone waited in vain, and who drew its bands.
 type Answer = (bool, u64, Totals);
 
-/// That of a run over a crew of these workers.
+/// That of the bars' run over a crew of these workers, on a shelf.
+fn answer_on_shelf<R: Threads + Wait + Clone + Drop + Send + Sync + 'static>(
+    rt: &R,
+    alloc: Global,
+    workers: Workers<'_>,
+    shelf: &mut Shelf,
+) -> Result<Answer, Fail>
+    requires { workers.count ≤ 32 }
+{
+    let totals = run_over_crew(rt, alloc, workers, shelf)?;
+    Ok((shows_bars(alloc, shelf)?, workers.told.counts()[0], totals))
+}
+
+/// The same on a shelf of its own.
 fn answer_of_workers<R: Threads + Wait + Clone + Drop + Send + Sync + 'static>(
     rt: &R,
     alloc: Global,
@@ -196,8 +198,8 @@ fn answer_of_workers<R: Threads + Wait + Clone + Drop + Send + Sync + 'static>(
 ) -> Result<Answer, Fail>
     requires { workers.count ≤ 32 }
 {
-    let (shelf, totals) = run_over_crew(rt, alloc, workers)?;
-    Ok((shows_bars(alloc, &shelf)?, workers.told.counts()[0], totals))
+    let mut shelf = Shelf::new(alloc);
+    answer_on_shelf(rt, alloc, workers, &mut shelf)
 }
 
 /// That of so many workers, of whose bands nobody was told before, and for whom the clock loop may wait.
