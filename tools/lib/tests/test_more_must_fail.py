@@ -11,7 +11,7 @@ TOOL = os.path.join(TOOLS, "more-must-fail")
 LEFT_OUT = "more-must-fail"
 # says the words that it is given, and the edits that stand where the kit looks for them; its status is 5
 STAND_IN = """#!/bin/sh
-[ "$1" = --help ] && {{ echo '{help}'; exit 0; }}
+[ "$1" = --help ] && {{ echo '{help}' >&2; exit 2; }}
 [ -f crates.txt ] && [ -f HANDLES ] && [ -f crates/beam/src/lib.rt ] || exit 6
 echo "$@"
 ls -d crates/*/*must-fail/*
