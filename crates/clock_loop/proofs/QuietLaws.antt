@@ -45,7 +45,7 @@ use Rattle.quiet_clocks.proofs.QuietClock.{nobody_asks}
 use Rattle.quiet_clocks.proofs.QuietClocks.{quiet_span, fewer_are_quiet, clocks_of_run}
 use Rattle.foreground.specs.Clock.{IsAt}
 use Rattle.foreground.specs.Fore.{ForeValue, HasScript, IsUnderway, is_done}
-use Rattle.foreground.specs.Gathered.{Fits}
+use Rattle.band_gather.specs.Gathered.{Fits}
 use Rattle.picture_log.specs.Log.{IsLogOf, IsShown, with_waiting, with_script_touches, with_access_touch}
 use Rattle.machine.specs.Machine.{MachineValue, IsMachineOf}
 use Rattle.machine.specs.QuietCode.{PassesClocks, PassesOver}

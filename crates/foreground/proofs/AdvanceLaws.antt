@@ -23,7 +23,7 @@ use Rattle.machine.specs.Out.{Gives, GivesLines}
 use Rattle.machine.specs.Machine.{MachineValue, Start, Stands, Makes, MakesQuietly, IsSamePlace}
 use Rattle.picture_log.specs.Log.{IsLogOf}
 use Rattle.foreground.specs.Script.{IsLeft, IsMachine}
-use Rattle.foreground.specs.Gathered.{tinted_range}
+use Rattle.band_gather.specs.Gathered.{tinted_range}
 use Rattle.foreground.specs.Clock.{AreLeftFrom, IsAt, IsBehindAccess, Tells, HasGiven, HasGivenPart, Rises, access_state, accessed_state}
 use Rattle.foreground.specs.Fore.{ForeValue, HasScript, IsUnderway, HasAdvanced, Advances, GivesPart, is_done}
 use Rattle.foreground.specs.Steps.{IsBefore, IsBehind, KeepsClock, HasBegunClock, BeginsClock, HasScriptBehind}

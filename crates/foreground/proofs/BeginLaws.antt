@@ -16,7 +16,7 @@ use Rattle.serial_model.specs.Events.{due_events}
 use Rattle.serial_bands.proofs.Gathering.{gathered_more, gathered_start, gathered_cleared}
 use Rattle.band_log.specs.Raster.{RasterValue}
 use Rattle.picture_log.specs.Log.{IsLogOf, with_begin, with_waiting}
-use Rattle.foreground.specs.Gathered.{Fits}
+use Rattle.band_gather.specs.Gathered.{Fits}
 use Rattle.foreground.specs.Clock.{HasBegun, Rises}
 use Rattle.foreground.specs.CutsCode.{StandsBefore, HasEnded, EndsAtLine, EndsPart}
 use Rattle.foreground.specs.Fore.{ForeValue, IsUnderway, is_done, looked_up}

@@ -11,7 +11,7 @@ use Rattle.serial_bands.specs.Fetches.{fetches_in}
 use Rattle.band_log.specs.declared.job.Job.{Job}
 use Rattle.band_log.specs.Raster.{RasterValue}
 use Rattle.picture_log.specs.Log.{IsLogOf, IsCut, IsJobOf, blank_after}
-use Rattle.foreground.specs.Gathered.{Fits, HasGathered, HasGatheredPart, HasGatheredTo, HasSubmitted, GathersAll, GathersPart, Submits}
+use Rattle.band_gather.specs.Gathered.{Fits, HasGathered, HasGatheredPart, HasGatheredTo, HasSubmitted, GathersAll, GathersPart, Submits}
 use Rattle.picture_log.specs.Closing.{IsClosing, IsClockBefore}
 use Rattle.foreground.specs.Clock.{AreLeftFrom, HasGiven, HasGivenPart, Rises}
 use Rattle.foreground.specs.CutsCode.{StandsBefore, HasEndedAll, EndsAtLine, EndsAtRead, EndsAll, EndsPart, EndsPartAtRead}
@@ -20,7 +20,7 @@ use Rattle.picture_log.specs.declared.band.OpenBand.{OpenBand}
 use Rattle.picture_log.specs.declared.log.Log.{Log}
 use Rattle.picture_log.proofs.Cutting.{fetches_are_few, log_cuts}
 use Rattle.machine.proofs.OutLaws.{gives_nothing}
-use Rattle.foreground.proofs.GatherLaws.{no_bytes, gathered_then, part_then}
+use Rattle.band_gather.proofs.GatherLaws.{no_bytes, gathered_then, part_then}
 use Rattle.foreground.proofs.LeftLaws.{left_from, IsBeginOf, ending_band, log_band}
 
 -- what was given where bands were gathered, or nothing was

@@ -7,7 +7,7 @@ use Rattle.serial_bands.specs.OpenBand.{clock_events}
 use Rattle.serial_bands.specs.Stores.{stores_at}
 use Rattle.band_log.specs.Raster.{RasterValue}
 use Rattle.picture_log.specs.Log.{IsLogOf, IsStarted, IsShown, IsEnding, Grows}
-use Rattle.foreground.specs.Gathered.{Fits}
+use Rattle.band_gather.specs.Gathered.{Fits}
 use Rattle.foreground.specs.Clock.{AreLeftFrom}
 use Rattle.picture_log.specs.declared.band.OpenBand.{OpenBand}
 use Rattle.picture_log.specs.declared.log.Log.{Log}

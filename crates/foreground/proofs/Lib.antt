@@ -1,4 +1,3 @@
-pub mod GatherLaws
 pub mod ScriptLaws
 pub mod ReachLaws
 pub mod MadeLaws
@@ -16,3 +15,4 @@ pub mod SaveLaws
 pub mod SumLaws
 pub mod AskedLaws
 pub mod SlotLaws
+pub mod RefusalLaws

@@ -26,14 +26,14 @@ use Rattle.band_log.specs.Raster.{RasterValue}
 use Rattle.machine.specs.Out.{Gives, GivesLines}
 use Rattle.machine.specs.Machine.{MachineValue, IsMachineOf, HasMade, HasAskedOf, MakesAccess, IsSamePlace, StaysInPlace, StoresMade}
 use Rattle.picture_log.specs.Log.{IsLogOf, IsBandOf, with_access_touch}
-use Rattle.foreground.specs.Gathered.{Fits, tinted_range}
+use Rattle.band_gather.specs.Gathered.{Fits, tinted_range}
 use Rattle.foreground.specs.Clock.{AreLeftFrom, IsLogged, IsBehindAccess, HasGiven, HasGivenPart, access_state, accessed_state}
 use Rattle.foreground.specs.Fore.{ForeValue}
 use Rattle.foreground.specs.Steps.{IsBefore, IsLoggedBefore, HasReadByAccess, HasMadeAccess, MakesItsAccess}
 use Rattle.foreground.specs.Steps.{MakesAskedAccess, HasAskedNow, StandsBeforeRead, ReadsBits, AccessesPart, reads_more}
 use Rattle.picture_log.specs.declared.log.Log.{Log}
 use Rattle.machine.proofs.OutLaws.{gives_nothing, gives_then}
-use Rattle.foreground.proofs.GatherLaws.{no_bytes}
+use Rattle.band_gather.proofs.GatherLaws.{no_bytes}
 use Rattle.machine.proofs.ToldLaws.{told_none}
 use Rattle.machine.proofs.RunLaws.{made_at_clock, memory_at_clock, stores_at_clock, touch_at_clock, range_at_clock, place_at_clock, reads_at_clock}
 use Rattle.picture_log.proofs.Logging.{log_accessed}

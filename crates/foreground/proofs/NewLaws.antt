@@ -14,11 +14,11 @@ use Rattle.serial_bands.proofs.Gathering.{gathered_first}
 use Rattle.band_log.specs.Raster.{RasterValue, Takes}
 use Rattle.foreground.specs.Clock.{IsAt}
 use Rattle.foreground.specs.Fore.{HasScript, IsNew}
-use Rattle.foreground.specs.Gathered.{Fits}
+use Rattle.band_gather.specs.Gathered.{Fits}
 use Rattle.picture_log.specs.Log.{IsLogOf}
 use Rattle.machine.specs.Machine.{MachineValue, IsMachineOf, IsReset}
 use Rattle.picture_log.specs.declared.log.Log.{Log}
-use Rattle.foreground.proofs.GatherLaws.{fits_begin}
+use Rattle.band_gather.proofs.GatherLaws.{fits_begin}
 use Rattle.foreground.proofs.SettleLaws.{number_here}
 
 machine_first : (run : RunValue) (m : MachineValue) → IsReset run.side run.image run.script.chip run.script.cpu m → IsMachineOf m (state_of run 0)

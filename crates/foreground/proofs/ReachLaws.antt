@@ -17,7 +17,7 @@ use Rattle.band_log.specs.Raster.{RasterValue}
 use Rattle.machine.specs.Machine.{MachineValue, IsMachineOf, Start, Stands, MakesQuietly, KeepsPlace, IsSamePlace}
 use Rattle.picture_log.specs.Log.{IsShown, with_script_touch, with_script_touches}
 use Rattle.foreground.specs.Script.{MakesEvents, IsMachine}
-use Rattle.foreground.specs.Gathered.{Fits}
+use Rattle.band_gather.specs.Gathered.{Fits}
 use Rattle.foreground.specs.Clock.{HasBegun, IsBeforeAccess, Tells, access_state}
 use Rattle.foreground.specs.Fore.{ForeValue, HasScript}
 use Rattle.foreground.specs.Steps.{HasScriptBehind, ReachesAccess}
@@ -163,3 +163,22 @@ script_events_of bits f g events new out given on script view same makes =
     let first : due_events f.machine.beam f.run.script.events ≡ due_events f.machine.beam (drop f.next f.run.script.events) =
     script.same f.machine.beam on (omega arith) in
     subst (λ es. MakesEvents bits es f.machine out new given) (sym first) here
+
+-- the events that are due of those that are left are those of the whole script
+due_of_left : (f g : ForeValue) (events : List At) → IsOnScreen f.machine.beam → HasScript f.run f.machine.beam f.next → g ≡ f
+    → events ≡ g.run.script.events
+    → due_events g.machine.beam (take (length events - g.next) (drop g.next events)) ≡ due_events f.machine.beam f.run.script.events
+due_of_left f g events on script view same =
+    ap (λ es. due_events g.machine.beam es) (rest_of_list g.next events ∙ ap (λ es. drop g.next es) same)
+    ∙ ap (λ (x : ForeValue). due_events x.machine.beam (drop x.next x.run.script.events)) view
+    ∙ sym (script.same f.machine.beam on (omega arith))
+
+-- so what they touch is noted
+pub noted_of_left : (f g : ForeValue) (events : List At) (log : Log) → IsOnScreen f.machine.beam → HasScript f.run f.machine.beam f.next
+    → g ≡ f → events ≡ g.run.script.events
+    → log ≡ with_script_touches g.machine.t
+    (touches_of (due_events g.machine.beam (take (length events - g.next) (drop g.next events)))) g.log
+    → log ≡ with_script_touches f.machine.t (touches_of (due_events f.machine.beam f.run.script.events)) f.log
+noted_of_left f g events log on script view same is =
+    is ∙ ap (λ es. with_script_touches g.machine.t (touches_of es) g.log) (due_of_left f g events on script view same)
+    ∙ ap (λ (x : ForeValue). with_script_touches x.machine.t (touches_of (due_events f.machine.beam f.run.script.events)) x.log) view

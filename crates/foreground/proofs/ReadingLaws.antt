@@ -22,7 +22,7 @@ use Rattle.serial_bands.proofs.Gathering.{gathered_at_access}
 use Rattle.serial_bands.proofs.WholeRun.{place_rises}
 use Rattle.band_log.specs.Raster.{RasterValue}
 use Rattle.picture_log.specs.Log.{IsEnding}
-use Rattle.foreground.specs.Gathered.{Fits, HasGatheredTo, GathersAll, GathersPart}
+use Rattle.band_gather.specs.Gathered.{Fits, HasGatheredTo, GathersAll, GathersPart}
 use Rattle.foreground.specs.Clock.{access_state}
 use Rattle.foreground.specs.CutsCode.{StandsAtEnd, HasEnded, EndsAtRead, EndsPartAtRead}
 use Rattle.picture_log.specs.Closing.{IsClockBefore}

@@ -21,7 +21,7 @@ use Rattle.foreground.specs.Checkpoint.{CheckpointOf, IsCheckpointOf, checkpoint
 use Rattle.foreground.specs.Clock.{AreLeftFrom}
 use Rattle.foreground.specs.CutsCode.{StandsAtEnd, HasEnded, EndsAtRead, EndsPartAtRead}
 use Rattle.foreground.specs.Fore.{ForeOf, ForeValue, IsUnderway, GivesPart, over}
-use Rattle.foreground.specs.Gathered.{Fits, HasGatheredTo, GathersAll, outstanding_from, tinted_range}
+use Rattle.band_gather.specs.Gathered.{Fits, HasGatheredTo, GathersAll, outstanding_from, tinted_range}
 use Rattle.picture_log.specs.Log.{IsLogOf, waiting_list}
 use Rattle.foreground.specs.Save.{HasSaved, Saves, IsSaved}
 use Rattle.picture_log.specs.declared.log.Log.{Log}

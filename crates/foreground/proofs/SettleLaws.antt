@@ -10,7 +10,7 @@ use Rattle.serial_bands.specs.Bands.{begun}
 use Rattle.serial_bands.proofs.WholeRun.{end_begins}
 use Rattle.band_log.specs.Raster.{RasterValue}
 use Rattle.picture_log.specs.Log.{IsLogOf}
-use Rattle.foreground.specs.Gathered.{Fits, HasGatheredTo, GathersAll, GathersPart}
+use Rattle.band_gather.specs.Gathered.{Fits, HasGatheredTo, GathersAll, GathersPart}
 use Rattle.foreground.specs.CutsCode.{StandsAtEnd, HasEndedAll, EndsAll, EndsPartAtRead}
 use Rattle.foreground.specs.Fore.{ForeValue, IsUnderway, is_done, HasSettled, Settles, GivesPart}
 use Rattle.machine.specs.Machine.{IsMachineOf}

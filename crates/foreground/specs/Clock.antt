@@ -14,7 +14,7 @@ use Rattle.band_log.specs.Raster.{RasterValue}
 use Rattle.machine.specs.Out.{Gives}
 use Rattle.machine.specs.Machine.{MachineValue, IsMachineOf}
 use Rattle.picture_log.specs.Log.{IsLogOf, IsStarted, IsShown}
-use Rattle.foreground.specs.Gathered.{Fits, KeepsMark, tinted_range}
+use Rattle.band_gather.specs.Gathered.{Fits, KeepsMark, tinted_range}
 use Rattle.picture_log.specs.declared.log.Log.{Log}
 
 -- At the start of clock c: machine and log stand there, outstanding are the bands from clock `first` up to the open one, and

@@ -5,7 +5,7 @@ use Rattle.serial_model.specs.declared.picture.Denise.{Denise}
 use Rattle.serial_bands.specs.BandShown.{clx_from}
 use Rattle.band_log.specs.Raster.{RasterValue}
 use Rattle.picture_log.specs.Log.{IsLogOf, IsEnding, IsCut}
-use Rattle.foreground.specs.Gathered.{Fits, HasGatheredTo}
+use Rattle.band_gather.specs.Gathered.{Fits, HasGatheredTo}
 use Rattle.foreground.specs.Clock.{HasGiven, HasGivenPart}
 use Rattle.foreground.specs.Fore.{ForeValue}
 use Rattle.foreground.specs.Steps.{ReadsBits, ReadsPart, KeepsClock}

@@ -1,6 +1,4 @@
 pub mod Script
-pub mod Gathered
-pub mod Gathering
 pub mod Clock
 pub mod Slot
 pub mod Fore

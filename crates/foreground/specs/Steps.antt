@@ -15,7 +15,7 @@ use Rattle.serial_bands.specs.Bands.{has_clx_read}
 use Rattle.band_log.specs.Raster.{RasterValue}
 use Rattle.machine.specs.Machine.{MachineValue, IsMachineOf, IsSamePlace, HasAskedOf, MakesQuietly, KeepsPlace}
 use Rattle.picture_log.specs.Log.{IsLogOf, with_script_touches}
-use Rattle.foreground.specs.Gathered.{Fits}
+use Rattle.band_gather.specs.Gathered.{Fits}
 use Rattle.foreground.specs.Script.{IsLeft, HasLater, MakesEvents}
 use Rattle.foreground.specs.Clock.{IsAt, HasBegun, IsLogged, IsBeforeAccess, IsBehindAccess, Tells, HasGiven, HasGivenPart, access_state, accessed_state}
 use Rattle.foreground.specs.Fore.{ForeValue, HasScript, IsUnderway}

@@ -12,7 +12,7 @@ ghost use Rattle.foreground.specs.Fore.{over};
 ghost use Rattle.foreground.specs.Steps.{KeepsClock};
 
 use crate::fore::Fore;
-use crate::gather::{gather_all, submit};
+use band_gather::{gather_all, submit};
 use band_log::{Picture, Raster};
 use ocs_base::OutOfMemory;
 use out_files::OutFiles;

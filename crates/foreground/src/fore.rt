@@ -6,8 +6,8 @@ ghost use Rattle.std.specs.Arc.{arc_value};
 ghost use Rattle.serial_bands.specs.Run.{run_over};
 ghost use Rattle.foreground.specs.Fore.{over, IsNew, is_done};
 
-use crate::gathering::Gathering;
 use crate::lookout::Lookout;
+use band_gather::Gathering;
 use band_log::{Cursor, Run, Spare};
 use machine::Machine;
 use ocs_base::{Beam, OutOfMemory, System};

@@ -10,8 +10,6 @@ mod checkpoint;
 mod clock;
 mod cuts;
 mod fore;
-mod gather;
-mod gathering;
 mod lookout;
 mod memory_bytes;
 mod memory_sum;

@@ -6,7 +6,7 @@ ghost use Rattle.foreground.specs.Fore.{over};
 ghost use Rattle.foreground.specs.Steps.{StandsBeforeRead, ReadsBits, ReadsPart};
 
 use crate::fore::Fore;
-use crate::gather::gather_all;
+use band_gather::gather_all;
 use band_log::Raster;
 use ocs_base::{Beam, OutOfMemory};
 use out_files::OutFiles;

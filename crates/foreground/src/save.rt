@@ -11,10 +11,9 @@ ghost use Rattle.foreground.specs.Steps.{KeepsClock};
 
 use crate::checkpoint::Checkpoint;
 use crate::fore::Fore;
-use crate::gather::gather_all;
-use crate::gathering::Gathering;
 use crate::lookout::Lookout;
 use crate::reading::clock_before;
+use band_gather::{Gathering, gather_all};
 use band_log::{Cursor, Events, Picture, Raster, Run, Spare};
 use machine::Machine;
 use mem_versions::Chip;

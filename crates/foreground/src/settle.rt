@@ -5,7 +5,7 @@ ghost use Rattle.foreground.specs.Fore.{over, CanGo, IsUnderway, is_done, Settle
 ghost use Rattle.foreground.specs.Steps.{KeepsClock};
 
 use crate::fore::Fore;
-use crate::gather::gather_all;
+use band_gather::gather_all;
 use band_log::Raster;
 use machine::Machine;
 use mem_versions::Chip;

@@ -1,15 +1,8 @@
-pub mod AudioLaws
-pub mod CrewLaws
 pub mod EndLaws
-pub mod FaultLaws
-pub mod KeptLaws
 pub mod OrderLaws
 pub mod ReadableLaws
-pub mod RunLaws
 pub mod SceneLaws
 pub mod TopLaws
-pub mod GrowthLaws
-pub mod PrefixLaws
 pub mod VerdictLaws
 pub mod RewindLaws
 pub mod RewindOrderLaws

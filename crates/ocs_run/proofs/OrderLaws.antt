@@ -14,17 +14,17 @@ use Rattle.run_inputs.specs.Inputs.{Holds, HoldsRun, AreInputsOf}
 use Rattle.run_inputs.proofs.VerdictLaws.{told_all, at_told}
 use Rattle.ocs_words.specs.Order.{OrderValue, ExtraValue, NoFile, AudioFile, TrackFile, HasTrack, audio_of}
 use Rattle.out_files.specs.OutFiles.{OutNames}
-use Rattle.ocs_run.specs.Run.{HasAllFiles}
-use Rattle.ocs_run.specs.Prefix.{LeavesFiles}
+use Rattle.files_run.specs.Run.{HasAllFiles}
+use Rattle.files_run.specs.Prefix.{LeavesFiles}
 use Rattle.ocs_run.specs.SetupCode.{IsSetupOf}
 use Rattle.ocs_run.specs.Sides.{HoldsNoTrack, IsTrackFault, IsSideOf, IsSideFault}
 use Rattle.ocs_run.specs.Verdict.{Verdict, Usage as UsageVerdict, Absent, BadImage as BadImageVerdict, BadScript as BadScriptVerdict}
 use Rattle.ocs_run.specs.Verdict.{BadTrack as BadTrackVerdict, Good, Scene, Rewind, of_order, of_extra, of_track}
 use Rattle.ocs_words.specs.declared.fault.Fault.{Fault}
 use Rattle.ocs_words.specs.declared.fault.Fault.TheVariants.{Usage, Inputs, BadTrack, UnreadTrack, Unwritten, Unsaid, OutOfMemory}
-use Rattle.ocs_run.specs.declared.run.Setup.{Setup}
-use Rattle.ocs_run.proofs.AudioLaws.{LeavesFiles-none}
-use Rattle.ocs_run.proofs.PrefixLaws.{prefixes_kept}
+use Rattle.files_run.specs.declared.run.Setup.{Setup}
+use Rattle.files_run.proofs.AudioLaws.{LeavesFiles-none}
+use Rattle.files_run.proofs.PrefixLaws.{prefixes_kept}
 use Rattle.ocs_run.proofs.VerdictLaws.{rose_since, inputs_are, inputs_good}
 
 -- ---- the verdict of an order is no usage and no scene

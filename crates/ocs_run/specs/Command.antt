@@ -10,8 +10,8 @@ use Rattle.ocs_words.specs.declared.fault.Fault.TheVariants.{Usage, Inputs, BadT
 use Rattle.ocs_words.specs.Fault.{IsOutputOf}
 use Rattle.run_inputs.specs.Inputs.{HoldsRun, IsInputFault}
 use Rattle.ocs_words.specs.Order.{OrderValue, HasTrack, audio_of}
-use Rattle.ocs_run.specs.Run.{HasAllFiles}
-use Rattle.ocs_run.specs.Prefix.{LeavesFiles}
+use Rattle.files_run.specs.Run.{HasAllFiles}
+use Rattle.files_run.specs.Prefix.{LeavesFiles}
 use Rattle.ocs_run.specs.Verdict.{Verdict, Usage as UsageVerdict, Absent, BadImage as BadImageVerdict, BadScript as BadScriptVerdict}
 use Rattle.ocs_run.specs.Verdict.{BadTrack as BadTrackVerdict, Good, Scene, Rewind, of_order}
 use Rattle.serial_model.specs.Side.{SideValue}

@@ -1,15 +1,9 @@
-pub mod Audio
 pub mod Command
-pub mod PlaceCode
-pub mod Prefix
-pub mod RestCode
 pub mod RewindAnswers
 pub mod RewindText
-pub mod Run
 pub mod SceneAnswers
 pub mod SceneSummary
 pub mod SetupCode
 pub mod Sides
 pub mod Top
-pub mod UnderwayCode
 pub mod Verdict

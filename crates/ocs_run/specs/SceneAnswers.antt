@@ -5,7 +5,7 @@ use Rattle.ocs_io.specs.Place.{Files, Outside, Rose, said_more}
 use Rattle.out_files.specs.OutFiles.{OutNames}
 use Rattle.scene_gen.specs.Scene.{scene_image, scene_script}
 use Rattle.run_inputs.specs.Texts.{KeepsSaid}
-use Rattle.ocs_run.specs.Run.{HasFiles}
+use Rattle.files_run.specs.Run.{HasFiles}
 use Rattle.ocs_run.specs.SceneSummary.{IsSummary}
 use Rattle.ocs_words.specs.declared.fault.Fault.{Fault}
 use Rattle.ocs_words.specs.declared.fault.Fault.TheVariants.{Usage, Inputs, BadTrack, UnreadTrack, Unwritten, Unsaid, OutOfMemory}

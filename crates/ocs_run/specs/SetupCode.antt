@@ -5,7 +5,7 @@ use Rattle.ocs_base.specs.Script.{ScriptValue}
 use Rattle.serial_model.specs.Side.{SideValue}
 use Rattle.ocs_run.specs.Command.{IsOutOf, out_names}
 use Rattle.ocs_words.specs.Order.{OrderValue}
-use Rattle.ocs_run.specs.declared.run.Setup.{Setup}
+use Rattle.files_run.specs.declared.run.Setup.{Setup}
 
 -- over this image, this script and this side: its two sides are alike, and its files are new and have the names of the order
 pub record IsSetupOf (order : OrderValue) (image : List ℕ) (script : ScriptValue) (side : SideValue) (setup : Setup) : Type 0 where

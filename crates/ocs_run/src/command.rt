@@ -12,10 +12,10 @@ ghost use Rattle.ocs_run.specs.Sides.{ReadableTrack};
 ghost use Rattle.run_inputs.specs.Texts.{KeepsSaid};
 ghost use Rattle.serial_model.specs.Side.{FitsSide};
 
-use crate::run::{Drawing, Setup, run_files};
 use crate::sides::{Sides, read_sides};
 use band_log::Run;
 use crew::Gate;
+use files_run::{Drawing, Setup, run_files};
 use ocs_base::System;
 use ocs_io::Place;
 use ocs_words::{Fault, Order};
@@ -27,7 +27,7 @@ use std::thread::Threads;
 
 /// Does what an order asks for: the image is read and its form tested, then the script, and then whether
 /// the image fits the script's chip memory, and of a run that has a disk the track; and then it is run.
-#[tactic(auto, using(crate::proofs::PrefixLaws::prefixes_kept))]
+#[tactic(auto, using(files_run::proofs::PrefixLaws::prefixes_kept))]
 pub fn run_order<
     R: Threads + Wait + Clone + Drop + Send + Sync + 'static,
     P: Place,

@@ -1,11 +1,9 @@
 //! The top call: a run from the words of the command line to the output files.
 #![tactic(auto)]
 
-mod audio;
 mod command;
 mod rewind;
 mod rewind_text;
-mod run;
 mod scene;
 mod sides;
 mod top;

@@ -10,9 +10,9 @@ ghost use Rattle.ocs_run.specs.SceneAnswers.{SceneAnswers, HasSceneFiles, scene_
 ghost use Rattle.ocs_run.specs.SceneSummary.{IsSummary, summary_text, number_line, line_count};
 
 use crate::command::owned;
-use crate::run::{Drawing, Setup, run_files};
 use band_log::Run;
 use crew::{CrewSide, Gate};
+use files_run::{Drawing, Setup, run_files};
 use ocs_base::{OutOfMemory, System};
 use ocs_io::{Place, SureShelf, WriteRefusal, put_dec};
 use ocs_words::{Fault, SceneOrder};

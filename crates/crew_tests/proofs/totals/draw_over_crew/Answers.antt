@@ -1,6 +1,6 @@
 -- A new foreground can run over a new crew.
-use Rattle.ocs_run.proofs.RunLaws.{CanRun-start}
-use Rattle.ocs_run.proofs.CrewLaws.{IsEmpty-lent, mark_left}
+use Rattle.files_run.proofs.RunLaws.{CanRun-start}
+use Rattle.files_run.proofs.CrewLaws.{IsEmpty-lent, mark_left}
 use Rattle.crew_tests.proofs.totals.draw_over_crew.Goals as goal
 
 pub with_crew-requires-clause-body : goal.with_crew-requires-clause-body

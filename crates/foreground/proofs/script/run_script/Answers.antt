@@ -1,6 +1,7 @@
 use Rattle.std.proofs.Common.{rules, sym, ◌∙◌}
 use Rattle.foreground.proofs.ScriptLaws.{HasDone-start, turn, MakesEvents-all, noted-all, IsOver-later}
 use Rattle.foreground.proofs.ScriptLaws.{IsOver-empty, lines_none, lines_then, rest_all, rest_more}
+use Rattle.foreground.proofs.RefusalLaws.{no_value, not_ok}
 use Rattle.foreground.proofs.script.run_script.Goals as goal
 
 pub loop-event-init : goal.loop-event-init
@@ -79,3 +80,30 @@ returns-then-not-is_due-clause-rest g c = c.loop-event.invariant.1.1.1
 
 pub returns-clause-rest : goal.returns-clause-rest
 returns-clause-rest g c = c.loop-event.invariant.1.1.1
+
+pub is_due-requires : goal.is_due-requires
+is_due-requires g c = tt
+
+pub returns-then-not-is_due-clause-told : goal.returns-then-not-is_due-clause-told
+returns-then-not-is_due-clause-told g c = tt
+
+pub returns-in_err-happen-clause-step : goal.returns-in_err-happen-clause-step
+returns-in_err-happen-clause-step g c = not_ok c.from_residual.result _ c.from_residual.ensures.0
+
+pub returns-in_err-happen-clause-place : goal.returns-in_err-happen-clause-place
+returns-in_err-happen-clause-place g c = not_ok c.from_residual.result _ c.from_residual.ensures.0
+
+pub returns-in_err-happen-clause-noted : goal.returns-in_err-happen-clause-noted
+returns-in_err-happen-clause-noted g c = not_ok c.from_residual.result _ c.from_residual.ensures.0
+
+pub returns-in_err-happen-clause-left : goal.returns-in_err-happen-clause-left
+returns-in_err-happen-clause-left g c = no_value c.from_residual.result _ c.from_residual.ensures.0
+
+pub returns-in_err-happen-clause-rest : goal.returns-in_err-happen-clause-rest
+returns-in_err-happen-clause-rest g c = no_value c.from_residual.result _ c.from_residual.ensures.0
+
+pub returns-in_err-happen-clause-later : goal.returns-in_err-happen-clause-later
+returns-in_err-happen-clause-later g c = no_value c.from_residual.result _ c.from_residual.ensures.0
+
+pub returns-clause-told : goal.returns-clause-told
+returns-clause-told g c = tt

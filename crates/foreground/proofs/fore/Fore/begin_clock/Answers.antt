@@ -6,6 +6,7 @@ use Rattle.serial_bands.specs.Bands.{has_clx_read}
 use Rattle.serial_bands.specs.Clock.{due_at}
 use Rattle.foreground.specs.Steps.{BeginsPart}
 use Rattle.foreground.proofs.BeginLaws.{is_running, reads_there, before_place, begins_within_now, begins_already_now, begins_no_part}
+use Rattle.foreground.proofs.RefusalLaws.{no_value}
 use Rattle.foreground.proofs.fore.Fore.begin_clock.Goals as goal
 
 pub script_reads-requires : goal.script_reads-requires
@@ -60,3 +61,33 @@ returns-clause-begins g c =
     (omega (arith, c.if-self.false))
     (reads_there (over g.S.Side.seen c.args.self.now) c.requires.underway.0 (seen c.args.raster.now) c.script_reads.result c.requires.underway.1
     c.script_reads.ensures ∙ c.if-script_reads.false) (ap (over g.S.Side.seen) c.begin_log.ensures)
+
+pub returns-then-script_reads-clause-begins : goal.returns-then-script_reads-clause-begins
+returns-then-script_reads-clause-begins g c = c.begin_at_read.ensures.begins
+
+pub returns-then-script_reads-clause-part : goal.returns-then-script_reads-clause-part
+returns-then-script_reads-clause-part g c = c.begin_at_read.ensures.part
+
+pub returns-then-script_reads-clause-kept : goal.returns-then-script_reads-clause-kept
+returns-then-script_reads-clause-kept g c = c.begin_at_read.ensures.kept
+
+pub returns-then-is_band_place-clause-begins : goal.returns-then-is_band_place-clause-begins
+returns-then-is_band_place-clause-begins g c = c.begin_at_line.ensures.begins
+
+pub returns-then-is_band_place-clause-part : goal.returns-then-is_band_place-clause-part
+returns-then-is_band_place-clause-part g c = c.begin_at_line.ensures.part
+
+pub returns-then-is_band_place-clause-kept : goal.returns-then-is_band_place-clause-kept
+returns-then-is_band_place-clause-kept g c = c.begin_at_line.ensures.kept
+
+pub take_waiting-requires : goal.take_waiting-requires
+take_waiting-requires g c = tt
+
+pub returns-in_err-take_waiting-clause-begins : goal.returns-in_err-take_waiting-clause-begins
+returns-in_err-take_waiting-clause-begins g c = no_value c.from_residual.result _ c.from_residual.ensures.0
+
+pub returns-then-self-clause-part : goal.returns-then-self-clause-part
+returns-then-self-clause-part g c = tt
+
+pub returns-clause-part : goal.returns-clause-part
+returns-clause-part g c = tt

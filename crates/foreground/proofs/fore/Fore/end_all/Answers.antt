@@ -4,6 +4,7 @@ use Rattle.ocs_io.proofs.MapLaws.{on_err}
 use Rattle.foreground.specs.Fore.{ForeValue, over}
 use Rattle.foreground.specs.CutsCode.{EndsPartAtRead}
 use Rattle.foreground.proofs.CutLaws.{ends_no_part, ends_submit_part, ends_gather_part, ends_all_now}
+use Rattle.foreground.proofs.RefusalLaws.{no_value, not_ok}
 use Rattle.foreground.proofs.fore.Fore.end_all.Goals as goal
 
 pub returns-in_err-job-clause-part : goal.returns-in_err-job-clause-part
@@ -41,3 +42,24 @@ returns-clause-ends g c =
     c.close.new.self c.close.new.chip (ap (over g.S.Side.seen) c.self.view_is) c.in_ok-job.ensures.job c.in_ok-submit.ensures.submitted
     c.in_ok-closing.ensures.gathered
     c.in_ok-job.ensures.cut c.in_ok-job.ensures.log c.in_ok-job.ensures.chip
+
+pub returns-in_err-job-clause-ends : goal.returns-in_err-job-clause-ends
+returns-in_err-job-clause-ends g c = no_value c.from_residual.result _ c.from_residual.ensures.0
+
+pub returns-in_err-job-clause-none : goal.returns-in_err-job-clause-none
+returns-in_err-job-clause-none g c = not_ok c.from_residual.result _ c.from_residual.ensures.0
+
+pub returns-in_err-submit-clause-ends : goal.returns-in_err-submit-clause-ends
+returns-in_err-submit-clause-ends g c = no_value c.from_residual-in_err-submit.result _ c.from_residual-in_err-submit.ensures.0
+
+pub returns-in_err-submit-clause-none : goal.returns-in_err-submit-clause-none
+returns-in_err-submit-clause-none g c = not_ok c.from_residual-in_err-submit.result _ c.from_residual-in_err-submit.ensures.0
+
+pub returns-in_err-closing-clause-ends : goal.returns-in_err-closing-clause-ends
+returns-in_err-closing-clause-ends g c = no_value c.from_residual-in_err-closing.result _ c.from_residual-in_err-closing.ensures.0
+
+pub returns-in_err-closing-clause-none : goal.returns-in_err-closing-clause-none
+returns-in_err-closing-clause-none g c = not_ok c.from_residual-in_err-closing.result _ c.from_residual-in_err-closing.ensures.0
+
+pub returns-clause-part : goal.returns-clause-part
+returns-clause-part g c = tt

@@ -4,6 +4,7 @@ use Rattle.std.proofs.Common.{ap}
 use Rattle.ocs_io.proofs.MapLaws.{on_err}
 use Rattle.foreground.specs.CutsCode.{EndsPart}
 use Rattle.foreground.proofs.CutLaws.{line_no_part, line_submit_part, ends_at_line_now, line_rises_now}
+use Rattle.foreground.proofs.RefusalLaws.{not_ok}
 use Rattle.foreground.proofs.fore.Fore.end_at_line.Goals as goal
 
 pub returns-in_err-job-clause-part : goal.returns-in_err-job-clause-part
@@ -42,3 +43,12 @@ returns-clause-reads g c =
     line_rises_now _ (over g.S.Side.seen c.args.self.now) c.requires.stands.0 (g.Q.Raster.seen c.args.raster.now) c.cut_line.new.chip
     (ap (over g.S.Side.seen) c.self.view_is)
     c.requires.stands.1 c.requires.before c.in_ok-job.ensures.chip
+
+pub returns-in_err-job-clause-ends : goal.returns-in_err-job-clause-ends
+returns-in_err-job-clause-ends g c = not_ok c.from_residual.result _ c.from_residual.ensures.0
+
+pub returns-in_err-submit-clause-ends : goal.returns-in_err-submit-clause-ends
+returns-in_err-submit-clause-ends g c = not_ok c.from_residual-in_err-submit.result _ c.from_residual-in_err-submit.ensures.0
+
+pub returns-clause-part : goal.returns-clause-part
+returns-clause-part g c = tt

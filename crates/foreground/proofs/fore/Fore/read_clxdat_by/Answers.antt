@@ -3,6 +3,7 @@ use Rattle.machine.specs.Machine.{HasAskedOf}
 use Rattle.foreground.specs.Clock.{access_state}
 use Rattle.foreground.specs.Fore.{ForeValue, over}
 use Rattle.foreground.proofs.MadeLaws.{stands_at_read, asked_after_read, makes_with_read_of, part_of_read}
+use Rattle.foreground.proofs.RefusalLaws.{no_value}
 use Rattle.foreground.proofs.fore.Fore.read_clxdat_by.Goals as goal
 
 pub gather_clxdat-requires : goal.gather_clxdat-requires
@@ -35,3 +36,9 @@ returns-clause-word g c =
     (subst (λ (f : ForeValue). HasAskedOf f.machine (access_state (over g.S.Side.seen c.args.self.now).run c.args.self.now.machine.t))
     (sym (ap (over g.S.Side.seen) c.self.view_is)) (asked_after_read _ _ _ _ c.args.ask.now _ _ _ _ read c.requires.can.asked))
     c.requires.can.asked.asks (λ is. read.bits)
+
+pub returns-in_err-clx-clause-word : goal.returns-in_err-clx-clause-word
+returns-in_err-clx-clause-word g c = no_value c.from_residual.result _ c.from_residual.ensures.0
+
+pub returns-in_err-answer-clause-word : goal.returns-in_err-answer-clause-word
+returns-in_err-answer-clause-word g c = no_value c.from_residual-in_err-answer.result _ c.from_residual-in_err-answer.ensures.0
