@@ -23,7 +23,7 @@ const LONGEST: u8 = 63;
 
 /// Whether it looks at this clock.
 #[inline(always)]
-pub fn is_due(lookout: &Lookout, now: u64) -> bool
+pub(crate) fn is_due(lookout: &Lookout, now: u64) -> bool
     ensures { result ≡ nat_le lookout.now.from now }
 {
     lookout.from <= now
@@ -31,7 +31,7 @@ pub fn is_due(lookout: &Lookout, now: u64) -> bool
 
 /// It has looked at clock `h` of a line, and did so up to the clock `now`; `pays` says whether enough
 /// clocks were found. A pause does not go on behind the last slot of a sprite.
-pub fn note_look(lookout: &mut Lookout, now: u64, h: u16, pays: bool)
+pub(crate) fn note_look(lookout: &mut Lookout, now: u64, h: u16, pays: bool)
     ensures { lookout.new.pause ≤ 63 }
 {
     lookout.pause = if pays {
@@ -47,7 +47,7 @@ pub fn note_look(lookout: &mut Lookout, now: u64, h: u16, pays: bool)
 }
 
 /// At clock `h` of a line, beside the slots of refresh: it looks again behind them.
-pub fn wait_for_refresh(lookout: &mut Lookout, now: u64, h: u16)
+pub(crate) fn wait_for_refresh(lookout: &mut Lookout, now: u64, h: u16)
     ensures { lookout.new ≡ record lookout.old {
       from = min (now + ((if nat_lt h 6 then 0 else 227) + 6 - h)) (2 ^ 64 - 1);
     } }
@@ -58,7 +58,7 @@ pub fn wait_for_refresh(lookout: &mut Lookout, now: u64, h: u16)
 
 /// Whether clock `h` of a line is among those of refresh, at a line's ends.
 #[inline(always)]
-pub fn is_beside_refresh(h: u16) -> bool
+pub(crate) fn is_beside_refresh(h: u16) -> bool
     ensures { result ≡ (nat_lt h 6 || nat_le 225 h) }
 {
     h < BEHIND_REFRESH || LAST_REFRESH <= h

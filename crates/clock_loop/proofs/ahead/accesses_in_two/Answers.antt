@@ -5,6 +5,7 @@ use Rattle.clock_loop.proofs.AheadLaws.{anew_view}
 use Rattle.clock_loop.proofs.BusLaws.{none_made}
 use Rattle.clock_loop.proofs.ClockLaws.{run_and_run, run_and_part_run, run_and_none, all_left, fewer_left}
 use Rattle.clock_loop.proofs.LineLaws.{can_go_then}
+use Rattle.foreground.proofs.RefusalLaws.{no_value, not_ok}
 use Rattle.clock_loop.proofs.ahead.accesses_in_two.Goals as goal
 
 pub loop-made-init : goal.loop-made-init
@@ -77,3 +78,51 @@ returns-then-not-begins_anew-clause-runs g c seen = none_made c.args.limit (over
 pub returns-then-not-begins_anew-clause-can : goal.returns-then-not-begins_anew-clause-can
 returns-then-not-begins_anew-clause-can g c =
     all_left c.args.limit c.args.left None c.args.rest c.args.claim.now (over g.S.Side.seen c.args.fore.now) c.requires.can
+
+pub begins_anew-requires : goal.begins_anew-requires
+begins_anew-requires g c = tt
+
+pub returns-then-not-begins_anew-clause-part : goal.returns-then-not-begins_anew-clause-part
+returns-then-not-begins_anew-clause-part g c = tt
+
+pub returns-then-not-begins_anew-clause-run : goal.returns-then-not-begins_anew-clause-run
+returns-then-not-begins_anew-clause-run g c = refl
+
+pub min-most-requires : goal.min-most-requires
+min-most-requires g c = tt
+
+pub saturating_sub-last-requires : goal.saturating_sub-last-requires
+saturating_sub-last-requires g c = tt
+
+pub access_in_two-requires-clause-alone : goal.access_in_two-requires-clause-alone
+access_in_two-requires-clause-alone g c = c.requires.alone
+
+pub returns-in_err-access_in_two-clause-most : goal.returns-in_err-access_in_two-clause-most
+returns-in_err-access_in_two-clause-most g c = no_value c.from_residual.result _ c.from_residual.ensures.0
+
+pub returns-in_err-access_in_two-clause-rest : goal.returns-in_err-access_in_two-clause-rest
+returns-in_err-access_in_two-clause-rest g c = no_value c.from_residual.result _ c.from_residual.ensures.0
+
+pub returns-in_err-access_in_two-clause-count : goal.returns-in_err-access_in_two-clause-count
+returns-in_err-access_in_two-clause-count g c = no_value c.from_residual.result _ c.from_residual.ensures.0
+
+pub returns-in_err-access_in_two-clause-runs : goal.returns-in_err-access_in_two-clause-runs
+returns-in_err-access_in_two-clause-runs g c = not_ok c.from_residual.result _ c.from_residual.ensures.0
+
+pub returns-in_err-access_in_two-clause-can : goal.returns-in_err-access_in_two-clause-can
+returns-in_err-access_in_two-clause-can g c = no_value c.from_residual.result _ c.from_residual.ensures.0
+
+pub returns-in_err-access_in_two-clause-fresh : goal.returns-in_err-access_in_two-clause-fresh
+returns-in_err-access_in_two-clause-fresh g c = not_ok c.from_residual.result _ c.from_residual.ensures.0
+
+pub returns-in_err-access_in_two-clause-still : goal.returns-in_err-access_in_two-clause-still
+returns-in_err-access_in_two-clause-still g c = not_ok c.from_residual.result _ c.from_residual.ensures.0
+
+pub returns-then-not-branch-clause-part : goal.returns-then-not-branch-clause-part
+returns-then-not-branch-clause-part g c = tt
+
+pub returns-then-not-branch-clause-fresh : goal.returns-then-not-branch-clause-fresh
+returns-then-not-branch-clause-fresh g c = c.access_in_two.ensures.fresh
+
+pub returns-clause-part : goal.returns-clause-part
+returns-clause-part g c = tt

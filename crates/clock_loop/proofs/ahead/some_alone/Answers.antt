@@ -4,6 +4,7 @@ use Rattle.foreground.specs.Fore.{over}
 use Rattle.clock_loop.specs.BusRun.{CanMakeClocks}
 use Rattle.clock_loop.proofs.ClockLaws.{first_can, next_can, run_and_clock, run_and_part, run_and_none, none_fewer, all_left}
 use Rattle.clock_loop.proofs.LineLaws.{can_go_then}
+use Rattle.foreground.proofs.RefusalLaws.{no_value, not_ok}
 use Rattle.clock_loop.proofs.ahead.some_alone.Goals as goal
 
 pub clock_alone-requires-clause-can : goal.clock_alone-requires-clause-can
@@ -152,3 +153,81 @@ returns-clause-can g c =
     subst (λ x. CanMakeClocks c.args.limit (c.args.left - 0) None (c.args.rest - 0) c.args.claim.now x)
     (sym (ap of (c.in_ok-clock_alone.ensures.none c.if-branch.false)))
     (all_left c.args.limit c.args.left None c.args.rest c.args.claim.now g1 can)
+
+pub accesses_in_two-requires-clause-fresh : goal.accesses_in_two-requires-clause-fresh
+accesses_in_two-requires-clause-fresh g c = c.requires.fresh
+
+pub accesses_in_two-requires-clause-can : goal.accesses_in_two-requires-clause-can
+accesses_in_two-requires-clause-can g c = c.requires.can
+
+pub accesses_in_two-requires-clause-alone : goal.accesses_in_two-requires-clause-alone
+accesses_in_two-requires-clause-alone g c = c.requires.alone
+
+pub returns-in_err-made-clause-most : goal.returns-in_err-made-clause-most
+returns-in_err-made-clause-most g c = no_value c.from_residual.result _ c.from_residual.ensures.0
+
+pub returns-in_err-made-clause-rest : goal.returns-in_err-made-clause-rest
+returns-in_err-made-clause-rest g c = no_value c.from_residual.result _ c.from_residual.ensures.0
+
+pub returns-in_err-made-clause-count : goal.returns-in_err-made-clause-count
+returns-in_err-made-clause-count g c = no_value c.from_residual.result _ c.from_residual.ensures.0
+
+pub returns-in_err-made-clause-runs : goal.returns-in_err-made-clause-runs
+returns-in_err-made-clause-runs g c = not_ok c.from_residual.result _ c.from_residual.ensures.0
+
+pub returns-in_err-made-clause-can : goal.returns-in_err-made-clause-can
+returns-in_err-made-clause-can g c = no_value c.from_residual.result _ c.from_residual.ensures.0
+
+pub returns-in_err-made-clause-fresh : goal.returns-in_err-made-clause-fresh
+returns-in_err-made-clause-fresh g c = not_ok c.from_residual.result _ c.from_residual.ensures.0
+
+pub returns-in_err-made-clause-still : goal.returns-in_err-made-clause-still
+returns-in_err-made-clause-still g c = not_ok c.from_residual.result _ c.from_residual.ensures.0
+
+pub returns-then-made-gt0-clause-part : goal.returns-then-made-gt0-clause-part
+returns-then-made-gt0-clause-part g c = tt
+
+pub returns-then-made-gt0-clause-run : goal.returns-then-made-gt0-clause-run
+returns-then-made-gt0-clause-run g c = c.accesses_in_two.ensures.run
+
+pub clock_alone-requires-clause-alone : goal.clock_alone-requires-clause-alone
+clock_alone-requires-clause-alone g c = c.requires.alone
+
+pub returns-in_err-clock_alone-clause-most : goal.returns-in_err-clock_alone-clause-most
+returns-in_err-clock_alone-clause-most g c = no_value c.from_residual-in_err-clock_alone.result _ c.from_residual-in_err-clock_alone.ensures.0
+
+pub returns-in_err-clock_alone-clause-rest : goal.returns-in_err-clock_alone-clause-rest
+returns-in_err-clock_alone-clause-rest g c = no_value c.from_residual-in_err-clock_alone.result _ c.from_residual-in_err-clock_alone.ensures.0
+
+pub returns-in_err-clock_alone-clause-count : goal.returns-in_err-clock_alone-clause-count
+returns-in_err-clock_alone-clause-count g c = no_value c.from_residual-in_err-clock_alone.result _ c.from_residual-in_err-clock_alone.ensures.0
+
+pub returns-in_err-clock_alone-clause-runs : goal.returns-in_err-clock_alone-clause-runs
+returns-in_err-clock_alone-clause-runs g c = not_ok c.from_residual-in_err-clock_alone.result _ c.from_residual-in_err-clock_alone.ensures.0
+
+pub returns-in_err-clock_alone-clause-can : goal.returns-in_err-clock_alone-clause-can
+returns-in_err-clock_alone-clause-can g c = no_value c.from_residual-in_err-clock_alone.result _ c.from_residual-in_err-clock_alone.ensures.0
+
+pub returns-in_err-clock_alone-clause-fresh : goal.returns-in_err-clock_alone-clause-fresh
+returns-in_err-clock_alone-clause-fresh g c = not_ok c.from_residual-in_err-clock_alone.result _ c.from_residual-in_err-clock_alone.ensures.0
+
+pub returns-in_err-clock_alone-clause-still : goal.returns-in_err-clock_alone-clause-still
+returns-in_err-clock_alone-clause-still g c = not_ok c.from_residual-in_err-clock_alone.result _ c.from_residual-in_err-clock_alone.ensures.0
+
+pub returns-then-branch-clause-part : goal.returns-then-branch-clause-part
+returns-then-branch-clause-part g c = tt
+
+pub returns-clause-part : goal.returns-clause-part
+returns-clause-part g c = tt
+
+pub returns-then-made-gt0-clause-can : goal.returns-then-made-gt0-clause-can
+returns-then-made-gt0-clause-can g c = c.in_ok-made.ensures.can
+
+pub returns-then-made-gt0-clause-count : goal.returns-then-made-gt0-clause-count
+returns-then-made-gt0-clause-count g c = c.in_ok-made.ensures.count
+
+pub returns-then-made-gt0-clause-fresh : goal.returns-then-made-gt0-clause-fresh
+returns-then-made-gt0-clause-fresh g c = c.in_ok-made.ensures.fresh
+
+pub returns-then-made-gt0-clause-still : goal.returns-then-made-gt0-clause-still
+returns-then-made-gt0-clause-still g c = c.in_ok-made.ensures.still

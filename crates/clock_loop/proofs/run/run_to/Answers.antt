@@ -6,6 +6,7 @@ use Rattle.clock_loop.specs.RunTo.{RisesInSome}
 use Rattle.clock_loop.proofs.RunToLaws.{runs_none, runs_then, part_behind, can_go_on, no_reads, reads_then, few_behind, below_view, fresh_view}
 use Rattle.clock_loop.proofs.LineLaws.{can_go_then, reads_twice, few_twice}
 use Rattle.clock_loop.proofs.QuietRuns.{runs_more, runs_passed, can_go_behind, reads_passed, part_passed, few_passed}
+use Rattle.foreground.proofs.RefusalLaws.{not_ok}
 use Rattle.clock_loop.proofs.run.run_to.Goals as goal
 
 pub loop-fore-init : goal.loop-fore-init
@@ -246,3 +247,72 @@ returns-else-not-done-clause-come g c = record {
   most = c.loop-fore.invariant.most;
   all = λ going. absurd (true≢false (c.if-not-done.ensures ∙ going));
 }
+
+pub returns-then-fore-clause-clocks : goal.returns-then-fore-clause-clocks
+returns-then-fore-clause-clocks g c = tt
+
+pub returns-then-fore-clause-come : goal.returns-then-fore-clause-come
+returns-then-fore-clause-come g c = tt
+
+pub returns-then-fore-clause-run : goal.returns-then-fore-clause-run
+returns-then-fore-clause-run g c = refl
+
+pub returns-then-fore-clause-fresh : goal.returns-then-fore-clause-fresh
+returns-then-fore-clause-fresh g c = tt
+
+pub returns-then-fore-clause-reads : goal.returns-then-fore-clause-reads
+returns-then-fore-clause-reads g c = tt
+
+pub returns-in_err-pass_quiet-clause-clocks : goal.returns-in_err-pass_quiet-clause-clocks
+returns-in_err-pass_quiet-clause-clocks g c = not_ok c.from_residual.result _ c.from_residual.ensures.0
+
+pub returns-in_err-pass_quiet-clause-come : goal.returns-in_err-pass_quiet-clause-come
+returns-in_err-pass_quiet-clause-come g c = not_ok c.from_residual.result _ c.from_residual.ensures.0
+
+pub returns-in_err-pass_quiet-clause-fresh : goal.returns-in_err-pass_quiet-clause-fresh
+returns-in_err-pass_quiet-clause-fresh g c = not_ok c.from_residual.result _ c.from_residual.ensures.0
+
+pub returns-in_err-pass_quiet-clause-reads : goal.returns-in_err-pass_quiet-clause-reads
+returns-in_err-pass_quiet-clause-reads g c = not_ok c.from_residual.result _ c.from_residual.ensures.0
+
+pub returns-in_err-run_in_line-clause-clocks : goal.returns-in_err-run_in_line-clause-clocks
+returns-in_err-run_in_line-clause-clocks g c = not_ok c.from_residual-in_err-run_in_line.result _ c.from_residual-in_err-run_in_line.ensures.0
+
+pub returns-in_err-run_in_line-clause-come : goal.returns-in_err-run_in_line-clause-come
+returns-in_err-run_in_line-clause-come g c = not_ok c.from_residual-in_err-run_in_line.result _ c.from_residual-in_err-run_in_line.ensures.0
+
+pub returns-in_err-run_in_line-clause-fresh : goal.returns-in_err-run_in_line-clause-fresh
+returns-in_err-run_in_line-clause-fresh g c = not_ok c.from_residual-in_err-run_in_line.result _ c.from_residual-in_err-run_in_line.ensures.0
+
+pub returns-in_err-run_in_line-clause-reads : goal.returns-in_err-run_in_line-clause-reads
+returns-in_err-run_in_line-clause-reads g c = not_ok c.from_residual-in_err-run_in_line.result _ c.from_residual-in_err-run_in_line.ensures.0
+
+pub returns-in_err-advance-clause-clocks : goal.returns-in_err-advance-clause-clocks
+returns-in_err-advance-clause-clocks g c = not_ok c.from_residual-in_err-advance.result _ c.from_residual-in_err-advance.ensures.0
+
+pub returns-in_err-advance-clause-come : goal.returns-in_err-advance-clause-come
+returns-in_err-advance-clause-come g c = not_ok c.from_residual-in_err-advance.result _ c.from_residual-in_err-advance.ensures.0
+
+pub returns-in_err-advance-clause-fresh : goal.returns-in_err-advance-clause-fresh
+returns-in_err-advance-clause-fresh g c = not_ok c.from_residual-in_err-advance.result _ c.from_residual-in_err-advance.ensures.0
+
+pub returns-in_err-advance-clause-reads : goal.returns-in_err-advance-clause-reads
+returns-in_err-advance-clause-reads g c = not_ok c.from_residual-in_err-advance.result _ c.from_residual-in_err-advance.ensures.0
+
+pub returns-else-not-done-clause-spent : goal.returns-else-not-done-clause-spent
+returns-else-not-done-clause-spent g c = tt
+
+pub returns-else-not-done-clause-part : goal.returns-else-not-done-clause-part
+returns-else-not-done-clause-part g c = tt
+
+pub returns-else-not-done-clause-few : goal.returns-else-not-done-clause-few
+returns-else-not-done-clause-few g c = tt
+
+pub returns-after-loop-fore-clause-spent : goal.returns-after-loop-fore-clause-spent
+returns-after-loop-fore-clause-spent g c = tt
+
+pub returns-after-loop-fore-clause-part : goal.returns-after-loop-fore-clause-part
+returns-after-loop-fore-clause-part g c = tt
+
+pub returns-after-loop-fore-clause-few : goal.returns-after-loop-fore-clause-few
+returns-after-loop-fore-clause-few g c = tt
