@@ -1,5 +1,6 @@
 //! Tests of the crates of the clock loop: numbers and addresses, beam, registers, slots, Copper, blitter and
-//! fetches; and of the sides: audio channels and disk reading, each alone on a bus. A module a crate, or
+//! fetches; of the crates of the picture: planes, sprites, collisions, colours, painter, and the jobs of
+//! bands; and of the sides: audio channels and disk reading, each alone on a bus. A module a crate, or
 //! several.
 //!
 //! A crate with tests is proved twice, so these crates have none of their own, and this one has nothing else.
@@ -26,9 +27,23 @@ mod disk_steps;
 #[cfg(test)]
 mod first_registers;
 #[cfg(test)]
+mod jobs_of_bands;
+#[cfg(test)]
 mod line_blits;
 #[cfg(test)]
+mod painted_clocks;
+#[cfg(test)]
+mod painted_spans;
+#[cfg(test)]
+mod pixel_collisions;
+#[cfg(test)]
+mod pixel_colours;
+#[cfg(test)]
+mod plane_loads;
+#[cfg(test)]
 mod register_file;
+#[cfg(test)]
+mod rows_of_sprites;
 #[cfg(test)]
 mod slot_owners;
 #[cfg(test)]
@@ -37,5 +52,7 @@ mod sound_lines;
 mod sound_steps;
 #[cfg(test)]
 mod sprite_lines;
+#[cfg(test)]
+mod sprite_values;
 #[cfg(test)]
 mod written_registers;

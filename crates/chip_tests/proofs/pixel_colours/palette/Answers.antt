@@ -1,7 +1,7 @@
 -- Each word is tested.
 use Rattle.std.proofs.Common.{ℕ, List, ◌∷◌, ◌++◌, replicate, refl}
 use Rattle.priority_ham.proofs.Within.{are_colours-each}
-use Rattle.picture_tests.proofs.pixel_colours.palette.Goals as goal
+use Rattle.chip_tests.proofs.pixel_colours.palette.Goals as goal
 
 pub returns : goal.returns
 returns c =

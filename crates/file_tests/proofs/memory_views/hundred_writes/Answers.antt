@@ -2,7 +2,7 @@
 use Rattle.std.proofs.Common.{nat_lt, arith}
 use Rattle.std.proofs.lemmas.List.Sums.{length-filter, count_by-le-length}
 use Rattle.mem_versions.specs.declared.write.Write.{Write}
-use Rattle.memory_tests.proofs.memory_views.hundred_writes.Goals as goal
+use Rattle.file_tests.proofs.memory_views.hundred_writes.Goals as goal
 
 pub returns-clause-few : goal.returns-clause-few
 returns-clause-few c =

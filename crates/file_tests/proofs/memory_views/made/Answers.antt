@@ -2,7 +2,7 @@
 use Rattle.std.proofs.Common.{length, ap, ◌∙◌}
 use Rattle.mem_versions.specs.Chip.{ChipValue}
 use Rattle.mem_versions.proofs.WordsLaws.{length-sized}
-use Rattle.memory_tests.proofs.memory_views.made.Goals as goal
+use Rattle.file_tests.proofs.memory_views.made.Goals as goal
 
 pub returns-clause-size : goal.returns-clause-size
 returns-clause-size c =

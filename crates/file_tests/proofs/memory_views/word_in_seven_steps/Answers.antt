@@ -4,7 +4,7 @@ use Rattle.std.proofs.Math.Pow.{pow_mono}
 use Rattle.std.proofs.lemmas.Bool.{cases_lt}
 use Rattle.std.proofs.lemmas.List.Sums.{count_by-le-length}
 use Rattle.mem_versions.specs.declared.write.Write.{Write}
-use Rattle.memory_tests.proofs.memory_views.word_in_seven_steps.Goals as goal
+use Rattle.file_tests.proofs.memory_views.word_in_seven_steps.Goals as goal
 
 seven-at-most : (old new : ℕ) → 2 ^ (new - old) ≤ 201 → new ≤ old + 7
 seven-at-most old new few = by_cases (cases_lt (new - old) 8)

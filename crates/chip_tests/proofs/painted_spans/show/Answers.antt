@@ -1,7 +1,7 @@
 use Rattle.std.proofs.Common.{arith}
 use Rattle.ocs_base.specs.declared.system.System.TheVariants.{Pal}
 use Rattle.painter.proofs.Spans.{visible_few}
-use Rattle.picture_tests.proofs.painted_spans.show.Goals as goal
+use Rattle.chip_tests.proofs.painted_spans.show.Goals as goal
 
 pub show_span-requires-clause-room : goal.show_span-requires-clause-room
 show_span-requires-clause-room c =

@@ -1,6 +1,6 @@
 -- The replay covers the same clocks still.
 use Rattle.std.proofs.Common.{◌≡◌}
-use Rattle.memory_tests.proofs.replayed_memory.is_replayed.Given as goal
+use Rattle.file_tests.proofs.replayed_memory.is_replayed.Given as goal
 
 abbrev pub invariant-loop-row : goal.invariant-loop-row
 invariant-loop-row l = record {

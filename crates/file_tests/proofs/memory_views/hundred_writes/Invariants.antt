@@ -1,6 +1,6 @@
 -- A write of each number below the counter was kept.
 use Rattle.std.proofs.Common.{◌≡◌, ◌+◌, ◌<◌, length}
-use Rattle.memory_tests.proofs.memory_views.hundred_writes.Given as goal
+use Rattle.file_tests.proofs.memory_views.hundred_writes.Given as goal
 
 abbrev pub invariant-loop-k : goal.invariant-loop-k
 invariant-loop-k l =
