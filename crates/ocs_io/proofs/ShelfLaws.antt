@@ -82,8 +82,6 @@ KeepsNames-read old new name cap read answer fits is = keeps old.files new.files
     only_files : (f g : Files) → Some g ≡ Some f → g ≡ f
     only_files f g e = cc e
 
-pub ruleset read_laws = (ReadAnswers-shelf, OnlyReads-shelf, Rose-read, KeepsNames-read)
-
 -- create
 
 pub CreateAnswers-shelf : (old new : ShelfValue) (name : List ℕ) (answer : Result (Unit {0}) WriteRefusal) → ShelfCreates old new name answer
@@ -118,13 +116,17 @@ Rose-create old new name (Ok done) is e = absurd (cc e)
 Rose-create old new name (Err Failed) is e = omega (arith, ap (λ s. s.write_faults) is.1)
 Rose-create old new name (Err OutOfMemory) is e = absurd (cc e)
 
+pub Same-create : (old new : ShelfValue) (name : List ℕ) (answer : Result (Unit {0}) WriteRefusal) → ShelfCreates old new name answer → answer ≡ Err OutOfMemory
+    → outside_of new ≡ outside_of old
+Same-create old new name (Ok done) is e = absurd (cc e)
+Same-create old new name (Err Failed) is e = absurd (cc e)
+Same-create old new name (Err OutOfMemory) is e = ap (λ s. outside_of s) is.1
+
 pub KeepsNames-create : (old new : ShelfValue) (name : List ℕ) (answer : Result (Unit {0}) WriteRefusal) → ShelfCreates old new name answer
     → KeepsNames IsAnyName (IsHeld old.files) IsAnyName (IsHeld new.files)
 KeepsNames-create old new name (Ok done) is = keeps old.files new.files (more old.files new.files name [] (ap (λ s. s.files) is.1))
 KeepsNames-create old new name (Err Failed) is = keeps old.files new.files (same old.files new.files (ap (λ s. s.files) is.1))
 KeepsNames-create old new name (Err OutOfMemory) is = keeps old.files new.files (same old.files new.files (ap (λ s. s.files) is.1))
-
-pub ruleset create_laws = (CreateAnswers-shelf, GrowsIfOk-shelf, OnlyWrites-create, Rose-create, KeepsNames-create)
 
 -- append
 
@@ -150,6 +152,12 @@ Rose-append old new name piece (Ok done) is e = absurd (cc e)
 Rose-append old new name piece (Err Failed) is e = omega (arith, ap (λ s. s.write_faults) is.1)
 Rose-append old new name piece (Err OutOfMemory) is e = absurd (cc e)
 
+pub Same-append : (old new : ShelfValue) (name piece : List ℕ) (answer : Result (Unit {0}) WriteRefusal) → ShelfAppends old new name piece answer → answer ≡ Err OutOfMemory
+    → outside_of new ≡ outside_of old
+Same-append old new name piece (Ok done) is e = absurd (cc e)
+Same-append old new name piece (Err Failed) is e = absurd (cc e)
+Same-append old new name piece (Err OutOfMemory) is e = ap (λ s. outside_of s) is
+
 pub KeepsNames-append : (old new : ShelfValue) (name piece : List ℕ) (answer : Result (Unit {0}) WriteRefusal) → ShelfAppends old new name piece answer
     → KeepsNames IsAnyName (IsHeld old.files) IsAnyName (IsHeld new.files)
 KeepsNames-append old new name piece (Ok done) is = keeps old.files new.files
@@ -157,8 +165,6 @@ KeepsNames-append old new name piece (Ok done) is = keeps old.files new.files
 KeepsNames-append old new name piece (Err Failed) is = keeps old.files new.files
     (more old.files new.files name (unwrap_or (get old.files name) [] ++ take (length piece / 2) piece) (ap (λ s. s.files) is.1))
 KeepsNames-append old new name piece (Err OutOfMemory) is = keeps old.files new.files (same old.files new.files (ap (λ s. s.files) is))
-
-pub ruleset append_laws = (AppendAnswers-shelf, OnlyWrites-append, Rose-append, KeepsNames-append)
 
 -- say
 
@@ -187,10 +193,14 @@ Rose-say old new piece (Ok done) is e = absurd (cc e)
 Rose-say old new piece (Err Failed) is e = omega (arith, ap (λ s. s.say_faults) is.1)
 Rose-say old new piece (Err OutOfMemory) is e = absurd (cc e)
 
+pub Same-say : (old new : ShelfValue) (piece : List ℕ) (answer : Result (Unit {0}) WriteRefusal) → ShelfSays old new piece answer → answer ≡ Err OutOfMemory
+    → outside_of new ≡ outside_of old
+Same-say old new piece (Ok done) is e = absurd (cc e)
+Same-say old new piece (Err Failed) is e = absurd (cc e)
+Same-say old new piece (Err OutOfMemory) is e = ap (λ s. outside_of s) is
+
 pub KeepsNames-say : (old new : ShelfValue) (piece : List ℕ) (answer : Result (Unit {0}) WriteRefusal) → ShelfSays old new piece answer
     → KeepsNames IsAnyName (IsHeld old.files) IsAnyName (IsHeld new.files)
 KeepsNames-say old new piece (Ok done) is = keeps old.files new.files (same old.files new.files (ap (λ s. s.files) is.1))
 KeepsNames-say old new piece (Err Failed) is = keeps old.files new.files (same old.files new.files (ap (λ s. s.files) is.1))
 KeepsNames-say old new piece (Err OutOfMemory) is = keeps old.files new.files (same old.files new.files (ap (λ s. s.files) is))
-
-pub ruleset say_laws = (SayAnswers-shelf, OnlySays-shelf, Rose-say, KeepsNames-say)

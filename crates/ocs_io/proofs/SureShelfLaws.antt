@@ -44,10 +44,12 @@ module _ (old new : SureShelfValue) (name : List ℕ) (cap : ℕ) (read : List �
       → KeepsNames (IsHeld old.files) (IsHeld old.files) (IsHeld new.files) (IsHeld new.files)
   KeepsNames-read answer is = keeps old.files new.files (same old.files new.files (ap (λ s. s.files) (unmoved answer is)))
 
-pub ruleset read_laws = (ReadAnswers-sure, OnlyReads-sure, Rose-read, KeepsNames-read)
-
 pub Rose-write : (old done new : SureShelfValue) (answer : Result (Unit {0}) WriteRefusal) → SureWrites old done new answer → answer ≡ Err Failed → Rose 0 0
 Rose-write old done new answer is e = absurd (subst (SureWrites old done new) e is)
+
+pub Same-write : (old done new : SureShelfValue) (answer : Result (Unit {0}) WriteRefusal) → SureWrites old done new answer → answer ≡ Err OutOfMemory
+    → sure_outside new ≡ sure_outside old
+Same-write old done new answer is e = ap (λ s. sure_outside s) (subst (SureWrites old done new) e is)
 
 module _ (old new : SureShelfValue) (name bytes : List ℕ) where
   pub OnlyWrites-sure : (answer : Result (Unit {0}) WriteRefusal) → SureWrites old (set_file old name bytes) new answer
@@ -75,8 +77,6 @@ GrowsIfOk-sure old new name (Ok done) is = subst (λ f. IsHeld f name) (sym (ap 
 GrowsIfOk-sure old new name (Err Failed) is = tt
 GrowsIfOk-sure old new name (Err OutOfMemory) is = tt
 
-pub ruleset create_laws = (CreateAnswers-sure, GrowsIfOk-sure, OnlyWrites-sure, Rose-write, KeepsNames-write)
-
 pub AppendAnswers-sure : (old new : SureShelfValue) (name piece : List ℕ) (answer : Result (Unit {0}) WriteRefusal)
     → SureWrites old (set_file old name (unwrap_or (get old.files name) [] ++ piece)) new answer
     → AppendAnswers (sure_outside old) (sure_outside new) name piece answer
@@ -84,8 +84,6 @@ unfolding grown
 AppendAnswers-sure old new name piece (Ok done) is = ap (λ s. Some s.files) is
 AppendAnswers-sure old new name piece (Err Failed) is = absurd is
 AppendAnswers-sure old new name piece (Err OutOfMemory) is = ap (λ s. Some s.files) is
-
-pub ruleset append_laws = (AppendAnswers-sure, OnlyWrites-sure, Rose-write, KeepsNames-write)
 
 pub SayAnswers-sure : (old new : SureShelfValue) (piece : List ℕ) (answer : Result (Unit {0}) WriteRefusal) → SureWrites old (after_saying old piece) new answer
     → SayAnswers (sure_outside old) (sure_outside new) piece answer
@@ -105,5 +103,3 @@ pub KeepsNames-say : (old new : SureShelfValue) (piece : List ℕ) (answer : Res
 KeepsNames-say old new piece (Ok done) is = keeps old.files new.files (same old.files new.files (ap (λ s. s.files) is))
 KeepsNames-say old new piece (Err Failed) is = absurd is
 KeepsNames-say old new piece (Err OutOfMemory) is = keeps old.files new.files (same old.files new.files (ap (λ s. s.files) is))
-
-pub ruleset say_laws = (SayAnswers-sure, OnlySays-sure, Rose-write, KeepsNames-say)

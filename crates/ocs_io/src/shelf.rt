@@ -211,7 +211,6 @@ impl Place for Shelf {
     ghost says_freely = { λ s piece. IsShort s.said piece };
 
     /// Fails where the call is to fail, and where the file is not there.
-    #[tactic(auto, using(crate::proofs::ShelfLaws::read_laws))]
     fn read(&mut self, name: &str, cap: usize, into: &mut Vec<u8>) -> Result<(), ReadRefusal>
         requires { into.old.items ≡ [] }
         ensures exact { ShelfReads self.old self.new name.now cap into.new.items result }
@@ -226,7 +225,6 @@ impl Place for Shelf {
     }
 
     /// A failed create leaves the files as before.
-    #[tactic(auto, using(crate::proofs::ShelfLaws::create_laws))]
     fn create(&mut self, name: &str) -> Result<(), WriteRefusal>
         ensures exact { ShelfCreates self.old self.new name.now result }
         ensures answer { CreateAnswers (outside_of self.old) (outside_of self.new) name.now result }
@@ -243,7 +241,6 @@ impl Place for Shelf {
     }
 
     /// A failed append keeps the first half of the piece, rounded down.
-    #[tactic(auto, using(crate::proofs::ShelfLaws::append_laws))]
     fn append(&mut self, name: &str, piece: &[u8]) -> Result<(), WriteRefusal>
         requires { IsHeld self.old.files name.now }
         ensures exact { ShelfAppends self.old self.new name.now piece.now result }
@@ -262,7 +259,6 @@ impl Place for Shelf {
 
     /// A failed say keeps the first half of the piece, rounded down. What stays short wants no
     /// memory.
-    #[tactic(auto, using(crate::proofs::ShelfLaws::say_laws))]
     fn say(&mut self, piece: &[u8]) -> Result<(), WriteRefusal>
         ensures exact { ShelfSays self.old self.new piece.now result }
         ensures answer { SayAnswers (outside_of self.old) (outside_of self.new) piece.now result }

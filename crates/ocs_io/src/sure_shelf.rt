@@ -122,7 +122,6 @@ impl Place for SureShelf {
 
     ghost says_freely = { λ s piece. IsShort s.said piece };
 
-    #[tactic(auto, using(crate::proofs::SureShelfLaws::read_laws))]
     fn read(&mut self, name: &str, cap: usize, into: &mut Vec<u8>) -> Result<(), ReadRefusal>
         requires empty { into.old.items ≡ [] }
         requires readable { IsHeld self.old.files name.now }
@@ -136,7 +135,6 @@ impl Place for SureShelf {
         self.read_file(name.as_bytes(), cap, into)
     }
 
-    #[tactic(auto, using(crate::proofs::SureShelfLaws::create_laws))]
     fn create(&mut self, name: &str) -> Result<(), WriteRefusal>
         ensures exact { SureWrites self.old (set_file self.old name.now []) self.new result }
         ensures answer { CreateAnswers (sure_outside self.old)
@@ -152,7 +150,6 @@ impl Place for SureShelf {
         self.create_file(name.as_bytes())
     }
 
-    #[tactic(auto, using(crate::proofs::SureShelfLaws::append_laws))]
     fn append(&mut self, name: &str, piece: &[u8]) -> Result<(), WriteRefusal>
         requires { IsHeld self.old.files name.now }
         ensures exact { SureWrites self.old
@@ -170,7 +167,6 @@ impl Place for SureShelf {
         self.append_piece(name.as_bytes(), piece)
     }
 
-    #[tactic(auto, using(crate::proofs::SureShelfLaws::say_laws))]
     fn say(&mut self, piece: &[u8]) -> Result<(), WriteRefusal>
         ensures exact { SureWrites self.old (after_saying self.old piece.now) self.new result }
         ensures answer { SayAnswers (sure_outside self.old)

@@ -1,0 +1,24 @@
+use Rattle.ocs_io.proofs.ShelfLaws.{SayAnswers-shelf, OnlySays-shelf, Rose-say, Same-say, KeepsNames-say}
+use Rattle.ocs_io.proofs.shelf.ShelfPlace.say.Goals as goal
+
+pub returns-clause-exact : goal.returns-clause-exact
+returns-clause-exact c = c.say_piece.ensures.exact
+
+pub returns-clause-answer : goal.returns-clause-answer
+returns-clause-answer c = SayAnswers-shelf c.args.self.now c.say_piece.new.self c.args.piece.now c.say_piece.result c.say_piece.ensures.exact
+
+pub returns-clause-freely : goal.returns-clause-freely
+returns-clause-freely c = c.say_piece.ensures.freely
+
+pub returns-clause-kept : goal.returns-clause-kept
+returns-clause-kept c = OnlySays-shelf c.args.self.now c.say_piece.new.self c.args.piece.now c.say_piece.result c.say_piece.ensures.fits
+    c.say_piece.ensures.exact
+
+pub returns-clause-cause : goal.returns-clause-cause
+returns-clause-cause c = Rose-say c.args.self.now c.say_piece.new.self c.args.piece.now c.say_piece.result c.say_piece.ensures.exact
+
+pub returns-clause-wanting : goal.returns-clause-wanting
+returns-clause-wanting c = Same-say c.args.self.now c.say_piece.new.self c.args.piece.now c.say_piece.result c.say_piece.ensures.exact
+
+pub returns-clause-names : goal.returns-clause-names
+returns-clause-names c = KeepsNames-say c.args.self.now c.say_piece.new.self c.args.piece.now c.say_piece.result c.say_piece.ensures.exact
