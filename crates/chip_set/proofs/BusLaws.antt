@@ -27,6 +27,7 @@ use Rattle.serial_model.specs.declared.fetch.SpriteKind.{SpriteKind}
 use Rattle.copper.specs.Quiet.{DoesNothing}
 use Rattle.sprite_dma.specs.Quiet.{ReadsNothing}
 use Rattle.serial_model.specs.Owner.{is_refresh, owner_of}
+use Rattle.serial_model.specs.Beam.{later_beam}
 use Rattle.serial_model.specs.PlaneFetch.{last_unit_at, begins_unit, begins_next, begins_first, is_running, last_unit, units_at}
 use Rattle.serial_model.specs.PlaneFetch.{fetched_plane, fetches_plane, slot_plane, high_resolution}
 use Rattle.serial_model.specs.PlaneFetch.{ask_for_plane, move_planes, move_if_fetched, IsLastUnit}
@@ -519,3 +520,13 @@ rest_next t n now rest k below =
     let e : t + suc k ≡ t + 1 + k = omega arith in
     let there = rest (suc k) (omega (arith, below)) in
     (subst (λ at. ((at % 5 == 0) ≡ false) ⊎ TimersStand now) e there.0, there.1)
+
+-- where the planes have no unit the others' leave is that of all
+pub alone_on_bus : (b : Beam) (k : ℕ) (inside now : WorkingChips) → inside ≡ now → LeavesToPlanes (later_beam k b) now
+    → begins_unit (later_beam k b) inside.registers inside.last ≡ false → is_running (b.h + k) inside.last ≡ false
+    → LeavesBus (later_beam k b) now
+alone_on_bus b k inside now same leaves begins runs = record {
+  others = leaves;
+  begins = subst (λ (w : WorkingChips). begins_unit (later_beam k b) w.registers w.last ≡ false) same begins;
+  runs = subst (λ (w : WorkingChips). is_running (b.h + k) w.last ≡ false) same runs;
+}

@@ -9,6 +9,7 @@ pub mod QuietLaws
 mod WriteLaws
 mod LateLaws
 mod StartLaws
+mod PartLaws
 pub mod FetchLaws
 pub mod BusLaws
 pub mod AheadLaws

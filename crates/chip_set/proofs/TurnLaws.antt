@@ -46,7 +46,7 @@ no_line bits mid c silent quiet is =
     subst (λ i. IsChipsOf mid (record c { irq = i })) (sym same) is
 
 -- no tick changes the CIAs where there is none, and where it leaves them as they are
-untouched : (t : ℕ) (now : WorkingChips) (c : Chips) → IsChipsOf now c → (((t % 5 == 0) ≡ false) ⊎ TimersStand now) → tick_timers t c ≡ c
+pub untouched : (t : ℕ) (now : WorkingChips) (c : Chips) → IsChipsOf now c → (((t % 5 == 0) ≡ false) ⊎ TimersStand now) → tick_timers t c ≡ c
 untouched t now c is (inl off) =
     ap (λ (on : Bool). record c {
       cia_a = if on then after_tick c.cia_a else c.cia_a;

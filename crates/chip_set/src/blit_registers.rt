@@ -12,7 +12,6 @@ use ocs_base::offset::{
 use reg_file::Regs;
 
 /// The registers with which a blit starts now.
-#[tactic(auto, using(crate::proofs::ChipsLaws::pointer_a, crate::proofs::ChipsLaws::pointer_b, crate::proofs::ChipsLaws::pointer_c, crate::proofs::ChipsLaws::pointer_d), unfolding(serial_model::specs::BlitRegisters::blit_start))]
 pub fn blit_registers(regs: &Regs) -> BlitRegs
     ensures { result ≡ blit_start regs.now }
 {
@@ -38,7 +37,7 @@ pub fn blit_registers(regs: &Regs) -> BlitRegs
 }
 
 /// The pointers and data registers that a blit leaves are kept.
-#[tactic(auto, using(crate::proofs::ChipsLaws::pointer_a, crate::proofs::ChipsLaws::pointer_b, crate::proofs::ChipsLaws::pointer_c, crate::proofs::ChipsLaws::pointer_d), unfolding(serial_model::specs::BlitRegisters::with_blit))]
+#[tactic(auto, unfolding(serial_model::specs::BlitRegisters::with_blit))]
 pub fn keep_blit(regs: &mut Regs, end: &BlitRegs)
     ensures { regs.new ≡ with_blit end.now regs.old }
 {

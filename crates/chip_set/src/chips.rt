@@ -595,7 +595,6 @@ impl Chips {
 
     /// The blit under way, or the processor, has the answer of this clock's access, where it is its own.
     #[inline(always)]
-    #[tactic(auto, using(crate::proofs::BlitLaws::going_by))]
     pub(crate) fn answer_owner(&mut self, ask: &Ask, word: u16)
         requires { IsBlitAsk ask.now (kept_wish self.old) }
         ensures owner { AnswersOwner ask.now word self.old self.new }

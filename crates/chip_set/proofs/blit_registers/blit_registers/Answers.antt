@@ -3,8 +3,21 @@ use Rattle.std.specs.Int.{w16}
 use Rattle.std.proofs.lemmas.Int.{to_z-of_z}
 use Rattle.serial_model.specs.BlitRegisters.{blit_start}
 use Rattle.serial_model.specs.Registers.{Registers}
+use Rattle.chip_set.proofs.ChipsLaws.{pointer_a, pointer_b, pointer_c, pointer_d}
 use Rattle.chip_set.proofs.StartLaws.{same_start, word_is, pointer_is, modulo_is}
 use Rattle.chip_set.proofs.blit_registers.blit_registers.Goals as goal
+
+pub pointer-requires : goal.pointer-requires
+pointer-requires c = pointer_a c.masked-13.result.offset c.masked-13.ensures.offset
+
+pub pointer-requires-2 : goal.pointer-requires-2
+pointer-requires-2 c = pointer_b c.masked-14.result.offset c.masked-14.ensures.offset
+
+pub pointer-requires-3 : goal.pointer-requires-3
+pointer-requires-3 c = pointer_c c.masked-15.result.offset c.masked-15.ensures.offset
+
+pub pointer-requires-4 : goal.pointer-requires-4
+pointer-requires-4 c = pointer_d c.masked-16.result.offset c.masked-16.ensures.offset
 
 pub returns : goal.returns
 unfolding blit_start
