@@ -1,11 +1,12 @@
 -- The clock and what stands behind it in a line of the trace.
 use Rattle.std.proofs.Common.{◌≡◌, ℕ, zero, suc, ◌+◌, ◌-◌, ◌/◌, ◌%◌, ◌<◌, ◌≤◌, List, [], ◌∷◌, ◌++◌, length, take, drop, refl, ap, sym, ◌∙◌, append_assoc, arith}
-use Rattle.std.proofs.lemmas.List.{take_all}
+use Rattle.std.proofs.lemmas.List.{take_all, take-append-le, length-append}
+use Rattle.std.proofs.Math.Seq.{take-append_seam, take-length}
 use Rattle.std.specs.Prelude.{codes, decimal}
 use Rattle.ocs_base.specs.declared.beam.Beam.{Beam}
 use Rattle.ocs_base.specs.declared.reg.Reg.{Reg}
 use Rattle.serial_model.specs.declared.trace.Source.{Source}
-use Rattle.serial_model.specs.declared.trace.TraceLine.TheVariants.{Wrote, Peeked}
+use Rattle.serial_model.specs.declared.trace.TraceLine.TheVariants.{Wrote, Peeked, Taken}
 use Rattle.serial_model.specs.TraceText.{character_of, offset_text, word_text, letter_of, place_text, line_text}
 use Rattle.out_files.specs.LinesCode.{start_text, three_digits, access_text}
 use Rattle.ocs_io.proofs.NumberLaws.{written_one, written_two, written_three}
@@ -79,3 +80,36 @@ pub peeked : (old first last : List ℕ) (b : Beam) (reg : Reg) (word : ℕ) (by
     → last ≡ first ++ (decimal b.h ++ access_text 82 reg.offset word by) → last ≡ old ++ line_text (Peeked b reg word by)
 unfolding line_text
 peeked old first last b reg word by = line_of_access old first last (codes " R ") (offset_text reg.offset) (word_text word) (letter_of by) b
+
+pub taken : (old first second third fourth last : List ℕ) (b : Beam) (level : ℕ) → first ≡ old ++ start_text b.frame b.v
+    → second ≡ first ++ decimal b.h → third ≡ second ++ codes " I " → fourth ≡ third ++ decimal level → last ≡ fourth ++ codes "\n"
+    → last ≡ old ++ line_text (Taken b level)
+unfolding line_text place_text
+taken old first second third fourth last b level begun clock kind number ended =
+    let start = start_text b.frame b.v in
+    let second_is = clock ∙ ap (λ (t : List ℕ). t ++ decimal b.h) begun ∙ append_assoc old start (decimal b.h) in
+    let third_is = kind ∙ ap (λ (t : List ℕ). t ++ codes " I ") second_is ∙ append_assoc old (start ++ decimal b.h) (codes " I ") in
+    let fourth_is =
+    number ∙ ap (λ (t : List ℕ). t ++ decimal level) third_is ∙ append_assoc old (start ++ decimal b.h ++ codes " I ") (decimal level) in
+    ended ∙ ap (λ (t : List ℕ). t ++ codes "\n") fourth_is
+    ∙ append_assoc old (start ++ decimal b.h ++ codes " I " ++ decimal level) (codes "\n")
+
+-- what a refusal leaves begins with the text before
+pub begins_so : (old more last : List ℕ) → last ≡ old ++ more → take (length old) last ≡ old
+begins_so old more last is = ap (λ (t : List ℕ). take (length old) t) is ∙ take-append_seam old more
+
+pub stays_so : (old last : List ℕ) → last ≡ old → take (length old) last ≡ old
+stays_so old last is = ap (λ (t : List ℕ). take (length old) t) is ∙ take-length old
+
+pub begins_on : (old first last more : List ℕ) → take (length old) first ≡ old → last ≡ first ++ more → length old ≤ length first
+    → (take (length old) last ≡ old) × (length old ≤ length last)
+begins_on old first last more begins is within = (
+  ap (λ (t : List ℕ). take (length old) t) is ∙ take-append-le (length old) first more within ∙ begins,
+  omega (arith, within, ap length is, length-append first more),
+)
+
+pub begins_first : (old more last : List ℕ) → last ≡ old ++ more → (take (length old) last ≡ old) × (length old ≤ length last)
+begins_first old more last is = (begins_so old more last is, omega (arith, ap length is, length-append old more))
+
+pub begins_still : (old first last : List ℕ) → take (length old) first ≡ old → last ≡ first → take (length old) last ≡ old
+begins_still old first last begins is = ap (λ (t : List ℕ). take (length old) t) is ∙ begins

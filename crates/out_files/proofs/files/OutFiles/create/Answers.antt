@@ -8,6 +8,7 @@ use Rattle.out_files.specs.OutFiles.{OutFilesValue}
 use Rattle.out_files.specs.Answers.{CreateAnswers}
 use Rattle.out_files.specs.PiecesCode.{MakeAnswers}
 use Rattle.out_files.proofs.CreateLaws.{second_refused, third_answered}
+use Rattle.out_files.proofs.PlacesLaws.{leaves_on, leaves_refused}
 use Rattle.out_files.proofs.TogetherLaws.{created_begins}
 use Rattle.out_files.proofs.files.OutFiles.create.Goals as goal
 
@@ -35,9 +36,34 @@ returns-clause-answer g c =
     third_answered names (outside c.args.place.now) (outside c.make.new.place) (outside c.make-2.new.place) (outside c.make-3.new.place) c.make-3.result
     (c.in_ok-make.ensures.answer ∙ ap (λ (name : List ℕ). with_file (outside c.args.place.now).files name []) first)
     (c.in_ok-make-2.ensures.answer ∙ ap (λ (name : List ℕ). with_file (outside c.make.new.place).files name []) second)
-    (subst (λ (name : List ℕ). MakeAnswers name Memory (outside c.make-2.new.place) (outside c.make-3.new.place) c.make-3.result) third c.make-3.ensures.answer)
+    (subst (λ (name : List ℕ). MakeAnswers name Memory (outside c.make-2.new.place) (outside c.make-3.new.place) c.make-3.result) third
+    c.make-3.ensures.answer)
 
 pub returns-clause-together : goal.returns-clause-together
 returns-clause-together g c =
     let outside = g.P.Place.outside in
     created_begins c.args.self.now (outside c.args.place.now) (outside c.make-3.new.place) c.make-3.result (returns-clause-answer g c)
+
+pub returns-in_err-make-clause-place : goal.returns-in_err-make-clause-place
+returns-in_err-make-clause-place g c =
+    let returned = err_from_is_err_and c.from_residual.result c.from_residual.ensures.1 in
+    let refused : c.from_residual.result ≡ Err c.in_err-make.field-0.0 = returned.1 ∙ ap (λ (fault : WriteFault). Err fault) returned.2 in
+    leaves_refused g.P.Place.outside g.P.Place.readable g.P.Place.growable c.from_residual.result c.in_err-make.field-0.0 c.args.place.now c.make.new.place
+    refused
+    c.in_err-make.ensures.place
+
+pub returns-in_err-make-2-clause-place : goal.returns-in_err-make-2-clause-place
+returns-in_err-make-2-clause-place g c =
+    let returned = err_from_is_err_and c.from_residual-in_err-make-2.result c.from_residual-in_err-make-2.ensures.1 in
+    let refused : c.from_residual-in_err-make-2.result ≡ Err c.in_err-make-2.field-0.0 = returned.1 ∙ ap (λ (fault : WriteFault). Err fault) returned.2 in
+    leaves_refused g.P.Place.outside g.P.Place.readable g.P.Place.growable c.from_residual-in_err-make-2.result c.in_err-make-2.field-0.0 c.args.place.now
+    c.make-2.new.place refused
+    (leaves_on g.P.Place.outside g.P.Place.readable g.P.Place.growable _ _ c.args.place.now c.make.new.place c.make-2.new.place c.in_ok-make.ensures.place
+    c.in_err-make-2.ensures.place)
+
+pub returns-clause-place : goal.returns-clause-place
+returns-clause-place g c =
+    leaves_on g.P.Place.outside g.P.Place.readable g.P.Place.growable _ c.make-3.result c.args.place.now c.make-2.new.place c.make-3.new.place
+    (leaves_on g.P.Place.outside g.P.Place.readable g.P.Place.growable _ _ c.args.place.now c.make.new.place c.make-2.new.place c.in_ok-make.ensures.place
+    c.in_ok-make-2.ensures.place)
+    c.make-3.ensures.place

@@ -4,6 +4,7 @@ use Rattle.ocs_io.proofs.MapLaws.{on_err}
 use Rattle.out_files.specs.OutFiles.{OutFilesValue}
 use Rattle.out_files.specs.Together.{AreDifferent, LeavesParts}
 use Rattle.out_files.proofs.FlushLaws.{first_refused, second_answered}
+use Rattle.out_files.proofs.PlacesLaws.{leaves_on}
 use Rattle.out_files.proofs.TogetherLaws.{flush_keeps, flush_leaves, flush_refused}
 use Rattle.out_files.proofs.files.OutFiles.flush.Goals as goal
 
@@ -42,3 +43,8 @@ returns-clause-parts g c =
     (second_answered c.args.self.now _ c.as_str.result.now c.as_str-2.result.now c.give.new.pending.items c.give-2.new.pending.items (outside c.args.place.now)
     (outside c.give.new.place) (outside c.give-2.new.place) c.give-2.result c.self.view_is c.as_str.ensures.value c.as_str-2.ensures.value
     c.in_ok-give.ensures.answer c.give-2.ensures.answer)
+
+pub returns-clause-place : goal.returns-clause-place
+returns-clause-place g c =
+    leaves_on g.P.Place.outside g.P.Place.readable g.P.Place.growable _ c.give-2.result c.args.place.now c.give.new.place c.give-2.new.place
+    c.in_ok-give.ensures.place c.give-2.ensures.place
