@@ -49,84 +49,75 @@ pub fn operation(row: &GeneralRow, value: u32, old: u32, sr: u16) -> Outcome
     ensures { result ≡ result_by row.now.op row.now.source_size row.now.size value old sr }
 {
     let size = row.size;
+    let flags = flags_of(sr);
     match row.op {
-        Op::Or => op_or(size, old, value, flags_of(sr)),
-        Op::And => op_and(size, old, value, flags_of(sr)),
-        Op::Sub => op_sub(size, old, value, flags_of(sr)),
-        Op::Add => op_add(size, old, value, flags_of(sr)),
-        Op::Eor => op_eor(size, old, value, flags_of(sr)),
-        Op::Cmp => op_cmp(size, old, value, flags_of(sr)),
-        Op::Btst => op_btst(size, old, value, flags_of(sr)),
-        Op::Bchg => op_bchg(size, old, value, flags_of(sr)),
-        Op::Bclr => op_bclr(size, old, value, flags_of(sr)),
-        Op::Bset => op_bset(size, old, value, flags_of(sr)),
-        Op::Move => op_move(size, value, 0, flags_of(sr)),
-        Op::MoveAddress => outcome_with_flags(extended_value(row.source_size, value), flags_of(sr)),
-        Op::Negx => op_negx(size, old, 0, flags_of(sr)),
-        Op::Clr => op_clr(size, old, 0, flags_of(sr)),
-        Op::Neg => op_neg(size, old, 0, flags_of(sr)),
-        Op::Not => op_not(size, old, 0, flags_of(sr)),
-        Op::MoveFromSr => outcome_with_flags(u32::from(sr), flags_of(sr)),
-        Op::Nbcd => op_nbcd(size, old, 0, flags_of(sr)),
-        Op::Swap => op_swap(size, old, 0, flags_of(sr)),
-        Op::Ext => op_ext(size, old, 0, flags_of(sr)),
-        Op::Tst => op_tst(size, old, 0, flags_of(sr)),
-        Op::Tas => op_tas(size, old, 0, flags_of(sr)),
-        Op::Chk => op_chk(size, old, value, flags_of(sr)),
-        Op::Scc { c } => outcome_with_flags(
-            if condition(c, flags_of(sr)) { 0xff } else { 0 },
-            flags_of(sr),
-        ),
+        Op::Or => op_or(size, old, value, flags),
+        Op::And => op_and(size, old, value, flags),
+        Op::Sub => op_sub(size, old, value, flags),
+        Op::Add => op_add(size, old, value, flags),
+        Op::Eor => op_eor(size, old, value, flags),
+        Op::Cmp => op_cmp(size, old, value, flags),
+        Op::Btst => op_btst(size, old, value, flags),
+        Op::Bchg => op_bchg(size, old, value, flags),
+        Op::Bclr => op_bclr(size, old, value, flags),
+        Op::Bset => op_bset(size, old, value, flags),
+        Op::Move => op_move(size, value, 0, flags),
+        Op::MoveAddress => outcome_with_flags(extended_value(row.source_size, value), flags),
+        Op::Negx => op_negx(size, old, 0, flags),
+        Op::Clr => op_clr(size, old, 0, flags),
+        Op::Neg => op_neg(size, old, 0, flags),
+        Op::Not => op_not(size, old, 0, flags),
+        Op::MoveFromSr => outcome_with_flags(u32::from(sr), flags),
+        Op::Nbcd => op_nbcd(size, old, 0, flags),
+        Op::Swap => op_swap(size, old, 0, flags),
+        Op::Ext => op_ext(size, old, 0, flags),
+        Op::Tst => op_tst(size, old, 0, flags),
+        Op::Tas => op_tas(size, old, 0, flags),
+        Op::Chk => op_chk(size, old, value, flags),
+        Op::Scc { c } => outcome_with_flags(if condition(c, flags) { 0xff } else { 0 }, flags),
         Op::AddAddress => {
             outcome_with_flags(
-                op_add(
-                    size,
-                    old,
-                    extended_value(row.source_size, value),
-                    flags_of(sr),
-                )
-                .value,
-                flags_of(sr),
+                op_add(size, old, extended_value(row.source_size, value), flags).value,
+                flags,
             )
         }
         Op::SubAddress => {
             outcome_with_flags(
-                op_sub(
-                    size,
-                    old,
-                    extended_value(row.source_size, value),
-                    flags_of(sr),
-                )
-                .value,
-                flags_of(sr),
+                op_sub(size, old, extended_value(row.source_size, value), flags).value,
+                flags,
             )
         }
-        Op::CmpAddress => op_cmp(
-            size,
-            old,
-            extended_value(row.source_size, value),
-            flags_of(sr),
-        ),
-        Op::Addx => op_addx(size, old, value, flags_of(sr)),
-        Op::Subx => op_subx(size, old, value, flags_of(sr)),
-        Op::Abcd => op_abcd(size, old, value, flags_of(sr)),
-        Op::Sbcd => op_sbcd(size, old, value, flags_of(sr)),
-        Op::Mulu => op_mulu(size, old, value, flags_of(sr)),
-        Op::Muls => op_muls(size, old, value, flags_of(sr)),
-        Op::Divu | Op::Divs if is_zero_word(value) => zero_divide_outcome(old, flags_of(sr)),
-        Op::Divu => op_divu(size, old, value, flags_of(sr)),
-        Op::Divs => op_divs(size, old, value, flags_of(sr)),
-        Op::Asl => op_asl(size, old, value, flags_of(sr)),
-        Op::Asr => op_asr(size, old, value, flags_of(sr)),
-        Op::Lsl => op_lsl(size, old, value, flags_of(sr)),
-        Op::Lsr => op_lsr(size, old, value, flags_of(sr)),
-        Op::Roxl => op_roxl(size, old, value, flags_of(sr)),
-        Op::Roxr => op_roxr(size, old, value, flags_of(sr)),
-        Op::Rol => op_rol(size, old, value, flags_of(sr)),
-        Op::Ror => op_ror(size, old, value, flags_of(sr)),
+        Op::CmpAddress => op_cmp(size, old, extended_value(row.source_size, value), flags),
+        Op::Addx => op_addx(size, old, value, flags),
+        Op::Subx => op_subx(size, old, value, flags),
+        Op::Abcd => op_abcd(size, old, value, flags),
+        Op::Sbcd => op_sbcd(size, old, value, flags),
+        Op::Mulu => op_mulu(size, old, value, flags),
+        Op::Muls => op_muls(size, old, value, flags),
+        Op::Divu => {
+            if is_zero_word(value) {
+                zero_divide_outcome(old, flags)
+            } else {
+                op_divu(size, old, value, flags)
+            }
+        }
+        Op::Divs => {
+            if is_zero_word(value) {
+                zero_divide_outcome(old, flags)
+            } else {
+                op_divs(size, old, value, flags)
+            }
+        }
+        Op::Asl => op_asl(size, old, value, flags),
+        Op::Asr => op_asr(size, old, value, flags),
+        Op::Lsl => op_lsl(size, old, value, flags),
+        Op::Lsr => op_lsr(size, old, value, flags),
+        Op::Roxl => op_roxl(size, old, value, flags),
+        Op::Roxr => op_roxr(size, old, value, flags),
+        Op::Rol => op_rol(size, old, value, flags),
+        Op::Ror => op_ror(size, old, value, flags),
         Op::ImmediateToStatus { .. } | Op::MoveToStatus { .. } | Op::Other => outcome_with_flags(
-            0,
-            flags_of(sr),
+            0, flags,
         ),
     }
 }
@@ -139,48 +130,32 @@ pub fn plain_operation(row: &GeneralRow, value: u32, old: u32, sr: u16) -> Outco
     ensures { result ≡ result_by row.now.op row.now.source_size row.now.size value old sr }
 {
     let size = row.size;
+    let flags = flags_of(sr);
     match row.op {
-        Op::Or => op_or(size, old, value, flags_of(sr)),
-        Op::And => op_and(size, old, value, flags_of(sr)),
-        Op::Sub => op_sub(size, old, value, flags_of(sr)),
-        Op::Add => op_add(size, old, value, flags_of(sr)),
-        Op::Eor => op_eor(size, old, value, flags_of(sr)),
-        Op::Cmp => op_cmp(size, old, value, flags_of(sr)),
-        Op::Move => op_move(size, value, 0, flags_of(sr)),
-        Op::MoveAddress => outcome_with_flags(extended_value(row.source_size, value), flags_of(sr)),
-        Op::Clr => op_clr(size, old, 0, flags_of(sr)),
-        Op::Tst => op_tst(size, old, 0, flags_of(sr)),
+        Op::Or => op_or(size, old, value, flags),
+        Op::And => op_and(size, old, value, flags),
+        Op::Sub => op_sub(size, old, value, flags),
+        Op::Add => op_add(size, old, value, flags),
+        Op::Eor => op_eor(size, old, value, flags),
+        Op::Cmp => op_cmp(size, old, value, flags),
+        Op::Move => op_move(size, value, 0, flags),
+        Op::MoveAddress => outcome_with_flags(extended_value(row.source_size, value), flags),
+        Op::Clr => op_clr(size, old, 0, flags),
+        Op::Tst => op_tst(size, old, 0, flags),
         Op::AddAddress => outcome_with_flags(
-            op_add(
-                size,
-                old,
-                extended_value(row.source_size, value),
-                flags_of(sr),
-            )
-            .value,
-            flags_of(sr),
+            op_add(size, old, extended_value(row.source_size, value), flags).value,
+            flags,
         ),
         Op::SubAddress => outcome_with_flags(
-            op_sub(
-                size,
-                old,
-                extended_value(row.source_size, value),
-                flags_of(sr),
-            )
-            .value,
-            flags_of(sr),
+            op_sub(size, old, extended_value(row.source_size, value), flags).value,
+            flags,
         ),
-        Op::CmpAddress => op_cmp(
-            size,
-            old,
-            extended_value(row.source_size, value),
-            flags_of(sr),
-        ),
-        Op::Btst => op_btst(size, old, value, flags_of(sr)),
-        Op::Not => op_not(size, old, 0, flags_of(sr)),
-        Op::Neg => op_neg(size, old, 0, flags_of(sr)),
-        Op::Swap => op_swap(size, old, 0, flags_of(sr)),
-        Op::Ext => op_ext(size, old, 0, flags_of(sr)),
+        Op::CmpAddress => op_cmp(size, old, extended_value(row.source_size, value), flags),
+        Op::Btst => op_btst(size, old, value, flags),
+        Op::Not => op_not(size, old, 0, flags),
+        Op::Neg => op_neg(size, old, 0, flags),
+        Op::Swap => op_swap(size, old, 0, flags),
+        Op::Ext => op_ext(size, old, 0, flags),
         Op::ImmediateToStatus { .. }
         | Op::MoveToStatus { .. }
         | Op::Bchg
@@ -208,7 +183,7 @@ pub fn plain_operation(row: &GeneralRow, value: u32, old: u32, sr: u16) -> Outco
         | Op::Roxr
         | Op::Rol
         | Op::Ror
-        | Op::Other => outcome_with_flags(0, flags_of(sr)),
+        | Op::Other => outcome_with_flags(0, flags),
     }
 }
 
