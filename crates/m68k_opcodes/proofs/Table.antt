@@ -2,18 +2,22 @@
 -- take an opcode apart agrees with the table of instructions, and no opcode is in two rows.
 use Rattle.std.proofs.Common.{◌≡◌, ◌≤◌, ◌<◌, ℕ, suc, zero, ◌+◌, ◌-◌, ◌*◌, ◌/◌, ◌%◌, ◌^◌, ◌==◌, bit_and}
 use Rattle.std.proofs.Common.{Bool, true, false, ◌&&◌, ◌||◌, if◌then◌else◌, List, [], ◌∷◌, ◌++◌, length}
-use Rattle.std.proofs.Common.{refl, ap, sym, ◌∙◌, subst, inl, inr, get_or, arith, eqb-true}
+use Rattle.std.proofs.Common.{refl, ap, sym, ◌∙◌, subst, inl, inr, arith, eqb-true}
 use Rattle.std.proofs.lemmas.Bool.{cases_eq, eqb-false}
 use Rattle.std.proofs.lemmas.Nat.{and_shr, and_mask, shr-shr}
 use Rattle.m68k_opcodes.specs.declared.instr.Instr.{Instr}
-use Rattle.m68k_opcodes.specs.Clocks.{Clocks, Always, Counted, Outcomes, Exception}
-use Rattle.m68k_opcodes.specs.Text.{mask, value, fits, digits, space, zero_digit, one_digit}
+use Rattle.m68k_opcodes.specs.Text.{mask, value, fits, digits, space, zero_digit, one_digit, field}
 use Rattle.m68k_opcodes.specs.Row.{Row, no_row, in_row, size_fits, mode_fits, dest_fits, joined, taking, first, made, taken}
 use Rattle.m68k_opcodes.specs.Table.{groups, rows, decode_of, clocks_at, rows_at}
 use Rattle.m68k_opcodes.specs.Table.{rows_0, rows_move, rows_4, rows_5, rows_6, rows_7, rows_8}
 use Rattle.m68k_opcodes.specs.Table.{rows_9, rows_A, rows_B, rows_C, rows_D, rows_E, rows_F}
 use Rattle.m68k_opcodes.specs.TimingCode.{timing}
-use Rattle.m68k_opcodes.proofs.Keys.{key, same, same_sound, same_key}
+use Rattle.m68k_opcodes.specs.declared.operand.Size.{Size}
+use Rattle.m68k_opcodes.specs.declared.operand.Size.TheVariants as S
+use Rattle.m68k_opcodes.specs.Clocks.{Always}
+use Rattle.m68k_opcodes.specs.Modes.{sized, ea, move_dest}
+use Rattle.m68k_opcodes.specs.Letters.{ss, s, zz, z, e, dest}
+use Rattle.m68k_opcodes.proofs.Keys.{key, same, same_key}
 
 -- ---- what a pattern says of an opcode's bits, with one call for each place
 
@@ -172,31 +176,9 @@ taking_of_line (suc before) count (k ∷ ks) (g ∷ gs) n f below h =
 
 -- ---- what is computed
 
-abbrev pub clocks_key : Clocks → List ℕ
-clocks_key (Always t) = 0 ∷ t ∷ []
-clocks_key (Counted t each) = 1 ∷ t ∷ each ∷ []
-clocks_key (Outcomes ts) = 2 ∷ ts
-clocks_key Exception = 3 ∷ []
-
-abbrev pub clocks_of_key : List ℕ → Clocks
-clocks_of_key [] = Exception
-clocks_of_key (k ∷ l) =
-    if k == 0 then Always (get_or l 0 0)
-    else (if k == 1 then Counted (get_or l 0 0) (get_or l 1 0) else (if k == 2 then Outcomes l else Exception))
-
-pub clocks_back : (c : Clocks) → clocks_of_key (clocks_key c) ≡ c
-clocks_back (Always t) = refl
-clocks_back (Counted t each) = refl
-clocks_back (Outcomes ts) = refl
-clocks_back Exception = refl
-
-pub same_clocks : (c d : Clocks) → same (clocks_key c) (clocks_key d) ≡ true → c ≡ d
-same_clocks c d h =
-    sym (clocks_back c) ∙ ap clocks_of_key (same_sound (clocks_key c) (clocks_key d) h) ∙ clocks_back d
-
--- an instruction and its clocks are those of a row at an opcode
+-- an instruction is that of a row at an opcode
 abbrev pub agrees : Instr → Row → ℕ → Bool
-agrees i r n = same (key i) (key (made r n)) && same (clocks_key (timing i)) (clocks_key (taken r n))
+agrees i r n = same (key i) (key (made r n))
 
 abbrev pub all_below : ℕ → (ℕ → Bool) → Bool
 all_below zero p = true
@@ -223,12 +205,24 @@ agrees_with i [] n = agrees i no_row n
 agrees_with i (r ∷ []) n = agrees i r n
 agrees_with i (r ∷ s ∷ rs) n = false
 
--- all opcodes of a line
 abbrev pub agrees_at : ℕ → (ℕ → Instr) → List Row → ℕ → Bool
-agrees_at base f rs k = agrees_with (f (base + k)) (taking_by_bits rs (base + k)) (base + k)
+agrees_at base f rs k = let n = base + k in agrees_with (f n) (taking_by_bits rs n) n
 
+-- a row can take an opcode whose upper ten bits are h
+abbrev pub can_take : Row → ℕ → Bool
+can_take r h = bit_and h (mask_bits r.text / 64) == value_bits r.text / 64
+
+abbrev pub narrowed : List Row → ℕ → List Row
+narrowed [] h = []
+narrowed (r ∷ rs) h = if can_take r h then r ∷ narrowed rs h else narrowed rs h
+
+-- the 64 opcodes of the upper ten bits base / 64 + h: the rows that can take one are sought once
+abbrev pub block_agrees : ℕ → (ℕ → Instr) → List Row → ℕ → Bool
+block_agrees base f rs h = let few = narrowed rs (base / 64 + h) in all_below 64 (agrees_at (base + 64 * h) f few)
+
+-- all opcodes of a line
 abbrev pub line_agrees : ℕ → (ℕ → Instr) → List Row → Bool
-line_agrees base f rs = all_below 4096 (agrees_at base f rs)
+line_agrees base f rs = all_below 64 (block_agrees base f rs)
 
 -- ---- what follows
 
@@ -237,36 +231,298 @@ both true true h = (refl, refl)
 both true false h = cc
 both false b h = cc
 
--- what the code makes of an opcode is what the rows that take it make of it, with their clocks
+fits_none : (r : Row) (n : ℕ) → can_take r (n / 64) ≡ false → (bit_and n (mask_bits r.text) == value_bits r.text) ≡ false
+fits_none r n other =
+    let P : Bool → Type 0 = λ b. (bit_and n (mask_bits r.text) == value_bits r.text) ≡ b → b ≡ false in
+    let high : bit_and n (mask_bits r.text) / 2 ^ 6 ≡ bit_and (n / 2 ^ 6) (mask_bits r.text / 2 ^ 6) = and_shr n (mask_bits r.text) 6 in
+    let split : (b : Bool) → P b =
+    (λ b. elim b as P [
+      | true ↦ λ here. absurd (eqb-false _ _ other (sym high ∙ ap (λ v. v / 2 ^ 6) (eqb-true _ _ here)))
+      | false ↦ λ here. refl
+    ]) in
+    split (bit_and n (mask_bits r.text) == value_bits r.text) refl
+
+taking_narrowed : (rs : List Row) (n : ℕ) → taking_by_bits (narrowed rs (n / 64)) n ≡ taking_by_bits rs n
+taking_narrowed [] n = refl
+taking_narrowed (r ∷ rs) n =
+    let P : Bool → Type 0 = λ b. can_take r (n / 64) ≡ b
+    → taking_by_bits (if b then r ∷ narrowed rs (n / 64) else narrowed rs (n / 64)) n
+    ≡ (if in_row_by_bits r n then r ∷ taking_by_bits rs n else taking_by_bits rs n) in
+    let split : (b : Bool) → P b =
+    (λ b. elim b as P [
+      | true ↦ λ here. ap (λ l. if in_row_by_bits r n then r ∷ l else l) (taking_narrowed rs n)
+      | false ↦ λ here. rw (fits_none r n here) (taking_narrowed rs n)
+    ]) in
+    split (can_take r (n / 64)) refl
+
+-- what the code makes of an opcode is what the rows that take it make of it
 pub record Agrees (i : Instr) (rs : List Row) (n : ℕ) : Type 0 where
   pub instr : i ≡ made (first rs) n
-  pub clocks : timing i ≡ taken (first rs) n
   pub single : length rs ≤ 1
 
-with_row : (i : Instr) (r : Row) (n : ℕ) → agrees i r n ≡ true → (i ≡ made r n) × (timing i ≡ taken r n)
-with_row i r n h =
-    let instr : Bool = same (key i) (key (made r n)) in
-    let clocks : Bool = same (clocks_key (timing i)) (clocks_key (taken r n)) in
-    let p : (instr ≡ true) × (clocks ≡ true) = both instr clocks h in
-    (same_key i (made r n) p.0, same_clocks (timing i) (taken r n) p.1)
-
 agrees_sound : (i : Instr) (rs : List Row) (n : ℕ) → agrees_with i rs n ≡ true → Agrees i rs n
-agrees_sound i [] n h =
-    let p = with_row i no_row n h in record { instr = p.0; clocks = p.1; single = omega arith }
-agrees_sound i (r ∷ []) n h =
-    let p = with_row i r n h in record { instr = p.0; clocks = p.1; single = omega arith }
+agrees_sound i [] n h = record { instr = same_key i (made no_row n) h; single = omega arith }
+agrees_sound i (r ∷ []) n h = record { instr = same_key i (made r n) h; single = omega arith }
 agrees_sound i (r ∷ s ∷ rs) n h = cc
 
 at_line : (line : ℕ) (f : ℕ → Instr) (rs : List Row) → line_agrees (4096 * line) f rs ≡ true → (n : ℕ) → n / 4096 ≡ line → Agrees (f n) (taking rs n) n
 at_line line f rs test n h =
-    let k : ℕ = n - 4096 * line in
-    let e : 4096 * line + k ≡ n = omega arith in
-    let below : k < 4096 = omega arith in
-    let m : ℕ = 4096 * line + k in
-    let by_bits : Agrees (f m) (taking_by_bits rs m) m = agrees_sound _ _ _ (from_all 4096 (agrees_at (4096 * line) f rs) test k below) in
-    let P : ℕ → Type 0 = λ m. Agrees (f m) (taking rs m) m in
-    let Q : List Row → Type 0 = λ l. Agrees (f m) l m in
-    subst P e (subst Q (taking_is rs m) by_bits)
+    let block : ℕ = n / 64 - 64 * line in
+    let k : ℕ = n % 64 in
+    let e : 4096 * line + 64 * block + k ≡ n = omega arith in
+    let here : 4096 * line / 64 + block ≡ n / 64 = omega arith in
+    let below : block < 64 = omega arith in
+    let k_below : k < 64 = omega arith in
+    let all : block_agrees (4096 * line) f rs block ≡ true = from_all 64 (block_agrees (4096 * line) f rs) test block below in
+    let P : ℕ → Type 0 = λ h. all_below 64 (agrees_at (4096 * line + 64 * block) f (narrowed rs h)) ≡ true in
+    let in_block : all_below 64 (agrees_at (4096 * line + 64 * block) f (narrowed rs (n / 64))) ≡ true = subst P here all in
+    let one : agrees_at (4096 * line + 64 * block) f (narrowed rs (n / 64)) k ≡ true =
+    from_all 64 (agrees_at (4096 * line + 64 * block) f (narrowed rs (n / 64))) in_block k k_below in
+    let Q : ℕ → Type 0 = λ m. agrees_with (f m) (taking_by_bits (narrowed rs (n / 64)) m) m ≡ true in
+    let by_bits : Agrees (f n) (taking_by_bits (narrowed rs (n / 64)) n) n = agrees_sound _ _ _ (subst Q e one) in
+    let R : List Row → Type 0 = λ l. Agrees (f n) l n in
+    subst R (taking_narrowed rs n ∙ taking_is rs n) by_bits
+
+-- ---- the clocks of a row are those of its instruction
+
+abbrev pub TimedRow : Row → Type 0
+TimedRow r = (f : ℕ → ℕ) → timing (r.makes f) ≡ r.takes f
+
+abbrev pub TimedRows : List Row → Type 0
+TimedRows [] = Unit {0}
+TimedRows (r ∷ rs) = TimedRow r × TimedRows rs
+
+abbrev pub TimedLists : List (List Row) → Type 0
+TimedLists [] = Unit {0}
+TimedLists (g ∷ gs) = TimedRows g × TimedLists gs
+
+timed_append : (a b : List Row) → TimedRows a → TimedRows b → TimedRows (a ++ b)
+timed_append [] b s t = t
+timed_append (r ∷ rs) b s t = (s.0, timed_append rs b s.1 t)
+
+timed_joined : (gs : List (List Row)) → TimedLists gs → TimedRows (joined gs)
+timed_joined [] t = tt
+timed_joined (g ∷ gs) t = timed_append g (joined gs) t.0 (timed_joined gs t.1)
+
+timed_first : (rs : List Row) (n : ℕ) → TimedRows rs → TimedRow (first (taking rs n))
+timed_first [] n t = λ f. refl
+timed_first (r ∷ rs) n t =
+    let P : Bool → Type 0 = λ b. TimedRow (first (if b then r ∷ taking rs n else taking rs n)) in
+    let split : (b : Bool) → P b = (λ b. elim b as P [ true ↦ t.0 | false ↦ timed_first rs n t.1 ]) in
+    split (in_row r n)
+
+same_sized : (z : Size) (t : ℕ) → sized z t t ≡ t
+same_sized S.Byte t = refl
+same_sized S.Word t = refl
+same_sized S.Long t = refl
+
+timed_0 : TimedRows rows_0
+timed_0 = (
+  λ f. refl,
+  (
+    λ f. refl,
+    (
+      λ f. refl,
+      (
+        λ f. refl,
+        (
+          λ f. refl,
+          (
+            λ f. refl,
+            (
+              λ f. refl,
+              (
+                λ f. refl,
+                (
+                  λ f. refl,
+                  (
+                    λ f. refl,
+                    (
+                      λ f. refl,
+                      (
+                        λ f. refl,
+                        (
+                          λ f. refl,
+                          (
+                            λ f. refl,
+                            (
+                              λ f. refl,
+                              (
+                                λ f. refl,
+                                (
+                                  λ f. refl,
+                                  (
+                                    λ f. refl,
+                                    (
+                                      λ f. refl,
+                                      (
+                                        λ f. refl,
+                                        (λ f. refl, tt),
+                                      ),
+                                    ),
+                                  ),
+                                ),
+                              ),
+                            ),
+                          ),
+                        ),
+                      ),
+                    ),
+                  ),
+                ),
+              ),
+            ),
+          ),
+        ),
+      ),
+    ),
+  ),
+)
+
+timed_move : TimedRows rows_move
+timed_move = (
+  λ f. ap (λ t. Always (t + ea (zz f) (e f) + move_dest (zz f) (dest f))) (same_sized (zz f) 4),
+  (λ f. ap (λ t. Always (t + ea (z f) (e f))) (same_sized (z f) 4), tt),
+)
+
+timed_4 : TimedRows rows_4
+timed_4 = (
+  λ f. refl,
+  (
+    λ f. refl,
+    (
+      λ f. refl,
+      (
+        λ f. refl,
+        (
+          λ f. refl,
+          (
+            λ f. refl,
+            (
+              λ f. refl,
+              (
+                λ f. refl,
+                (
+                  λ f. refl,
+                  (
+                    λ f. refl,
+                    (
+                      λ f. refl,
+                      (
+                        λ f. refl,
+                        (
+                          λ f. refl,
+                          (
+                            λ f. ap (λ t. Always (t + ea (ss f) (e f))) (same_sized (ss f) 4),
+                            (
+                              λ f. refl,
+                              (
+                                λ f. refl,
+                                (
+                                  λ f. refl,
+                                  (
+                                    λ f. refl,
+                                    (
+                                      λ f. refl,
+                                      (
+                                        λ f. refl,
+                                        (
+                                          λ f. refl,
+                                          (
+                                            λ f. refl,
+                                            (
+                                              λ f. refl,
+                                              (
+                                                λ f. refl,
+                                                (
+                                                  λ f. refl,
+                                                  (λ f. refl, (λ f. refl, (λ f. refl, (λ f. refl, (λ f. refl, (λ f. refl, tt)))))),
+                                                ),
+                                              ),
+                                            ),
+                                          ),
+                                        ),
+                                      ),
+                                    ),
+                                  ),
+                                ),
+                              ),
+                            ),
+                          ),
+                        ),
+                      ),
+                    ),
+                  ),
+                ),
+              ),
+            ),
+          ),
+        ),
+      ),
+    ),
+  ),
+)
+
+timed_5 : TimedRows rows_5
+timed_5 = (λ f. refl, (λ f. refl, (λ f. refl, (λ f. refl, tt))))
+
+timed_6 : TimedRows rows_6
+timed_6 = (λ f. refl, tt)
+
+timed_7 : TimedRows rows_7
+timed_7 = (λ f. refl, tt)
+
+timed_8 : TimedRows rows_8
+timed_8 = (λ f. refl, (λ f. refl, (λ f. refl, (λ f. refl, (λ f. refl, tt)))))
+
+timed_9 : TimedRows rows_9
+timed_9 = (λ f. refl, (λ f. refl, (λ f. refl, (λ f. refl, tt))))
+
+timed_A : TimedRows rows_A
+timed_A = (λ f. refl, tt)
+
+timed_B : TimedRows rows_B
+timed_B = (λ f. refl, (λ f. refl, (λ f. refl, (λ f. ap (λ t. Always (t + ea (s f) (e f))) (same_sized (s f) 6), tt))))
+
+timed_C : TimedRows rows_C
+timed_C = (λ f. refl, (λ f. refl, (λ f. refl, (λ f. refl, (λ f. refl, (λ f. refl, (λ f. refl, (λ f. refl, tt))))))))
+
+timed_D : TimedRows rows_D
+timed_D = (λ f. refl, (λ f. refl, (λ f. refl, (λ f. refl, tt))))
+
+timed_E : TimedRows rows_E
+timed_E = (λ f. refl, (λ f. refl, tt))
+
+timed_F : TimedRows rows_F
+timed_F = (λ f. refl, tt)
+
+rows_timed : TimedRows rows
+rows_timed =
+    timed_joined groups (
+      timed_0,
+      (
+        timed_move,
+        (
+          timed_4,
+          (
+            timed_5,
+            (
+              timed_6,
+              (
+                timed_7,
+                (
+                  timed_8,
+                  (
+                    timed_9,
+                    (timed_A, (timed_B, (timed_C, (timed_D, (timed_E, (timed_F, tt)))))),
+                  ),
+                ),
+              ),
+            ),
+          ),
+        ),
+      ),
+    )
 
 -- ---- the table
 
@@ -339,4 +595,6 @@ whole line f before count small alone test n h =
     let P : ℕ → Type 0 = λ l. only l before count table_digits ≡ true in
     let Q : List Row → Type 0 = λ l. Agrees (f n) l n in
     let there : Agrees (f n) (taking rows n) n = subst Q (taking_of_line before count table_digits groups n table_fixed below (subst P (sym h) alone)) here in
-    record { instr = there.instr; clocks = sym there.clocks; one_row = there.single }
+    let row : Row = first (taking rows n) in
+    let clocks : timing (f n) ≡ taken row n = ap timing there.instr ∙ timed_first rows n rows_timed (λ c. field c row.text n) in
+    record { instr = there.instr; clocks = sym clocks; one_row = there.single }
