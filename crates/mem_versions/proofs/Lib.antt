@@ -1,4 +1,5 @@
 pub mod ChangedLaws
+pub mod CutLaws
 pub mod FilterLaws
 pub mod MemoryLaws
 pub mod OrderLaws

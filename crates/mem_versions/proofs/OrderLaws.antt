@@ -14,7 +14,7 @@ use Rattle.std.proofs.lemmas.List.Sorted.{IsNonDecreasingBy-from_sort, ties_stil
 use Rattle.mem_versions.specs.declared.write.Write.{Write}
 use Rattle.mem_versions.specs.MemoryAt.{writes_to}
 use Rattle.mem_versions.specs.declared.history.Part.{Part}
-use Rattle.mem_versions.specs.HistoryCode.{IsInOrder, IsPart, IsPageEnd}
+use Rattle.mem_versions.specs.HistoryCode.{IsInOrder, IsHistory, IsPart, IsPageEnd}
 use Rattle.mem_versions.proofs.FilterLaws.{filter-middle}
 
 -- one write may stand before another
@@ -82,6 +82,14 @@ IsInOrder-part writes start count order i j d le within =
     let P : Write → Type 0 = λ v. Precedes v (get_or (take count (drop start writes)) j d) in
     let Q : Write → Type 0 = λ w. Precedes (get_or writes (start + i) d) w in
     subst P (sym at_i) (subst Q (sym at_j) (order (start + i) (start + j) d (omega arith) whole))
+
+-- the part of a page that is found among those kept
+pub part_at : (writes : List Write) (parts now : List Part) (pages n : ℕ) (part : Part) → IsHistory writes parts pages → now ≡ parts
+    → n < length now → part ≡ get_or now n part → IsPart writes n part
+part_at writes parts now pages n part has same within is =
+    let inside : n < length parts = omega (arith, within, ap length same) in
+    let found : get_or parts n part ≡ part = sym (is ∙ ap (λ (ps : List Part). get_or ps n part) same) in
+    subst (λ (q : Part). IsPart writes n q) found (has.parted n part inside)
 
 -- the writes up to a place are walked over: each page that no further write is to has its part
 pub record AreWalked (writes : List Write) (parts : List Part) (pages upto : ℕ) : Type 0 where
