@@ -13,3 +13,4 @@ pub mod BusLaws
 pub mod BlitLaws
 pub mod AheadLaws
 pub mod WordLaws
+pub mod RefusalLaws
