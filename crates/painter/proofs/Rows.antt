@@ -1,6 +1,6 @@
 -- Bytes along a row: blank ones, and ones that are laid over others.
 use Rattle.std.proofs.Common.{◌≡◌, ℕ, ◌+◌, ◌-◌, ◌≤◌, ◌<◌, Bool, true, false, nat_eq, nat_lt, nat_le, List, ◌++◌}
-use Rattle.std.proofs.Common.{length, take, drop, get_or, slice_index, replicate, refl, sym, ◌∙◌, ap, arith}
+use Rattle.std.proofs.Common.{length, take, drop, get_or, slice_index, replicate, refl, sym, ◌∙◌, ap, subst, arith}
 use Rattle.std.proofs.Math.ListN.{set, get_or-eq_default}
 use Rattle.std.proofs.lemmas.List.{get_or-replicate, length-replicate, get_or-set_same, get_or-set_other}
 use Rattle.std.proofs.lemmas.List.{get_or-append_right, get_or_append_left, get_or-take, get_or-drop, length-take-le}
@@ -101,6 +101,20 @@ pub laid_over : (old now bytes new : List ℕ) (start k end x : ℕ) → k ≡ 3
     slice_index (put_mid start k now new) x ≡ laid old start bytes x
 laid_over old now bytes new start k end x width le long is blank so =
     laid_by old now bytes new start k end x width le long is blank so (nat_le start x) refl (nat_le (start + 32) x) refl
+
+-- of bytes that are few, laid over few
+few_by : (old now bytes : List ℕ) (start x : ℕ) → slice_index old x ≤ 21 → slice_index bytes (x - start) ≤ 21 →
+    slice_index now x ≡ laid old start bytes x → (b : Bool) → nat_le start x ≡ b → slice_index now x ≤ 21
+few_by old now bytes start x few more over true is =
+    let shown : laid old start bytes x ≡ slice_index bytes (x - start) = rw is refl in
+    subst (λ (n : ℕ). n ≤ 21) (sym (over ∙ shown)) more
+few_by old now bytes start x few more over false is =
+    let shown : laid old start bytes x ≡ slice_index old x = rw is refl in
+    subst (λ (n : ℕ). n ≤ 21) (sym (over ∙ shown)) few
+
+pub laid_few : (old now bytes : List ℕ) (start x : ℕ) → slice_index old x ≤ 21 → slice_index bytes (x - start) ≤ 21 →
+    slice_index now x ≡ laid old start bytes x → slice_index now x ≤ 21
+laid_few old now bytes start x few more over = few_by old now bytes start x few more over (nat_le start x) refl
 
 -- all places
 wiped_by_order : (old now : List ℕ) (from at end k : ℕ) → end ≤ at → (from ≤ end → at ≤ end) → (end ≤ from → at ≡ from) →

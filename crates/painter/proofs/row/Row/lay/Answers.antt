@@ -1,5 +1,5 @@
-use Rattle.std.proofs.Common.{ℕ, ◌-◌, ◌+◌, arith}
-use Rattle.painter.proofs.Rows.{laid_over}
+use Rattle.std.proofs.Common.{ℕ, ◌-◌, ◌+◌, arith, refl}
+use Rattle.painter.proofs.Rows.{laid_over, laid_few}
 use Rattle.painter.proofs.Pairs.{laid_blank, laid_paired}
 use Rattle.painter.proofs.row.Row.lay.Goals as goal
 
@@ -22,3 +22,13 @@ invariant_of-self-clause-pairs c =
     (λ (x : ℕ). laid_over c.args.self.now.shown c.wipe.new.shown c.args.bytes.now c.copy_from_slice.new.self c.args.start
     (c.args.start + 32 - c.args.start) c.args.self.now.end x (omega arith) (omega arith) c.requires.size c.copy_from_slice.ensures.after
     (c.args.self.now.blank x) (c.wipe.ensures.wiped x))
+
+pub invariant_of-self-clause-few : goal.invariant_of-self-clause-few
+invariant_of-self-clause-few c =
+    λ (x : ℕ). laid_few c.args.self.now.shown _ c.args.bytes.now c.args.start x (c.args.self.now.few x) (c.requires.few (x - c.args.start))
+    (laid_over c.args.self.now.shown c.wipe.new.shown c.args.bytes.now c.copy_from_slice.new.self c.args.start
+    (c.args.start + 32 - c.args.start) c.args.self.now.end x (omega arith) (omega arith) c.requires.size c.copy_from_slice.ensures.after
+    (c.args.self.now.blank x) (c.wipe.ensures.wiped x))
+
+pub returns-clause-end : goal.returns-clause-end
+returns-clause-end c = refl
