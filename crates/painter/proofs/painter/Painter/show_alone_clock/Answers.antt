@@ -1,9 +1,11 @@
-use Rattle.std.proofs.Common.{◌≡◌, ◌∙◌, ◌+◌, ◌*◌, ◌++◌, true, ℕ, List, bit_or, length, take, ap, arith}
+use Rattle.std.proofs.Common.{◌≡◌, ◌∙◌, ◌+◌, ◌*◌, ◌++◌, true, ℕ, List, bit_or, length, take, sym, ap, subst, arith}
 use Rattle.serial_model.specs.declared.picture.Denise.{Denise}
 use Rattle.serial_model.specs.Picture.{clock_collisions, held_after, step_of}
 use Rattle.serial_model.specs.Window.{is_inside}
 use Rattle.painter.specs.Overlay.{clock_over}
 use Rattle.painter.specs.Painter.{with_held}
+use Rattle.painter.specs.SpriteState.{SpriteRegisters, attached_in}
+use Rattle.painter.specs.StartsCode.{IsAlone}
 use Rattle.painter.specs.SteadyCode.{IsSteadyFrom}
 use Rattle.painter.proofs.Covering.{steady_same, steady_runs, steady_further, steady_first, steady_second, steady_pixels, steady_bits, column_reached}
 use Rattle.painter.proofs.Overlays.{after_first, after_second, clock_shown, clock_stands, bits_apart}
@@ -61,3 +63,60 @@ returns-clause-given c p clx stands reached =
     (clock_shown c.args.place.system v h (held_after v h 4 p) p c.put_alone-2.new.into shown c.requires.seen
     (c.show_inside.ensures.pixels p stands) over))
     (bits ∙ ap (bit_or clx) (bits_apart v h (held_after v h 4 p) p))
+
+pub show_inside-requires-clause-place : goal.show_inside-requires-clause-place
+show_inside-requires-clause-place c = c.requires.place
+
+pub show_inside-requires-clause-pairs : goal.show_inside-requires-clause-pairs
+show_inside-requires-clause-pairs c = c.requires.holds.pairs
+
+pub show_inside-requires-clause-first : goal.show_inside-requires-clause-first
+show_inside-requires-clause-first c = c.requires.first
+
+pub show_inside-requires-clause-second : goal.show_inside-requires-clause-second
+show_inside-requires-clause-second c = c.requires.second
+
+pub put_alone-requires-clause-room : goal.put_alone-requires-clause-room
+put_alone-requires-clause-room c = omega (arith, c.requires.place)
+
+pub put_alone-requires-clause-attached : goal.put_alone-requires-clause-attached
+put_alone-requires-clause-attached c = c.requires.holds.attached ∙ ap (λ (s : SpriteRegisters). attached_in s) (sym c.show_inside.ensures.sprites)
+
+pub put_alone-requires-clause-alone : goal.put_alone-requires-clause-alone
+put_alone-requires-clause-alone c = c.requires.alone
+
+pub put_alone-requires-clause-none : goal.put_alone-requires-clause-none
+put_alone-requires-clause-none c =
+    subst (λ (s : SpriteRegisters). IsAlone (2 * c.args.place.h) c.args.steady.now.lone s.runs) (sym c.show_inside.ensures.sprites)
+    (c.requires.holds.alone c.requires.alone)
+
+pub put_alone-requires-2-clause-room : goal.put_alone-requires-2-clause-room
+put_alone-requires-2-clause-room c = omega (arith, c.requires.place)
+
+pub put_alone-requires-2-clause-attached : goal.put_alone-requires-2-clause-attached
+put_alone-requires-2-clause-attached c = c.requires.holds.attached ∙ ap (λ (s : SpriteRegisters). attached_in s) (sym c.show_inside.ensures.sprites)
+
+pub put_alone-requires-2-clause-alone : goal.put_alone-requires-2-clause-alone
+put_alone-requires-2-clause-alone c = c.requires.alone
+
+pub put_alone-requires-2-clause-none : goal.put_alone-requires-2-clause-none
+put_alone-requires-2-clause-none c =
+    let first : IsAlone (2 * c.args.place.h) c.args.steady.now.lone c.show_inside.new.self.sprites.runs =
+    subst (λ (s : SpriteRegisters). IsAlone (2 * c.args.place.h) c.args.steady.now.lone s.runs) (sym c.show_inside.ensures.sprites)
+    (c.requires.holds.alone c.requires.alone) in
+    record { none = λ q x few other from until. first.none q x few other (omega (arith, from)) until }
+
+pub put-requires : goal.put-requires
+put-requires c = c.requires.room
+
+pub returns-clause-window : goal.returns-clause-window
+returns-clause-window c = c.show_inside.ensures.window
+
+pub returns-clause-sprites : goal.returns-clause-sprites
+returns-clause-sprites c = c.show_inside.ensures.sprites
+
+pub returns-clause-line : goal.returns-clause-line
+returns-clause-line c = c.show_inside.ensures.line
+
+pub returns-clause-size : goal.returns-clause-size
+returns-clause-size c = c.put.ensures.size
