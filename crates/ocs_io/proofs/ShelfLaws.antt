@@ -152,7 +152,8 @@ Rose-append old new name piece (Ok done) is e = absurd (cc e)
 Rose-append old new name piece (Err Failed) is e = omega (arith, ap (λ s. s.write_faults) is.1)
 Rose-append old new name piece (Err OutOfMemory) is e = absurd (cc e)
 
-pub Same-append : (old new : ShelfValue) (name piece : List ℕ) (answer : Result (Unit {0}) WriteRefusal) → ShelfAppends old new name piece answer → answer ≡ Err OutOfMemory
+pub Same-append : (old new : ShelfValue) (name piece : List ℕ) (answer : Result (Unit {0}) WriteRefusal) → ShelfAppends old new name piece answer
+    → answer ≡ Err OutOfMemory
     → outside_of new ≡ outside_of old
 Same-append old new name piece (Ok done) is e = absurd (cc e)
 Same-append old new name piece (Err Failed) is e = absurd (cc e)
