@@ -1,5 +1,8 @@
-//! Slots of the chip bus: who gets the one access of a colour clock to chip memory.
+//! Slots of the chip bus: who gets the one access of a colour clock to chip memory, what it asks for, and what
+//! the access makes.
 #![tactic(auto)]
+
+pub mod asks;
 
 ghost use Rattle.std.specs.Prelude.{◌≡◌, ◌↔◌, []};
 ghost use Rattle.serial_model.specs.declared.slots.Owner.{Owner};

@@ -29,7 +29,8 @@ use Rattle.serial_model.specs.PlaneFetch.{fetched_plane, ask_for_plane, move_pla
 use Rattle.serial_model.specs.SpriteFetch.{asking_sprite}
 use Rattle.serial_model.proofs.FetchLaws.{IsFetch, fetched_plane-is}
 use Rattle.serial_model.proofs.SlotLaws.{sprite_ask-few}
-use Rattle.chip_set.specs.Chips.{WorkingChips, plain_chips, kept_wish, wishes_with, ask_with, made_with, CanAsk, CanDo}
+use Rattle.bus_slots.specs.Asks.{made_with}
+use Rattle.chip_set.specs.Chips.{WorkingChips, plain_chips, kept_wish, wishes_with, ask_with, CanAsk, CanDo}
 use Rattle.chip_set.proofs.AskLaws.{HasFetched}
 
 -- a plane that is fetched is one of six, and a sprite one of eight; a MOVE is always done

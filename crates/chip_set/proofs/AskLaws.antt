@@ -52,8 +52,9 @@ use Rattle.serial_model.specs.State.{BlitUnderWay, Chips, is_busy, live_words, r
 use Rattle.serial_model.proofs.FetchLaws.{IsFetch, fetched_plane-is, kept_word-move_planes}
 use Rattle.serial_model.proofs.SlotLaws.{SameForSprites, move_planes-same, kinds_at-same, sprite_ask-same, sprite_ask-slot}
 use Rattle.serial_model.proofs.SlotLaws.{sprite_ask-taken, kept_word-move_sprites, AsksBefore, owner_by, plane_wins, sprite_wins}
+use Rattle.bus_slots.specs.Asks.{made_with}
 use Rattle.chip_set.specs.Chips.{WorkingChips, IsBlitOf, IsChipsOf, some_blit, plain_chips, kept_wish, wishes_with, ask_with, IsBlitAsk}
-use Rattle.chip_set.specs.Chips.{AnswersOwner, answering, act_at, made_with, IsAnswer, fetched_registers, fetched_chips, HasAsked, HasAccessed}
+use Rattle.chip_set.specs.Chips.{AnswersOwner, answering, act_at, IsAnswer, fetched_registers, fetched_chips, HasAsked, HasAccessed}
 use Rattle.chip_set.proofs.BlitLaws.{read_is_none, write_is_none, rest_is_none}
 use Rattle.chip_set.proofs.MadeLaws.{made-act, Serves, made_by_answer, copper_by_answer}
 

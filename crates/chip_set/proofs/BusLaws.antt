@@ -51,8 +51,9 @@ use Rattle.irq_cia.specs.Interrupts.{Interrupts, after_request}
 use Rattle.irq_cia.specs.declared.cia.CiaState.{CiaState}
 use Rattle.quiet_clocks.specs.PlainClock.{AsksNothingNew}
 use Rattle.chip_set.specs.BusCode.{ask_beside_planes, is_bus_ask, is_bus_made, reaches_memory, KeepsOnBus, IsUnitKept}
+use Rattle.bus_slots.specs.Asks.{made_with}
 use Rattle.chip_set.specs.Chips.{WorkingChips, IsChipsOf, HasAsked, HasAccessed, CanAsk, IsBlitAsk, some_blit, plain_chips, kept_wish, late_ask}
-use Rattle.chip_set.specs.Chips.{wishes_with, ask_with, answering, act_at, made_with, IsAnswer, AnswersOwner}
+use Rattle.chip_set.specs.Chips.{wishes_with, ask_with, answering, act_at, IsAnswer, AnswersOwner}
 use Rattle.chip_set.specs.Quiet.{IsCopperIdle, fetching_in, with_fetching}
 use Rattle.quiet_clocks.specs.FetchClocks.{fetching_after, ask_of_fetching}
 use Rattle.bitplane_dma.specs.Quiet.{IsUnitAt}

@@ -30,7 +30,8 @@ use Rattle.quiet_clocks.specs.FetchClocks.{IsStillBesidePlanes, AreResting, Fetc
 use Rattle.quiet_clocks.proofs.FetchClocks.{still_is_at_rest, fetching_later}
 use Rattle.quiet_clocks.proofs.PlainClock.{else_of}
 use Rattle.chip_set.specs.BusCode.{is_fetch_ask}
-use Rattle.chip_set.specs.Chips.{WorkingChips, IsChipsOf, IsPlane, IsAnswer, AnswersOwner, HasAsked, HasAccessed, plain_chips, answering, act_at, made_with}
+use Rattle.bus_slots.specs.Asks.{made_with}
+use Rattle.chip_set.specs.Chips.{WorkingChips, IsChipsOf, IsPlane, IsAnswer, AnswersOwner, HasAsked, HasAccessed, plain_chips, answering, act_at}
 use Rattle.chip_set.specs.Quiet.{AreAtRest, HaveFetched, FetchesPass, fetching_in, with_fetching}
 use Rattle.chip_set.proofs.AskLaws.{answer_is}
 use Rattle.chip_set.proofs.QuietLaws.{sprites_of, copper_of, blit_of, lines_of}

@@ -26,7 +26,8 @@ use Rattle.serial_model.specs.Owner.{owner_of}
 use Rattle.serial_model.specs.Processor.{processor_wish}
 use Rattle.serial_model.specs.Registers.{is_danger}
 use Rattle.serial_model.specs.State.{Chips}
-use Rattle.chip_set.specs.Chips.{act_at, made_with}
+use Rattle.bus_slots.specs.Asks.{made_with}
+use Rattle.chip_set.specs.Chips.{act_at}
 
 -- without a word the Copper makes nothing
 no_word : (danger : Bool) (phase : CopperPhase) (first : ℕ) → act_in danger None phase first ≡ NoAct

@@ -13,7 +13,6 @@ use Rattle.ocs_base.specs.declared.beam.Beam.{Beam}
 use Rattle.ocs_base.specs.declared.chip_size.ChipSize.TheVariants.{Kib512}
 use Rattle.serial_model.specs.declared.bus.Ask.{Ask}
 use Rattle.serial_model.specs.declared.bus.Ask.TheVariants as A
-use Rattle.serial_model.specs.declared.bus.Half.TheVariants.{Both}
 use Rattle.serial_model.specs.declared.bus.Made.{Made}
 use Rattle.serial_model.specs.declared.bus.Made.TheVariants as M
 use Rattle.serial_model.specs.declared.bus.ProcessorAsk.{ProcessorAsk}
@@ -34,7 +33,7 @@ use Rattle.serial_bands.specs.BusReads.{reads_of_processor}
 use Rattle.serial_model.specs.Bus.{Wishes, copper_wish, plane_wish, units_now, kinds_now, slot_state, owner_ask, copper_runs}
 use Rattle.serial_model.specs.Bus.{copper_ask, blit_owner_ask, processor_ask}
 use Rattle.serial_model.specs.Bus.{copper_word, copper_after, missed_after, ask_at, answer_processor, answer_to, answer_chips, give_blit}
-use Rattle.serial_model.specs.Bus.{give_chips, end_blit, made_by_copper, made_by_processor, made_by_sprite, made_by_ask, answer_blit}
+use Rattle.serial_model.specs.Bus.{give_chips, end_blit, made_by_ask, answer_blit}
 use Rattle.serial_model.specs.BlitRegisters.{blit_start}
 use Rattle.irq_cia.specs.Interrupts.{Interrupts}
 use Rattle.serial_model.specs.Copper.{copper_act}
@@ -201,33 +200,6 @@ answering b ask word mid = record mid {
 abbrev pub act_at : Beam → Ask → ℕ → Chips → CopperAct
 act_at b ask word c =
     if copper_runs b c then copper_act (is_danger c.registers) (copper_word ask word) c.copper else NoAct
-
--- the word that the disk, or a blit, stores, and where
-abbrev pub stored_by_side : SideAsk → Option (Addr × ℕ)
-stored_by_side S.Nothing = None
-stored_by_side (S.Disk at stored) = Some (at, stored)
-stored_by_side (S.Audio channel at) = None
-
-abbrev pub stored_by_blit : SlotAsk → Option (Addr × ℕ)
-stored_by_blit (Read at) = None
-stored_by_blit (Write at stored) = Some (at, stored)
-stored_by_blit Rest = None
-stored_by_blit Done = None
-
-abbrev pub stored_or_made : Option (Addr × ℕ) → CopperAct → Made
-stored_or_made None act = made_by_copper act
-stored_or_made (Some (at, stored)) act = M.Stored at Both stored
-
--- what the access makes, with the word that answers it: a fetch fills a latch or a sprite's data, or writes a sprite's
--- control word, the disk or a blit stores its word, and else it is what the Copper's step makes
-abbrev pub made_with : Ask → ℕ → CopperAct → Made
-made_with A.Free word act = made_by_copper act
-made_with (A.Side ask) word act = stored_or_made (stored_by_side ask) act
-made_with (A.Plane ask) word act = M.Plane ask.plane ask.at
-made_with (A.Sprite ask) word act = made_by_sprite ask word
-made_with (A.Copper at) word act = made_by_copper act
-made_with (A.Blit ask) word act = stored_or_made (stored_by_blit ask) act
-made_with (A.Processor ask) word act = made_by_processor ask
 
 -- a word answers the processor: the one that the machine gives, whatever chips these stand for
 abbrev pub IsRead : ProcessorAsk → Beam → ℕ → WorkingChips → List ℕ → ℕ → Type 0

@@ -22,10 +22,10 @@ ghost use Rattle.chip_set.specs.BusCode.{LeavesToPlanes, LeavesBeside, LeaveBus,
 ghost use Rattle.chip_set.specs.BusCode.{IsClaim, IsUnitKept};
 ghost use Rattle.chip_set.specs.BusCode.{ask_beside_planes, is_bus_ask, is_bus_made};
 
-use crate::asks::{made_by, slot_ask};
 use crate::chips::{Chips, read_for_blit};
 use bitplane_dma::{FetchRules, PlaneAsk};
 use blitter::SlotAsk;
+use bus_slots::asks::{made_by, slot_ask};
 use mem_versions::Chip;
 use ocs_base::{Addr, Beam};
 use serial_model::{Ask, CopperAct, Made, ProcessorAsk};

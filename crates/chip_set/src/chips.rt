@@ -16,15 +16,16 @@ ghost use Rattle.serial_model.specs.Write.{write_chips, carry_effect, restart_co
 ghost use Rattle.serial_model.specs.Tick.{start_chips};
 ghost use Rattle.serial_model.specs.Events.{tell_chips, with_joy, with_fire};
 ghost use Rattle.cpu_bus.specs.Bus.{wish_shown};
+ghost use Rattle.bus_slots.specs.Asks.{made_with};
 ghost use Rattle.chip_set.specs.Chips.{IsChipsOf, HasAsked, HasAccessed, CanAsk, CanDo, plain_chips, kept_wish, ask_with, ask_or_late};
 ghost use Rattle.chip_set.specs.Chips.{act_at, IsAnswer, IsRead, reads_by_chips, reads_of_blit, read_by, IsBlitAsk};
-ghost use Rattle.chip_set.specs.Chips.{AnswersOwner, answering, made_with, GivesBlit, GivesProcessor, IsGoing, end_if_blit};
+ghost use Rattle.chip_set.specs.Chips.{AnswersOwner, answering, GivesBlit, GivesProcessor, IsGoing, end_if_blit};
 
-use crate::asks::{copper_word, made_by, plane_ask, processor_ask, slot_ask, sprite_ask};
 use crate::blit_registers::{blit_registers, keep_blit};
 use beam::{at_field_start, at_line_start};
 use bitplane_dma::{Fetcher, PlaneAsk};
 use blitter::{Blit, SlotAsk};
+use bus_slots::asks::{copper_word, made_by, plane_ask, processor_ask, slot_ask, sprite_ask};
 use bus_slots::{Owner, SlotState, is_refresh, slot_owner};
 use copper::Copper;
 use cpu_bus::BusCpu;

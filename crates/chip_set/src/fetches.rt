@@ -1,4 +1,4 @@
-//! The access of a clock whose slot is a plane's, a sprite's, the Copper's or nobody's.
+//! The access of a clock whose slot is a plane's, a sprite's, the Copper's or nobody's; and which access reads CLXDAT.
 
 ghost use Rattle.std.specs.Prelude.{◌≡◌, ℕ, true};
 ghost use Rattle.ocs_base.specs.declared.beam.Beam.{Beam as BeamOf};
@@ -6,15 +6,18 @@ ghost use Rattle.serial_model.specs.Side.{IsInTime};
 ghost use Rattle.serial_model.specs.State.{Chips as ChipsOf};
 ghost use Rattle.serial_model.specs.Bus.{ask_at};
 ghost use Rattle.serial_model.specs.declared.bus.SideAsk.{SideAsk};
-ghost use Rattle.chip_set.specs.Chips.{HasAsked, HasAccessed, CanAsk, CanDo, WorkingChips, IsAnswer, made_with};
+ghost use Rattle.chip_set.specs.Chips.{HasAsked, HasAccessed, CanAsk, CanDo, WorkingChips, IsAnswer};
 ghost use Rattle.chip_set.specs.Chips.{reads_by_chips, read_by};
 ghost use Rattle.chip_set.specs.BusCode.{is_fetch_ask as fetch_asked};
+ghost use Rattle.chip_set.specs.AskLaws.{is_clx_ask as clx_asked};
+ghost use Rattle.bus_slots.specs.Asks.{made_with};
 
-use crate::asks::{made_by_copper, made_by_sprite};
 use crate::chips::Chips;
+use bus_slots::asks::{made_by_copper, made_by_sprite};
 use mem_versions::Chip;
 use ocs_base::Beam;
-use serial_model::{Ask, CopperAct, Made, SpriteAsk};
+use ocs_base::offset::CLXDAT;
+use serial_model::{Ask, CopperAct, Made, ProcessorAsk, SpriteAsk};
 
 /// Whether the owner of the slot is a plane, a sprite, the Copper or nobody.
 #[inline(always)]
@@ -77,5 +80,17 @@ fn made_by_fetch(ask: &Ask, word: u16, act: &CopperAct) -> Made
         },
         Ask::Sprite { ask } => made_by_sprite(ask, word),
         _ => made_by_copper(act),
+    }
+}
+
+/// Whether the owner of the slot, the processor then, asks to read CLXDAT.
+pub fn is_clx_ask(ask: &Ask) -> bool
+    ensures { result ≡ clx_asked ask.now }
+{
+    match ask {
+        Ask::Processor {
+            ask: ProcessorAsk::ReadRegister { reg },
+        } => reg.offset == CLXDAT,
+        _ => false,
     }
 }

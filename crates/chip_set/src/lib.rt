@@ -2,7 +2,6 @@
 #![tactic(auto)]
 
 mod ahead;
-mod asks;
 mod blit_registers;
 mod bus;
 mod chips;
@@ -12,10 +11,9 @@ pub mod laws;
 mod quiet;
 mod turn;
 
-pub use asks::is_clx_ask;
 pub use bitplane_dma::FetchRules;
 pub use bus::{BlitterClaim, Unit};
 pub use chips::Chips;
 pub use cpu_bus::TurnBeside;
-pub use fetches::is_fetch_ask;
+pub use fetches::{is_clx_ask, is_fetch_ask};
 pub use late::LateOwner;

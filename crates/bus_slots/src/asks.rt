@@ -1,32 +1,20 @@
-//! The ask of a clock's slot, and what its access makes.
+//! The ask of a clock's slot by its owner, and what its access makes.
 
 ghost use Rattle.std.specs.Prelude.{◌≡◌, Some};
 ghost use Rattle.serial_model.specs.Bus.{copper_word as word_to_copper, plane_owner_ask, sprite_owner_ask, blit_owner_ask};
 ghost use Rattle.serial_model.specs.Bus.{processor_ask as processor_ask_of};
 ghost use Rattle.serial_model.specs.Bus.{made_by_copper as made_by_copper_of, made_by_sprite as made_by_sprite_of, control_register as control_register_of};
 ghost use Rattle.serial_model.specs.Bus.{made_by_processor as made_by_processor_of};
-ghost use Rattle.chip_set.specs.AskLaws.{is_clx_ask as clx_asked};
-ghost use Rattle.chip_set.specs.Chips.{made_with};
+ghost use Rattle.bus_slots.specs.Asks.{made_with};
 
-use bitplane_dma::PlaneAsk;
-use blitter::SlotAsk;
+use blit_words::SlotAsk;
 use ocs_base::Reg;
 use ocs_base::offset::{CLXDAT, SPR0POS};
-use serial_model::{Ask, CopperAct, Half, Made, ProcessorAsk, SideAsk, Source, SpriteAsk};
+use serial_model::{
+    Ask, CopperAct, Half, Made, PlaneAsk, ProcessorAsk, SideAsk, Source, SpriteAsk,
+};
 
-/// Whether the owner of the slot, the processor then, asks to read CLXDAT.
-pub fn is_clx_ask(ask: &Ask) -> bool
-    ensures { result ≡ clx_asked ask.now }
-{
-    match ask {
-        Ask::Processor {
-            ask: ProcessorAsk::ReadRegister { reg },
-        } => reg.offset == CLXDAT,
-        _ => false,
-    }
-}
-
-/// The ask of a plane, of a sprite, and of a blit.
+/// The ask of a slot whose owner is a bitplane: its fetch, or none.
 pub fn plane_ask(wish: Option<PlaneAsk>) -> Ask
     ensures { result ≡ plane_owner_ask wish }
 {
@@ -36,6 +24,7 @@ pub fn plane_ask(wish: Option<PlaneAsk>) -> Ask
     }
 }
 
+/// The ask of a slot whose owner is a sprite: its fetch, or none.
 pub fn sprite_ask(wish: Option<SpriteAsk>) -> Ask
     ensures { result ≡ sprite_owner_ask wish }
 {
@@ -45,6 +34,7 @@ pub fn sprite_ask(wish: Option<SpriteAsk>) -> Ask
     }
 }
 
+/// The ask of a slot whose owner is the blitter: what the blit under way asks for, and none where it is done.
 pub fn slot_ask(slot: SlotAsk) -> Ask
     ensures { result ≡ blit_owner_ask (Some slot) }
 {
@@ -82,7 +72,7 @@ pub fn made_by(ask: &Ask, word: u16, act: &CopperAct) -> Made
 
 /// What a sprite's fetch makes: its control word is written to its register, its image word fills a latch.
 #[inline(always)]
-pub(crate) fn made_by_sprite(ask: &SpriteAsk, word: u16) -> Made
+pub fn made_by_sprite(ask: &SpriteAsk, word: u16) -> Made
     ensures { result ≡ made_by_sprite_of ask.now word }
 {
     match ask {
@@ -127,7 +117,7 @@ fn made_by_processor(ask: &ProcessorAsk) -> Made
 
 /// What a step of the Copper makes: a MOVE is a write.
 #[inline(always)]
-pub(crate) fn made_by_copper(act: &CopperAct) -> Made
+pub fn made_by_copper(act: &CopperAct) -> Made
     ensures { result ≡ made_by_copper_of act.now }
 {
     match act {
@@ -162,7 +152,7 @@ pub fn copper_word(ask: &Ask, word: u16) -> Option<u16>
     }
 }
 
-/// The ask of the processor.
+/// The ask of a slot whose owner is the processor: its access, or none.
 pub fn processor_ask(wish: Option<ProcessorAsk>) -> Ask
     ensures { result ≡ processor_ask_of wish }
 {
