@@ -14,7 +14,7 @@ use Rattle.priority_ham.specs.PixelColour.{hides, playfield_value, priority_code
 use Rattle.priority_ham.specs.PixelColour.{value_of_one, is_two_chosen, half_brite, modified, playfield_colour, red, green, blue, colour_of}
 use Rattle.priority_ham.proofs.Within.{below, at_most_six}
 use Rattle.painter.specs.Inks.{ink, ink_number, counted_bits, first_hidden, is_held, halved, two_pixels, HasTables}
-use Rattle.painter.proofs.Rows.{zeros}
+use Rattle.plane_rows.proofs.Rows.{zeros}
 
 black_by : (n : ℕ) (b : Bool) → (if b then slice_index (replicate 32 0) n else halved (slice_index (replicate 32 0) (n - 32))) ≡ zero
 black_by n true = zeros 32 n

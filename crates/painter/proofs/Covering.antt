@@ -17,7 +17,7 @@ use Rattle.painter.proofs.Pairs.{later_pairs}
 use Rattle.sprite_rows.specs.LineValues.{pair_byte}
 use Rattle.sprite_rows.specs.PairFrontCode.{pixel_of_byte}
 use Rattle.sprite_rows.proofs.Standing.{front_alone}
-use Rattle.painter.specs.Line.{ArePaired}
+use Rattle.plane_rows.specs.Line.{ArePaired}
 use Rattle.painter.specs.SpriteState.{attached_in}
 use Rattle.painter.specs.SteadyCode.{IsSteadyFrom}
 use Rattle.painter.specs.declared.show_covered.Steady.{Steady}

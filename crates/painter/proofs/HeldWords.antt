@@ -9,7 +9,7 @@ use Rattle.serial_model.specs.Picture.{colour_bytes}
 use Rattle.priority_ham.specs.PixelColour.{modified, red, green, blue, colour_of}
 use Rattle.painter.specs.Inks.{two_pixels, ink}
 use Rattle.painter.specs.HeldCode.{word_by, colour_word, kept_by, kept_bytes, new_by, new_bytes}
-use Rattle.painter.proofs.Spreading.{pixel_bytes}
+use Rattle.plane_rows.proofs.Spreading.{pixel_bytes}
 use Rattle.painter.proofs.Colours.{ink_low}
 
 -- two pixels are the bytes of the word

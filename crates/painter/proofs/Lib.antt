@@ -1,10 +1,5 @@
-pub mod Rows
-pub mod Spreading
-pub mod OnceTable
-pub mod TwiceTable
 pub mod ComponentTables
 pub mod HeldWords
-pub mod Loading
 pub mod Pairs
 pub mod Modifying
 pub mod Colours
@@ -18,10 +13,8 @@ pub mod Covering
 pub mod Fills
 pub mod Wide
 pub mod Registers
-pub mod KeptLoads
 pub mod RunningLaws
 pub mod Spans
 pub mod Clocks
 pub mod PairOver
 pub mod Begun
-pub mod FourBytes

@@ -7,11 +7,11 @@ use Rattle.serial_model.specs.declared.picture.Denise.{Denise}
 use Rattle.serial_model.specs.Picture.{step_of, held_after, pixel_colour, colour_bytes}
 use Rattle.serial_model.specs.Spans.{after_shows, shown_bytes}
 use Rattle.serial_model.specs.Window.{is_inside}
-use Rattle.painter.specs.declared.line.Line.{Line}
+use Rattle.plane_rows.specs.declared.line.Line.{Line}
 use Rattle.painter.specs.declared.painter.Painter.{Painter}
 use Rattle.painter.specs.Painter.{IsPainterOf, clock_bytes}
 use Rattle.painter.specs.Inks.{InkRegisters, is_held, ink_number}
-use Rattle.painter.specs.Line.{row_bits, ArePaired}
+use Rattle.plane_rows.specs.Line.{row_bits, ArePaired}
 use Rattle.painter.specs.Pixels.{modified_at, modified_along, modified_pixels, all_modified}
 use Rattle.painter.specs.Span.{IsSpan}
 use Rattle.painter.specs.SpanCode.{bytes_of_clocks, quiet_gathered, AreInside, AreModified}

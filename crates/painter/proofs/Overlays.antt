@@ -25,7 +25,7 @@ use Rattle.painter.specs.Overlay.{with_runs, shown_bits, with_front, with_front_
 use Rattle.painter.specs.Overlay.{covered_collisions, column_over, column_collisions, clock_over, quiet_in_column, quiet_collisions}
 use Rattle.painter.specs.Painter.{IsPainterOf, with_held, clock_bytes}
 use Rattle.painter.specs.Inks.{backdrop, counted_bits}
-use Rattle.painter.specs.Line.{row_bits}
+use Rattle.plane_rows.specs.Line.{row_bits}
 use Rattle.priority_ham.specs.PlaneCount.{planes_of}
 use Rattle.std.proofs.Math.Nat.{zero-mod}
 use Rattle.painter.proofs.Showing.{with_held_stands, backdrop_stands, row_counted}

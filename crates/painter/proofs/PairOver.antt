@@ -16,7 +16,7 @@ use Rattle.serial_model.specs.Window.{is_inside}
 use Rattle.painter.specs.declared.painter.Painter.{Painter}
 use Rattle.painter.specs.declared.show_covered.Steady.{Steady}
 use Rattle.painter.specs.Inks.{InkRegisters, ink, ink_number, counted_bits, is_held}
-use Rattle.painter.specs.Line.{row_bits}
+use Rattle.plane_rows.specs.Line.{row_bits}
 use Rattle.painter.specs.Overlay.{with_front, with_front_at, covered_column, clock_over, shown_bits}
 use Rattle.painter.specs.Painter.{IsPainterOf, with_held, clock_bytes}
 use Rattle.painter.specs.PairOver.{colour_in_front, colour_over, pixels_over}
@@ -25,7 +25,7 @@ use Rattle.painter.specs.Span.{IsSpan}
 use Rattle.painter.specs.SpanCode.{bytes_of_clocks, held_to, all_inks, ink_pixels}
 use Rattle.painter.specs.StartsCode.{IsSteady}
 use Rattle.painter.specs.SteadyCode.{IsSteadyFrom}
-use Rattle.painter.specs.declared.line.Line.{Line}
+use Rattle.plane_rows.specs.declared.line.Line.{Line}
 use Rattle.painter.proofs.Clocks.{inks_shown, held_of_inks}
 use Rattle.painter.proofs.Colours.{ink_low}
 use Rattle.painter.proofs.Covering.{front_of_pair, steady_runs, steady_further, steady_first, steady_second, steady_pixels, steady_bits, column_reached}

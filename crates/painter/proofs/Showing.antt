@@ -14,8 +14,8 @@ use Rattle.planes.proofs.Searching.{plane_bit-lt}
 use Rattle.priority_ham.specs.PlaneCount.{planes_of, is_set, is_dual_playfield}
 use Rattle.priority_ham.specs.PixelColour.{modified, dual_number, playfield_colour}
 use Rattle.priority_ham.proofs.Within.{at_most_six}
-use Rattle.painter.specs.declared.line.Line.{Line}
-use Rattle.painter.specs.Line.{IsLineOf, Shows, three_planes, row_bits}
+use Rattle.plane_rows.specs.declared.line.Line.{Line}
+use Rattle.plane_rows.specs.Line.{IsLineOf, Shows, three_planes, row_bits}
 use Rattle.painter.specs.Inks.{InkRegisters, ink, ink_number, counted_bits, is_held, backdrop}
 use Rattle.painter.specs.Pixels.{ink_at, modified_at}
 use Rattle.painter.specs.declared.painter.Painter.{Painter}

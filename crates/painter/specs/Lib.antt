@@ -1,6 +1,3 @@
-pub mod WordsCode
-pub mod RowCode
-pub mod Line
 pub mod HeldCode
 pub mod Inks
 pub mod WindowCode

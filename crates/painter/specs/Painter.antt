@@ -5,7 +5,7 @@ use Rattle.serial_model.specs.Picture.{pixel_colour, colour_bytes, held_after}
 use Rattle.painter.specs.declared.painter.Painter.{Painter}
 use Rattle.collisions.specs.Collision.{playfield_matches}
 use Rattle.serial_model.specs.Window.{is_inside}
-use Rattle.painter.specs.Line.{IsLineOf}
+use Rattle.plane_rows.specs.Line.{IsLineOf}
 use Rattle.painter.specs.SpriteState.{is_known_idle}
 
 -- it stands for a picture state with the same registers, loads that show the same, the same words that run,

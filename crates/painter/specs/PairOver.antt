@@ -3,9 +3,9 @@ use Rattle.std.specs.Prelude.{ℕ, ◌+◌, ◌*◌, ◌==◌, ◌||◌, List, [
 use Rattle.priority_ham.specs.PixelColour.{hides}
 use Rattle.serial_model.specs.Picture.{colour_bytes}
 use Rattle.sprite_rows.specs.PairFrontCode.{colour_of_byte}
-use Rattle.painter.specs.declared.line.Line.{Line}
+use Rattle.plane_rows.specs.declared.line.Line.{Line}
 use Rattle.painter.specs.Inks.{InkRegisters, counted_bits}
-use Rattle.painter.specs.Line.{row_bits}
+use Rattle.plane_rows.specs.Line.{row_bits}
 use Rattle.painter.specs.Pixels.{ink_at}
 
 -- the colour of a pixel, by the playfields' colour there and the byte of the pair

@@ -1,9 +1,9 @@
 -- The colours that the inks and the line give a position of the playfields.
 use Rattle.std.specs.Prelude.{ℕ, zero, suc, ◌+◌, ◌*◌, List, [], ◌∷◌}
 use Rattle.priority_ham.specs.PixelColour.{modified}
-use Rattle.painter.specs.declared.line.Line.{Line}
+use Rattle.plane_rows.specs.declared.line.Line.{Line}
 use Rattle.painter.specs.Inks.{InkRegisters, ink, ink_number}
-use Rattle.painter.specs.Line.{row_bits}
+use Rattle.plane_rows.specs.Line.{row_bits}
 use Rattle.serial_model.specs.Picture.{colour_bytes}
 
 -- the number of the ink that the bits at a position name

@@ -2,7 +2,7 @@
 use Rattle.std.specs.Prelude.{◌≡◌, true, ◌<◌, ℕ, zero, suc, ◌+◌, ◌*◌, List, [], ◌∷◌, ◌++◌, bit_or, flat_map, slice_index_or}
 use Rattle.serial_model.specs.declared.picture.Denise.{Denise}
 use Rattle.serial_model.specs.Picture.{colour_bytes}
-use Rattle.painter.specs.declared.line.Line.{Line}
+use Rattle.plane_rows.specs.declared.line.Line.{Line}
 use Rattle.painter.specs.declared.painter.Painter.{Painter}
 use Rattle.painter.specs.Inks.{InkRegisters, backdrop}
 use Rattle.painter.specs.Overlay.{quiet_collisions}

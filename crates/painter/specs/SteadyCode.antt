@@ -5,7 +5,7 @@ use Rattle.serial_model.specs.Picture.{sprite_values}
 use Rattle.painter.specs.declared.painter.Painter.{Painter}
 use Rattle.painter.specs.declared.show_covered.Steady.{Steady}
 use Rattle.painter.specs.SpriteState.{attached_in}
-use Rattle.painter.specs.Line.{ArePaired}
+use Rattle.plane_rows.specs.Line.{ArePaired}
 use Rattle.painter.specs.StartsCode.{IsAlone}
 
 pub record IsSteadyFrom (h : ℕ) (steady : Steady) (now : Painter) : Type 0 where

@@ -12,13 +12,11 @@ ghost use Rattle.painter.specs.Overlay.{column_collisions, clock_over, quiet_in_
 ghost use Rattle.painter.specs.Inks.{is_held, backdrop};
 ghost use Rattle.painter.specs.SpriteState.{attached_in};
 ghost use Rattle.painter.specs.StartsCode.{IsIdle};
-ghost use Rattle.painter.specs.Line.{row_bits, ArePaired};
+ghost use Rattle.plane_rows.specs.Line.{row_bits, ArePaired};
 ghost use Rattle.ocs_base.specs.Systems.{is_visible};
 
 use crate::ham::hold;
 use crate::inks::{Inks, bytes_of, colour_of};
-use crate::kept_loads::line_of;
-use crate::line::Line;
 use crate::names::counted_planes;
 use crate::overlay::cover;
 use crate::pixels::{show_border, show_inks, show_modified};
@@ -26,6 +24,7 @@ use crate::sprite_state::SpriteState;
 use crate::window::Window;
 use collisions::do_playfields_meet;
 use ocs_base::{Beam, Colour, Reg, System};
+use plane_rows::{Line, line_of};
 use planes::Loads;
 use serial_model::Denise;
 

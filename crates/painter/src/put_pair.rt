@@ -7,7 +7,7 @@ ghost use Rattle.serial_model.specs.Picture.{colour_bytes};
 ghost use Rattle.serial_model.specs.Window.{is_inside};
 ghost use Rattle.sprite_rows.specs.PairFrontCode.{colour_of_byte};
 ghost use Rattle.painter.specs.Inks.{ink, two_pixels};
-ghost use Rattle.painter.specs.Line.{row_bits, ArePaired};
+ghost use Rattle.plane_rows.specs.Line.{row_bits, ArePaired};
 ghost use Rattle.painter.specs.PairOver.{colour_over, pixels_over};
 ghost use Rattle.painter.specs.Pixels.{ink_at};
 ghost use Rattle.painter.specs.StartsCode.{IsSteady};

@@ -5,7 +5,7 @@ ghost use Rattle.ocs_base.specs.Systems.{is_visible};
 ghost use Rattle.serial_model.specs.Picture.{clock_collisions};
 ghost use Rattle.serial_model.specs.Window.{is_inside};
 ghost use Rattle.painter.specs.Overlay.{clock_over, covered_column};
-ghost use Rattle.painter.specs.Line.{row_bits};
+ghost use Rattle.plane_rows.specs.Line.{row_bits};
 ghost use Rattle.painter.specs.SpriteState.{attached_in};
 ghost use Rattle.painter.specs.StartsCode.{IsSteady, IsAlone};
 ghost use Rattle.painter.specs.SteadyCode.{IsSteadyFrom};

@@ -5,7 +5,7 @@ ghost use Rattle.std.specs.Prelude.{slice_index, true, false, if◌then◌else�
 ghost use Rattle.serial_model.specs.Picture.{colour_bytes};
 ghost use Rattle.painter.specs.Overlay.{quiet_collisions};
 ghost use Rattle.painter.specs.Inks.{backdrop};
-ghost use Rattle.painter.specs.Line.{row_bits};
+ghost use Rattle.plane_rows.specs.Line.{row_bits};
 ghost use Rattle.painter.specs.Pixels.{ink_at};
 ghost use Rattle.painter.specs.Span.{visible_clocks, IsSpan};
 ghost use Rattle.painter.specs.StartsCode.{IsIdle};

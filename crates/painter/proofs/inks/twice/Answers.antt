@@ -1,5 +1,5 @@
 use Rattle.std.proofs.Common.{◌/◌, ◌%◌, ◌∙◌, arith}
-use Rattle.painter.proofs.Spreading.{pixel_bytes}
+use Rattle.plane_rows.proofs.Spreading.{pixel_bytes}
 use Rattle.painter.proofs.inks.twice.Goals as goal
 
 pub returns : goal.returns

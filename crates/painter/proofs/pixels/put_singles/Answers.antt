@@ -1,8 +1,8 @@
 use Rattle.std.proofs.Common.{◌≡◌, ◌+◌, ◌∙◌, ℕ, List, ap, arith}
 use Rattle.serial_model.specs.Picture.{colour_bytes}
-use Rattle.painter.specs.declared.line.Line.{Line}
+use Rattle.plane_rows.specs.declared.line.Line.{Line}
 use Rattle.painter.specs.Inks.{InkRegisters, ink, ink_number, two_pixels}
-use Rattle.painter.specs.Line.{row_bits}
+use Rattle.plane_rows.specs.Line.{row_bits}
 use Rattle.painter.specs.Pixels.{ink_at}
 use Rattle.painter.proofs.Wide.{singles_put}
 use Rattle.painter.proofs.pixels.put_singles.Goals as goal

@@ -2,7 +2,7 @@ use Rattle.std.proofs.Common.{◌≡◌, ◌∙◌, ℕ, ap, subst}
 use Rattle.priority_ham.specs.PixelColour.{modified}
 use Rattle.painter.specs.HeldCode.{IsHeld}
 use Rattle.painter.specs.Inks.{ink_number}
-use Rattle.painter.specs.Line.{row_bits}
+use Rattle.plane_rows.specs.Line.{row_bits}
 use Rattle.painter.specs.Pixels.{modified_at}
 use Rattle.painter.proofs.pixels.show_pair.Goals as goal
 

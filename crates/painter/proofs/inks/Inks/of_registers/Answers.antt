@@ -2,7 +2,7 @@ use Rattle.std.proofs.Common.{◌≡◌, ◌<◌, ◌∙◌, ℕ, List, length, 
 use Rattle.std.proofs.Math.ListN.{length-set}
 use Rattle.std.proofs.lemmas.List.{ext_get_or, length-replicate}
 use Rattle.painter.specs.Inks.{InkRegisters, black}
-use Rattle.painter.proofs.KeptLoads.{one_written}
+use Rattle.plane_rows.proofs.KeptLoads.{one_written}
 use Rattle.painter.proofs.inks.Inks.of_registers.Goals as goal
 
 -- all registers are taken over

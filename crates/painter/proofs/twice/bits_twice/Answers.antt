@@ -1,5 +1,0 @@
-use Rattle.painter.proofs.TwiceTable.{lower_of}
-use Rattle.painter.proofs.twice.bits_twice.Goals as goal
-
-pub returns : goal.returns
-returns c = lower_of c.args.word

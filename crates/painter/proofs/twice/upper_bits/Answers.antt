@@ -1,5 +1,0 @@
-use Rattle.painter.proofs.TwiceTable.{upper_of}
-use Rattle.painter.proofs.twice.upper_bits.Goals as goal
-
-pub returns : goal.returns
-returns c = upper_of c.args.word

@@ -1,0 +1,3 @@
+pub mod WordsCode
+pub mod RowCode
+pub mod Line
