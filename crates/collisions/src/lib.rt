@@ -1,4 +1,4 @@
-//! Collisions of one pixel: which playfields and pairs of sprites meet there.
+//! Collisions of one pixel: which playfields and pairs of sprites meet there; and the read of those that were gathered.
 #![tactic(auto)]
 
 ghost use Rattle.std.specs.Prelude.{◌≡◌, ◌<◌, ◌∷◌, [], ◌&&◌};
@@ -48,6 +48,17 @@ pub fn playfields(con: u16, bits: u8) -> (bool, bool)
     let against = (con >> 6) & (con ^ bits as u16);
     let any = against | against >> 2 | against >> 4;
     (any & 1 == 0, any & 2 == 0)
+}
+
+/// The word of a read of CLXDAT: the collision bits that were gathered since the last one, which it
+/// clears (Hardware Reference Manual, collision detection).
+pub fn read_clxdat(gathered: &mut u16) -> u16
+    ensures bits { result ≡ gathered.old }
+    ensures cleared { gathered.new ≡ 0 }
+{
+    let bits = *gathered;
+    *gathered = 0;
+    bits
 }
 
 /// Whether a pair of sprites is present.

@@ -8,6 +8,7 @@ ghost use Rattle.foreground.specs.Steps.{StandsBeforeRead, ReadsBits, ReadsPart}
 use crate::fore::Fore;
 use band_gather::gather_all;
 use band_log::Raster;
+use collisions::read_clxdat;
 use ocs_base::{Beam, OutOfMemory};
 use out_files::OutFiles;
 use picture_log::{shown_before, shown_behind};
@@ -112,9 +113,7 @@ impl<S: Side> Fore<S> {
         ensures bits { result ≡ self.old.clx }
         ensures same { self.new ≡ record self.old { clx = 0 } }
     {
-        let clx = self.clx;
-        self.clx = 0;
-        clx
+        read_clxdat(&mut self.clx)
     }
 }
 
