@@ -11,7 +11,7 @@ use Rattle.m68k_decode.specs.declared.row.Traps.TheVariants as X
 use Rattle.m68k_decode.specs.declared.row.GeneralRow.{GeneralRow}
 use Rattle.m68k_decode.specs.RowResults.{count_by, trap_by, status_by}
 use Rattle.m68k_decode.specs.Status.{with_flags}
-use Rattle.m68k_exec.specs.Plain.{is_plain, is_plain_with, is_plain_op}
+use Rattle.m68k_results.specs.Plain.{is_plain, is_plain_with, is_plain_op}
 
 -- ---- a row with what it counts and the exception that it may make
 

@@ -10,7 +10,7 @@ use Rattle.m68k_decode.specs.Run.{Run}
 use Rattle.m68k_decode.specs.General.{general}
 use Rattle.m68k_decode.specs.Status.{needs_supervisor}
 use Rattle.m68k_decode.specs.Walk.{execute, permitted}
-use Rattle.m68k_exec.specs.Plain.{is_plain, is_plain_op}
+use Rattle.m68k_results.specs.Plain.{is_plain, is_plain_op}
 use Rattle.m68k_exec.proofs.PlainResults.{plain_op}
 
 pub executes_row : (i : Instr) (row : GeneralRow) (s : Run) → general_row i ≡ row → (row.op ≡ Q.Other → ⊥)

@@ -1,4 +1,3 @@
 pub mod Meaning
 pub mod Stands
 pub mod Stopped
-pub mod Plain

@@ -15,10 +15,10 @@ use crate::access::fetch_word;
 use crate::ask::Ask;
 use crate::dispatch::continue_with_word;
 use crate::entries::{is_instruction, start_exception, start_reset};
-use crate::fetched::{Fetched, Rows};
+use crate::rows::Rows;
 use crate::state::{Context, Cpu, Machine, Part, Step};
-use crate::status::{entered_status, has_trace, interrupt_mask};
 use m68k_decode::{CpuRegs, Trap, Under};
+use m68k_results::{Fetched, entered_status, has_trace, interrupt_mask};
 
 /// Sets the first step of what is under way, and the context for it.
 #[tactic(auto, unfolding(m68k_decode::specs::Walk::program, m68k_decode::specs::Walk::instruction, m68k_decode::specs::Walk::taking_of))]

@@ -22,11 +22,10 @@ use crate::lists::{
     gather_bytes, list_mode, list_size, scatter_bytes, store_next_register, take_list_place,
     take_register_value, without_step,
 };
-use crate::row_data::{dest_mode, source_mode};
 use crate::state::{Context, Machine, Part, Role, Step, Then, Use};
-use crate::status::needs_supervisor;
 use m68k_decode::{Instr, Mode, Op, Place68, Size, Trap};
 use m68k_ea::{long_of, resolve};
+use m68k_results::{dest_mode, needs_supervisor, source_mode};
 
 /// An exception in place of the instruction.
 #[inline(never)]

@@ -20,9 +20,9 @@ use crate::access::{
 };
 use crate::lists::{start_byte_moves, start_list};
 use crate::state::{Context, Machine, Part, Role, Step, Then, Use};
-use crate::status::{condition, flags_of, kept_status, with_code};
 use m68k_decode::{CpuRegs, Instr, Mode, Place68, Size, Trap, Under, extended_byte};
 use m68k_ea::{extended_word, extension_words, resolve};
+use m68k_results::{condition, flags_of, kept_status, with_code};
 
 /// Makes room for a long on the stack.
 fn lower_stack(regs: &mut CpuRegs)

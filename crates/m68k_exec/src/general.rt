@@ -6,19 +6,20 @@ ghost use Rattle.m68k_decode.specs.RowData.{dest_size, source_size, source_mode,
 ghost use Rattle.m68k_decode.specs.General.{completed, compute, with_dest, dest, with_source, general};
 ghost use Rattle.m68k_decode.specs.declared.place.Place68.TheVariants as P;
 ghost use Rattle.m68k_exec.specs.Meaning.{meaning, run_of};
-ghost use Rattle.m68k_exec.specs.Plain.{is_plain};
+ghost use Rattle.m68k_results.specs.Plain.{is_plain};
 
 use crate::access::{
     end_instruction, fetch_extension, held_value, merged_value, read_value, store_result,
     write_value,
 };
-use crate::operation::{operand_trap, operation, plain_operation, status_after, trap_ea};
-use crate::row_data::{is_program, source_mode};
 use crate::state::{Context, Machine, Role, Step, Then, Use};
-use crate::status::with_flags;
 use m68k_alu::low_part;
 use m68k_decode::{Dest, Mode, Place68, Source, Trap, Under};
 use m68k_ea::{extension_words, resolve};
+use m68k_results::{
+    is_program, operand_trap, operation, plain_operation, source_mode, status_after, trap_ea,
+    with_flags,
+};
 
 /// The result is known: it is stored, or an exception begins.
 #[tactic(auto, unfolding(m68k_decode::specs::General::completed, m68k_decode::specs::Run::store))]

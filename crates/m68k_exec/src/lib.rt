@@ -11,14 +11,11 @@ mod ask;
 mod cpu;
 mod dispatch;
 mod entries;
-mod fetched;
 mod flow;
 mod general;
 mod lists;
-mod operation;
-mod row_data;
+mod rows;
 mod state;
-mod status;
 mod stopped;
 
 pub use ask::Ask;

@@ -12,10 +12,10 @@ use crate::access::{
     address_after, address_before, fetch_extension, finish_row, merged_value, read_value,
     write_value,
 };
-use crate::row_data::{extended_value, is_program, ones};
 use crate::state::{Context, Left, Machine, Role, Then, Use};
 use m68k_decode::{CpuRegs, Instr, Mode, Place68, Size};
 use m68k_ea::{extended_word, extension_words, resolve};
+use m68k_results::{extended_value, is_program, ones};
 
 /// The mode that MOVEM names.
 #[tactic(auto, unfolding(m68k_decode::specs::Lists::list_mode))]
@@ -265,7 +265,7 @@ pub fn start_list(context: &Context, machine: &mut Machine, mask: u16)
 }
 
 /// Writes the next of MOVEP's bytes, the top one of a number.
-#[tactic(auto, using(crate::proofs::Counting::scatter_none, crate::proofs::Counting::scatter_step))]
+#[tactic(auto, using(crate::proofs::ListSteps::scatter_none, crate::proofs::ListSteps::scatter_step))]
 pub fn scatter_bytes(context: &Context, machine: &mut Machine, at: u32, left: u8, value: u32)
     ensures { meaning context.now machine.new
         ≡ scatter left at value (run_of context.now machine.old) }
@@ -297,7 +297,7 @@ fn finish_gather(context: &Context, machine: &mut Machine, value: u32)
 }
 
 /// Reads the next of MOVEP's bytes.
-#[tactic(auto, using(crate::proofs::Counting::gather_none, crate::proofs::Counting::gather_step))]
+#[tactic(auto, using(crate::proofs::ListSteps::gather_none, crate::proofs::ListSteps::gather_step))]
 pub fn gather_bytes(context: &Context, machine: &mut Machine, at: u32, left: u8, value: u32)
     ensures { meaning context.now machine.new
         ≡ gather context.now.fetched.instr left at value (run_of context.now machine.old) }

@@ -2,8 +2,9 @@
 
 ghost use Rattle.std.specs.Prelude.{◌≡◌};
 
-use crate::fetched::{Fetched, Rows};
+use crate::rows::Rows;
 use m68k_decode::{CpuRegs, Trap, Under};
+use m68k_results::Fetched;
 
 /// Whose place extension words name.
 #[derive(Clone, Copy)]

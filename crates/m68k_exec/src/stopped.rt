@@ -8,7 +8,7 @@ ghost use Rattle.m68k_exec.specs.Stands.{Stands};
 ghost use Rattle.m68k_exec.specs.Stopped.{stands_stopped};
 
 use crate::state::{Cpu, Step};
-use crate::status::interrupt_mask;
+use m68k_results::interrupt_mask;
 
 impl Cpu {
     /// Whether STOP has stopped it, so that nothing but an interrupt wakes it: from right behind its last

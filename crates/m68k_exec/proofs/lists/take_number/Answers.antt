@@ -1,5 +1,5 @@
 use Rattle.std.proofs.Common.{◌≡◌, ◌≢◌, ◌<◌, ◌-◌, ◌%◌, ◌∙◌, arith}
-use Rattle.m68k_exec.proofs.Counting.{numbers_none, numbers_one, numbers_zero}
+use Rattle.m68k_exec.proofs.ListSteps.{numbers_none, numbers_one, numbers_zero}
 use Rattle.m68k_exec.proofs.lists.take_number.Goals as goal
 
 pub returns-then-lowest-eq1-clause-numbers : goal.returns-then-lowest-eq1-clause-numbers

@@ -1,5 +1,5 @@
 use Rattle.std.proofs.Common.{sym}
-use Rattle.m68k_exec.proofs.fetched.Fetched.row_clocks.Goals as goal
+use Rattle.m68k_results.proofs.fetched.Fetched.row_clocks.Goals as goal
 
 -- the number that is kept is the one of the struct's opcode
 pub returns-then-extra-eq0 : goal.returns-then-extra-eq0

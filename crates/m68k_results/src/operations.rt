@@ -7,7 +7,7 @@ ghost use Rattle.m68k_opcodes.specs.declared.operand.Size.TheVariants as S;
 ghost use Rattle.m68k_decode.specs.Results.{signed, low};
 ghost use Rattle.m68k_decode.specs.RowWords.{unflagged, status_logical, is_outside, word_of};
 ghost use Rattle.m68k_decode.specs.RowResults.{division, result_by, status_by, trap_by, trap_ea_by};
-ghost use Rattle.m68k_exec.specs.Plain.{is_plain_op};
+ghost use Rattle.m68k_results.specs.Plain.{is_plain_op};
 
 use crate::row_data::extended_value;
 use crate::status::{condition, flags_of, kept_status, with_code, with_flags};
@@ -43,7 +43,9 @@ fn zero_divide_outcome(value: u32, flags: Flags) -> Outcome
     }
 }
 
-/// The result and the flags.
+/// The value and the flags that a row's operation makes: `value` is its source, `old` what stands at
+/// its destination, and `sr` the status register before it. A division by 0 leaves `old`, with C
+/// clear; an operation that changes the status register by a word of its own gives 0.
 #[tactic(auto, unfolding(m68k_decode::specs::RowResults::result_of_op))]
 pub fn operation(row: &GeneralRow, value: u32, old: u32, sr: u16) -> Outcome
     ensures { result ≡ result_by row.now.op row.now.source_size row.now.size value old sr }
@@ -122,7 +124,7 @@ pub fn operation(row: &GeneralRow, value: u32, old: u32, sr: u16) -> Outcome
     }
 }
 
-/// The result and the flags of a plain operation.
+/// The same for a plain operation, one of those that programs are mostly made of.
 #[inline(always)]
 #[tactic(auto, unfolding(m68k_decode::specs::RowResults::result_of_op, crate::specs::Plain::is_plain_op))]
 pub fn plain_operation(row: &GeneralRow, value: u32, old: u32, sr: u16) -> Outcome
@@ -198,7 +200,8 @@ fn status_logical(which: u8, sr: u16, value: u16) -> u16
     }
 }
 
-/// The status register afterwards.
+/// The status register after an operation, of which `value` is the source, `f` the flags that it makes,
+/// and `sr` the status register before it.
 #[tactic(auto, unfolding(m68k_decode::specs::RowResults::status_by))]
 pub fn status_after(op: Op, value: u32, f: Flags, sr: u16) -> u16
     ensures { result ≡ status_by op value f sr }
@@ -235,7 +238,8 @@ fn is_outside(bound: u32, number: u32) -> bool
     number < 0 || word_of(bound) < number
 }
 
-/// The exception that the operands make.
+/// The exception that the operands make, if they make one: zero divide where the low word of the source
+/// `value` is 0, CHK where the word `old` is below 0 or above the word `value`.
 #[tactic(auto, unfolding(m68k_decode::specs::RowResults::trap_by))]
 pub fn operand_trap(traps: Traps, value: u32, old: u32) -> Option<Trap>
     ensures { result ≡ trap_by traps value old }
@@ -247,7 +251,7 @@ pub fn operand_trap(traps: Traps, value: u32, old: u32) -> Option<Trap>
     }
 }
 
-/// The clocks of the source's mode, for the entries of zero divide and CHK.
+/// The clocks of the source's mode, which the entries of zero divide and CHK take besides; else 0.
 #[tactic(auto, unfolding(m68k_decode::specs::RowResults::trap_ea_by))]
 pub fn trap_ea(traps: Traps, mode: Mode) -> u8
     ensures { result ≡ trap_ea_by traps mode }

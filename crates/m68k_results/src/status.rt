@@ -46,7 +46,7 @@ pub fn with_flags(sr: u16, f: Flags) -> u16
     sr - (sr & 31) + condition_code(f)
 }
 
-/// The status register with the flags of a word.
+/// The status register with the low five bits of a word as its flags.
 #[tactic(auto, unfolding(m68k_decode::specs::Status::with_code))]
 pub fn with_code(sr: u16, word: u16) -> u16
     ensures { result ≡ with_code sr word }
@@ -78,7 +78,7 @@ fn even_condition(pair: u8, f: Flags) -> bool
     }
 }
 
-/// Whether a condition holds.
+/// Whether a condition holds, by its number in an opcode, 0 (true) to 15 (less or equal).
 #[tactic(auto, unfolding(m68k_decode::specs::Status::condition))]
 pub fn condition(c: u8, f: Flags) -> bool
     ensures { result ≡ condition c f }
@@ -108,7 +108,7 @@ pub fn has_trace(sr: u16) -> bool
     (sr >> 15) & 1 == 1
 }
 
-/// The level up to which interrupts are masked.
+/// The level up to which interrupts are masked, 0 to 7.
 pub fn interrupt_mask(sr: u16) -> u8
     ensures { result ≡ mask_of sr }
 {
@@ -133,7 +133,8 @@ fn with_mask(sr: u16, level: u8) -> u16
     sr - (sr & 0x7ff) + u16::from(level & 7) * 0x100 + (sr & 0xff)
 }
 
-/// The status register of an entry.
+/// The status register of an entry, from the one before it: T is clear, S is set, and an interrupt has
+/// raised the mask to its level.
 #[tactic(auto, unfolding(m68k_decode::specs::Status::entered_status))]
 pub fn entered_status(kind: &Trap, sr: u16) -> u16
     ensures { result ≡ entered_status kind.now sr }

@@ -1,4 +1,4 @@
-use Rattle.m68k_exec.proofs.row_data.+turns.Given as goal
+use Rattle.m68k_results.proofs.row_data.+turns.Given as goal
 
 -- the places left
 abbrev pub decreases-turns : goal.decreases-turns

@@ -1,11 +1,11 @@
-//! An opcode with its instruction and its row, and the rows that are kept.
+//! An opcode with its instruction, its row and its clocks.
 
 ghost use Rattle.std.specs.Prelude.{◌≡◌, ◌≤◌, ◌<◌};
 ghost use Rattle.m68k_opcodes.specs.Table.{decode_of, clocks_at};
 ghost use Rattle.m68k_opcodes.specs.Clocks.{number};
 ghost use Rattle.m68k_decode.specs.RowResults.{count_by};
 ghost use Rattle.m68k_decode.specs.Rows.{general_row};
-ghost use Rattle.m68k_exec.specs.Plain.{is_plain, is_plain_op};
+ghost use Rattle.m68k_results.specs.Plain.{is_plain, is_plain_op};
 
 use crate::row_data::clock_count;
 use m68k_decode::{
@@ -15,17 +15,20 @@ use m68k_decode::{
 /// An opcode, decoded once.
 #[derive(Clone, Copy)]
 pub struct Fetched {
+    /// The opcode as it was fetched.
     pub opcode: u16,
+    /// The instruction that it decodes to.
     pub instr: Instr,
+    /// What that instruction's row says.
     pub row: GeneralRow,
     /// The clocks of the row for a count of 0, and for one of 1.
     first: u32,
     second: u32,
     /// Whether the row is plain.
     plain: bool,
-    ghost word: { opcode < 65536 },
-    ghost known: { decode_of opcode ≡ instr },
-    ghost made: { general_row instr ≡ row },
+    pub ghost word: { opcode < 65536 },
+    pub ghost known: { decode_of opcode ≡ instr },
+    pub ghost made: { general_row instr ≡ row },
     ghost ready: { number (clocks_at opcode) 0 ≡ first },
     ghost next: { number (clocks_at opcode) 1 ≡ second },
     ghost simple: { is_plain row ≡ plain },
@@ -80,7 +83,7 @@ impl Fetched {
         }
     }
 
-    /// The clocks of the row.
+    /// The clocks of the row, for a count or the place of an outcome, at most 63.
     pub fn row_clocks(&self, extra: u32) -> u32
         requires { extra ≤ 63 }
         ensures { result ≡ number (clocks_at self.now.opcode) extra }
@@ -94,7 +97,7 @@ impl Fetched {
         clocks(&self.instr, extra)
     }
 
-    /// The clocks of the row, where it counts nothing.
+    /// The clocks of the row for a count of 0: all that it takes where it counts nothing.
     #[inline(always)]
     pub fn first_clocks(&self) -> u32
         ensures { result ≡ number (clocks_at self.now.opcode) 0 }
@@ -191,43 +194,4 @@ fn is_plain_op(op: Op) -> bool
         | Op::Ror
         | Op::Other => false,
     }
-}
-
-/// The opcodes that were last met, each at a place of its own among 1024. Each is decoded as it is,
-/// so a place is never wrong: it has another opcode at worst.
-#[derive(Clone, Copy)]
-pub struct Rows {
-    places: [Fetched; 1024],
-}
-
-impl Rows {
-    /// No opcode but 0.
-    pub fn new() -> Rows {
-        Rows {
-            places: [Fetched::none(); 1024],
-        }
-    }
-
-    /// The opcode that stands at the place of another.
-    #[inline(always)]
-    pub fn kept(&self, opcode: u16) -> Fetched {
-        self.places[place_of(opcode)]
-    }
-
-    /// The opcode with its instruction and its row, put at its place.
-    pub fn renewed(&mut self, opcode: u16) -> Fetched
-        ensures { result.opcode ≡ opcode }
-    {
-        let fetched = Fetched::new(opcode);
-        self.places[place_of(opcode)] = fetched;
-        fetched
-    }
-}
-
-/// The place of an opcode.
-#[inline(always)]
-fn place_of(opcode: u16) -> usize
-    ensures { result < 1024 }
-{
-    usize::from((opcode ^ (opcode >> 6)) & 0x3ff)
 }
