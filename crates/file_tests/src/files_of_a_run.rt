@@ -1,5 +1,6 @@
 //! The three files over files in memory; the texts and the numbers are worked by hand.
 
+use crate::answers::hold;
 use mem_versions::Chip;
 use ocs_base::{Beam, OutOfMemory, Reg, System};
 use ocs_io::Shelf;
@@ -85,18 +86,20 @@ fn is_traced(alloc: Global, line: TraceLine, text: &str) -> bool {
     traces(&mut Shelf::new(alloc), alloc, line, text)
 }
 
-#[test]
-fn each_line_of_the_trace(rt: HostRuntime) {
+/// Whether each kind of line is traced.
+fn are_traced(alloc: Global) -> bool {
     let copper = wrote(0x180, 0xf00, Source::Copper);
     let script = wrote(0x9a, 0xc0de, Source::Script);
     let processor = peeked(0xe, 1, Source::Processor);
-    let found = [
-        is_traced(rt.alloc(), taken(3), "12 0 226 I 3\n"),
-        is_traced(rt.alloc(), copper, "0 48 9 W 180 0f00 C\n"),
-        is_traced(rt.alloc(), script, "0 48 9 W 09a c0de S\n"),
-        is_traced(rt.alloc(), processor, "1000 311 0 R 00e 0001 M\n"),
-    ];
-    assert!(rt; found == [true; 4]);
+    is_traced(alloc, taken(3), "12 0 226 I 3\n")
+        && is_traced(alloc, copper, "0 48 9 W 180 0f00 C\n")
+        && is_traced(alloc, script, "0 48 9 W 09a c0de S\n")
+        && is_traced(alloc, processor, "1000 311 0 R 00e 0001 M\n")
+}
+
+#[test]
+fn each_line_of_the_trace(rt: HostRuntime) {
+    hold(&rt, are_traced(rt.alloc()));
 }
 
 /// So many pixel bytes.
@@ -154,7 +157,7 @@ static TWO_FRAMES: Framed = Framed {
 
 #[test]
 fn a_heading_before_each_frame(rt: HostRuntime) {
-    assert!(rt; has_headings_of_pal(rt.alloc(), &TWO_FRAMES));
+    hold(&rt, has_headings_of_pal(rt.alloc(), &TWO_FRAMES));
 }
 
 /// Whether a call that fails ends the run, with a fault of this file.
@@ -199,7 +202,7 @@ fn a_create_or_append_is_refused(rt: HostRuntime) {
         (3, OutFile::Frames, [Some(9), Some(0)]),
         (4, OutFile::Trace, [Some(18), Some(6)]),
     ];
-    assert!(rt; are_refused(rt.alloc(), &refusals));
+    hold(&rt, are_refused(rt.alloc(), &refusals));
 }
 
 /// Creates the files and appends a memory.
@@ -234,7 +237,7 @@ fn has_memory_file(alloc: Global) -> bool {
 
 #[test]
 fn the_memory_file(rt: HostRuntime) {
-    assert!(rt; has_memory_file(rt.alloc()));
+    hold(&rt, has_memory_file(rt.alloc()));
 }
 
 /// Files of the same names of an NTSC machine.
@@ -273,5 +276,5 @@ static TWO_FRAMES_OF_NTSC: Framed = Framed {
 fn a_heading_before_each_frame_of_ntsc(rt: HostRuntime) {
     let one = has_headings_of_ntsc(rt.alloc(), &ONE_FRAME_OF_NTSC);
     let two = has_headings_of_ntsc(rt.alloc(), &TWO_FRAMES_OF_NTSC);
-    assert!(rt; one && two);
+    hold(&rt, one && two);
 }

@@ -4,7 +4,7 @@ ghost use Rattle.std.specs.Prelude.{◌≡◌, ◌≤◌, max, true, IfOk, OnOk}
 ghost use Rattle.ocs_base.specs.Sizes.{is_chip_size};
 ghost use Rattle.mem_versions.specs.MemView.{Covers};
 
-use crate::answers::is_so;
+use crate::answers::{hold, is_so};
 use mem_versions::{Chip, Kept, MemView};
 use ocs_base::{Addr, Clock, OutOfMemory};
 use std::alloc::Global;
@@ -97,7 +97,7 @@ fn words_stay(alloc: Global) -> Result<bool, OutOfMemory> {
 /// Kept words stay though the memory is written on; and the memory goes on though the other is written.
 #[test]
 fn kept_words_stay(rt: HostRuntime) {
-    assert!(rt; is_so(words_stay(rt.alloc())));
+    hold(&rt, is_so(words_stay(rt.alloc())));
 }
 
 /// Whether two memories that were gone back to from one have the word 1234.
@@ -130,7 +130,7 @@ fn words_come_twice(alloc: Global) -> Result<bool, OutOfMemory> {
 /// One kept memory is gone back to twice.
 #[test]
 fn kept_words_are_gone_back_to_twice(rt: HostRuntime) {
-    assert!(rt; is_so(words_come_twice(rt.alloc())));
+    hold(&rt, is_so(words_come_twice(rt.alloc())));
 }
 
 /// Whether a memory that was gone back to has 2048 pages, the word 1234 in the upper half, which was written,
@@ -152,7 +152,7 @@ fn greater_memory_is_kept(alloc: Global) -> Result<bool, OutOfMemory> {
 
 #[test]
 fn one_mebibyte_is_kept(rt: HostRuntime) {
-    assert!(rt; is_so(greater_memory_is_kept(rt.alloc())));
+    hold(&rt, is_so(greater_memory_is_kept(rt.alloc())));
 }
 
 /// Whether the words at clocks 7 and 8 of a memory that was gone back to are 6 and 9.
@@ -184,7 +184,7 @@ fn cut_is_kept(alloc: Global) -> Result<bool, OutOfMemory> {
 /// The kept clock is 7 then: a write may be of that clock, and a view begins with it.
 #[test]
 fn the_clock_of_a_cut_is_kept(rt: HostRuntime) {
-    assert!(rt; is_so(cut_is_kept(rt.alloc())));
+    hold(&rt, is_so(cut_is_kept(rt.alloc())));
 }
 
 /// Whether they are so after a cut at 3 and a write of 6 at clock 7.
@@ -207,5 +207,5 @@ fn write_is_kept(alloc: Global) -> Result<bool, OutOfMemory> {
 /// It is 7 too.
 #[test]
 fn the_clock_of_a_write_is_kept(rt: HostRuntime) {
-    assert!(rt; is_so(write_is_kept(rt.alloc())));
+    hold(&rt, is_so(write_is_kept(rt.alloc())));
 }

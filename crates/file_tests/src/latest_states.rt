@@ -2,7 +2,7 @@
 
 ghost use Rattle.std.specs.Prelude.{◌≡◌, ◌∷◌, [], IfOk};
 
-use crate::answers::is_so;
+use crate::answers::{hold, is_so};
 use ocs_base::{Clock, OutOfMemory};
 use ocs_rewind::Ring;
 use std::alloc::Global;
@@ -51,7 +51,7 @@ fn pushed_ring_has_best(alloc: Global) -> Result<bool, OutOfMemory> {
 /// The oldest entry of a full ring went.
 #[test]
 fn the_best_for_a_clock(rt: HostRuntime) {
-    assert!(rt; is_so(pushed_ring_has_best(rt.alloc())));
+    hold(&rt, is_so(pushed_ring_has_best(rt.alloc())));
 }
 
 /// Whether a ring is as it should be where it is cut behind clock 2, then pushed to at clock 7, and then cut
@@ -69,5 +69,5 @@ fn ring_is_cut_well(alloc: Global) -> Result<bool, OutOfMemory> {
 
 #[test]
 fn a_ring_is_cut(rt: HostRuntime) {
-    assert!(rt; is_so(ring_is_cut_well(rt.alloc())));
+    hold(&rt, is_so(ring_is_cut_well(rt.alloc())));
 }

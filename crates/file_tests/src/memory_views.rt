@@ -1,10 +1,10 @@
 //! Each public call once; the numbers are worked by hand.
 
-ghost use Rattle.std.specs.Prelude.{◌≡◌, ◌+◌, ◌/◌, ◌%◌, ◌≤◌, true, [], length, IfOk};
+ghost use Rattle.std.specs.Prelude.{◌≡◌, ◌+◌, ◌/◌, ◌%◌, ◌≤◌, true, [], length, IfOk, OnOk};
 ghost use Rattle.ocs_base.specs.Sizes.{is_chip_size};
 ghost use Rattle.mem_versions.specs.MemView.{Covers, word_then};
 
-use crate::answers::is_so;
+use crate::answers::{hold, is_so};
 use mem_versions::{Chip, MemView, Steps};
 use ocs_base::{Addr, Clock, OutOfMemory};
 use std::alloc::Global;
@@ -46,7 +46,7 @@ fn has_halves(alloc: Global) -> Result<bool, OutOfMemory> {
 
 #[test]
 fn a_half_of_a_word(rt: HostRuntime) {
-    assert!(rt; is_so(has_halves(rt.alloc())));
+    hold(&rt, is_so(has_halves(rt.alloc())));
 }
 
 /// Whether, after a write to word 1 of page 1, the words at the edges of the image and of the memory are as they
@@ -81,7 +81,7 @@ fn image_has_words_and_page(alloc: Global) -> Result<bool, OutOfMemory> {
 
 #[test]
 fn pages_and_words(rt: HostRuntime) {
-    assert!(rt; is_so(image_has_words_and_page(rt.alloc())));
+    hold(&rt, is_so(image_has_words_and_page(rt.alloc())));
 }
 
 /// Whether of 2048 pages, after a write to an address of the upper half, its word is there, that 512 KiB lower
@@ -106,7 +106,7 @@ fn greater_memory_has_both(alloc: Global) -> Result<bool, OutOfMemory> {
 /// The upper half of the greater memory has words of its own.
 #[test]
 fn one_mebibyte(rt: HostRuntime) {
-    assert!(rt; is_so(greater_memory_has_both(rt.alloc())));
+    hold(&rt, is_so(greater_memory_has_both(rt.alloc())));
 }
 
 /// Whether a view, after a write at clock 5 to the upper half, has 0 there at clock 5, 56 at clock 6, and 0
@@ -142,7 +142,7 @@ fn greater_memory_views_both(alloc: Global) -> Result<bool, OutOfMemory> {
 
 #[test]
 fn a_view_of_one_mebibyte(rt: HostRuntime) {
-    assert!(rt; is_so(greater_memory_views_both(rt.alloc())));
+    hold(&rt, is_so(greater_memory_views_both(rt.alloc())));
 }
 
 /// Whether, after a write above the smaller memory, its first word is as it was and the first above it is 0,
@@ -155,16 +155,16 @@ fn ends(chip: &mut Chip) -> Result<bool, OutOfMemory>
     chip.write(Clock(0), above, 0x5678)?;
     let present = [chip.read(first), chip.read(above)];
     let view = chip.cut(Clock(0))?;
-    Ok(view_ends(chip, &view, first, above) && present == [0x1234, 0] && chip.reads() == 3)
+    Ok(present == [0x1234, 0] && view_ends(chip, &view, first, above))
 }
 
-/// Whether the words of two addresses in a view are so, and the latter once more.
+/// Whether the words of two addresses in a view are so, and the latter once more, and three words were read.
 fn view_ends(chip: &mut Chip, view: &MemView, first: Addr, above: Addr) -> bool
     requires { Covers view.now 0 }
 {
     let viewed = [view.at(Clock(0), first), view.at(Clock(0), above)];
     let resolved = chip.resolve(view, Clock(0), above);
-    viewed == [0x1234, 0] && resolved == 0
+    viewed == [0x1234, 0] && resolved == 0 && chip.reads() == 3
 }
 
 /// Whether it is so of an image that begins with 1234.
@@ -176,7 +176,7 @@ fn memory_ends(alloc: Global) -> Result<bool, OutOfMemory> {
 /// Above 512 KiB the smaller memory is 0, whatever is written there, and not what stands 512 KiB lower.
 #[test]
 fn above_the_memory(rt: HostRuntime) {
-    assert!(rt; is_so(memory_ends(rt.alloc())));
+    hold(&rt, is_so(memory_ends(rt.alloc())));
 }
 
 /// Writes of 7 at clock 5 and of 9 at clock 12, of which a view from a cut at clock 10 on sees the first: whether
@@ -214,22 +214,44 @@ fn memory_has_a_view_that_stays(alloc: Global) -> Result<bool, OutOfMemory> {
 
 #[test]
 fn a_view_stays_as_it_was(rt: HostRuntime) {
-    assert!(rt; is_so(memory_has_a_view_that_stays(rt.alloc())));
+    hold(&rt, is_so(memory_has_a_view_that_stays(rt.alloc())));
 }
 
-/// Writes at clock 3 and, of 1 and then 2, at clock 8, and views of cuts at the clocks 8 and 9: whether each sees
-/// the right words.
+/// Writes at clock 3 and, of 1 and then 2, at clock 8.
+fn write_thrice(chip: &mut Chip, at: Addr, other: Addr) -> Result<(), OutOfMemory>
+    requires { chip.old.newest ≡ 0 }
+    ensures newest { OnOk result (chip.new.newest ≡ 8) }
+    ensures last { OnOk result (chip.new.last ≡ chip.old.last) }
+{
+    chip.write(Clock(3), other, 6)?;
+    chip.write(Clock(8), at, 1)?;
+    chip.write(Clock(8), at, 2)
+}
+
+/// Whether, after these writes, each view of the cuts at the clocks 8 and 9 sees the right words.
 fn is_cut_well(chip: &mut Chip) -> Result<bool, OutOfMemory>
     requires newest { chip.old.newest ≡ 0 }
     requires last { chip.old.last ≡ 0 }
 {
     let (at, other) = (Addr::at(0x400), Addr::at(0x402));
-    chip.write(Clock(3), other, 6)?;
-    chip.write(Clock(8), at, 1)?;
-    chip.write(Clock(8), at, 2)?;
+    write_thrice(chip, at, other)?;
     let first = chip.cut(Clock(8))?;
+    next_is_cut_well(chip, &first, at, other)
+}
+
+/// Whether the first of them sees them, and the second, which is cut now.
+fn next_is_cut_well(
+    chip: &mut Chip,
+    first: &MemView,
+    at: Addr,
+    other: Addr,
+) -> Result<bool, OutOfMemory>
+    requires newest { chip.old.newest ≡ 8 }
+    requires last { chip.old.last ≡ 8 }
+    requires first { Covers first.now 8 }
+{
     let second = chip.cut(Clock(9))?;
-    Ok(are_right_views(&first, &second, at, other))
+    Ok(are_right_views(first, &second, at, other))
 }
 
 /// Whether each view sees them.
@@ -257,7 +279,7 @@ fn memory_is_cut_well(alloc: Global) -> Result<bool, OutOfMemory> {
 /// A write of the cut's own clock belongs to the next view.
 #[test]
 fn a_write_at_the_cut(rt: HostRuntime) {
-    assert!(rt; is_so(memory_is_cut_well(rt.alloc())));
+    hold(&rt, is_so(memory_is_cut_well(rt.alloc())));
 }
 
 /// Whether it is so of the smaller memory.
@@ -269,7 +291,7 @@ fn memory_shares_a_view(alloc: Global) -> Result<bool, OutOfMemory> {
 /// Views may go to other threads.
 #[test]
 fn views_are_sent(rt: HostRuntime) {
-    assert!(rt; is_so(memory_shares_a_view(rt.alloc())));
+    hold(&rt, is_so(memory_shares_a_view(rt.alloc())));
 }
 
 /// Whether its view is one that threads may share.
@@ -287,17 +309,26 @@ fn is_shared<T: Send + Sync>(_value: &T) -> bool {
 /// Whether the view of a hundred writes has, at the clocks 50, 1 and 200, the last one before each.
 fn last_writes_are_seen(alloc: Global) -> Result<bool, OutOfMemory> {
     let view = hundred_writes(alloc)?;
+    Ok(has_last_writes(&view))
+}
+
+/// Whether it has.
+fn has_last_writes(view: &MemView) -> bool
+    requires from { view.now.from ≡ 0 }
+    requires to { view.now.to ≡ 200 }
+    requires few { length view.now.writes ≤ 100 }
+{
     let found = [
-        counted_word::<Brand>(&view, Clock(50), Addr::at(2), Blank::new(1)),
+        counted_word::<Brand>(view, Clock(50), Addr::at(2), Blank::new(1)),
         view.at(Clock(1), Addr::at(2)),
         view.at(Clock(200), Addr::at(2)),
     ];
-    Ok(found == [49, 0, 100])
+    found == [49, 0, 100]
 }
 
 #[test]
 fn the_last_of_a_hundred_writes(rt: HostRuntime) {
-    assert!(rt; is_so(last_writes_are_seen(rt.alloc())));
+    hold(&rt, is_so(last_writes_are_seen(rt.alloc())));
 }
 
 /// A view of a write of k at clock k for k from 1 to 100, all to one address.
@@ -306,11 +337,24 @@ fn hundred_writes(alloc: Global) -> Result<MemView, OutOfMemory>
     ensures few { IfOk result (λ view. length view.writes ≤ 100) }
 {
     let mut chip = made(alloc, &[0; 8], 524_288)?;
+    write_hundred(&mut chip)?;
+    let view = chip.cut(Clock(200))?;
+    Ok(view)
+}
+
+/// A write of k at clock k for k from 1 to 100, all to one address.
+fn write_hundred(chip: &mut Chip) -> Result<(), OutOfMemory>
+    requires newest { chip.old.newest ≡ 0 }
+    requires last { chip.old.last ≡ 0 }
+    requires writes { chip.old.writes ≡ [] }
+    ensures newest { OnOk result (chip.new.newest ≤ 100) }
+    ensures last { OnOk result (chip.new.last ≡ 0) }
+    ensures writes { OnOk result (length chip.new.writes ≡ 100) }
+{
     for k in 1..101 {
         chip.write(Clock(k as u64), Addr::at(2), k)?;
     }
-    let view = chip.cut(Clock(200))?;
-    Ok(view)
+    Ok(())
 }
 
 fn counted_word<L: Ledger>(view: &MemView, c: Clock, a: Addr, blank: Blank) -> u16

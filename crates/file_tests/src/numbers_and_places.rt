@@ -2,6 +2,7 @@
 
 ghost use Rattle.std.specs.Prelude.{◌≡◌, []};
 
+use crate::answers::hold;
 use ocs_base::OutOfMemory;
 use ocs_io::whole::{Refused, read_whole, write_whole};
 use ocs_io::{
@@ -15,22 +16,25 @@ use std::{fs, io, process};
 
 const GREATEST: &[u8] = b"18446744073709551615";
 
-/// Texts that are no decimal numbers.
-static NO_DECIMALS: [&[u8]; 8] = [
-    b"",
-    b"01",
-    b"00",
-    b"+1",
-    b"-1",
-    b" 1",
-    b"1a",
-    b"18446744073709551616",
+/// Texts and the decimal numbers that they are, if they are any.
+static DECIMALS: [(&[u8], Option<u64>); 11] = [
+    (b"0", Some(0)),
+    (b"313", Some(313)),
+    (GREATEST, Some(u64::MAX)),
+    (b"", None),
+    (b"01", None),
+    (b"00", None),
+    (b"+1", None),
+    (b"-1", None),
+    (b" 1", None),
+    (b"1a", None),
+    (b"18446744073709551616", None),
 ];
 
-/// Whether each text is refused as a decimal number.
-fn are_no_decimals(texts: &[&[u8]]) -> bool {
-    for text in texts {
-        if dec(text).is_some() {
+/// Whether each text is read as its decimal number.
+fn are_decimals(cases: &[(&[u8], Option<u64>)]) -> bool {
+    for (text, number) in cases {
+        if dec(text) != *number {
             return false;
         }
     }
@@ -39,18 +43,25 @@ fn are_no_decimals(texts: &[&[u8]]) -> bool {
 
 #[test]
 fn decimal_texts(rt: HostRuntime) {
-    let found = [dec(b"0"), dec(b"313"), dec(GREATEST)];
-    let is_read = found == [Some(0), Some(313), Some(u64::MAX)];
-    assert!(rt; is_read && are_no_decimals(&NO_DECIMALS));
+    hold(&rt, are_decimals(&DECIMALS));
 }
 
-/// Texts that are no hexadecimal numbers of at most four digits.
-static NO_HEXADECIMALS: [&[u8]; 5] = [b"", b"00000", b"FF", b"1g", b"0x1"];
+/// Texts and the hexadecimal numbers of at most four digits that they are, if they are any.
+static HEXADECIMALS: [(&[u8], Option<u16>); 8] = [
+    (b"f", Some(15)),
+    (b"0180", Some(0x180)),
+    (b"ffff", Some(0xffff)),
+    (b"", None),
+    (b"00000", None),
+    (b"FF", None),
+    (b"1g", None),
+    (b"0x1", None),
+];
 
-/// Whether each text is refused as a hexadecimal number.
-fn are_no_hexadecimals(texts: &[&[u8]]) -> bool {
-    for text in texts {
-        if hex(text).is_some() {
+/// Whether each text is read as its hexadecimal number.
+fn are_hexadecimals(cases: &[(&[u8], Option<u16>)]) -> bool {
+    for (text, number) in cases {
+        if hex(text) != *number {
             return false;
         }
     }
@@ -59,9 +70,7 @@ fn are_no_hexadecimals(texts: &[&[u8]]) -> bool {
 
 #[test]
 fn hexadecimal_texts(rt: HostRuntime) {
-    let found = [hex(b"f"), hex(b"0180"), hex(b"ffff")];
-    let is_read = found == [Some(15), Some(0x180), Some(0xffff)];
-    assert!(rt; is_read && are_no_hexadecimals(&NO_HEXADECIMALS));
+    hold(&rt, are_hexadecimals(&HEXADECIMALS));
 }
 
 /// Appends numbers of both kinds.
@@ -87,7 +96,7 @@ fn has_numbers(alloc: Global) -> bool {
 
 #[test]
 fn numbers_are_written(rt: HostRuntime) {
-    assert!(rt; has_numbers(rt.alloc()));
+    hold(&rt, has_numbers(rt.alloc()));
 }
 
 /// Whether a shelf has a file of these bytes.
@@ -118,9 +127,11 @@ fn keeps_files(shelf: &mut Shelf, into: &mut Vec<u8>) -> bool
 
 #[test]
 fn a_shelf_keeps_files(rt: HostRuntime) {
-    let mut shelf = Shelf::new(rt.alloc());
-    let mut into = Vec::new(rt.alloc());
-    assert!(rt; keeps_files(&mut shelf, &mut into));
+    let alloc = rt.alloc();
+    hold(
+        &rt,
+        keeps_files(&mut Shelf::new(alloc), &mut Vec::new(alloc)),
+    );
 }
 
 /// Chooses calls that are to fail.
@@ -150,9 +161,11 @@ fn fails_as_chosen(shelf: &mut Shelf, into: &mut Vec<u8>) -> bool
 
 #[test]
 fn chosen_calls_fail(rt: HostRuntime) {
-    let mut shelf = Shelf::new(rt.alloc());
-    let mut into = Vec::new(rt.alloc());
-    assert!(rt; fails_as_chosen(&mut shelf, &mut into));
+    let alloc = rt.alloc();
+    hold(
+        &rt,
+        fails_as_chosen(&mut Shelf::new(alloc), &mut Vec::new(alloc)),
+    );
 }
 
 /// No call fails but a read of a file that is too long.
@@ -173,9 +186,11 @@ fn never_fails(shelf: &mut SureShelf, into: &mut Vec<u8>) -> bool
 
 #[test]
 fn a_sure_shelf_never_fails(rt: HostRuntime) {
-    let mut shelf = SureShelf::new(rt.alloc());
-    let mut into = Vec::new(rt.alloc());
-    assert!(rt; never_fails(&mut shelf, &mut into));
+    let alloc = rt.alloc();
+    hold(
+        &rt,
+        never_fails(&mut SureShelf::new(alloc), &mut Vec::new(alloc)),
+    );
 }
 
 /// A file of the system is made, grown and read; what is not there or too long is refused.
@@ -204,16 +219,19 @@ fn empties_a_file<R: Files + Print>(folder: &mut Folder<R>, name: &str, into: &m
         && folder.say(b"").is_ok()
 }
 
+/// Whether both are so.
+fn keeps_a_file<R: Files + Print>(folder: &mut Folder<R>, alloc: Global, name: &str) -> bool {
+    let is_grown = grows_a_file(folder, name, &mut Vec::new(alloc));
+    let is_emptied = empties_a_file(folder, name, &mut Vec::new(alloc));
+    is_grown && is_emptied
+}
+
 #[test]
 fn a_folder_on_a_real_file(rt: HostRuntime) -> Result<(), Fail> {
     let name = format!(in rt.alloc(); "/tmp/ocs_io_test_{}", process::id(rt.process()))?;
-    let mut folder = Folder::new(&rt);
-    let mut into = Vec::new(rt.alloc());
-    let is_grown = grows_a_file(&mut folder, &name, &mut into);
-    let mut empty = Vec::new(rt.alloc());
-    let is_emptied = empties_a_file(&mut folder, &name, &mut empty);
+    let is_kept = keeps_a_file(&mut Folder::new(&rt), rt.alloc(), &name);
     fs::remove_file(&rt, &name)?;
-    assert!(rt; is_grown && is_emptied);
+    hold(&rt, is_kept);
     Ok(())
 }
 
@@ -289,7 +307,7 @@ fn short_reads_are_read_on(rt: HostRuntime) {
         reads_whole(rt.alloc(), 4, Err(ReadRefusal::TooLong)),
         reads_whole(rt.alloc(), 0, Err(ReadRefusal::TooLong)),
     ];
-    assert!(rt; found == [true; 4]);
+    hold(&rt, found == [true; 4]);
 }
 
 /// Whether the bytes `abcde` are written to a stream of this room and step with success, or else are
@@ -313,5 +331,5 @@ fn short_writes_are_written_on(rt: HostRuntime) {
         writes_whole(rt.alloc(), 4, 2, false, b"abcd"),
         writes_whole(rt.alloc(), 9, 0, false, b""),
     ];
-    assert!(rt; found == [true; 4]);
+    hold(&rt, found == [true; 4]);
 }

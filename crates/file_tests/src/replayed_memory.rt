@@ -1,9 +1,9 @@
 //! Memory that is looked up in the order of clocks: each public call, with numbers worked by hand.
 
-ghost use Rattle.std.specs.Prelude.{◌≡◌, IfOk};
+ghost use Rattle.std.specs.Prelude.{◌≡◌, IfOk, OnOk};
 ghost use Rattle.mem_versions.specs.MemoryAt.{memory_at};
 
-use crate::answers::is_so;
+use crate::answers::{hold, is_so};
 use mem_versions::{Chip, MemReplay};
 use ocs_base::{Addr, Clock, OutOfMemory};
 use std::alloc::Global;
@@ -105,15 +105,32 @@ fn replay_of_writes(chip: &mut Chip) -> Result<MemReplay, OutOfMemory>
     ensures base { IfOk result (λ replay. chip.new.base
         ≡ memory_at replay.to replay.base replay.writes) }
 {
+    write_up_to_4(chip)?;
+    write_up_to_10(chip)?;
+    chip.cut_replay(Clock(10))
+}
+
+/// The first three of those writes.
+fn write_up_to_4(chip: &mut Chip) -> Result<(), OutOfMemory>
+    requires { chip.old.newest ≡ 0 }
+    ensures newest { OnOk result (chip.new.newest ≡ 4) }
+    ensures last { OnOk result (chip.new.last ≡ chip.old.last) }
+{
     chip.write(Clock(1), Addr::wide(0x230), 3)?;
     chip.write(Clock(2), Addr::wide(0x10), 5)?;
-    chip.write(Clock(4), Addr::wide(0x10), 6)?;
+    chip.write(Clock(4), Addr::wide(0x10), 6)
+}
+
+/// The other four.
+fn write_up_to_10(chip: &mut Chip) -> Result<(), OutOfMemory>
+    requires { chip.old.newest ≡ 4 }
+    ensures newest { OnOk result (chip.new.newest ≡ 10) }
+    ensures last { OnOk result (chip.new.last ≡ chip.old.last) }
+{
     chip.write(Clock(7), Addr::wide(0x10), 8)?;
     chip.write(Clock(8), Addr::wide(0x20), 9)?;
     chip.write(Clock(9), Addr::wide(0x8_0000), 1)?;
-    chip.write(Clock(10), Addr::wide(0x10), 7)?;
-    let replay = chip.cut_replay(Clock(10))?;
-    Ok(replay)
+    chip.write(Clock(10), Addr::wide(0x10), 7)
 }
 
 /// Whether each row is so behind the cut. No row is of a clock behind it.
@@ -159,7 +176,7 @@ fn rows_are_so(alloc: Global) -> Result<bool, OutOfMemory> {
 
 #[test]
 fn words_of_a_replay(rt: HostRuntime) {
-    assert!(rt; is_so(rows_are_so(rt.alloc())));
+    hold(&rt, is_so(rows_are_so(rt.alloc())));
 }
 
 /// Whether of the next band, to which the write of the cut's own clock belongs, the word is 8 at clock 10, 7 at
@@ -176,34 +193,39 @@ fn next_bands_are_so(chip: &mut Chip) -> Result<bool, OutOfMemory>
     requires last { chip.old.last ≡ 10 }
 {
     let mut second = chip.cut_replay(Clock(12))?;
-    let mut third = chip.cut_replay(Clock(20))?;
-    Ok(has_8_and_7(&mut second) && has_7(&mut third))
+    last_band_is_so(chip, &mut second)
 }
 
-/// Whether a word is 8, 7 and 8.
-fn has_8_and_7(replay: &mut MemReplay) -> bool
-    requires from { replay.old.from ≡ 10 }
-    requires to { replay.old.to ≡ 12 }
+/// Whether they are so of the first of them and of the other, which is cut now.
+fn last_band_is_so(chip: &mut Chip, second: &mut MemReplay) -> Result<bool, OutOfMemory>
+    requires newest { chip.old.newest ≡ 12 }
+    requires last { chip.old.last ≡ 12 }
+    requires from { second.old.from ≡ 10 }
+    requires to { second.old.to ≡ 12 }
+{
+    let mut third = chip.cut_replay(Clock(20))?;
+    Ok(are_8_and_7(second, &mut third))
+}
+
+/// Whether the word is 8, 7 and 8 in the first, and 7 in the other.
+fn are_8_and_7(second: &mut MemReplay, third: &mut MemReplay) -> bool
+    requires second_from { second.old.from ≡ 10 }
+    requires second_to { second.old.to ≡ 12 }
+    requires third_from { third.old.from ≡ 12 }
+    requires third_to { third.old.to ≡ 20 }
 {
     let at = Addr::wide(0x10);
     let words = [
-        replay.word(Clock(10), at),
-        replay.word(Clock(11), at),
-        replay.word(Clock(10), at),
+        second.word(Clock(10), at),
+        second.word(Clock(11), at),
+        second.word(Clock(10), at),
+        third.word(Clock(15), at),
     ];
-    words == [8, 7, 8]
-}
-
-/// Whether a word is 7.
-fn has_7(replay: &mut MemReplay) -> bool
-    requires from { replay.old.from ≡ 12 }
-    requires to { replay.old.to ≡ 20 }
-{
-    replay.word(Clock(15), Addr::wide(0x10)) == 7
+    words == [8, 7, 8, 7]
 }
 
 /// A write of the cut's own clock belongs to the next band.
 #[test]
 fn a_write_at_the_cut_of_a_replay(rt: HostRuntime) {
-    assert!(rt; is_so(next_is_so(rt.alloc())));
+    hold(&rt, is_so(next_is_so(rt.alloc())));
 }

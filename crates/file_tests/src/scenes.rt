@@ -1,5 +1,6 @@
 //! Places of three scenes; the numbers are worked by hand from the rules.
 
+use crate::answers::hold;
 use ocs_base::{Act, At, Reg, Script};
 use scene_gen::scene;
 use std::alloc::Global;
@@ -80,7 +81,7 @@ static WORDS_OF_SCENE_0: [(usize, u16); 36] = [
 
 #[test]
 fn image_of_scene_0(rt: HostRuntime) {
-    assert!(rt; has_image(rt.alloc(), 0, &WORDS_OF_SCENE_0));
+    hold(&rt, has_image(rt.alloc(), 0, &WORDS_OF_SCENE_0));
 }
 
 /// Addresses and words of scene 5.
@@ -93,7 +94,7 @@ static WORDS_OF_SCENE_5: [(usize, u16); 4] = [
 
 #[test]
 fn image_of_scene_5(rt: HostRuntime) {
-    assert!(rt; has_image(rt.alloc(), 5, &WORDS_OF_SCENE_5));
+    hold(&rt, has_image(rt.alloc(), 5, &WORDS_OF_SCENE_5));
 }
 
 /// Addresses and words of the last scene.
@@ -107,7 +108,10 @@ static WORDS_OF_THE_LAST_SCENE: [(usize, u16); 5] = [
 
 #[test]
 fn image_of_the_last_scene(rt: HostRuntime) {
-    assert!(rt; has_image(rt.alloc(), u32::MAX, &WORDS_OF_THE_LAST_SCENE));
+    hold(
+        &rt,
+        has_image(rt.alloc(), u32::MAX, &WORDS_OF_THE_LAST_SCENE),
+    );
 }
 
 /// Frame, line, clock, register and word of a write.
@@ -169,7 +173,7 @@ fn has_script(alloc: Global, number: u32, writes: &[(usize, Write)]) -> bool {
 
 #[test]
 fn script_of_scene_0(rt: HostRuntime) {
-    assert!(rt; has_script(rt.alloc(), 0, &WRITES_OF_SCENE_0));
+    hold(&rt, has_script(rt.alloc(), 0, &WRITES_OF_SCENE_0));
 }
 
 /// Places and writes of the last scene.
@@ -184,5 +188,8 @@ static WRITES_OF_THE_LAST_SCENE: [(usize, Write); 6] = [
 
 #[test]
 fn script_of_the_last_scene(rt: HostRuntime) {
-    assert!(rt; has_script(rt.alloc(), u32::MAX, &WRITES_OF_THE_LAST_SCENE));
+    hold(
+        &rt,
+        has_script(rt.alloc(), u32::MAX, &WRITES_OF_THE_LAST_SCENE),
+    );
 }

@@ -1,6 +1,7 @@
 //! The three versions of the text. The texts, lines and kinds are worked by hand from the grammar.
 
-use crate::texts::{are_bad, is_bad, prints};
+use crate::answers::hold;
+use crate::texts::{are_bad, are_printed, is_bad};
 use ocs_base::{Act, Script, System};
 use script_read::{BadKind, read_script};
 use std::alloc::Global;
@@ -61,7 +62,7 @@ static HEADS: [(&[u8], u32, BadKind); 18] = [
 
 #[test]
 fn heads_of_later_versions_that_are_bad(rt: HostRuntime) {
-    assert!(rt; are_bad(rt.alloc(), &HEADS));
+    hold(&rt, are_bad(rt.alloc(), &HEADS));
 }
 
 /// Texts whose chip memory is told wrongly or late, and the line that is bad and its kind.
@@ -96,7 +97,7 @@ static LINES_OF_CHIP_MEMORY: [(&[u8], u32, BadKind); 9] = [
 /// The kind is also what is said of the line, as `line 4: chip`.
 #[test]
 fn lines_of_chip_memory_that_are_bad(rt: HostRuntime) {
-    assert!(rt; are_bad(rt.alloc(), &LINES_OF_CHIP_MEMORY));
+    hold(&rt, are_bad(rt.alloc(), &LINES_OF_CHIP_MEMORY));
 }
 
 /// Texts, and the bytes of their chip memory.
@@ -142,7 +143,7 @@ fn have_memories(alloc: Global, cases: &[(&[u8], u32)]) -> bool {
 
 #[test]
 fn chip_memory_by_text(rt: HostRuntime) {
-    assert!(rt; have_memories(rt.alloc(), &CHIP_MEMORIES));
+    hold(&rt, have_memories(rt.alloc(), &CHIP_MEMORIES));
 }
 
 /// Whether a script is one of this system with so many frames, and with a processor or not.
@@ -172,7 +173,7 @@ fn events_of_version_2(rt: HostRuntime) {
     let text = b"ocs 2\ncpu on\nframes 2\nchip 1024\nat 0 5 6 key 45\nat 1 311 226 peek 002\nend\n";
     let early = b"ocs 2\ncpu on\nframes 2\nchip 1024\nat 0 5 6 key 45\nat 0 5 5 key 45\nend\n";
     let is_read = reads_both_events(rt.alloc(), text);
-    assert!(rt; is_read && is_bad(rt.alloc(), early, 6, BadKind::Order));
+    hold(&rt, is_read && is_bad(rt.alloc(), early, 6, BadKind::Order));
 }
 
 /// Whether the one event of a script is on this line.
@@ -195,7 +196,7 @@ fn events_of_ntsc(rt: HostRuntime) {
     let last =
         b"ocs 3\ncpu off\nframes 1\nchip 512\nsystem ntsc\nat 0 261 226 poke 180 0f00\nend\n";
     let is_read = reads_ntsc(rt.alloc(), last);
-    assert!(rt; is_read && is_bad(rt.alloc(), late, 6, BadKind::Event));
+    hold(&rt, is_read && is_bad(rt.alloc(), late, 6, BadKind::Event));
 }
 
 /// Whether the script of a text is of PAL with two frames and a processor, and its one event on line 311.
@@ -211,46 +212,66 @@ fn events_of_pal(rt: HostRuntime) {
     let last = b"ocs 3\ncpu on\nframes 2\nchip 512\nsystem pal\nat 1 311 226 peek 002\nend\n";
     let below = b"ocs 3\ncpu on\nframes 2\nchip 512\nsystem pal\nat 1 312 0 peek 002\nend\n";
     let is_read = reads_pal(rt.alloc(), last);
-    assert!(rt; is_read && is_bad(rt.alloc(), below, 6, BadKind::Event));
+    hold(&rt, is_read && is_bad(rt.alloc(), below, 6, BadKind::Event));
 }
 
 #[test]
 fn version_2_is_of_pal(rt: HostRuntime) {
     let second = b"ocs 2\ncpu on\nframes 2\nchip 512\nat 1 311 226 peek 002\nend\n";
-    assert!(rt; reads_pal(rt.alloc(), second));
+    hold(&rt, reads_pal(rt.alloc(), second));
 }
+
+/// A script of NTSC.
+const NTSC: &[u8] =
+    b"ocs 3\ncpu on\nframes 10\nchip 512\nsystem ntsc\nat 0 100 100 poke 180 0f00\nend\n";
+
+/// The same script in each version.
+const THIRD: &[u8] = b"ocs 3\ncpu off\nframes 1\nchip 512\nsystem pal\nend\n";
+
+const SECOND: &[u8] = b"ocs 2\ncpu off\nframes 1\nchip 512\nend\n";
+
+const FIRST: &[u8] = b"ocs 1\ncpu off\nframes 1\nend\n";
+
+/// Texts, and what is printed of their scripts.
+static LOWEST_VERSIONS: [(&[u8], &[u8]); 4] = [
+    (NTSC, NTSC),
+    (THIRD, FIRST),
+    (SECOND, FIRST),
+    (FIRST, FIRST),
+];
 
 #[test]
 fn the_lowest_version_is_printed(rt: HostRuntime) {
-    let ntsc =
-        b"ocs 3\ncpu on\nframes 10\nchip 512\nsystem ntsc\nat 0 100 100 poke 180 0f00\nend\n";
-    let third = b"ocs 3\ncpu off\nframes 1\nchip 512\nsystem pal\nend\n";
-    let second = b"ocs 2\ncpu off\nframes 1\nchip 512\nend\n";
-    let first = b"ocs 1\ncpu off\nframes 1\nend\n";
-    let found = [
-        prints(rt.alloc(), ntsc, ntsc),
-        prints(rt.alloc(), third, first),
-        prints(rt.alloc(), second, first),
-        prints(rt.alloc(), first, first),
-    ];
-    assert!(rt; found == [true; 4]);
+    hold(&rt, are_printed(rt.alloc(), &LOWEST_VERSIONS));
+}
+
+/// Whether two kinds have these names.
+fn have_names() -> bool {
+    BadKind::Chip.name() == "chip" && BadKind::System.name() == "system"
 }
 
 #[test]
 fn names_of_kinds(rt: HostRuntime) {
-    assert!(rt; BadKind::Chip.name() == "chip" && BadKind::System.name() == "system");
+    hold(&rt, have_names());
 }
+
+/// Scripts of 1 MiB, and what is printed of them.
+const SECOND_OF_1_MIB: &[u8] = b"ocs 2\ncpu on\nframes 2\nchip 1024\nat 1 311 226 peek 002\nend\n";
+
+const PAL_OF_1_MIB: &[u8] =
+    b"ocs 3\ncpu on\nframes 2\nchip 1024\nsystem pal\nat 1 311 226 peek 002\nend\n";
+
+const NTSC_OF_1_MIB: &[u8] =
+    b"ocs 3\ncpu off\nframes 10\nchip 1024\nsystem ntsc\nat 9 261 226 key 0a\nend\n";
+
+static SCRIPTS_OF_1_MIB: [(&[u8], &[u8]); 3] = [
+    (SECOND_OF_1_MIB, SECOND_OF_1_MIB),
+    (PAL_OF_1_MIB, SECOND_OF_1_MIB),
+    (NTSC_OF_1_MIB, NTSC_OF_1_MIB),
+];
 
 /// 1 MiB of chip memory is said from version 2 on.
 #[test]
 fn one_mib_is_printed(rt: HostRuntime) {
-    let second = b"ocs 2\ncpu on\nframes 2\nchip 1024\nat 1 311 226 peek 002\nend\n";
-    let pal = b"ocs 3\ncpu on\nframes 2\nchip 1024\nsystem pal\nat 1 311 226 peek 002\nend\n";
-    let ntsc = b"ocs 3\ncpu off\nframes 10\nchip 1024\nsystem ntsc\nat 9 261 226 key 0a\nend\n";
-    let found = [
-        prints(rt.alloc(), second, second),
-        prints(rt.alloc(), pal, second),
-        prints(rt.alloc(), ntsc, ntsc),
-    ];
-    assert!(rt; found == [true; 3]);
+    hold(&rt, are_printed(rt.alloc(), &SCRIPTS_OF_1_MIB));
 }

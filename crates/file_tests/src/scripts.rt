@@ -1,6 +1,7 @@
 //! Each public call once with ample memory. The texts, lines and kinds are worked by hand from the grammar.
 
-use crate::texts::{are_bad, is_bad, prints};
+use crate::answers::hold;
+use crate::texts::{are_bad, are_printed, is_bad};
 use ocs_base::{Act, OutOfMemory, Script};
 use script_read::{BadKind, read_script};
 use std::alloc::Global;
@@ -32,7 +33,7 @@ fn is_short(alloc: Global, text: &[u8]) -> bool {
 
 #[test]
 fn a_script_without_events_is_read(rt: HostRuntime) {
-    assert!(rt; is_short(rt.alloc(), SHORT));
+    hold(&rt, is_short(rt.alloc(), SHORT));
 }
 
 /// Whether a script has a processor, 1000 frames and two events, of which the second is button 1 down.
@@ -57,7 +58,7 @@ fn has_1000_frames(alloc: Global, text: &[u8]) -> bool {
 fn scripts_are_read(rt: HostRuntime) {
     let text =
         b"ocs 1\ncpu on\nframes 1000\nat 999 311 226 poke 1fe ffff\nat 999 311 226 fire 1 1\nend";
-    assert!(rt; has_1000_frames(rt.alloc(), text));
+    hold(&rt, has_1000_frames(rt.alloc(), text));
 }
 
 /// Texts, and the line that is bad and its kind.
@@ -80,7 +81,7 @@ static HEADS: [(&[u8], u32, BadKind); 14] = [
 
 #[test]
 fn heads_that_are_bad(rt: HostRuntime) {
-    assert!(rt; are_bad(rt.alloc(), &HEADS));
+    hold(&rt, are_bad(rt.alloc(), &HEADS));
 }
 
 /// Lines that are no events.
@@ -125,14 +126,14 @@ fn are_bad_events(alloc: Global, events: &[&[u8]]) -> bool {
 
 #[test]
 fn events_that_are_bad(rt: HostRuntime) {
-    assert!(rt; are_bad_events(rt.alloc(), &EVENTS));
+    hold(&rt, are_bad_events(rt.alloc(), &EVENTS));
 }
 
 #[test]
 fn events_out_of_order(rt: HostRuntime) {
     let clock = is_bad_event(rt.alloc(), b"at 0 5 5 peek 002", BadKind::Order);
     let line = is_bad_event(rt.alloc(), b"at 0 4 226 key 45", BadKind::Order);
-    assert!(rt; clock && line);
+    hold(&rt, clock && line);
 }
 
 /// Appends three head lines and so many equal events.
@@ -168,12 +169,12 @@ fn ends_never(alloc: Global, text: &mut Vec<u8>) -> bool {
 
 #[test]
 fn texts_of_many_lines(rt: HostRuntime) {
-    assert!(rt; ends_once(rt.alloc(), &mut Vec::new(rt.alloc())));
+    hold(&rt, ends_once(rt.alloc(), &mut Vec::new(rt.alloc())));
 }
 
 #[test]
 fn texts_of_too_many_lines(rt: HostRuntime) {
-    assert!(rt; ends_never(rt.alloc(), &mut Vec::new(rt.alloc())));
+    hold(&rt, ends_never(rt.alloc(), &mut Vec::new(rt.alloc())));
 }
 
 /// Whether a script without events is bad behind its end where its text has the greatest size, and too long
@@ -188,14 +189,22 @@ fn grows_too_long(alloc: Global, bytes: &mut Vec<u8>) -> bool {
 
 #[test]
 fn texts_that_are_long(rt: HostRuntime) {
-    assert!(rt; grows_too_long(rt.alloc(), &mut Vec::new(rt.alloc())));
+    hold(&rt, grows_too_long(rt.alloc(), &mut Vec::new(rt.alloc())));
+}
+
+/// A script of each kind of event.
+const LINES: &[u8] =
+    b"ocs 1\ncpu on\nframes 2\nat 0 0 0 poke 00e 00ff\nat 0 0 1 peek 1fe\nat 0 1 0 joy 1 0203\nat 1 0 0 fire 0 1\nat 1 0 0 key 0a\nend\n";
+
+/// Scripts, and what is printed of them.
+static PRINTED: [(&[u8], &[u8]); 2] = [(LINES, LINES), (SHORT, SHORT)];
+
+/// Whether they are printed, the short one has 27 bytes, and a kind is named.
+fn prints_scripts(alloc: Global) -> bool {
+    are_printed(alloc, &PRINTED) && SHORT.len() == 27 && BadKind::Missing.name() == "missing"
 }
 
 #[test]
 fn scripts_are_printed(rt: HostRuntime) {
-    let lines =
-        b"ocs 1\ncpu on\nframes 2\nat 0 0 0 poke 00e 00ff\nat 0 0 1 peek 1fe\nat 0 1 0 joy 1 0203\nat 1 0 0 fire 0 1\nat 1 0 0 key 0a\nend\n";
-    let long = prints(rt.alloc(), lines, lines);
-    let short = prints(rt.alloc(), SHORT, SHORT);
-    assert!(rt; long && short && SHORT.len() == 27 && BadKind::Missing.name() == "missing");
+    hold(&rt, prints_scripts(rt.alloc()));
 }

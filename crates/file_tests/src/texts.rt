@@ -22,7 +22,7 @@ pub fn are_bad(alloc: Global, cases: &[(&[u8], u32, BadKind)]) -> bool {
 }
 
 /// Whether a text is printed of the script of another.
-pub fn prints(alloc: Global, text: &[u8], printed: &[u8]) -> bool {
+fn prints(alloc: Global, text: &[u8], printed: &[u8]) -> bool {
     match read_script(alloc, text) {
         Ok(script) => {
             let mut into = Vec::new(alloc);
@@ -30,4 +30,14 @@ pub fn prints(alloc: Global, text: &[u8], printed: &[u8]) -> bool {
         }
         Err(_) => false,
     }
+}
+
+/// Whether each text is printed of the script of the other.
+pub fn are_printed(alloc: Global, cases: &[(&[u8], &[u8])]) -> bool {
+    for (text, printed) in cases {
+        if !prints(alloc, text, printed) {
+            return false;
+        }
+    }
+    true
 }

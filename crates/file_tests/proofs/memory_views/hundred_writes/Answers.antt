@@ -6,7 +6,7 @@ use Rattle.file_tests.proofs.memory_views.hundred_writes.Goals as goal
 
 pub returns-clause-few : goal.returns-clause-few
 returns-clause-few c =
-    let writes = c.loop-k.chip.writes in
+    let writes = c.write_hundred.new.chip.writes in
     omega (
       arith,
       c.in_ok-view.ensures.view.count,
