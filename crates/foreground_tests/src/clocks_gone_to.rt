@@ -5,6 +5,7 @@ ghost use Rattle.std.specs.Prelude.{◌≡◌, IfOk};
 ghost use Rattle.ocs_base.specs.Limits.{IsRunnable};
 ghost use Rattle.ocs_base.specs.declared.chip_size.ChipSize.TheVariants.{Kib512};
 
+use crate::answers::hold;
 use band_log::Run;
 use ocs_base::{ChipSize, OutOfMemory, Script};
 use rewind_loop::{Arrived, Rewind};
@@ -98,7 +99,7 @@ fn is_told_of_four(told: &[Arrived]) -> bool {
 #[test]
 fn from_checkpoints_and_from_reset(rt: HostRuntime) -> Result<(), Fail> {
     let told = told_of(rt.alloc(), &[150_000, 80_000, 22_800, 22_801])?;
-    assert!(rt; is_told_of_four(&told));
+    hold(&rt, is_told_of_four(&told));
     Ok(())
 }
 
@@ -116,7 +117,7 @@ fn is_told_of_three(told: &[Arrived]) -> bool {
 #[test]
 fn a_loaded_run_goes_on(rt: HostRuntime) -> Result<(), Fail> {
     let told = told_of(rt.alloc(), &[80_000, 75_000, 80_000])?;
-    assert!(rt; is_told_of_three(&told));
+    hold(&rt, is_told_of_three(&told));
     Ok(())
 }
 
@@ -131,6 +132,6 @@ fn is_told_of_the_end(told: &[Arrived]) -> bool {
 #[test]
 fn the_end_of_the_run(rt: HostRuntime) -> Result<(), Fail> {
     let told = told_of(rt.alloc(), &[1_000_000, 213_152])?;
-    assert!(rt; is_told_of_the_end(&told));
+    hold(&rt, is_told_of_the_end(&told));
     Ok(())
 }

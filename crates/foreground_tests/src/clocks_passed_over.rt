@@ -5,6 +5,7 @@ ghost use Rattle.std.specs.Prelude.{◌≡◌, ◌≤◌, ◌<◌, ◌+◌, ℕ,
 ghost use Rattle.foreground.specs.Fore.{over, IsUnderway};
 ghost use Rattle.serial_model.specs.Side.{no_side};
 
+use crate::answers::hold;
 use crate::runs::run_of;
 use band_draw::Direct;
 use band_log::{Raster, Run};
@@ -77,7 +78,7 @@ fn chips_pass_over_quiet_clocks(rt: HostRuntime) {
         passed(false, &COPPER, 10),
         passed(false, &COPPER, 11),
     ];
-    assert!(rt; found == [50, 0, 7, 50, 0, 1]);
+    hold(&rt, found == [50, 0, 7, 50, 0, 1]);
 }
 
 /// They are where the processor, the Copper or a blit is at work.
@@ -89,7 +90,7 @@ fn chips_at_work_are_busy(rt: HostRuntime) {
         chips_after(false, &COPPER).is_busy(),
         chips_after(false, &BLIT).is_busy(),
     ];
-    assert!(rt; found == [false, true, true, true]);
+    hold(&rt, found == [false, true, true, true]);
 }
 
 /// A run whose Copper waits for clock 60 of line 1, and whose script writes COLOR01 at clock 50 of it. Behind
@@ -176,6 +177,7 @@ fn stand_in_run<Q: Raster<NoSide>>(
     alloc: Global,
     run: Arc<Run<NoSide>>,
     raster: &mut Q,
+    out: &mut OutFiles,
     singly: bool,
     offsets: [u16; 3],
 ) -> Result<Stand, OutOfMemory>
@@ -183,16 +185,37 @@ fn stand_in_run<Q: Raster<NoSide>>(
     requires first { (Q.seen raster.old).next ≡ 0 }
     requires unbound { (Q.seen raster.old).bound ≡ None }
 {
-    let mut out = out_files(alloc)?;
     let mut fore = Fore::new(alloc, run)?;
-    stand_behind(&mut fore, raster, &mut out, singly, offsets)
+    stand_behind(&mut fore, raster, out, singly, offsets)
+}
+
+/// The same over a raster of its own.
+fn stand_of_run(
+    alloc: Global,
+    run: Arc<Run<NoSide>>,
+    out: &mut OutFiles,
+    singly: bool,
+    offsets: [u16; 3],
+) -> Result<Stand, OutOfMemory> {
+    let mut raster = Direct::new(alloc)?;
+    stand_in_run(alloc, run, &mut raster, out, singly, offsets)
+}
+
+/// The same with files of its own.
+fn stand_alone(
+    alloc: Global,
+    run: Arc<Run<NoSide>>,
+    singly: bool,
+    offsets: [u16; 3],
+) -> Result<Stand, OutOfMemory> {
+    let mut out = out_files(alloc)?;
+    stand_of_run(alloc, run, &mut out, singly, offsets)
 }
 
 /// The run that waits, singly or by one call, with the words of DMACON, COLOR00 and COLOR01.
 fn waiting_stand(alloc: Global, singly: bool) -> Result<Stand, Fail> {
-    let mut raster = Direct::new(alloc)?;
     let run = waiting_run(alloc)?;
-    Ok(stand_in_run(alloc, run, &mut raster, singly, [0x096, 0x180, 0x182])?)
+    Ok(stand_alone(alloc, run, singly, [0x096, 0x180, 0x182])?)
 }
 
 /// Of the 300 clocks 227 are those of line 0. The Copper goes on at clock 60 of line 1, and writes at clock
@@ -203,7 +226,7 @@ fn a_run_to_a_clock_stands_where_single_clocks_do(rt: HostRuntime) -> Result<(),
         waiting_stand(rt.alloc(), false)?,
         waiting_stand(rt.alloc(), true)?,
     ];
-    assert!(rt; found == [(300, 1, 73, [0x0280, 0x0f00, 0x0123]); 2]);
+    hold(&rt, found == [(300, 1, 73, [0x0280, 0x0f00, 0x0123]); 2]);
     Ok(())
 }
 
@@ -221,9 +244,8 @@ fn fetching_run(alloc: Global) -> Result<Arc<Run<NoSide>>, Fail> {
 
 /// The same of the run that fetches, with the low words of the pointers of planes 1 and 2, and BPLCON0.
 fn fetching_stand(alloc: Global, singly: bool) -> Result<Stand, Fail> {
-    let mut raster = Direct::new(alloc)?;
     let run = fetching_run(alloc)?;
-    Ok(stand_in_run(alloc, run, &mut raster, singly, [0x0e2, 0x0e6, 0x100])?)
+    Ok(stand_alone(alloc, run, singly, [0x0e2, 0x0e6, 0x100])?)
 }
 
 /// Line 0 has twenty units, of 40 bytes a plane. Up to clock 73 of line 1 plane 2 is fetched at clocks 59 and
@@ -234,6 +256,6 @@ fn planes_are_fetched_where_single_clocks_fetch_them(rt: HostRuntime) -> Result<
         fetching_stand(rt.alloc(), false)?,
         fetching_stand(rt.alloc(), true)?,
     ];
-    assert!(rt; found == [(300, 1, 73, [0x1032, 0x202c, 0x2000]); 2]);
+    hold(&rt, found == [(300, 1, 73, [0x1032, 0x202c, 0x2000]); 2]);
     Ok(())
 }

@@ -1,5 +1,6 @@
 //! The state of the chips once more, and a raster that begins in the midst of a run.
 
+use crate::answers::hold;
 use band_draw::Direct;
 use band_log::Raster;
 use chip_set::Chips;
@@ -30,12 +31,15 @@ fn chips_are_copied(rt: HostRuntime) {
         copy.peek(Reg::masked(JOY0DAT), &beam, 0),
         chips.peek(Reg::masked(JOY0DAT), &beam, 0),
     ];
-    assert!(rt; mice == [0x1234, 0x5678] && [copy.dmacon(), chips.dmacon()] == [0x0240, 0x0200]);
+    hold(
+        &rt,
+        mice == [0x1234, 0x5678] && [copy.dmacon(), chips.dmacon()] == [0x0240, 0x0200],
+    );
 }
 
 #[test]
 fn a_raster_begins_with_a_later_band(rt: HostRuntime) -> Result<(), OutOfMemory> {
     let raster = Direct::<NoSide>::starting(rt.alloc(), 3)?;
-    assert!(rt; raster.outstanding() == 0);
+    hold(&rt, raster.outstanding() == 0);
     Ok(())
 }

@@ -4,6 +4,8 @@
 #![tactic(auto)]
 
 #[cfg(test)]
+mod answers;
+#[cfg(test)]
 mod clocks_gone_to;
 #[cfg(test)]
 mod clocks_passed_over;

@@ -6,6 +6,7 @@ ghost use Rattle.band_log.specs.Right.{IsRightJob};
 ghost use Rattle.band_log.specs.Raster.{Takes, with_submitted, without_first, IsRightForFirst};
 ghost use Rattle.serial_bands.specs.BandShown.{tinted_bytes};
 
+use crate::answers::hold;
 use crate::runs::{run_of, run_whole};
 use band_draw::Direct;
 use band_log::{Drawn, Job, Raster, Room};
@@ -115,7 +116,7 @@ fn inverted_files(alloc: Global) -> Result<Shelf, Fail> {
 fn pixels_are_those_that_are_collected(rt: HostRuntime) -> Result<(), Fail> {
     let frames = white_and_cyan(rt.alloc())?;
     let shelf = inverted_files(rt.alloc())?;
-    assert!(rt; shelf.file("frames") == Some(frames.as_slice()));
+    hold(&rt, shelf.file("frames") == Some(frames.as_slice()));
     Ok(())
 }
 
@@ -154,7 +155,10 @@ fn full_and_reads(alloc: Global, height: u16) -> Result<(u32, u64), Fail>
 fn words_of_planes_are_not_read(rt: HostRuntime) -> Result<(), Fail> {
     let (one_full, one_reads) = full_and_reads(rt.alloc(), 313)?;
     let (full, reads) = full_and_reads(rt.alloc(), 100)?;
-    assert!(rt; [one_full, full] == [200 * 2 * 3; 2] && one_reads <= 1 && reads <= 3);
+    hold(
+        &rt,
+        [one_full, full] == [200 * 2 * 3; 2] && one_reads <= 1 && reads <= 3,
+    );
     Ok(())
 }
 
@@ -177,6 +181,6 @@ fn jobs_of_reads(alloc: Global) -> Result<(usize, [(u64, u64); 3]), Fail> {
 #[test]
 fn bands_begin_with_reads(rt: HostRuntime) -> Result<(), Fail> {
     let clocks = [(0, 11_411), (11_411, 11_412), (11_412, 71_051)];
-    assert!(rt; jobs_of_reads(rt.alloc())? == (3, clocks));
+    hold(&rt, jobs_of_reads(rt.alloc())? == (3, clocks));
     Ok(())
 }

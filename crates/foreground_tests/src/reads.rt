@@ -3,6 +3,7 @@
 ghost use Rattle.std.specs.Prelude.{◌≡◌, ℕ, [], None, false, length};
 ghost use Rattle.foreground.specs.Fore.{over, IsUnderway};
 
+use crate::answers::hold;
 use crate::runs::{CLOCKS, run_of};
 use band_draw::Direct;
 use band_log::{Raster, Run};
@@ -43,14 +44,30 @@ fn read_in_run<Q: Raster<NoSide>>(
     alloc: Global,
     run: Arc<Run<NoSide>>,
     raster: &mut Q,
+    out: &mut OutFiles,
 ) -> Result<Option<u16>, OutOfMemory>
     requires empty { (Q.seen raster.old).outstanding ≡ [] }
     requires first { (Q.seen raster.old).next ≡ 0 }
     requires unbound { (Q.seen raster.old).bound ≡ None }
 {
-    let mut out = out_files(alloc)?;
     let mut fore = Fore::new(alloc, run)?;
-    read_first(&mut fore, raster, &mut out)
+    read_first(&mut fore, raster, out)
+}
+
+/// The same over a raster of its own.
+fn read_of_run(
+    alloc: Global,
+    run: Arc<Run<NoSide>>,
+    out: &mut OutFiles,
+) -> Result<Option<u16>, OutOfMemory> {
+    let mut raster = Direct::new(alloc)?;
+    read_in_run(alloc, run, &mut raster, out)
+}
+
+/// The same with files of its own.
+fn read_of(alloc: Global, run: Arc<Run<NoSide>>) -> Result<Option<u16>, OutOfMemory> {
+    let mut out = out_files(alloc)?;
+    read_of_run(alloc, run, &mut out)
 }
 
 /// Plane 1 alone, and playfield 2 everywhere: they meet where the word shows, from clock 61 on.
@@ -61,8 +78,7 @@ fn bits_read(alloc: Global, read: &str) -> Result<Option<u16>, Fail> {
     let mut events = String::from_str(alloc, MEETING)?;
     events.push_str(read)?;
     let run = run_of(alloc, &[0; 8], &events, 20)?;
-    let mut raster = Direct::new(alloc)?;
-    Ok(read_in_run(alloc, run, &mut raster)?)
+    Ok(read_of(alloc, run)?)
 }
 
 /// A read sees the pixels of the clocks before its own, and the bits of every band that is drawn.
@@ -74,6 +90,6 @@ fn a_read_sees_the_clocks_before_it(rt: HostRuntime) -> Result<(), Fail> {
         bits_read(rt.alloc(), "at 0 50 62 peek 00e\n")?,
         bits_read(rt.alloc(), "at 0 300 0 peek 00e\n")?,
     ];
-    assert!(rt; found == [None, Some(0), Some(1), Some(1)]);
+    hold(&rt, found == [None, Some(0), Some(1), Some(1)]);
     Ok(())
 }

@@ -104,6 +104,13 @@ fn write_files(out: &mut OutFiles, shelf: &mut Shelf) -> Result<(), WriteFault> 
     out.flush(shelf)
 }
 
+/// The same on a shelf of its own.
+fn written_files(alloc: Global, out: &mut OutFiles) -> Result<Shelf, WriteFault> {
+    let mut shelf = Shelf::new(alloc);
+    write_files(out, &mut shelf)?;
+    Ok(shelf)
+}
+
 /// A whole run over a raster that took no band yet: its files, and how many words of memory were read.
 pub fn run_whole<Q: Raster<NoSide>>(
     alloc: Global,
@@ -116,7 +123,6 @@ pub fn run_whole<Q: Raster<NoSide>>(
 {
     let mut out = out_files(alloc)?;
     let reads = run_out(alloc, run, raster, &mut out)?;
-    let mut shelf = Shelf::new(alloc);
-    write_files(&mut out, &mut shelf)?;
+    let shelf = written_files(alloc, &mut out)?;
     Ok((shelf, reads))
 }

@@ -1,17 +1,19 @@
 //! A run over a side: a disk's word, a sample's word, interrupts and writes of registers. The
 //! expected words are worked by hand.
 
-ghost use Rattle.std.specs.Prelude.{◌≡◌, ◌≤◌, ℕ, [], false, IfOk};
+ghost use Rattle.std.specs.Prelude.{◌≡◌, ◌≤◌, ℕ, [], None, false, IfOk};
 ghost use Rattle.std.specs.Arc.{arc_value};
 ghost use Rattle.foreground.specs.Fore.{over, IsUnderway};
+ghost use Rattle.ocs_io.specs.Shelf.{IsHeld};
 
+use crate::answers::hold;
 use crate::runs::{run_clocks, script_of};
 use band_draw::Direct;
-use band_log::Run;
+use band_log::{Raster, Run};
 use foreground::Fore;
 use ocs_base::{Addr, Beam, Reg};
 use ocs_io::Shelf;
-use out_files::OutFiles;
+use out_files::{OutFiles, WriteFault};
 use serial_model::{Side, SideAsk};
 use small_runs::out_files;
 use std::alloc::Global;
@@ -87,25 +89,43 @@ fn run_over_a_side(alloc: Global) -> Result<Arc<Run<Recorder>>, Fail>
     Ok(Arc::new(alloc, Run::over(image, script, 100, fresh_side()))?)
 }
 
-/// That run, whole.
-fn run_whole_over_a_side(alloc: Global) -> Result<(Fore<Recorder>, OutFiles), Fail> {
+/// That run, whole, over a raster that took no band yet.
+fn run_whole_over_a_side<Q: Raster<Recorder>>(
+    alloc: Global,
+    raster: &mut Q,
+    out: &mut OutFiles,
+) -> Result<Fore<Recorder>, Fail>
+    requires empty { (Q.seen raster.old).outstanding ≡ [] }
+    requires first { (Q.seen raster.old).next ≡ 0 }
+    requires unbound { (Q.seen raster.old).bound ≡ None }
+{
     let run = run_over_a_side(alloc)?;
     let mut fore = Fore::with_side(alloc, run, fresh_side())?;
-    let mut out = out_files(alloc)?;
-    let mut raster = Direct::<Recorder>::new(alloc)?;
-    run_clocks(&mut fore, &mut raster, &mut out)?;
-    Ok((fore, out))
+    run_clocks(&mut fore, raster, out)?;
+    Ok(fore)
 }
 
-/// What is written of a run: the trace and the memory.
-fn files_of(alloc: Global, fore: Fore<Recorder>, out: OutFiles) -> Result<Shelf, Fail> {
-    let mut out = out;
-    let mut shelf = Shelf::new(alloc);
-    out.create(&mut shelf)?;
-    out.flush(&mut shelf)?;
+/// Writes the memory of a run.
+fn write_memory(
+    fore: Fore<Recorder>,
+    out: &mut OutFiles,
+    shelf: &mut Shelf,
+) -> Result<(), WriteFault>
+    requires { IsHeld shelf.old.files out.old.names.memory }
+{
     let mut chip = fore.finish();
-    out.memory(&mut chip, &mut shelf)?;
-    Ok(shelf)
+    out.memory(&mut chip, shelf)
+}
+
+/// Writes what is written of a run: the trace and the memory.
+fn write_all(
+    fore: Fore<Recorder>,
+    out: &mut OutFiles,
+    shelf: &mut Shelf,
+) -> Result<(), WriteFault> {
+    out.create(shelf)?;
+    out.flush(shelf)?;
+    write_memory(fore, out, shelf)
 }
 
 /// Whether the side was told and given 0102, and each line read one word.
@@ -120,14 +140,31 @@ fn has_its_words(shelf: &Shelf) -> bool {
     shelf.file("trace") == Some(trace) && memory.get(64..67) == Some([1, 2, 0].as_slice())
 }
 
+/// Whether a run is played, and its files are those of the side.
+fn is_right(fore: Fore<Recorder>, out: &mut OutFiles, shelf: &mut Shelf) -> bool {
+    let is_played = is_played(&fore);
+    write_all(fore, out, shelf).is_ok() && is_played && has_its_words(shelf)
+}
+
+/// Whether that run is, over a raster of its own.
+fn plays_over_a_side(alloc: Global, out: &mut OutFiles) -> Result<bool, Fail> {
+    let mut raster = Direct::<Recorder>::new(alloc)?;
+    let fore = run_whole_over_a_side(alloc, &mut raster, out)?;
+    Ok(is_right(fore, out, &mut Shelf::new(alloc)))
+}
+
+/// The same with files of its own.
+fn plays(alloc: Global) -> Result<bool, Fail> {
+    let mut out = out_files(alloc)?;
+    plays_over_a_side(alloc, &mut out)
+}
+
 /// In line 0 the word 0102 is written to a register before clock 7, at which it is stored; at clock
 /// 13 it is read and given to the side; at clock 20 its bits are requested, beside that of vertical
 /// blanking. Each of the 313 lines reads one word, which counts.
 #[test]
 fn a_side_takes_part_in_the_run(rt: HostRuntime) -> Result<(), Fail> {
-    let (fore, out) = run_whole_over_a_side(rt.alloc())?;
-    let is_played = is_played(&fore);
-    let shelf = files_of(rt.alloc(), fore, out)?;
-    assert!(rt; is_played && has_its_words(&shelf));
+    let is_right = plays(rt.alloc())?;
+    hold(&rt, is_right);
     Ok(())
 }
