@@ -2,6 +2,7 @@
 
 ghost use Rattle.std.specs.Prelude.{◌≡◌, ◌%◌};
 
+use crate::answers::hold;
 use crate::first_registers::one_word;
 use blitter_area::{AreaBlit, BlitRegs, SlotAsk};
 use ocs_base::Addr;
@@ -74,7 +75,7 @@ fn fill_of_one_word(rt: HostRuntime) {
         Some(0x03e0),
         Some(0x0420),
     ];
-    assert!(rt; found == want);
+    hold(&rt, found == want);
 }
 
 /// The word that the blit writes behind three reads.
@@ -102,7 +103,10 @@ fn cookie_cut_of_two_words(rt: HostRuntime) {
         word_behind(&mut blit, [0x00ff, 0x1234, 0xaaaa]),
         word_behind(&mut blit, [0xffff, 0x5678, 0xbbbb]),
     ];
-    assert!(rt; found == [Some(0xaaa3), Some(0x4bbb)] && place(&blit).is_none());
+    hold(
+        &rt,
+        found == [Some(0xaaa3), Some(0x4bbb)] && place(&blit).is_none(),
+    );
 }
 
 /// BLTCON0, and the addresses of a blit of one word: 1 for a rest, and 0 behind the end.
@@ -149,7 +153,7 @@ fn asks_of_each_code(rt: HostRuntime) {
     for (con0, asks) in &ASKS {
         right &= is_asked(*con0, asks);
     }
-    assert!(rt; right);
+    hold(&rt, right);
 }
 
 /// Whether a blit of two rows of two words reads at these addresses, by BLTCON1; it rests behind each read.
@@ -176,7 +180,7 @@ fn reads_rows(con1: u16, places: &[u32; 4]) -> bool
 fn rows_up_and_down(rt: HostRuntime) {
     let up = reads_rows(0, &[0x10, 0x12, 0x16, 0x18]);
     let down = reads_rows(2, &[0x10, 0x0e, 0x0a, 0x08]);
-    assert!(rt; up && down);
+    hold(&rt, up && down);
 }
 
 /// Whether a blit of two words from A to D asks at these addresses, and leaves these pointers.
@@ -211,7 +215,7 @@ fn pointers_at_the_end_of_their_span(rt: HostRuntime) {
         [0x10, 0x7_fffe, 0x12, 0],
         [0x14, 2],
     );
-    assert!(rt; both && wide && narrow);
+    hold(&rt, both && wide && narrow);
 }
 
 /// The registers that a blit of two rows of two words leaves, for BLTCON0.
@@ -244,7 +248,7 @@ fn registers_at_the_end(rt: HostRuntime) {
         ([0x7fffc, 0x20, 0x50], [0xfffc, 7, 0x09f0]),
         ([0x10, 0x20, 0x50], [0x0011, 0x1234, 0x01f0]),
     ];
-    assert!(rt; found == want);
+    hold(&rt, found == want);
 }
 
 /// BZERO behind the first and the second ask of a blit of one word, for BLTCON0.
@@ -262,5 +266,5 @@ fn zeros_by(con0: u16) -> [bool; 2] {
 #[test]
 fn zero_falls_with_the_last_ask(rt: HostRuntime) {
     let found = [zeros_by(0x00ff), zeros_by(0x0000), zeros_by(0x08f0)];
-    assert!(rt; found == [[true, false], [true, true], [true, false]]);
+    hold(&rt, found == [[true, false], [true, true], [true, false]]);
 }

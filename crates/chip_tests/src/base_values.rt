@@ -1,5 +1,6 @@
 //! Each public call once; the numbers are worked by hand.
 
+use crate::answers::hold;
 use ocs_base::*;
 use std::alloc::AllocError;
 
@@ -19,7 +20,7 @@ fn addresses(rt: HostRuntime) {
         Addr::at(0x7_fffe).step(4).raw(),
         Addr::at(8).span(),
     ];
-    assert!(rt; found == [0, 2, 0, 0x7_fffe, 0x7_fffe, 2, 524_288]);
+    hold(&rt, found == [0, 2, 0, 0x7_fffe, 0x7_fffe, 2, 524_288]);
 }
 
 /// The address that a number stands for in one mebibyte, and in a chip memory of that size.
@@ -40,7 +41,7 @@ fn addresses_of_one_mebibyte(rt: HostRuntime) {
         kept_wide(0xff_ffff),
     ];
     let want = [[0; 2], [2; 2], [0x8_0000; 2], [2; 2], [0xf_fffe; 2]];
-    assert!(rt; found == want);
+    hold(&rt, found == want);
 }
 
 #[test]
@@ -51,14 +52,14 @@ fn steps_in_one_mebibyte(rt: HostRuntime) {
         Addr::wide(0xf_fffe).step(4).raw(),
         Addr::wide(0).step(2).step(-4).raw(),
     ];
-    assert!(rt; found == [0xf_fffe, 0x8_0000, 2, 0xf_fffe]);
+    hold(&rt, found == [0xf_fffe, 0x8_0000, 2, 0xf_fffe]);
 }
 
 #[test]
 fn spans_by_size(rt: HostRuntime) {
     let small = Addr::sized(ChipSize::Kib512, 0x8_0011);
     let found = [Addr::wide(8).span(), small.raw(), small.span()];
-    assert!(rt; found == [1_048_576, 0x10, 524_288]);
+    hold(&rt, found == [1_048_576, 0x10, 524_288]);
 }
 
 #[test]
@@ -66,7 +67,7 @@ fn sizes_of_chip_memory(rt: HostRuntime) {
     let is_small = ChipSize::of_bytes(524_288) == ChipSize::Kib512;
     let is_great = ChipSize::of_bytes(1_048_576) == ChipSize::Mib1;
     let bytes = [ChipSize::Kib512.bytes(), ChipSize::Mib1.bytes()];
-    assert!(rt; is_small && is_great && bytes == [524_288, 1_048_576]);
+    hold(&rt, is_small && is_great && bytes == [524_288, 1_048_576]);
 }
 
 #[test]
@@ -77,7 +78,10 @@ fn registers(rt: HostRuntime) {
         Reg::new(0x200).is_some(),
         Reg::new(0x181).is_some(),
     ];
-    assert!(rt; found == [true, true, false, false] && Reg::masked(0xff81).raw() == 0x180);
+    hold(
+        &rt,
+        found == [true, true, false, false] && Reg::masked(0xff81).raw() == 0x180,
+    );
 }
 
 /// A key at the last clock of a long field of frame 2.
@@ -103,7 +107,7 @@ fn is_of_one_event(script: &Script) -> bool {
 fn a_script_of_one_event(rt: HostRuntime) {
     let mut script = Script::new(rt.alloc(), true, 3);
     let is_pushed = script.push(LATE_KEY).is_ok();
-    assert!(rt; is_pushed && is_of_one_event(&script));
+    hold(&rt, is_pushed && is_of_one_event(&script));
 }
 
 /// Whether a script without events has this system, size of chip memory and processor.
@@ -118,23 +122,32 @@ fn is_empty_script(script: &Script, system: System, chip: ChipSize, cpu: bool) -
 #[test]
 fn a_script_of_ntsc(rt: HostRuntime) {
     let ntsc = Script::made(rt.alloc(), false, 1, 1_048_576, System::Ntsc);
-    assert!(rt; is_empty_script(&ntsc, System::Ntsc, ChipSize::Mib1, false));
+    hold(
+        &rt,
+        is_empty_script(&ntsc, System::Ntsc, ChipSize::Mib1, false),
+    );
 }
 
 #[test]
 fn a_script_with_a_size(rt: HostRuntime) {
     let great = Script::sized(rt.alloc(), true, 2, 1_048_576);
-    assert!(rt; is_empty_script(&great, System::Pal, ChipSize::Mib1, true) && great.frames() == 2);
+    hold(
+        &rt,
+        is_empty_script(&great, System::Pal, ChipSize::Mib1, true) && great.frames() == 2,
+    );
 }
 
 #[test]
 fn a_script_with_the_smaller_size(rt: HostRuntime) {
     let small = Script::sized(rt.alloc(), true, 2, 524_288);
-    assert!(rt; is_empty_script(&small, System::Pal, ChipSize::Kib512, true));
+    hold(
+        &rt,
+        is_empty_script(&small, System::Pal, ChipSize::Kib512, true),
+    );
 }
 
 #[test]
 fn a_refusal_for_want_of_memory(rt: HostRuntime) {
     let refused: Result<(), OutOfMemory> = Err(OutOfMemory::from(AllocError));
-    assert!(rt; refused.is_err());
+    hold(&rt, refused.is_err());
 }

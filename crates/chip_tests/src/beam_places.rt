@@ -1,5 +1,6 @@
 //! Places of the beam at the ends of lines and fields, worked by hand.
 
+use crate::answers::hold;
 use beam::{advance, advance_in, at_field_start, at_line_start, start};
 use ocs_base::{Beam, System};
 
@@ -49,7 +50,7 @@ static NEXT_PLACES: [(bool, Place, Place); 10] = [
 
 #[test]
 fn next_places(rt: HostRuntime) {
-    assert!(rt; goes_in_each_row(System::Pal, &NEXT_PLACES));
+    hold(&rt, goes_in_each_row(System::Pal, &NEXT_PLACES));
 }
 
 /// LACE, a place of NTSC and the next one.
@@ -68,7 +69,7 @@ static NEXT_PLACES_OF_NTSC: [(bool, Place, Place); 10] = [
 
 #[test]
 fn next_places_of_ntsc(rt: HostRuntime) {
-    assert!(rt; goes_in_each_row(System::Ntsc, &NEXT_PLACES_OF_NTSC));
+    hold(&rt, goes_in_each_row(System::Ntsc, &NEXT_PLACES_OF_NTSC));
 }
 
 /// Whether a field with LACE begins after so many clocks, and is long or short.
@@ -94,7 +95,7 @@ fn fields_of_ntsc(rt: HostRuntime) {
         comes_to_field(&mut beam, System::Ntsc, 59_605, true),
         comes_to_field(&mut beam, System::Ntsc, 59_832, false),
     ];
-    assert!(rt; found == [true; 3] && beam.frame == 3);
+    hold(&rt, found == [true; 3] && beam.frame == 3);
 }
 
 /// Lines and clocks, of which those of the picture are told by their line.
@@ -128,7 +129,7 @@ fn what_a_picture_shows(rt: HostRuntime) {
         shows_lines(System::Ntsc, 20, 262),
     ];
     let bytes = [System::Pal.frame_bytes(), System::Ntsc.frame_bytes()];
-    assert!(rt; lines == [true; 2] && bytes == [617_760, 522_720]);
+    hold(&rt, lines == [true; 2] && bytes == [617_760, 522_720]);
 }
 
 #[test]
@@ -139,7 +140,7 @@ fn a_long_field_and_a_short_one(rt: HostRuntime) {
         comes_to_field(&mut beam, System::Pal, 70_824, true),
         comes_to_field(&mut beam, System::Pal, 71_051, false),
     ];
-    assert!(rt; found == [true; 3] && beam.frame == 3);
+    hold(&rt, found == [true; 3] && beam.frame == 3);
 }
 
 /// Whether a line begins at this place, and whether a field does.
@@ -152,5 +153,5 @@ fn starts(v: u16, h: u16) -> (bool, bool) {
 fn starts_of_lines_and_fields(rt: HostRuntime) {
     let found = [starts(0, 0), starts(0, 1), starts(1, 0), starts(312, 226)];
     let want = [(true, true), (false, false), (true, false), (false, false)];
-    assert!(rt; found == want);
+    hold(&rt, found == want);
 }

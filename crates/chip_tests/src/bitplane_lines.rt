@@ -2,6 +2,7 @@
 
 ghost use Rattle.std.specs.Prelude.{◌≡◌, ◌≤◌, ◌<◌, ◌+◌};
 
+use crate::answers::hold;
 use crate::written_registers::registers;
 use bitplane_dma::{FetchRules, Fetcher, fetch_in_unit};
 use ocs_base::{Beam, Reg};
@@ -90,7 +91,7 @@ fn fetches_of_a_line(rt: HostRuntime) {
     for (v, start, stop, dma, con0, want) in &FETCHES {
         right &= fetches(*v, *start, *stop, *dma, *con0) == *want;
     }
-    assert!(rt; right);
+    hold(&rt, right);
 }
 
 /// DDFSTOP below the running unit ends the train at once, with the modulo, and a later DDFSTRT
@@ -109,7 +110,10 @@ fn registers_of_the_moment(rt: HostRuntime) {
     ]);
     let writes = [(70, 0x094, 0x38), (80, 0x092, 0x80)];
     let found = line(0x12c, &mut regs, &writes);
-    assert!(rt; found == (3, (63, 1), (135, 1)) && regs.word(Reg::masked(0x0e2)) == 0x1206);
+    hold(
+        &rt,
+        found == (3, (63, 1), (135, 1)) && regs.word(Reg::masked(0x0e2)) == 0x1206,
+    );
 }
 
 /// Each plane's pointer moves by its words and once by its modulo, and wraps.
@@ -136,7 +140,10 @@ fn pointers_after_a_line(rt: HostRuntime) {
         regs.word(Reg::masked(0x0e6)),
         regs.word(Reg::masked(0x0ea)),
     ];
-    assert!(rt; found == (80, (61, 2), (219, 1)) && words == [1, 0x004c, 0, 0x0054, 0]);
+    hold(
+        &rt,
+        found == (80, (61, 2), (219, 1)) && words == [1, 0x004c, 0, 0x0054, 0],
+    );
 }
 
 /// A place of line 2C.
@@ -196,7 +203,7 @@ fn clocks_without_a_fetch(rt: HostRuntime) {
         quiet(0x6000, 57, 100),
         quiet(0x6000, 60, 100),
     ];
-    assert!(rt; found == [200, 16, 7, 5, 0, 7, 10, 1, 0, 1]);
+    hold(&rt, found == [200, 16, 7, 5, 0, 7, 10, 1, 0, 1]);
 }
 
 /// The clock of the first fetch behind clocks that were passed over from clock 1 on; 0 where there is none.
@@ -225,7 +232,7 @@ fn units_begin_among_clocks_passed_over(rt: HostRuntime) {
         fetch_behind(211),
         fetch_behind(215),
     ];
-    assert!(rt; found == [63, 63, 63, 103, 215, 0]);
+    hold(&rt, found == [63, 63, 63, 103, 215, 0]);
 }
 
 /// How many clocks there are from clock `h` to the end of the last unit, at most 100.
@@ -246,7 +253,7 @@ fn clocks_before_the_last_fetch(rt: HostRuntime) {
         before_last_fetch(215),
         before_last_fetch(216),
     ];
-    assert!(rt; found == [0, 100, 66, 1, 0]);
+    hold(&rt, found == [0, 100, 66, 1, 0]);
 }
 
 /// The low word of plane 1's pointer behind a line, from 1000 (hexadecimal) on, where each clock goes by what
@@ -276,5 +283,5 @@ fn a_line_by_its_rules(rt: HostRuntime) {
         pointer_by_rules(0x9000),
         pointer_by_rules(0xc000),
     ];
-    assert!(rt; found == [0x1000, 0x102e, 0x102e, 0x1056, 0x1056]);
+    hold(&rt, found == [0x1000, 0x102e, 0x102e, 0x1056, 0x1056]);
 }

@@ -1,5 +1,6 @@
 //! Both kinds of blits, worked by hand.
 
+use crate::answers::hold;
 use crate::first_registers::one_word;
 use blitter::{Blit, BlitRegs, SlotAsk};
 
@@ -55,5 +56,5 @@ fn one_word_and_one_point(rt: HostRuntime) {
         is_written(&mut word, 0x40, 0x03e0, 0x3e),
         is_written(&mut point, 0x30, 0x8420, 0x34),
     ];
-    assert!(rt; found == [true; 2]);
+    hold(&rt, found == [true; 2]);
 }

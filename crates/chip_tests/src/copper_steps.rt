@@ -2,6 +2,7 @@
 
 ghost use Rattle.std.specs.Prelude.{◌≤◌};
 
+use crate::answers::hold;
 use copper::{Copper, CopperAct};
 use ocs_base::{Addr, Beam};
 
@@ -55,7 +56,7 @@ fn a_move_waits_for_its_slots(rt: HostRuntime) {
     right &= stepped(&mut copper, Some(0x0f00)) == (Some((0x180, 0x0f00)), Some(0x104));
     right &= stepped(&mut copper, Some(0xff82)) == (None, Some(0x106));
     right &= stepped(&mut copper, Some(0x0001)) == (Some((0x182, 0x0001)), Some(0x108));
-    assert!(rt; right);
+    hold(&rt, right);
 }
 
 /// Whether a MOVE with this first word writes where it is allowed, and else stops the Copper until a jump.
@@ -83,7 +84,7 @@ fn forbidden_moves_stop_it(rt: HostRuntime) {
         is_allowed(0x007e, true, true),
         is_allowed(0x0080, false, true),
     ];
-    assert!(rt; found == [true; 7]);
+    hold(&rt, found == [true; 7]);
 }
 
 /// The words of a WAIT, whether the blitter is busy, a line and a clock, and whether the WAIT ends there.
@@ -125,7 +126,7 @@ fn waits_end_from_their_place_on(rt: HostRuntime) {
         let next = if *holds { Some(12) } else { None };
         right &= asked_around(*first, *second, *busy, *v, *h) == [None, next];
     }
-    assert!(rt; right);
+    hold(&rt, right);
 }
 
 /// The address that is asked for behind a SKIP at an address.
@@ -143,7 +144,7 @@ fn skips_pass_over_two_words(rt: HostRuntime) {
         asked_behind(0x7_fffc, 0x0001, 0xffff, false, 0),
     ];
     let want = [Some(0x108), Some(0x104), Some(0x108), Some(0x104), Some(4)];
-    assert!(rt; found == want);
+    hold(&rt, found == want);
 }
 
 #[test]
@@ -154,7 +155,7 @@ fn a_jump_drops_the_first_word(rt: HostRuntime) {
     let mut right = wanted(&copper) == Some(0x40);
     right &= stepped(&mut copper, Some(0x0180)) == (None, Some(0x42));
     right &= stepped(&mut copper, Some(0x0123)) == (Some((0x180, 0x0123)), Some(0x44));
-    assert!(rt; right);
+    hold(&rt, right);
 }
 
 /// For how many clocks from clock `h` of line `v` on, at most 100, a Copper that has read these two words
@@ -187,5 +188,5 @@ fn clocks_at_which_it_does_nothing(rt: HostRuntime) {
         quiet(0x0180, 0x0f00, false, 49, 11),
         quiet(0x003e, 0x0007, false, 49, 10),
     ];
-    assert!(rt; found == [100, 54, 53, 0, 1, 0, 100, 0, 1, 100]);
+    hold(&rt, found == [100, 54, 53, 0, 1, 0, 100, 0, 1, 100]);
 }

@@ -1,5 +1,6 @@
 //! A track that turns over some lines.
 
+use crate::answers::hold;
 use crate::bench::{DISK, Lines};
 use disk_dma::Disk;
 use ocs_base::Reg;
@@ -45,5 +46,5 @@ fn is_transferred_from_track(alloc: Global) -> bool {
 /// stored in the slots of clock 7 of lines 1 and 2, and the tick behind the last requests DSKBLK.
 #[test]
 fn words_behind_the_sync_word_are_stored(rt: HostRuntime) {
-    assert!(rt; is_transferred_from_track(rt.alloc()));
+    hold(&rt, is_transferred_from_track(rt.alloc()));
 }

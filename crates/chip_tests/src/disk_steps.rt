@@ -1,5 +1,6 @@
 //! Disk reading step by step.
 
+use crate::answers::hold;
 use crate::bench::Step::{Ask, Give, Poke, Skip, Still, Tick};
 use crate::bench::{DISK, Step, passes};
 use disk_dma::Disk;
@@ -40,7 +41,7 @@ fn the_second_write_starts(rt: HostRuntime) {
     ];
     let mut right = answers(rt.alloc(), ChipSize::Kib512, one);
     right &= answers(rt.alloc(), ChipSize::Kib512, two);
-    assert!(rt; right);
+    hold(&rt, right);
 }
 
 /// It is quiet up to the next word that arrives, at clocks 6 and 120; where a word waits behind its three clocks
@@ -63,7 +64,7 @@ fn a_disk_is_quiet_between_words(rt: HostRuntime) {
         Tick(13, DISK, 2),
         Still(1, DISK, 5),
     ];
-    assert!(rt; answers(rt.alloc(), ChipSize::Kib512, steps));
+    hold(&rt, answers(rt.alloc(), ChipSize::Kib512, steps));
 }
 
 /// It asks at clocks 7, 9 and 11 alone, and only while DMAEN and DSKEN are set.
@@ -81,7 +82,7 @@ fn three_clocks_are_the_disks(rt: HostRuntime) {
         Ask(7, 0x0200, None),
         Ask(7, 0x0010, None),
     ];
-    assert!(rt; answers(rt.alloc(), ChipSize::Kib512, steps));
+    hold(&rt, answers(rt.alloc(), ChipSize::Kib512, steps));
 }
 
 /// Whether a write of this word to DSKLEN ends a transfer.
@@ -108,7 +109,7 @@ fn a_write_ends_a_transfer(rt: HostRuntime) {
     for word in &[0x0000, 0x4001, 0x7fff, 0xc001] {
         right &= is_ended_by(rt.alloc(), *word);
     }
-    assert!(rt; right);
+    hold(&rt, right);
 }
 
 /// A write that only arms leaves a running transfer as it is.
@@ -126,7 +127,7 @@ fn arming_ends_nothing(rt: HostRuntime) {
         Give(0),
         Tick(8, DISK, 2),
     ];
-    assert!(rt; answers(rt.alloc(), ChipSize::Kib512, steps));
+    hold(&rt, answers(rt.alloc(), ChipSize::Kib512, steps));
 }
 
 /// A transfer of no words is done at the next tick.
@@ -139,7 +140,7 @@ fn no_words_are_done_at_once(rt: HostRuntime) {
         Tick(7, DISK, 0),
         Ask(7, DISK, None),
     ];
-    assert!(rt; answers(rt.alloc(), ChipSize::Kib512, steps));
+    hold(&rt, answers(rt.alloc(), ChipSize::Kib512, steps));
 }
 
 /// Three words can wait. A fourth is lost, and still wanted: the word after it takes its place.
@@ -162,7 +163,7 @@ fn a_lost_word_is_still_wanted(rt: HostRuntime) {
         Give(0),
         Tick(8, DISK, 2),
     ];
-    assert!(rt; answers(rt.alloc(), ChipSize::Kib512, steps));
+    hold(&rt, answers(rt.alloc(), ChipSize::Kib512, steps));
 }
 
 /// With WORDSYNC the word of DSKSYNC itself does not join, and requests DSKSYN.
@@ -180,7 +181,7 @@ fn the_sync_word_opens_the_way(rt: HostRuntime) {
         Tick(6, DISK, 0),
         Ask(7, DISK, Some(0)),
     ];
-    assert!(rt; answers(rt.alloc(), ChipSize::Kib512, steps));
+    hold(&rt, answers(rt.alloc(), ChipSize::Kib512, steps));
 }
 
 #[test]
@@ -194,7 +195,7 @@ fn without_wordsync_every_word_joins(rt: HostRuntime) {
         Tick(6, DISK, 0),
         Ask(7, DISK, Some(0)),
     ];
-    assert!(rt; answers(rt.alloc(), ChipSize::Kib512, steps));
+    hold(&rt, answers(rt.alloc(), ChipSize::Kib512, steps));
 }
 
 /// DSKSYN is requested at each match, whatever DMACON and DSKLEN say.
@@ -206,7 +207,7 @@ fn each_match_is_requested(rt: HostRuntime) {
         Tick(120, 0, 0x1000),
         Tick(120, 0, 0),
     ];
-    assert!(rt; answers(rt.alloc(), ChipSize::Kib512, steps));
+    hold(&rt, answers(rt.alloc(), ChipSize::Kib512, steps));
 }
 
 /// A start forgets that the word of DSKSYNC has passed.
@@ -221,7 +222,7 @@ fn a_start_waits_for_the_sync_word(rt: HostRuntime) {
         Tick(6, DISK, 0),
         Ask(7, DISK, None),
     ];
-    assert!(rt; answers(rt.alloc(), ChipSize::Kib512, steps));
+    hold(&rt, answers(rt.alloc(), ChipSize::Kib512, steps));
 }
 
 /// Whether the pointer goes from 7FFFE to one address, and behind a write of its high half to another.
@@ -248,5 +249,5 @@ fn goes_to(alloc: Global, size: ChipSize, second: u32, third: u32) -> bool {
 fn pointers_wrap_at_the_memory(rt: HostRuntime) {
     let mut right = goes_to(rt.alloc(), ChipSize::Kib512, 0, 0x5_0000);
     right &= goes_to(rt.alloc(), ChipSize::Mib1, 0x8_0000, 0xd_0000);
-    assert!(rt; right);
+    hold(&rt, right);
 }

@@ -2,6 +2,7 @@
 
 ghost use Rattle.std.specs.Prelude.{◌≡◌, length};
 
+use crate::answers::hold;
 use band_log::{Denise, Drawn, Event, Events, Job, Picture, Room, Run};
 use mem_versions::{Chip, MemReplay};
 use ocs_base::{Addr, Beam, Clock, OutOfMemory, Script};
@@ -26,7 +27,7 @@ fn a_run_has_what_it_is_made_of(rt: HostRuntime) -> Result<(), OutOfMemory> {
     let image = Vec::from_slice(alloc, &[7; 8])?;
     let run = Run::new(image, Script::new(alloc, true, 2), 20);
     is_shared(&run);
-    assert!(rt; is_made_of(&run, 2, true, 20));
+    hold(&rt, is_made_of(&run, 2, true, 20));
     Ok(())
 }
 
@@ -41,7 +42,7 @@ fn a_run_over_a_side_has_what_it_is_made_of(rt: HostRuntime) -> Result<(), OutOf
         Steady { bits: 0x0080 },
     );
     is_shared(&run);
-    assert!(rt; is_made_of(&run, 3, false, 313));
+    hold(&rt, is_made_of(&run, 3, false, 313));
     Ok(())
 }
 
@@ -68,7 +69,10 @@ fn events_keep_their_order(rt: HostRuntime) -> Result<(), OutOfMemory> {
     push_fetches(&mut events)?;
     let list = events.list();
     let clocks = [clock_of(list, 0), clock_of(list, 2)];
-    assert!(rt; [before, list.len()] == [0, 3] && clocks == [Some(3), Some(5)]);
+    hold(
+        &rt,
+        [before, list.len()] == [0, 3] && clocks == [Some(3), Some(5)],
+    );
     Ok(())
 }
 
@@ -85,7 +89,7 @@ fn keeps_bytes(room: &mut Room) -> bool {
 #[test]
 fn a_room_has_what_is_written(rt: HostRuntime) -> Result<(), OutOfMemory> {
     let mut room = Room::new(rt.alloc(), 6)?;
-    assert!(rt; keeps_bytes(&mut room));
+    hold(&rt, keeps_bytes(&mut room));
     Ok(())
 }
 
@@ -93,7 +97,10 @@ fn a_room_has_what_is_written(rt: HostRuntime) -> Result<(), OutOfMemory> {
 fn the_picture_state_at_reset(rt: HostRuntime) {
     let denise = Denise::reset();
     let bits = plane_bits(&denise.loads, 0, 6);
-    assert!(rt; denise.palette == [0; 32] && denise.armed == 0 && bits == 0);
+    hold(
+        &rt,
+        denise.palette == [0; 32] && denise.armed == 0 && bits == 0,
+    );
 }
 
 /// Whether what is drawn is of a run with bands of 20 lines, one event, and a room of 12 bytes.
@@ -107,7 +114,7 @@ fn is_small(drawn: &Drawn<NoSide>) -> bool {
 #[test]
 fn a_job_and_what_is_drawn_of_it(rt: HostRuntime) -> Result<(), OutOfMemory> {
     let job = small_job(rt.alloc())?;
-    assert!(rt; is_small(&Drawn { job, clx: 1 }));
+    hold(&rt, is_small(&Drawn { job, clx: 1 }));
     Ok(())
 }
 

@@ -2,6 +2,7 @@
 
 ghost use Rattle.std.specs.Prelude.{◌≡◌, ◌%◌};
 
+use crate::answers::hold;
 use crate::first_registers::one_word;
 use blitter_line::{BlitRegs, LineBlit, SlotAsk};
 use ocs_base::Addr;
@@ -85,7 +86,10 @@ fn line_of_four_points(rt: HostRuntime) {
     let found = zeros_and_slots(&mut blit, &mut memory);
     let words = [word_at(&memory, 0x40), word_at(&memory, 0x42)];
     let is_left = is_left_by_four_points(&blit.regs());
-    assert!(rt; found == ([true, false], 16) && words == [0xc000, 0x3000] && is_left);
+    hold(
+        &rt,
+        found == ([true, false], 16) && words == [0xc000, 0x3000] && is_left,
+    );
 }
 
 /// Whether these are the registers that the line of four points leaves.
@@ -122,7 +126,7 @@ fn second_point_along_y(rt: HostRuntime) {
         (8, 0x8000),
         (8, 0x8000),
     ];
-    assert!(rt; found == want);
+    hold(&rt, found == want);
 }
 
 #[test]
@@ -143,7 +147,7 @@ fn second_point_along_x(rt: HostRuntime) {
         (8, 0xc000),
         (8, 0x0001),
     ];
-    assert!(rt; found == want);
+    hold(&rt, found == want);
 }
 
 /// The word at 40 behind a line of four points without A, by BLTCON1 and the texture.
@@ -168,7 +172,7 @@ fn one_dot_a_row_and_texture(rt: HostRuntime) {
         first_word(0x0051, 0x0001),
         first_word(0x0051, 0xc000),
     ];
-    assert!(rt; found == [0xf000, 0x8000, 0xa000, 0x8000, 0x6000]);
+    hold(&rt, found == [0xf000, 0x8000, 0xa000, 0x8000, 0x6000]);
 }
 
 #[test]
@@ -180,5 +184,5 @@ fn unused_channels_rest(rt: HostRuntime) {
     let mut blit = LineBlit::start(&regs);
     let (zeros, slots) = zeros_and_slots(&mut blit, &mut memory);
     let words = [word_at(&memory, 0x40), blit.regs().cdat];
-    assert!(rt; slots == 16 && words == [0, 0x1234] && !zeros[1]);
+    hold(&rt, slots == 16 && words == [0, 0x1234] && !zeros[1]);
 }

@@ -2,6 +2,7 @@
 
 ghost use Rattle.std.specs.Prelude.{◌≡◌, ◌≤◌, ◌<◌, ◌%◌, length};
 
+use crate::answers::hold;
 use ocs_base::{Beam, Colour, Reg, System};
 use painter::Painter;
 use planes::Loads;
@@ -58,7 +59,10 @@ fn a_load_is_shown_on_its_line_alone(rt: HostRuntime) {
     let still = pixels_of(&mut painter, 72);
     painter.clear_line(&beam_at(0));
     let half = [BLACK, BLACK, RED, RED];
-    assert!(rt; [loaded, still, pixels_of(&mut painter, 72)] == [half, half, [BLACK; 4]]);
+    hold(
+        &rt,
+        [loaded, still, pixels_of(&mut painter, 72)] == [half, half, [BLACK; 4]],
+    );
 }
 
 /// A picture state of one plane whose COLOR01 is red, as `painter_with` has it.
@@ -97,7 +101,10 @@ fn a_picture_state_is_opened_and_closed(rt: HostRuntime) {
     let line = pixels_of(&mut Painter::open_line(&picture), 72);
     let closing = painter.close(Loads::new());
     let is_shown = [opened, line] == [[BLACK, BLACK, RED, RED], [BLACK; 4]];
-    assert!(rt; is_shown && closing.held == Colour(0x0f00) && closing.diwstop == 0xf4c1);
+    hold(
+        &rt,
+        is_shown && closing.held == Colour(0x0f00) && closing.diwstop == 0xf4c1,
+    );
 }
 
 #[test]
@@ -109,7 +116,10 @@ fn the_left_edge_of_the_window(rt: HostRuntime) {
         pixels_of(&mut painter, 64),
         pixels_of(&mut painter, 65),
     ];
-    assert!(rt; found == [[BLACK; 4], [BLACK, BLACK, RED, RED], [RED; 4]]);
+    hold(
+        &rt,
+        found == [[BLACK; 4], [BLACK, BLACK, RED, RED], [RED; 4]],
+    );
 }
 
 /// Whether a clock of the line is shown.
@@ -127,7 +137,7 @@ fn visible_clocks(rt: HostRuntime) {
         is_visible(&mut painter, 47),
         is_visible(&mut painter, 226),
     ];
-    assert!(rt; found == [false, true, true]);
+    hold(&rt, found == [false, true, true]);
 }
 
 #[test]
@@ -138,7 +148,7 @@ fn hold_and_modify(rt: HostRuntime) {
     painter.set(71, Reg { offset: 0x118 }, 0x8000);
     painter.set(71, Reg { offset: 0x110 }, 0x8000);
     let found = pixels_of(&mut painter, 72);
-    assert!(rt; found == [RED, RED, [255, 0, 17], [255, 0, 17]]);
+    hold(&rt, found == [RED, RED, [255, 0, 17], [255, 0, 17]]);
 }
 
 #[test]
@@ -147,7 +157,10 @@ fn half_brite(rt: HostRuntime) {
     painter.set(71, Reg { offset: 0x11a }, 0x8000);
     painter.set(71, Reg { offset: 0x110 }, 0x8000);
     let half = [7 * 17, 0, 0];
-    assert!(rt; pixels_of(&mut painter, 72) == [BLACK, BLACK, half, half]);
+    hold(
+        &rt,
+        pixels_of(&mut painter, 72) == [BLACK, BLACK, half, half],
+    );
 }
 
 /// The pixels where a bit of each of two playfields is shown, by BPLCON2.
@@ -162,7 +175,10 @@ fn playfields_by(con2: u16) -> [[u8; 3]; 4] {
 #[test]
 fn two_playfields(rt: HostRuntime) {
     let found = [playfields_by(0x00), playfields_by(0x40)];
-    assert!(rt; found == [[BLACK, BLACK, RED, RED], [BLACK, BLACK, GREEN, GREEN]]);
+    hold(
+        &rt,
+        found == [[BLACK, BLACK, RED, RED], [BLACK, BLACK, GREEN, GREEN]],
+    );
 }
 
 #[test]
@@ -170,7 +186,10 @@ fn high_resolution_and_scroll(rt: HostRuntime) {
     let mut painter = painter_with(0x9000, 0);
     painter.set(70, Reg { offset: 0x102 }, 0x000a);
     painter.set(70, Reg { offset: 0x110 }, 0x9000);
-    assert!(rt; pixels_of(&mut painter, 72) == [BLACK, BLACK, RED, BLACK]);
+    hold(
+        &rt,
+        pixels_of(&mut painter, 72) == [BLACK, BLACK, RED, BLACK],
+    );
 }
 
 /// A painter of one plane whose COLOR17 is green and COLOR21 blue.
@@ -217,7 +236,7 @@ fn is_green_for_eight_clocks(painter: &mut Painter) -> bool {
 fn a_sprite_shows_sixteen_columns(rt: HostRuntime) {
     let mut painter = painter_of_sprites(0);
     set_sprite(&mut painter, 0);
-    assert!(rt; is_green_for_eight_clocks(&mut painter));
+    hold(&rt, is_green_for_eight_clocks(&mut painter));
 }
 
 /// The pixels behind a write to a register at the start of the line.
@@ -240,7 +259,10 @@ fn a_sprite_is_armed_by_its_words(rt: HostRuntime) {
     let one = pixels_behind(&mut painter, 0x144, 0x4000);
     let armed = pixels_behind(&mut painter, 0x144, 0x8000);
     let green_half = [BLACK, BLACK, GREEN, GREEN];
-    assert!(rt; [before, disarmed, one, armed] == [[GREEN; 4], [BLACK; 4], [BLACK; 4], green_half]);
+    hold(
+        &rt,
+        [before, disarmed, one, armed] == [[GREEN; 4], [BLACK; 4], [BLACK; 4], green_half],
+    );
 }
 
 #[test]
@@ -260,7 +282,10 @@ fn a_clock_is_shown_again(rt: HostRuntime) {
         pixels_of(&mut painter, 60),
         pixels_of(&mut painter, 72),
     ];
-    assert!(rt; found == [[GREEN; 4], [BLACK; 4], [GREEN, GREEN, BLACK, BLACK]]);
+    hold(
+        &rt,
+        found == [[GREEN; 4], [BLACK; 4], [GREEN, GREEN, BLACK, BLACK]],
+    );
 }
 
 /// The pixels where sprite 0 meets a bit of plane 1, by BPLCON2.
@@ -278,7 +303,10 @@ fn priorities_of_sprites(rt: HostRuntime) {
         sprite_over_plane(0x08),
         sprite_over_plane(0x20),
     ];
-    assert!(rt; found == [[GREEN, GREEN, RED, RED], [GREEN; 4], [GREEN; 4]]);
+    hold(
+        &rt,
+        found == [[GREEN, GREEN, RED, RED], [GREEN; 4], [GREEN; 4]],
+    );
 }
 
 /// The pixels where sprites 0 and 1 meet, by SPR0CTL and SPR1CTL.
@@ -296,7 +324,7 @@ fn pair_by(even: u16, odd: u16) -> [[u8; 3]; 4] {
 #[test]
 fn an_attached_pair(rt: HostRuntime) {
     let found = [pair_by(0, 0x80), pair_by(0x80, 0)];
-    assert!(rt; found == [[BLUE; 4], [GREEN; 4]]);
+    hold(&rt, found == [[BLUE; 4], [GREEN; 4]]);
 }
 
 #[test]
@@ -304,7 +332,10 @@ fn no_sprite_outside_the_window(rt: HostRuntime) {
     let mut painter = painter_of_sprites(0);
     painter.set(0, Reg { offset: 0x08e }, 0x2c91);
     set_sprite(&mut painter, 0);
-    assert!(rt; pixels_of(&mut painter, 72) == [BLACK, BLACK, GREEN, GREEN]);
+    hold(
+        &rt,
+        pixels_of(&mut painter, 72) == [BLACK, BLACK, GREEN, GREEN],
+    );
 }
 
 /// The collisions of a clock in which sprite 0, another one and a bit of plane 1 meet, by CLXCON.
@@ -327,7 +358,7 @@ fn collisions_by_clxcon(rt: HostRuntime) {
         collisions_by(0x00c3, 3),
         collisions_by(0x20c3, 3),
     ];
-    assert!(rt; found == [0x0267, 0x0206, 0x0002, 0x0206]);
+    hold(&rt, found == [0x0267, 0x0206, 0x0002, 0x0206]);
 }
 
 #[test]
@@ -343,5 +374,5 @@ fn collisions_where_nothing_is_visible(rt: HostRuntime) {
         collisions_of(&mut painter, 20, 22),
         collisions_of(&mut painter, 22, 23),
     ];
-    assert!(rt; found == [0, 0x0200]);
+    hold(&rt, found == [0, 0x0200]);
 }

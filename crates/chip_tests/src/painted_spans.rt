@@ -2,6 +2,7 @@
 
 ghost use Rattle.std.specs.Prelude.{◌≡◌, ◌≤◌, ◌<◌, ◌+◌, ◌*◌};
 
+use crate::answers::hold;
 use ocs_base::{Beam, Colour, Reg, System};
 use painter::{FieldPlace, Painter};
 use planes::Loads;
@@ -53,7 +54,10 @@ fn a_load_is_shown_within_a_span(rt: HostRuntime) {
     let mut room = [1; 240];
     let end = show(&mut painter, 70, 12, &mut room, &mut 0);
     let is_shown = has_run(&room, 0, 10, 42, 255) && has_run(&room, 1, 0, 0, 0);
-    assert!(rt; end == 156 && is_shown && [room[11], room[156]] == [1, 1]);
+    hold(
+        &rt,
+        end == 156 && is_shown && [room[11], room[156]] == [1, 1],
+    );
 }
 
 /// The colour that is held behind a span of so many clocks, of which pixel 18 is the last that is red.
@@ -69,7 +73,7 @@ fn held_behind(count: u16) -> Colour
 #[test]
 fn the_last_pixel_of_a_span_is_held(rt: HostRuntime) {
     let found = [held_behind(6), held_behind(9), held_behind(10)];
-    assert!(rt; found == [Colour(0x0f00), Colour(0x0f00), Colour(0)]);
+    hold(&rt, found == [Colour(0x0f00), Colour(0x0f00), Colour(0)]);
 }
 
 /// Whether the first twelve pixels of the room, from place 12 on, have no red, and all green.
@@ -87,7 +91,7 @@ fn the_visible_clocks_of_a_border(rt: HostRuntime) {
     painter.set(0, Reg { offset: 0x180 }, 0x00f0);
     let mut room = [1; 240];
     let end = show(&mut painter, 40, 10, &mut room, &mut 0);
-    assert!(rt; end == 48 && is_green(&room) && room[48] == 1);
+    hold(&rt, end == 48 && is_green(&room) && room[48] == 1);
 }
 
 /// The collisions of a span of so many clocks.
@@ -110,7 +114,7 @@ fn playfields_meet_late_in_a_span(rt: HostRuntime) {
         collisions_within(5),
         collisions_within(8),
     ];
-    assert!(rt; found == [0, 1, 1]);
+    hold(&rt, found == [0, 1, 1]);
 }
 
 /// Whether the first sixteen pixels of the room, from place 12 on, are red, and pixels 10 and 11 have some
@@ -138,7 +142,7 @@ fn a_span_in_hold_and_modify(rt: HostRuntime) {
     painter.set(71, Reg { offset: 0x110 }, 0x8000);
     let mut room = [1; 240];
     let end = show(&mut painter, 70, 4, &mut room, &mut 0);
-    assert!(rt; end == 60 && is_red_with_blue(&room));
+    hold(&rt, end == 60 && is_red_with_blue(&room));
 }
 
 #[test]
@@ -151,5 +155,8 @@ fn a_sprite_within_a_span(rt: HostRuntime) {
     painter.set(0, Reg { offset: 0x144 }, 0xffff);
     let mut room = [1; 240];
     let end = show(&mut painter, 70, 12, &mut room, &mut 0);
-    assert!(rt; end == 156 && has_run(&room, 0, 0, 0, 0) && has_run(&room, 1, 8, 40, 255));
+    hold(
+        &rt,
+        end == 156 && has_run(&room, 0, 0, 0, 0) && has_run(&room, 1, 8, 40, 255),
+    );
 }

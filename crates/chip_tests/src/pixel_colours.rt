@@ -3,6 +3,7 @@
 ghost use Rattle.std.specs.Prelude.{◌≤◌};
 ghost use Rattle.std.specs.List.{All};
 
+use crate::answers::hold;
 use ocs_base::Colour;
 use priority_ham::{colour, plane_count};
 use sprites::SpritePixel;
@@ -30,7 +31,7 @@ fn hold_and_modify(rt: HostRuntime) {
         let pixel = colour(0x6800, 0, bits, None, Colour(held), &palette());
         right &= pixel.shown.0 == want && pixel.held.0 == want;
     }
-    assert!(rt; right);
+    hold(&rt, right);
 }
 
 #[test]
@@ -46,7 +47,7 @@ fn half_brite_and_plain(rt: HostRuntime) {
         let pixel = colour(con0, 0, bits, None, Colour(0), &palette());
         right &= pixel.shown.0 == want;
     }
-    assert!(rt; right);
+    hold(&rt, right);
 }
 
 #[test]
@@ -62,7 +63,7 @@ fn two_playfields(rt: HostRuntime) {
         let pixel = colour(0x2400, con2, bits, None, Colour(0), &palette());
         right &= pixel.shown.0 == want;
     }
-    assert!(rt; right);
+    hold(&rt, right);
 }
 
 #[test]
@@ -83,7 +84,7 @@ fn sprites_and_playfields(rt: HostRuntime) {
         let pixel = colour(con0, con2, bits, Some(sprite), Colour(0), &palette());
         right &= pixel.shown.0 == want;
     }
-    assert!(rt; right);
+    hold(&rt, right);
 }
 
 #[test]
@@ -99,5 +100,5 @@ fn numbers_of_planes(rt: HostRuntime) {
     ] {
         right &= plane_count(con0) == want;
     }
-    assert!(rt; right);
+    hold(&rt, right);
 }

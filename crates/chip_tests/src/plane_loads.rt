@@ -2,6 +2,7 @@
 
 ghost use Rattle.std.specs.Prelude.{◌≤◌};
 
+use crate::answers::hold;
 use planes::{Loads, plane_bits, plane_span};
 
 /// What plane 1 shows around a position in low resolution, one before it to two behind it, where its second
@@ -29,7 +30,7 @@ fn a_word_with_and_without_scroll(rt: HostRuntime) {
         bits_around(0x00f0, 290),
         bits_around(0x0001, 292),
     ];
-    assert!(rt; found == [[0, 1, 1, 0]; 4]);
+    hold(&rt, found == [[0, 1, 1, 0]; 4]);
 }
 
 #[test]
@@ -55,7 +56,7 @@ fn planes_of_both_parities(rt: HostRuntime) {
     ] {
         right &= plane_bits(&loads, x, count) == want;
     }
-    assert!(rt; right);
+    hold(&rt, right);
 }
 
 #[test]
@@ -66,7 +67,7 @@ fn high_resolution(rt: HostRuntime) {
     for (x, want) in [(303, 0), (304, 1), (305, 0), (319, 1), (320, 0)] {
         right &= plane_bits(&loads, x, 4) == want;
     }
-    assert!(rt; right);
+    hold(&rt, right);
 }
 
 /// The word f0f0 from position 290 on, in low resolution: eight positions of ones and zeros by turns.
@@ -76,7 +77,10 @@ fn a_span_of_positions(rt: HostRuntime) {
     loads.load(71, &[0xf0f0, 0, 0, 0, 0, 0], 0x0000, false);
     let mut bits = [7; 20];
     plane_span(&loads, 286, 1, &mut bits);
-    assert!(rt; bits == [0, 0, 0, 0, 1, 1, 1, 1, 1, 1, 1, 1, 0, 0, 0, 0, 0, 0, 0, 0]);
+    hold(
+        &rt,
+        bits == [0, 0, 0, 0, 1, 1, 1, 1, 1, 1, 1, 1, 0, 0, 0, 0, 0, 0, 0, 0],
+    );
 }
 
 /// Whether 32 positions from one on are given at once as they are given one by one.
@@ -100,7 +104,10 @@ fn a_span_is_its_positions(rt: HostRuntime) {
     let mut loads = Loads::new();
     loads.load(63, &[0; 6], 0x000f, false);
     loads.load(71, &[0x8000, 0, 0, 0, 0, 0], 0x000f, false);
-    assert!(rt; is_each_position(&loads, 288) && is_each_position(&loads, 320));
+    hold(
+        &rt,
+        is_each_position(&loads, 288) && is_each_position(&loads, 320),
+    );
 }
 
 #[test]
@@ -113,7 +120,7 @@ fn a_later_load_hides_an_earlier(rt: HostRuntime) {
     loads.clear();
     is_shared(&copy);
     let found = [hidden, plane_bits(&loads, 76, 6), plane_bits(&copy, 49, 6)];
-    assert!(rt; found == [0, 0, 0b10_1010]);
+    hold(&rt, found == [0, 0, 0b10_1010]);
 }
 
 fn is_shared<T: Send + Sync>(_value: &T) {}

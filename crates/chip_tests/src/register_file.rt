@@ -1,5 +1,6 @@
 //! Each public call once; the words are worked by hand from the manual's registers.
 
+use crate::answers::hold;
 use crate::written_registers::registers;
 use ocs_base::{Addr, Beam, Reg};
 use reg_file::{Effect, Live, Regs};
@@ -44,7 +45,7 @@ fn has_effects(regs: &mut Regs) -> bool {
 
 #[test]
 fn effects(rt: HostRuntime) {
-    assert!(rt; has_effects(&mut Regs::reset()));
+    hold(&rt, has_effects(&mut Regs::reset()));
 }
 
 /// A register's offset, the word that is written, whether a blit runs, and the word that is kept.
@@ -84,7 +85,10 @@ fn keeps_words(regs: &mut Regs) -> bool {
 #[test]
 fn kept_words(rt: HostRuntime) {
     let mut regs = Regs::reset();
-    assert!(rt; keeps_words(&mut regs) && regs.word(Reg::masked(0x180)) == 0x0abc);
+    hold(
+        &rt,
+        keeps_words(&mut regs) && regs.word(Reg::masked(0x180)) == 0x0abc,
+    );
 }
 
 /// A register's offset, and what it reads as while a blit runs and at rest.
@@ -116,7 +120,7 @@ fn is_read(regs: &Regs) -> bool {
 #[test]
 fn reads(rt: HostRuntime) {
     let regs = registers(&[(0x096, 0x8240), (0x180, 0x0fff), (0x09c, 0x8020)]);
-    assert!(rt; is_read(&regs));
+    hold(&rt, is_read(&regs));
 }
 
 /// What a read sees at a place of the beam; `set` is LOF, the blitter's busy and BZERO.
@@ -155,7 +159,7 @@ fn pointers(rt: HostRuntime) {
         regs.pointer(Reg::masked(0x080)).raw(),
     ];
     let is_set = words == [0x0006, 0xfffe] && behind == [0x6_fffe, 0x5_1234];
-    assert!(rt; poked == [0x5_1234, 0x1_8000] && is_set);
+    hold(&rt, poked == [0x5_1234, 0x1_8000] && is_set);
 }
 
 /// With 1 MiB of chip memory a pointer keeps four bits of its high word, and moves beyond 512 KiB.
@@ -170,5 +174,8 @@ fn pointers_of_1_mib(rt: HostRuntime) {
     regs.set_pointer(Reg::masked(0x13c), Addr::wide(0xe_fffe));
     let word = regs.word(Reg::masked(0x13c));
     let behind = regs.pointer(Reg::masked(0x13c)).raw();
-    assert!(rt; word == 0x000e && [poked, behind] == [0xd_1234, 0xe_fffe]);
+    hold(
+        &rt,
+        word == 0x000e && [poked, behind] == [0xd_1234, 0xe_fffe],
+    );
 }

@@ -2,6 +2,7 @@
 
 ghost use Rattle.std.specs.Prelude.{◌≤◌};
 
+use crate::answers::hold;
 use sprite_rows::{SpriteRows, collisions, playfield_worth};
 use sprites::SpritePixel;
 
@@ -28,7 +29,10 @@ fn words_run_for_sixteen_positions(rt: HostRuntime) {
         colour_at(&rows, 116, 0),
     ];
     rows.clear();
-    assert!(rt; found == [0, 21, 0, 0, 23, 0] && rows.front(100, 0).is_none());
+    hold(
+        &rt,
+        found == [0, 21, 0, 0, 23, 0] && rows.front(100, 0).is_none(),
+    );
 }
 
 #[test]
@@ -44,7 +48,7 @@ fn words_begin_again_before_their_end(rt: HostRuntime) {
         colour_at(&rows, 115, 1),
         colour_at(&rows, 116, 1),
     ];
-    assert!(rt; found == [25, 26, 24, 24, 0]);
+    hold(&rt, found == [25, 26, 24, 24, 0]);
 }
 
 #[test]
@@ -70,7 +74,7 @@ fn the_sprite_in_front(rt: HostRuntime) {
     ] {
         right &= rows.front(x, attached) == Some(SpritePixel { pair, colour });
     }
-    assert!(rt; right);
+    hold(&rt, right);
 }
 
 #[test]
@@ -92,7 +96,7 @@ fn pairs_that_are_present(rt: HostRuntime) {
     ] {
         right &= rows.present(x, clxcon) == present;
     }
-    assert!(rt; right);
+    hold(&rt, right);
 }
 
 #[test]
@@ -114,5 +118,5 @@ fn collisions_of_pairs(rt: HostRuntime) {
         playfield_worth(0x0041, 0b00_0000),
         playfield_worth(0x0082, 0b00_0000),
     ];
-    assert!(rt; right && worths == [34, 32, 2]);
+    hold(&rt, right && worths == [34, 32, 2]);
 }

@@ -1,5 +1,6 @@
 //! Owners of slots, by the order of those that ask, worked by hand.
 
+use crate::answers::hold;
 use bus_slots::{Owner, SlotState, slot_owner};
 
 /// A slot of clock 6, which is none of refresh, that nobody asks for.
@@ -52,7 +53,7 @@ fn each_before_the_next(rt: HostRuntime) {
         Owner::Audio { channel: 2 },
         Owner::Plane { plane: 6 },
     ];
-    assert!(rt; owners == want && last_owners(&mut slot) == LAST_OWNERS);
+    hold(&rt, owners == want && last_owners(&mut slot) == LAST_OWNERS);
 }
 
 /// Who has a slot that a sprite and those behind it ask for.
@@ -93,7 +94,10 @@ fn refresh_by_the_clock_alone(rt: HostRuntime) {
         owner_at(224),
         owner_at(226),
     ];
-    assert!(rt; refresh == [Owner::Refresh; 4] && free == [Owner::Free; 6]);
+    hold(
+        &rt,
+        refresh == [Owner::Refresh; 4] && free == [Owner::Free; 6],
+    );
 }
 
 /// Who has a slot that the blitter or the processor asks for.
@@ -125,5 +129,5 @@ fn processor_and_blitter_change_places(rt: HostRuntime) {
         Owner::Blitter,
         Owner::Processor,
     ];
-    assert!(rt; found == want);
+    hold(&rt, found == want);
 }

@@ -1,5 +1,6 @@
 //! A sample that is played over some lines.
 
+use crate::answers::hold;
 use crate::bench::{Lines, ZERO, clock};
 use ocs_base::Reg;
 use paula_audio::Paula;
@@ -30,7 +31,7 @@ static SIX_LINES: Lines = Lines {
 #[test]
 fn a_word_is_fetched_once_for_two_bytes(rt: HostRuntime) {
     let mut paula = one_word_channel();
-    assert!(rt; SIX_LINES.are_met(&mut paula, 6, ZERO, 0x40c0));
+    hold(&rt, SIX_LINES.are_met(&mut paula, 6, ZERO, 0x40c0));
 }
 
 /// What sounds at clocks 0 and 114 of a line, while the word at 8 is 40C0.
@@ -70,5 +71,5 @@ fn bytes_sound_for_their_period(rt: HostRuntime) {
         sounds_of(&mut paula, 4),
         sounds_of(&mut paula, 5),
     ];
-    assert!(rt; found == SOUNDS);
+    hold(&rt, found == SOUNDS);
 }

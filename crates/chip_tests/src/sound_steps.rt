@@ -1,5 +1,6 @@
 //! Audio channels step by step.
 
+use crate::answers::hold;
 use crate::bench::Step::{Ask, Give, Poke, Quiet, Skip, Still, Tick};
 use crate::bench::{ALL, Step, ZERO, passes};
 use ocs_base::ChipSize;
@@ -62,7 +63,7 @@ fn a_word_begins_behind_its_slot(rt: HostRuntime) {
     let mut right = heard(before) == Some((0, 0));
     right &= heard(at_its_slot) == Some((0, 0));
     right &= byte_at(0x4000, 64) == Some((0x20, 0));
-    assert!(rt; right);
+    hold(&rt, right);
 }
 
 /// What is heard of the word 40C0, each half of which sounds for nine clocks, so many clocks behind the first
@@ -85,7 +86,7 @@ fn halves_begin_among_clocks_passed_over(rt: HostRuntime) {
     let found = [heard_past(0), heard_past(8), heard_past(9), heard_past(100)];
     let high = Some((0x20, 0));
     let low = Some((0xe0, 0));
-    assert!(rt; found == [high, high, low, low]);
+    hold(&rt, found == [high, high, low, low]);
 }
 
 /// It is quiet up to its own clock where it holds no word, and past it where it holds one up to there; behind
@@ -110,7 +111,7 @@ fn a_channel_is_quiet_but_for_its_own_clock(rt: HostRuntime) {
         Skip(20, ZERO, 80),
         Still(1, ZERO, 12),
     ];
-    assert!(rt; answers(ChipSize::Kib512, steps));
+    hold(&rt, answers(ChipSize::Kib512, steps));
 }
 
 /// A request that is due is made as the channel goes off; then the channel begins anew.
@@ -129,7 +130,7 @@ fn a_request_outlives_its_channel(rt: HostRuntime) {
         Tick(16, ZERO, 0x80),
         Tick(17, ZERO, 0),
     ];
-    assert!(rt; answers(ChipSize::Kib512, steps));
+    hold(&rt, answers(ChipSize::Kib512, steps));
 }
 
 /// What is heard of channel 0 behind a tick with this DMACON.
@@ -154,7 +155,7 @@ fn a_channel_that_is_off_is_silent(rt: HostRuntime) {
         heard_with(0x0001),
         heard_with(0x020e),
     ];
-    assert!(rt; found == [Some((0, 0)); 4]);
+    hold(&rt, found == [Some((0, 0)); 4]);
 }
 
 /// After the last word the pointer and the length are loaded again, and the next tick requests AUD0.
@@ -173,7 +174,7 @@ fn a_sample_begins_anew(rt: HostRuntime) {
         Tick(14, ZERO, 0x80),
         Ask(13, ZERO, Some(8)),
     ];
-    assert!(rt; answers(ChipSize::Kib512, steps));
+    hold(&rt, answers(ChipSize::Kib512, steps));
 }
 
 /// A word goes to the channel whose clock the last tick was, and to none where it was no channel's.
@@ -198,7 +199,7 @@ fn words_go_by_the_clock(rt: HostRuntime) {
     ];
     let mut right = answers(ChipSize::Kib512, to_one);
     right &= answers(ChipSize::Kib512, to_none);
-    assert!(rt; right);
+    hold(&rt, right);
 }
 
 /// A channel that is off or holds a word takes none: its pointer stays.
@@ -223,7 +224,7 @@ fn a_word_too_many_is_lost(rt: HostRuntime) {
     ];
     let mut right = answers(ChipSize::Kib512, held);
     right &= answers(ChipSize::Kib512, off);
-    assert!(rt; right);
+    hold(&rt, right);
 }
 
 /// What is heard of the channel with this first register, clock, bit of DMACON and of INTREQ.
@@ -250,7 +251,7 @@ fn channels_are_apart(rt: HostRuntime) {
         heard_of(0x0d0, 19, 0x0208, 0x400),
     ];
     let (left, right) = (Some((0x20, 0)), Some((0, 0x20)));
-    assert!(rt; found == [left, right, right, left]);
+    hold(&rt, found == [left, right, right, left]);
 }
 
 /// Bits 6 to 0 of the volume count, and above 64 they are 64.
@@ -268,7 +269,7 @@ fn volumes_end_at_64(rt: HostRuntime) {
     ] {
         right &= byte_at(0x4000, *volume) == Some((*left, 0));
     }
-    assert!(rt; right);
+    hold(&rt, right);
 }
 
 /// Levels and half their sums are rounded down: -1 at half the volume is -1, and so is half of it.
@@ -285,7 +286,7 @@ fn levels_are_rounded_down(rt: HostRuntime) {
     ] {
         right &= byte_at(*sample, *volume) == Some((*left, 0));
     }
-    assert!(rt; right);
+    hold(&rt, right);
 }
 
 /// A length of 0 is of 65,536 words, and a period of 0 of 65,536 clocks.
@@ -301,7 +302,7 @@ fn nothing_means_65536(rt: HostRuntime) {
     let mut right = answers(ChipSize::Kib512, long);
     right &= heard_behind(65_535) == Some((0x20, 0));
     right &= heard_behind(65_536) == Some((0xe0, 0));
-    assert!(rt; right);
+    hold(&rt, right);
 }
 
 /// What is heard of the word 40C0 with a period of 0, behind so many clocks.
@@ -348,5 +349,5 @@ fn pointers_wrap_at_the_memory(rt: HostRuntime) {
     let mut right = goes_on_at(ChipSize::Kib512, 0);
     right &= goes_on_at(ChipSize::Mib1, 0x8_0000);
     right &= answers(ChipSize::Mib1, end);
-    assert!(rt; right);
+    hold(&rt, right);
 }

@@ -2,6 +2,7 @@
 
 ghost use Rattle.std.specs.Prelude.{◌<◌};
 
+use crate::answers::hold;
 use crate::written_registers::registers;
 use ocs_base::{Addr, Beam, Reg};
 use reg_file::Regs;
@@ -70,7 +71,7 @@ fn lines_of_a_sprite(rt: HostRuntime) {
     for (v, pos, ctl, controls, words) in &LINES {
         right &= read_on(*v, *pos, *ctl) == (*controls, *words);
     }
-    assert!(rt; right);
+    hold(&rt, right);
 }
 
 /// Whether a sprite asks for a control word there.
@@ -94,7 +95,10 @@ fn slots_and_pointers(rt: HostRuntime) {
     let pointers = [regs.word(Reg::masked(0x122)), regs.word(Reg::masked(0x13e))];
     let is_first = is_control(first, 0, false, Addr::at(0x1000));
     let is_last = is_control(last, 7, true, Addr::at(0));
-    assert!(rt; [none, one, rest] == [0, 1, 15] && is_first && is_last && pointers == [0x1004, 2]);
+    hold(
+        &rt,
+        [none, one, rest] == [0, 1, 15] && is_first && is_last && pointers == [0x1004, 2],
+    );
 }
 
 /// A bitplane takes the first slot: the kind is decided there, and the second slot reads the pair's
@@ -114,7 +118,10 @@ fn a_slot_that_a_bitplane_takes(rt: HostRuntime) {
         second: true,
         at: Addr::at(0x2000),
     };
-    assert!(rt; words == 1 && last == Some(want) && regs.word(Reg::masked(0x126)) == 0x2002);
+    hold(
+        &rt,
+        words == 1 && last == Some(want) && regs.word(Reg::masked(0x126)) == 0x2002,
+    );
 }
 
 /// How many control words are read on line 25, by words written to DMACON before sprite 0's first slot and
@@ -132,7 +139,7 @@ fn controls_by(before: u16, after: u16) -> u16 {
 #[test]
 fn dma_changes_between_the_slots(rt: HostRuntime) {
     let found = [controls_by(0x8220, 0x0020), controls_by(0x0200, 0x8220)];
-    assert!(rt; found == [1, 14]);
+    hold(&rt, found == [1, 14]);
 }
 
 /// For how many clocks from clock `h` of line `v` on, at most 200, no sprite needs a slot, with this word
@@ -167,5 +174,5 @@ fn clocks_without_a_read(rt: HostRuntime) {
         quiet(0x8220, 26, 32),
         quiet(0x8220, 29, 1),
     ];
-    assert!(rt; found == [20, 0, 1, 200, 200, 28, 1, 200, 200]);
+    hold(&rt, found == [20, 0, 1, 200, 200, 28, 1, 200, 200]);
 }

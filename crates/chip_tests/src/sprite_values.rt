@@ -1,5 +1,6 @@
 //! Values and colours of sprites, worked by hand.
 
+use crate::answers::hold;
 use sprites::{Runs, SpritePixel, front};
 
 #[test]
@@ -17,7 +18,10 @@ fn words_run_for_sixteen_positions(rt: HostRuntime) {
     runs.start(3, 130, 0x0000, 0x8000);
     is_shared(&runs);
     let again = [runs.value(3, 130), runs.value(3, 143)];
-    assert!(rt; found == [1, 0, 0, 3, 0] && other == 0 && again == [2, 0]);
+    hold(
+        &rt,
+        found == [1, 0, 0, 3, 0] && other == 0 && again == [2, 0],
+    );
 }
 
 #[test]
@@ -34,7 +38,7 @@ fn the_sprite_in_front(rt: HostRuntime) {
     ] {
         right &= front(&values, attached) == Some(SpritePixel { pair, colour });
     }
-    assert!(rt; right);
+    hold(&rt, right);
 }
 
 fn is_shared<T: Send + Sync>(_value: &T) {}
