@@ -27,8 +27,8 @@ use Rattle.serial_bands.proofs.Drawing.{drawing_begins}
 use Rattle.band_draw.specs.declared.band_painter.BandPainter.{BandPainter}
 use Rattle.band_draw.specs.BandPainter.{IsBandPainterOf, opened}
 use Rattle.band_draw.proofs.Sounding.{sound_kept, sound_opening}
-use Rattle.band_draw.specs.DueCode.{IsLeft}
-use Rattle.band_draw.specs.ProgressCode.{IsSource, IsAt}
+use Rattle.band_draw.specs.code.Due.{IsLeft}
+use Rattle.band_draw.specs.code.Progress.{IsSource, IsAt}
 
 all_after : (events : List At) → AreFrom 0 events
 all_after [] = tt

@@ -17,7 +17,7 @@ use Rattle.serial_model.specs.Registers.{is_picture_register}
 use Rattle.serial_model.specs.declared.picture.Touch.{Touch}
 use Rattle.serial_model.specs.declared.picture.Touch.TheVariants.{Set}
 use Rattle.serial_model.proofs.EventLaws.{IsQueue, due_events-more, due_events-later, due_events-none, AreFrom-le, IsQueue-end}
-use Rattle.band_draw.specs.DueCode.{IsLeft, IsLeftEarlier, is_set, before_if, due_if, sets_if, IsCounted}
+use Rattle.band_draw.specs.code.Due.{IsLeft, IsLeftEarlier, is_set, before_if, due_if, sets_if, IsCounted}
 
 first_of : List At → Option At
 first_of [] = None

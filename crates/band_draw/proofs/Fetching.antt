@@ -26,9 +26,9 @@ use Rattle.serial_bands.specs.Spans.{IsPlaneIfAny, IsQuiet, AreUntouched, fetche
 use Rattle.serial_bands.proofs.Drawing.{words_are_found}
 use Rattle.serial_bands.proofs.Spans.{quiet_joined, quiet_once, quiet_nowhere, untouched_quiet, untouched_before_first}
 use Rattle.serial_bands.proofs.Spans.{fetch_is_next, fetched_same, fetched_once}
-use Rattle.band_draw.specs.AheadCode.{IsPlaced, IsFetched, first_clock}
+use Rattle.band_draw.specs.code.Ahead.{IsPlaced, IsFetched, first_clock}
 use Rattle.band_draw.specs.BandPainter.{IsBandPainterOf, Paints}
-use Rattle.band_draw.specs.ProgressCode.{IsSource, IsSamePlace, IsReached}
+use Rattle.band_draw.specs.code.Progress.{IsSource, IsSamePlace, IsReached}
 use Rattle.band_draw.specs.declared.band_painter.BandPainter.{BandPainter}
 use Rattle.band_draw.specs.declared.progress.Progress.{Progress}
 use Rattle.band_draw.proofs.Turning.{nexts, same_next}

@@ -13,7 +13,7 @@ use Rattle.serial_bands.specs.EventReading.{touch_of_event, bus_touch_of}
 use Rattle.serial_bands.specs.RightJob.{bus_events}
 use Rattle.band_draw.specs.declared.band_painter.BandPainter.{BandPainter}
 use Rattle.band_draw.specs.BandPainter.{IsBandPainterOf, Paints}
-use Rattle.band_draw.specs.TouchedCode.{touched_by_events}
+use Rattle.band_draw.specs.code.Touched.{touched_by_events}
 use Rattle.band_draw.specs.Given.{IsGiven}
 
 -- the bytes of a clock that is visible, and of one that is not

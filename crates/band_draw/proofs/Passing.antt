@@ -27,11 +27,11 @@ use Rattle.serial_bands.proofs.Drawing.{drawing_goes_on}
 use Rattle.serial_bands.proofs.NextClock.{events_by_place}
 use Rattle.serial_bands.proofs.Ors.{or_assoc}
 use Rattle.serial_bands.proofs.Spans.{drawing_goes_on_quietly}
-use Rattle.band_draw.specs.AheadCode.{IsFetched}
+use Rattle.band_draw.specs.code.Ahead.{IsFetched}
 use Rattle.band_draw.specs.BandPainter.{IsBandPainterOf}
-use Rattle.band_draw.specs.DueCode.{IsLeft, IsLeftEarlier}
+use Rattle.band_draw.specs.code.Due.{IsLeft, IsLeftEarlier}
 use Rattle.band_draw.specs.Given.{IsSpanGiven}
-use Rattle.band_draw.specs.ProgressCode.{IsSource, IsSamePlace, IsReached, IsFilled, IsAt, IsShown}
+use Rattle.band_draw.specs.code.Progress.{IsSource, IsSamePlace, IsReached, IsFilled, IsAt, IsShown}
 use Rattle.band_draw.specs.declared.band_painter.BandPainter.{BandPainter}
 use Rattle.band_draw.specs.declared.progress.Progress.{Progress}
 use Rattle.band_draw.proofs.Fetching.{on_line, placed, place_on_line, stays_on_line}

@@ -23,7 +23,7 @@ use Rattle.serial_bands.specs.Run.{RunValue, beam_at, run_memory}
 use Rattle.serial_bands.specs.Clock.{opening_at, displayed_at, closing_at, picture_at, sets_at, bus_touch_at, write_alone, fetch_alone}
 use Rattle.serial_model.specs.StandsFor.{StandsFor}
 use Rattle.serial_bands.proofs.NextClock.{next_opening, displayed_is_step, closing_has_fetch}
-use Rattle.band_draw.specs.SoundCode.{IsSound}
+use Rattle.band_draw.specs.code.Sound.{IsSound}
 
 sound_if : (b : Bool) (p q : Denise) → IsSound p → IsSound q → IsSound (if b then p else q)
 sound_if true p q one two = one

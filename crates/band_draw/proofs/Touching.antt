@@ -8,7 +8,7 @@ use Rattle.serial_bands.specs.DrawnTo.{touch_by_address}
 use Rattle.serial_bands.specs.EventReading.{touch_of_event}
 use Rattle.band_draw.specs.declared.band_painter.BandPainter.{BandPainter}
 use Rattle.band_draw.specs.BandPainter.{IsBandPainterOf, Paints}
-use Rattle.band_draw.specs.TouchedCode.{touched_by_events, HaveTouched}
+use Rattle.band_draw.specs.code.Touched.{touched_by_events, HaveTouched}
 
 one_later : (n : ℕ) → suc n ≡ n + 1
 one_later n = omega arith

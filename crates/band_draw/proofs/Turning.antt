@@ -36,13 +36,13 @@ use Rattle.serial_bands.proofs.Drawing.{words_are_found, touch_is_next, drawing_
 use Rattle.serial_bands.proofs.NextClock.{bytes_are_of_step, next_in_band, events_by_place}
 use Rattle.serial_bands.proofs.Reading.{script_comes_first, script_events_are_sets}
 use Rattle.band_draw.specs.declared.progress.Progress.{Progress}
-use Rattle.band_draw.specs.DueCode.{IsLeft}
+use Rattle.band_draw.specs.code.Due.{IsLeft}
 use Rattle.band_draw.specs.Given.{IsGiven, filled_after}
 use Rattle.band_draw.specs.declared.band_painter.BandPainter.{BandPainter}
 use Rattle.band_draw.specs.BandPainter.{IsBandPainterOf, Paints}
-use Rattle.band_draw.specs.ProgressCode.{IsSource, IsSamePlace, IsReached, IsFilled, IsAt, IsShown, IsEnded}
-use Rattle.band_draw.specs.SoundCode.{IsSound}
-use Rattle.band_draw.specs.TouchedCode.{touched_by, touched_by_events}
+use Rattle.band_draw.specs.code.Progress.{IsSource, IsSamePlace, IsReached, IsFilled, IsAt, IsShown, IsEnded}
+use Rattle.band_draw.specs.code.Sound.{IsSound}
+use Rattle.band_draw.specs.code.Touched.{touched_by, touched_by_events}
 use Rattle.band_draw.proofs.Sounding.{sound_opening, sound_kept, sound_in_order, sound_after, sound_touched}
 
 -- how many bytes there are

@@ -1,8 +1,4 @@
-pub mod SoundCode
+pub mod code
 pub mod BandPainter
-pub mod TouchedCode
-pub mod DueCode
 pub mod Given
-pub mod ProgressCode
-pub mod AheadCode
 pub mod Direct

@@ -8,8 +8,8 @@ ghost use Rattle.serial_bands.specs.Run.{run_over};
 ghost use Rattle.serial_bands.specs.Spans.{IsBehind};
 ghost use Rattle.serial_bands.specs.declared.event.Event.TheVariants.{Plane as PlaneFetch};
 ghost use Rattle.band_draw.specs.BandPainter.{Paints};
-ghost use Rattle.band_draw.specs.ProgressCode.{IsSource};
-ghost use Rattle.band_draw.specs.AheadCode.{IsPlaced, IsFetched, first_clock, sprite_by};
+ghost use Rattle.band_draw.specs.code.Progress.{IsSource};
+ghost use Rattle.band_draw.specs.code.Ahead.{IsPlaced, IsFetched, first_clock, sprite_by};
 
 use crate::progress::Progress;
 use band_log::{Event, Run};

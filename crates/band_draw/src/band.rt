@@ -8,7 +8,7 @@ ghost use Rattle.serial_bands.specs.declared.event.Event.{Event as EventValue};
 ghost use Rattle.serial_bands.specs.RightJob.{IsRightJob as AreRightParts};
 ghost use Rattle.serial_bands.specs.Run.{run_over};
 ghost use Rattle.band_log.specs.Right.{IsRightJob, IsRightDrawn};
-ghost use Rattle.band_draw.specs.ProgressCode.{IsSource, IsAt, IsEnded};
+ghost use Rattle.band_draw.specs.code.Progress.{IsSource, IsAt, IsEnded};
 
 use crate::band_painter::BandPainter;
 use crate::due::{due_from, first_from};

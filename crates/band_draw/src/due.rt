@@ -4,7 +4,7 @@ ghost use Rattle.std.specs.Prelude.{◌≡◌, ◌≤◌, ◌<◌, ◌+◌, ◌^
 ghost use Rattle.serial_model.specs.Beam.{IsOnScreen, place_of};
 ghost use Rattle.serial_model.specs.Events.{due_events, touches_of, is_due as due_at};
 ghost use Rattle.ocs_base.specs.Limits.{time_of, order_of};
-ghost use Rattle.band_draw.specs.DueCode.{IsLeft, IsLeftEarlier, is_set as sets, before_if, due_if, sets_if};
+ghost use Rattle.band_draw.specs.code.Due.{IsLeft, IsLeftEarlier, is_set as sets, before_if, due_if, sets_if};
 
 use band_log::Cursor;
 use ocs_base::{Act, At, Beam, time_order};

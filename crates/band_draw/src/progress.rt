@@ -2,7 +2,7 @@
 
 ghost use Rattle.std.specs.Prelude.{◌≡◌, ◌≤◌, ◌<◌, ◌+◌, ◌*◌, ◌^◌, ℕ, List, length, take, drop, true, if◌then◌else◌};
 ghost use Rattle.serial_bands.specs.Run.{run_over};
-ghost use Rattle.band_draw.specs.ProgressCode.{IsSource, IsFilled, IsAt, IsShown, IsEnded};
+ghost use Rattle.band_draw.specs.code.Progress.{IsSource, IsFilled, IsAt, IsShown, IsEnded};
 
 use crate::ahead::is_sprite_near;
 use crate::band_painter::BandPainter;

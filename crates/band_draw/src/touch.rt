@@ -6,7 +6,7 @@ ghost use Rattle.serial_bands.specs.DrawnTo.{touch_by_address};
 ghost use Rattle.serial_bands.specs.EventReading.{touch_of_event, bus_touch_of, is_write_at as is_write};
 ghost use Rattle.serial_bands.specs.RightJob.{bus_events};
 ghost use Rattle.band_draw.specs.BandPainter.{Paints};
-ghost use Rattle.band_draw.specs.TouchedCode.{touched_by};
+ghost use Rattle.band_draw.specs.code.Touched.{touched_by};
 
 use crate::band_painter::BandPainter;
 use band_log::Event;

@@ -3,6 +3,6 @@ pub mod RowCode
 pub mod Spans
 pub mod Pointing
 pub mod Data
-pub mod Copies
+pub mod code
 pub mod PathCode
 pub mod Walk

@@ -4,7 +4,7 @@ ghost use Rattle.std.specs.Prelude.{◌≡◌, ◌≤◌, ◌<◌, ◌+◌, ℕ,
 ghost use Rattle.blit_words.specs.Blit.{width_of, minterms_of, shift_of_a};
 ghost use Rattle.blit_words.specs.BlitWords.{masked_word, minterm_of, shifted_input};
 ghost use Rattle.blit_words.specs.AreaBlit.{is_filling as fills_of, code_of};
-ghost use Rattle.blitter_area.specs.Copies.{IsCopy};
+ghost use Rattle.blitter_area.specs.code.Copies.{IsCopy};
 
 use blit_words::{BlitRegs, Minterms, WordAsk, fill_word, is_set, shift_input};
 

@@ -25,8 +25,8 @@ use Rattle.machine.specs.AheadCode.{IsLeftToProcessor, IsLeftThen, IsClockAtOnce
 use Rattle.machine.proofs.AskedLaws.{asks_alone}
 use Rattle.machine.proofs.BusLaws.{place_in_line}
 use Rattle.machine.proofs.StepLaws.{Makes-advanced}
-use Rattle.clock_loop.specs.BusRun.{HasAskedFor, AdvancesInLine, StaysBehind, EndsAlone}
-use Rattle.clock_loop.specs.BusRun.{CanMakeClock, HasMadeClock, HasMadeClockInPart, GoesOnBus, CanMakeClocks, HasRunOnBus, HasRunInPart}
+use Rattle.clock_loop.specs.code.BusRun.{HasAskedFor, AdvancesInLine, StaysBehind, EndsAlone}
+use Rattle.clock_loop.specs.code.BusRun.{CanMakeClock, HasMadeClock, HasMadeClockInPart, GoesOnBus, CanMakeClocks, HasRunOnBus, HasRunInPart}
 use Rattle.foreground.specs.Clock.{Rises}
 use Rattle.foreground.specs.Fore.{ForeOf, ForeValue, CanGo, GivesPart, looked_up}
 use Rattle.foreground.specs.Steps.{reads_more}

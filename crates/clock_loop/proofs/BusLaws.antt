@@ -22,13 +22,13 @@ use Rattle.serial_model.specs.Made.{touch_of}
 use Rattle.serial_model.specs.declared.bus.Made.{Made}
 use Rattle.serial_model.specs.declared.bus.Made.TheVariants as M
 use Rattle.serial_model.specs.declared.picture.Touch.{Touch}
-use Rattle.clock_loop.specs.BusRun.{IsOpenForBus, StaysOnBus, StaysBehind, GoesOnBus, HasRunOnBus}
+use Rattle.clock_loop.specs.code.BusRun.{IsOpenForBus, StaysOnBus, StaysBehind, GoesOnBus, HasRunOnBus}
 use Rattle.foreground.specs.Fore.{ForeOf, ForeValue, IsUnderway, over, is_done}
 use Rattle.foreground.specs.Steps.{BeginsClock}
 use Rattle.foreground.proofs.BeginLaws.{begins_within}
 use Rattle.clock_loop.proofs.LineLaws.{no_band_place, no_read_due}
 use Rattle.clock_loop.proofs.RunToLaws.{runs_none, no_reads}
-use Rattle.clock_loop.specs.LineCode.{AreInLine}
+use Rattle.clock_loop.specs.code.Line.{AreInLine}
 use Rattle.machine.specs.Machine.{IsSamePlace}
 
 -- whether a blit is under way stays where two looks at it tell the same

@@ -12,9 +12,9 @@ use Rattle.chip_set.specs.Chips.{CanAsk, IsBlitAsk, kept_wish, late_ask}
 use Rattle.chip_set.proofs.BusLaws.{claim_kept}
 use Rattle.band_log.specs.Raster.{RasterValue}
 use Rattle.machine.specs.MachineStepsCode.{AsksInTime}
-use Rattle.clock_loop.specs.BusRun.{IsWithinLine, CanMakeClock, HasMadeClock, HasMadeClockInPart, GoesOnBus, CanMakeClocks}
-use Rattle.clock_loop.specs.BusRun.{HasRunOnBus, HasRunInPart, HasAskedLate}
-use Rattle.clock_loop.specs.LineCode.{AreInLine}
+use Rattle.clock_loop.specs.code.BusRun.{IsWithinLine, CanMakeClock, HasMadeClock, HasMadeClockInPart, GoesOnBus, CanMakeClocks}
+use Rattle.clock_loop.specs.code.BusRun.{HasRunOnBus, HasRunInPart, HasAskedLate}
+use Rattle.clock_loop.specs.code.Line.{AreInLine}
 use Rattle.clock_loop.specs.RunTo.{RisesInSome}
 use Rattle.foreground.specs.AccessCode.{CanAccess}
 use Rattle.foreground.specs.Clock.{Rises}

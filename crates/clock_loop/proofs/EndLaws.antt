@@ -29,10 +29,10 @@ use Rattle.picture_log.specs.declared.log.Log.{Log}
 use Rattle.machine.specs.Machine.{MachineValue, Makes, machine_over}
 use Rattle.machine.specs.declared.machine.Machine.{Machine}
 use Rattle.machine.specs.AheadCode.{IsAccessAtOnce, IsMadeAtOnce, IsUnseenAtOnce}
-use Rattle.clock_loop.specs.BusRun.{IsWithinLine, HasAskedFor, HasServed, HasMadeClock, HasMadeClockInPart, StaysBehind, GoesOnBus}
+use Rattle.clock_loop.specs.code.BusRun.{IsWithinLine, HasAskedFor, HasServed, HasMadeClock, HasMadeClockInPart, StaysBehind, GoesOnBus}
 use Rattle.clock_loop.specs.declared.clock.Access.{Access}
 use Rattle.clock_loop.specs.declared.clock.Access.TheVariants as X
-use Rattle.clock_loop.specs.BusRun.{IsTurned, AdvancesInLine, EndsBeside, EndsItsClock, EndsAlone, ServesAsk, is_made, stays_left}
+use Rattle.clock_loop.specs.code.BusRun.{IsTurned, AdvancesInLine, EndsBeside, EndsItsClock, EndsAlone, ServesAsk, is_made, stays_left}
 use Rattle.foreground.specs.AccessCode.{CanAccess}
 use Rattle.foreground.specs.Fore.{ForeOf, ForeValue, over}
 use Rattle.foreground.specs.Steps.{EndsClock, KeepsClock, MakesAskedAccess, HasAskedNow, reads_more}

@@ -42,11 +42,11 @@ use Rattle.quiet_clocks.proofs.FetchClocks.{fetch_makes, planes_have, fetch_span
 use Rattle.quiet_clocks.proofs.PlainClock.{before_plain}
 use Rattle.quiet_clocks.proofs.QuietClocks.{clocks_of_run}
 use Rattle.foreground.specs.Clock.{IsAt}
-use Rattle.clock_loop.specs.FetchesCode.{with_fetch, with_fetches, clocks_of_planes}
+use Rattle.clock_loop.specs.code.Fetches.{with_fetch, with_fetches, clocks_of_planes}
 use Rattle.foreground.specs.Fore.{ForeValue, HasScript, IsUnderway, is_done}
 use Rattle.picture_log.specs.Log.{IsLogOf, IsShown, with_waiting, with_script_touches, with_access_touch}
 use Rattle.machine.specs.Machine.{MachineValue, IsMachineOf}
-use Rattle.clock_loop.specs.QuietCode.{HasPassed}
+use Rattle.clock_loop.specs.code.Quiet.{HasPassed}
 use Rattle.clock_loop.specs.RunTo.{RunsOn}
 use Rattle.picture_log.specs.declared.log.Log.{Log}
 use Rattle.machine.specs.declared.machine.Machine.{Machine}

@@ -20,7 +20,7 @@ use Rattle.band_log.specs.Raster.{RasterValue}
 use Rattle.chip_set.specs.Chips.{IsChipsOf}
 use Rattle.foreground.specs.Clock.{Rises}
 use Rattle.foreground.specs.Fore.{ForeOf, ForeValue, HasScript, IsUnderway, CanGo}
-use Rattle.clock_loop.specs.LineCode.{AreInLine}
+use Rattle.clock_loop.specs.code.Line.{AreInLine}
 use Rattle.picture_log.specs.Log.{with_script_touches}
 use Rattle.machine.specs.Machine.{MachineValue, MakesQuietly, IsSamePlace}
 use Rattle.clock_loop.specs.RunTo.{HasRunOn, RunsOn, reads_from, looked_from, RisesIn, RisesInSome}

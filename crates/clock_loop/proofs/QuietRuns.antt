@@ -7,7 +7,7 @@ use Rattle.serial_bands.specs.BusReads.{bus_reads}
 use Rattle.band_log.specs.Raster.{RasterValue}
 use Rattle.foreground.specs.Clock.{HasGiven, Rises}
 use Rattle.foreground.specs.Fore.{ForeValue, IsUnderway, CanGo, GivesPart}
-use Rattle.clock_loop.specs.QuietCode.{HasPassed}
+use Rattle.clock_loop.specs.code.Quiet.{HasPassed}
 use Rattle.clock_loop.specs.RunTo.{HasRunOn, RunsOn, reads_from, looked_from, RisesIn, RisesInSome}
 use Rattle.foreground.proofs.AdvanceLaws.{given_then}
 use Rattle.foreground.proofs.BeginLaws.{begins_no_part}

@@ -15,7 +15,7 @@ use Rattle.chip_set.specs.Chips.{WorkingChips}
 use Rattle.chip_set.specs.Quiet.{fetching_in, with_fetching}
 use Rattle.picture_log.specs.declared.log.Log.{Log}
 use Rattle.machine.specs.declared.machine.Machine.{Machine}
-use Rattle.clock_loop.specs.FetchesCode.{with_fetch, with_fetches, clocks_of_planes}
+use Rattle.clock_loop.specs.code.Fetches.{with_fetch, with_fetches, clocks_of_planes}
 
 -- ---- the clocks of a unit
 

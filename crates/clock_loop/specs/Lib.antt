@@ -1,5 +1,2 @@
-pub mod BusRun
+pub mod code
 pub mod RunTo
-pub mod QuietCode
-pub mod FetchesCode
-pub mod LineCode

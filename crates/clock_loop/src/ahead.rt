@@ -4,8 +4,8 @@
 ghost use Rattle.std.specs.Prelude.{◌≡◌, ◌≤◌, ◌<◌, ◌-◌, ◌+◌, true, false, Some, None, IfOk, OnOk, OnErr};
 ghost use Rattle.band_log.specs.Raster.{RasterValue};
 ghost use Rattle.cpu_bus.specs.Beside.{BeginsAnew};
-ghost use Rattle.clock_loop.specs.BusRun.{CanMakeClock, HasMadeClock, HasMadeClockInPart, GoesOnBus};
-ghost use Rattle.clock_loop.specs.BusRun.{CanMakeClocks, HasRunOnBus, HasRunInPart};
+ghost use Rattle.clock_loop.specs.code.BusRun.{CanMakeClock, HasMadeClock, HasMadeClockInPart, GoesOnBus};
+ghost use Rattle.clock_loop.specs.code.BusRun.{CanMakeClocks, HasRunOnBus, HasRunInPart};
 ghost use Rattle.foreground.specs.Fore.{over, CanGo};
 
 use crate::clock::process_alone;

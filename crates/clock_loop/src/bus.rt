@@ -5,11 +5,11 @@ ghost use Rattle.std.specs.Prelude.{◌≡◌, ◌<◌, ◌≤◌, ◌+◌, ◌-
 ghost use Rattle.band_log.specs.Raster.{RasterValue};
 ghost use Rattle.chip_set.specs.BusCode.{LeaveBus};
 ghost use Rattle.chip_set.specs.BusCode.{IsUnitKept};
-ghost use Rattle.clock_loop.specs.BusRun.{IsOpenForBus, GoesOnBus, AreOnBus, HasRunOnBus, HasRunInPart};
-ghost use Rattle.clock_loop.specs.BusRun.{CanMakeClock, HasMadeClock, HasMadeClockInPart, IsWithinLine};
-ghost use Rattle.clock_loop.specs.BusRun.{HasAskedLate, is_made, stays_left};
+ghost use Rattle.clock_loop.specs.code.BusRun.{IsOpenForBus, GoesOnBus, AreOnBus, HasRunOnBus, HasRunInPart};
+ghost use Rattle.clock_loop.specs.code.BusRun.{CanMakeClock, HasMadeClock, HasMadeClockInPart, IsWithinLine};
+ghost use Rattle.clock_loop.specs.code.BusRun.{HasAskedLate, is_made, stays_left};
 ghost use Rattle.foreground.specs.Fore.{ForeValue, over, CanGo, IsUnderway};
-ghost use Rattle.clock_loop.specs.LineCode.{AreInLine};
+ghost use Rattle.clock_loop.specs.code.Line.{AreInLine};
 
 use crate::clock::{Access, plane_clock};
 use crate::line::clocks_before;

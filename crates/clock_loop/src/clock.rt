@@ -17,9 +17,9 @@ ghost use Rattle.chip_set.specs.BusCode.{LeavesToPlanes, KeepsBus, CiasRest, is_
 ghost use Rattle.chip_set.specs.Chips.{kept_wish};
 ghost use Rattle.machine.specs.AheadCode.{goes_alone};
 ghost use Rattle.foreground.specs.AccessCode.{CanAccess};
-ghost use Rattle.clock_loop.specs.BusRun.{StaysOnBus, ServesAsk, EndsItsClock, HasAskedFor, IsWithinLine};
-ghost use Rattle.clock_loop.specs.BusRun.{EndsAlone, EndsBeside};
-ghost use Rattle.clock_loop.specs.BusRun.{is_made, stays_left};
+ghost use Rattle.clock_loop.specs.code.BusRun.{StaysOnBus, ServesAsk, EndsItsClock, HasAskedFor, IsWithinLine};
+ghost use Rattle.clock_loop.specs.code.BusRun.{EndsAlone, EndsBeside};
+ghost use Rattle.clock_loop.specs.code.BusRun.{is_made, stays_left};
 ghost use Rattle.foreground.specs.Fore.{ForeValue, over};
 ghost use Rattle.foreground.specs.Steps.{MakesAskedAccess, AccessesPart, KeepsClock, EndsClock, reads_more};
 

@@ -11,8 +11,8 @@ ghost use Rattle.chip_set.specs.Quiet.{AreAtRest, fetching_in, with_fetching};
 ghost use Rattle.band_log.specs.Raster.{RasterValue};
 ghost use Rattle.picture_log.specs.Log.{with_waiting};
 ghost use Rattle.foreground.specs.Fore.{over, IsUnderway, is_done};
-ghost use Rattle.clock_loop.specs.QuietCode.{HasPassed};
-ghost use Rattle.clock_loop.specs.FetchesCode.{with_fetch, with_fetches, clocks_of_planes, HasFetched};
+ghost use Rattle.clock_loop.specs.code.Quiet.{HasPassed};
+ghost use Rattle.clock_loop.specs.code.Fetches.{with_fetch, with_fetches, clocks_of_planes, HasFetched};
 
 use crate::lookout::note_look;
 use chip_set::{Chips, FetchRules};

@@ -9,8 +9,8 @@ ghost use Rattle.foreground.specs.Clock.{Rises};
 ghost use Rattle.machine.specs.Machine.{IsSamePlace};
 ghost use Rattle.foreground.specs.Fore.{over, CanGo, IsUnderway, Advances, GivesPart, is_done, looked_up};
 ghost use Rattle.clock_loop.specs.RunTo.{RunsOn, RisesIn, RisesInSome};
-ghost use Rattle.clock_loop.specs.BusRun.{HasRunOnBus, HasRunInPart};
-ghost use Rattle.clock_loop.specs.LineCode.{AreInLine};
+ghost use Rattle.clock_loop.specs.code.BusRun.{HasRunOnBus, HasRunInPart};
+ghost use Rattle.clock_loop.specs.code.Line.{AreInLine};
 
 use crate::bus::run_on_bus;
 use crate::lookout::{is_due, note_look};

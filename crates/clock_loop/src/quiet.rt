@@ -6,7 +6,7 @@ ghost use Rattle.serial_model.specs.Events.{due_events};
 ghost use Rattle.band_log.specs.Raster.{RasterValue};
 ghost use Rattle.foreground.specs.Script.{IsLeft};
 ghost use Rattle.foreground.specs.Fore.{over, HasScript, IsUnderway, is_done};
-ghost use Rattle.clock_loop.specs.QuietCode.{HasPassed};
+ghost use Rattle.clock_loop.specs.code.Quiet.{HasPassed};
 
 use crate::fetches::pass_fetches;
 use crate::lookout::{BEHIND_SPRITES, WORTH, is_due, note_look};

@@ -6,8 +6,8 @@ ghost use Rattle.band_log.specs.Raster.{RasterValue};
 ghost use Rattle.chip_set.specs.BusCode.{LeavesToPlanes, LeavesBeside, KeepsBeside, IsClaim, CiasRest, IsUnitKept};
 ghost use Rattle.chip_set.specs.BusCode.{ask_beside_planes};
 ghost use Rattle.chip_set.specs.Chips.{CanAsk, IsBlitAsk, kept_wish, late_ask};
-ghost use Rattle.clock_loop.specs.BusRun.{EndsItsClock, HasAskedLate, IsWithinLine, stays_left};
-ghost use Rattle.clock_loop.specs.BusRun.{CanMakeClocks, HasRunOnBus, HasRunInPart};
+ghost use Rattle.clock_loop.specs.code.BusRun.{EndsItsClock, HasAskedLate, IsWithinLine, stays_left};
+ghost use Rattle.clock_loop.specs.code.BusRun.{CanMakeClocks, HasRunOnBus, HasRunInPart};
 ghost use Rattle.foreground.specs.Fore.{ForeValue, over, CanGo};
 ghost use Rattle.machine.specs.MachineStepsCode.{AsksInTime};
 

@@ -4,7 +4,7 @@ use Rattle.band_board.specs.declared.view.View.{View}
 use Rattle.band_board.specs.View.{after_join}
 use Rattle.band_board.specs.Steps.{band_count, IsAllIn, HoldsEachOnce}
 use Rattle.band_board.proofs.Counted.{band_count-each_once}
-use Rattle.crew.specs.TotalsCode.{IsCounted, AreTotals}
+use Rattle.crew.specs.code.Totals.{IsCounted, AreTotals}
 
 band_count-more : (joined : List (ℕ × List ℕ)) (hand : ℕ) (done : List ℕ) → band_count (joined ++ (hand, done) ∷ []) ≡ band_count joined + length done
 band_count-more [] hand done = omega arith

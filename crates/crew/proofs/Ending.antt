@@ -8,7 +8,7 @@ use Rattle.band_board.specs.declared.view.View.{View}
 use Rattle.band_board.specs.View.{new_front, after_close, after_join}
 use Rattle.band_board.specs.Steps.{IsAllIn, HoldsEachOnce}
 use Rattle.crew.specs.Parts.{outstanding_of, seen_of, mark_of}
-use Rattle.crew.specs.TotalsCode.{AreTotals}
+use Rattle.crew.specs.code.Totals.{AreTotals}
 use Rattle.crew.specs.Crewed.{HasHired, AreWorkersOf}
 use Rattle.std.specs.Arc.{arc_value}
 use Rattle.std.specs.Fn.{Mut, Called, CalledAtMut}

@@ -2,6 +2,5 @@ pub mod Bands
 pub mod Hands
 pub mod Parts
 pub mod Crew
-pub mod TasksCode
-pub mod TotalsCode
+pub mod code
 pub mod Crewed

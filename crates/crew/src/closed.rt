@@ -5,7 +5,7 @@ ghost use Rattle.std.specs.Arc.{arc_value};
 ghost use Rattle.band_board.specs.View.{after_join};
 ghost use Rattle.band_board.specs.Steps.{band_count};
 ghost use Rattle.band_board.specs.Answers.{front_view, hand_view, IsFrontOf, IsHandOf, IsFree};
-ghost use Rattle.crew.specs.TotalsCode.{IsCounted, AreTotals};
+ghost use Rattle.crew.specs.code.Totals.{IsCounted, AreTotals};
 
 use crate::bands::Bands;
 use band_board::{Board, Front, Hand};

@@ -1,6 +1,6 @@
 //! A closure that a thread runs where one can be made.
 
-ghost use Rattle.crew.specs.TasksCode.{WillKeep};
+ghost use Rattle.crew.specs.code.Tasks.{WillKeep};
 
 use std::thread;
 use std::thread::{Promise, PromisedHandle, Threads};

@@ -1,3 +1,3 @@
 pub mod Track
-pub mod QueueCode
+pub mod code
 pub mod Disk

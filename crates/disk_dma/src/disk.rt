@@ -6,7 +6,7 @@ ghost use Rattle.disk_dma.specs.Disk.{after_end, after_begin, after_length, with
 ghost use Rattle.disk_dma.specs.Disk.{is_end as ends_transfer, is_taken as takes_word, join_if_taken, after_arrival};
 ghost use Rattle.disk_dma.specs.Disk.{is_sync_at_head as is_sync_word, is_arrival as arrives, is_disk_clock as disk_clock};
 ghost use Rattle.disk_dma.specs.Disk.{has_disk_dma, ask_first as first_ask, with_length, with_queue, after_store};
-ghost use Rattle.disk_dma.specs.QueueCode.{words_in};
+ghost use Rattle.disk_dma.specs.code.Queue.{words_in};
 ghost use Rattle.disk_dma.specs.Track.{is_track};
 ghost use Rattle.irq_cia.specs.Bits.{set_or_clear as set_or_clear_of};
 ghost use Rattle.ocs_base.specs.Sizes.{is_chip_size, size_of_bytes};
@@ -75,7 +75,7 @@ pub struct Disk {
 impl Model for Disk {
     ghost use Rattle.std.specs.Prelude.{◌<◌, ◌/◌, length as length_of};
     ghost use Rattle.disk_dma.specs.Disk.{DiskValue};
-    ghost use Rattle.disk_dma.specs.QueueCode.{words_in};
+    ghost use Rattle.disk_dma.specs.code.Queue.{words_in};
 
     ghost Value = { DiskValue };
 

@@ -1,7 +1,7 @@
 //! The words that wait for a slot.
 
 ghost use Rattle.std.specs.Prelude.{◌≡◌, true, [], ◌∷◌, ◌++◌, length, nat_lt, if◌then◌else◌};
-ghost use Rattle.disk_dma.specs.QueueCode.{words_in};
+ghost use Rattle.disk_dma.specs.code.Queue.{words_in};
 
 /// At most three words, the first to leave first (the queue's length is this project's profile).
 #[derive(Clone, Copy)]

@@ -27,7 +27,7 @@ use Rattle.rewind_loop.proofs.LineLaws.{IsLater, clocks_on, least_last}
 use Rattle.files_run.specs.Audio.{audio_text, is_sampled, sampled, IsHeard, with_audio, grown_audio, MayHaveMade, MayHaveGrown}
 use Rattle.ocs_words.specs.Order.{IsFourth, IsFourthName}
 use Rattle.files_run.specs.Prefix.{IsPartOf, LeavesPrefixesOver, LeavesFiles}
-use Rattle.files_run.specs.RestCode.{WritesRest, WritesPart}
+use Rattle.files_run.specs.code.Rest.{WritesRest, WritesPart}
 use Rattle.files_run.specs.Run.{HasFilesOver, HasAllFiles}
 use Rattle.files_run.specs.UnderwayCode.{AreUnsampled, CanRun, IsFresh, IsWritten, EndsFromStart}
 use Rattle.files_run.specs.declared.audio.Recording.{Recording}

@@ -1,6 +1,6 @@
 pub mod Audio
 pub mod PlaceCode
 pub mod Prefix
-pub mod RestCode
+pub mod code
 pub mod Run
 pub mod UnderwayCode

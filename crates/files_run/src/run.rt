@@ -17,7 +17,7 @@ ghost use Rattle.out_files.specs.Places.{LeavesPlace, WritesFiles};
 ghost use Rattle.files_run.specs.PlaceCode.{WritesRun};
 ghost use Rattle.files_run.specs.Prefix.{LeavesFiles};
 ghost use Rattle.files_run.specs.Run.{HasAllFiles};
-ghost use Rattle.files_run.specs.RestCode.{MayHaveCreated, WritesRest, WritesPart};
+ghost use Rattle.files_run.specs.code.Rest.{MayHaveCreated, WritesRest, WritesPart};
 ghost use Rattle.files_run.specs.UnderwayCode.{AreUnsampled, fore_of, run_of, CanRun, Runs, IsStopped, IsFresh, Ends, IsCut, EndsFromStart, IsCutFromStart, IsOfSameRun};
 
 use crate::audio::{Recording, clocks_to_sample, create_audio, listen, write_audio};

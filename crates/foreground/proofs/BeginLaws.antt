@@ -18,7 +18,7 @@ use Rattle.band_log.specs.Raster.{RasterValue}
 use Rattle.picture_log.specs.Log.{IsLogOf, with_begin, with_waiting}
 use Rattle.band_gather.specs.Gathered.{Fits}
 use Rattle.foreground.specs.Clock.{HasBegun, Rises}
-use Rattle.foreground.specs.CutsCode.{StandsBefore, HasEnded, EndsAtLine, EndsPart}
+use Rattle.foreground.specs.code.Cuts.{StandsBefore, HasEnded, EndsAtLine, EndsPart}
 use Rattle.foreground.specs.Fore.{ForeValue, IsUnderway, is_done, looked_up}
 use Rattle.machine.specs.Machine.{MachineValue, IsMachineOf}
 use Rattle.foreground.specs.Steps.{HasBegunClock, BeginsClock, BeginsPart, HasReadByScript, ReadsBits, ReadsPart, StandsBeforeRead}

@@ -14,7 +14,7 @@ use Rattle.picture_log.specs.Log.{IsLogOf, IsCut, IsJobOf, blank_after}
 use Rattle.band_gather.specs.Gathered.{Fits, HasGathered, HasGatheredPart, HasGatheredTo, HasSubmitted, GathersAll, GathersPart, Submits}
 use Rattle.picture_log.specs.Closing.{IsClosing, IsClockBefore}
 use Rattle.foreground.specs.Clock.{AreLeftFrom, HasGiven, HasGivenPart, Rises}
-use Rattle.foreground.specs.CutsCode.{StandsBefore, HasEndedAll, EndsAtLine, EndsAtRead, EndsAll, EndsPart, EndsPartAtRead}
+use Rattle.foreground.specs.code.Cuts.{StandsBefore, HasEndedAll, EndsAtLine, EndsAtRead, EndsAll, EndsPart, EndsPartAtRead}
 use Rattle.foreground.specs.Fore.{ForeValue}
 use Rattle.picture_log.specs.declared.band.OpenBand.{OpenBand}
 use Rattle.picture_log.specs.declared.log.Log.{Log}

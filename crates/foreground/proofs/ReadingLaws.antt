@@ -24,7 +24,7 @@ use Rattle.band_log.specs.Raster.{RasterValue}
 use Rattle.picture_log.specs.Log.{IsEnding}
 use Rattle.band_gather.specs.Gathered.{Fits, HasGatheredTo, GathersAll, GathersPart}
 use Rattle.foreground.specs.Clock.{access_state}
-use Rattle.foreground.specs.CutsCode.{StandsAtEnd, HasEnded, EndsAtRead, EndsPartAtRead}
+use Rattle.foreground.specs.code.Cuts.{StandsAtEnd, HasEnded, EndsAtRead, EndsPartAtRead}
 use Rattle.picture_log.specs.Closing.{IsClockBefore}
 use Rattle.foreground.specs.Fore.{ForeValue, IsUnderway}
 use Rattle.foreground.specs.Steps.{IsLoggedBefore, StandsBeforeRead, ReadsBits, ReadsPart, BeginsPart, AccessesPart}

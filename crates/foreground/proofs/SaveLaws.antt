@@ -19,7 +19,7 @@ use Rattle.serial_bands.proofs.Gathering.{gathered_more}
 use Rattle.band_log.specs.Raster.{RasterValue}
 use Rattle.foreground.specs.Checkpoint.{CheckpointOf, IsCheckpointOf, checkpoint_of, log_from}
 use Rattle.foreground.specs.Clock.{AreLeftFrom}
-use Rattle.foreground.specs.CutsCode.{StandsAtEnd, HasEnded, EndsAtRead, EndsPartAtRead}
+use Rattle.foreground.specs.code.Cuts.{StandsAtEnd, HasEnded, EndsAtRead, EndsPartAtRead}
 use Rattle.foreground.specs.Fore.{ForeOf, ForeValue, IsUnderway, GivesPart, over}
 use Rattle.band_gather.specs.Gathered.{Fits, HasGatheredTo, GathersAll, outstanding_from, tinted_range}
 use Rattle.picture_log.specs.Log.{IsLogOf, waiting_list}

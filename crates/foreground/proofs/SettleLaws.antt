@@ -11,7 +11,7 @@ use Rattle.serial_bands.proofs.WholeRun.{end_begins}
 use Rattle.band_log.specs.Raster.{RasterValue}
 use Rattle.picture_log.specs.Log.{IsLogOf}
 use Rattle.band_gather.specs.Gathered.{Fits, HasGatheredTo, GathersAll, GathersPart}
-use Rattle.foreground.specs.CutsCode.{StandsAtEnd, HasEndedAll, EndsAll, EndsPartAtRead}
+use Rattle.foreground.specs.code.Cuts.{StandsAtEnd, HasEndedAll, EndsAll, EndsPartAtRead}
 use Rattle.foreground.specs.Fore.{ForeValue, IsUnderway, is_done, HasSettled, Settles, GivesPart}
 use Rattle.machine.specs.Machine.{IsMachineOf}
 use Rattle.picture_log.specs.declared.log.Log.{Log}

@@ -2,7 +2,7 @@ pub mod Script
 pub mod Clock
 pub mod Slot
 pub mod Fore
-pub mod CutsCode
+pub mod code
 pub mod Steps
 pub mod AccessCode
 pub mod Checkpoint

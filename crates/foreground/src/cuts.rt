@@ -6,7 +6,7 @@ ghost use Rattle.serial_bands.specs.Run.{state_of, beam_at};
 ghost use Rattle.serial_bands.specs.Bands.{begins};
 ghost use Rattle.serial_bands.specs.BusReads.{latched_words};
 ghost use Rattle.foreground.specs.Clock.{Rises};
-ghost use Rattle.foreground.specs.CutsCode.{StandsBefore, StandsAtEnd, EndsAtLine, EndsAtRead, EndsAll, EndsPart, EndsPartAtRead};
+ghost use Rattle.foreground.specs.code.Cuts.{StandsBefore, StandsAtEnd, EndsAtLine, EndsAtRead, EndsAll, EndsPart, EndsPartAtRead};
 ghost use Rattle.picture_log.specs.Closing.{IsClockBefore};
 ghost use Rattle.foreground.specs.Fore.{over};
 ghost use Rattle.foreground.specs.Steps.{KeepsClock};

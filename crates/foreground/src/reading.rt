@@ -1,7 +1,7 @@
 //! Reads of CLXDAT: the collision bits of all bands up to the read are gathered.
 
 ghost use Rattle.std.specs.Prelude.{◌≡◌, ◌-◌, true, false, IfOk, IsErr, OnOk, OnErr};
-ghost use Rattle.foreground.specs.CutsCode.{ReadsClxdat};
+ghost use Rattle.foreground.specs.code.Cuts.{ReadsClxdat};
 ghost use Rattle.foreground.specs.Fore.{over};
 ghost use Rattle.foreground.specs.Steps.{StandsBeforeRead, ReadsBits, ReadsPart};
 

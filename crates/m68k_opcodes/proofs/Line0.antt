@@ -2,7 +2,7 @@
 use Rattle.std.proofs.Common.{◌≡◌, ℕ, true, ◌/◌, refl, arith}
 use Rattle.m68k_opcodes.specs.Row.{joined}
 use Rattle.m68k_opcodes.specs.Table.{groups}
-use Rattle.m68k_opcodes.specs.LinesCode as L
+use Rattle.m68k_opcodes.specs.code.Lines as L
 use Rattle.m68k_opcodes.proofs.Table.{window, line_agrees, Whole, whole}
 
 test_0 : line_agrees 0 L.immediates_and_bits (joined (window 0 2 groups)) ≡ true

@@ -2,7 +2,7 @@
 use Rattle.std.proofs.Common.{◌≡◌, ℕ, true, ◌/◌, refl, arith}
 use Rattle.m68k_opcodes.specs.Row.{joined}
 use Rattle.m68k_opcodes.specs.Table.{groups}
-use Rattle.m68k_opcodes.specs.LinesCode as L
+use Rattle.m68k_opcodes.specs.code.Lines as L
 use Rattle.m68k_opcodes.proofs.Table.{window, line_agrees, Whole, whole}
 
 test_4 : line_agrees 16384 L.miscellaneous (joined (window 2 1 groups)) ≡ true

@@ -3,7 +3,7 @@ use Rattle.std.proofs.Common.{◌≡◌, ℕ, true, ◌/◌, refl, arith}
 use Rattle.m68k_opcodes.specs.declared.operand.Size.TheVariants as S
 use Rattle.m68k_opcodes.specs.Row.{joined}
 use Rattle.m68k_opcodes.specs.Table.{groups}
-use Rattle.m68k_opcodes.specs.LinesCode as L
+use Rattle.m68k_opcodes.specs.code.Lines as L
 use Rattle.m68k_opcodes.proofs.Table.{window, line_agrees, Whole, whole}
 
 test_1 : line_agrees 4096 (λ n. L.moves n S.Byte) (joined (window 1 1 groups)) ≡ true

@@ -3,7 +3,7 @@ use Rattle.std.proofs.Common.{◌≡◌, ℕ, true, ◌/◌, refl, arith}
 use Rattle.m68k_opcodes.specs.declared.instr.Instr.TheVariants as I
 use Rattle.m68k_opcodes.specs.Row.{joined}
 use Rattle.m68k_opcodes.specs.Table.{groups}
-use Rattle.m68k_opcodes.specs.LinesCode as L
+use Rattle.m68k_opcodes.specs.code.Lines as L
 use Rattle.m68k_opcodes.proofs.Table.{window, line_agrees, Whole, whole}
 
 test_A : line_agrees 40960 (λ n. I.LineA) (joined (window 8 1 groups)) ≡ true

@@ -11,7 +11,7 @@ use Rattle.m68k_opcodes.specs.Row.{Row, no_row, in_row, size_fits, mode_fits, de
 use Rattle.m68k_opcodes.specs.Table.{groups, rows, decode_of, clocks_at, rows_at}
 use Rattle.m68k_opcodes.specs.Table.{rows_0, rows_move, rows_4, rows_5, rows_6, rows_7, rows_8}
 use Rattle.m68k_opcodes.specs.Table.{rows_9, rows_A, rows_B, rows_C, rows_D, rows_E, rows_F}
-use Rattle.m68k_opcodes.specs.TimingCode.{timing}
+use Rattle.m68k_opcodes.specs.code.Timing.{timing}
 use Rattle.m68k_opcodes.specs.declared.operand.Size.{Size}
 use Rattle.m68k_opcodes.specs.declared.operand.Size.TheVariants as S
 use Rattle.m68k_opcodes.specs.Clocks.{Always}

@@ -3,7 +3,7 @@ use Rattle.std.proofs.Common.{◌≡◌, ℕ, ◌/◌, ◌<◌, ◌≤◌, ◌�
 use Rattle.std.proofs.lemmas.Bool.{cases_eq}
 use Rattle.m68k_opcodes.specs.declared.instr.Instr.{Instr}
 use Rattle.m68k_opcodes.specs.Table.{decode_of, clocks_at}
-use Rattle.m68k_opcodes.specs.TimingCode.{timing}
+use Rattle.m68k_opcodes.specs.code.Timing.{timing}
 use Rattle.m68k_opcodes.proofs.Table.{Whole}
 use Rattle.m68k_opcodes.proofs.Line0.{at_0}
 use Rattle.m68k_opcodes.proofs.Line4.{at_4}

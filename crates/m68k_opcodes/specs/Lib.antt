@@ -4,6 +4,4 @@ pub mod Clocks
 pub mod Letters
 pub mod Row
 pub mod Table
-pub mod LinesCode
-pub mod PartsCode
-pub mod TimingCode
+pub mod code

@@ -1,7 +1,7 @@
 //! The classes of address modes.
 
 ghost use Rattle.std.specs.Prelude.{◌≡◌};
-ghost use Rattle.m68k_opcodes.specs.PartsCode.{admits, is_memory_alterable, is_control};
+ghost use Rattle.m68k_opcodes.specs.code.Parts.{admits, is_memory_alterable, is_control};
 
 use crate::operand::Mode;
 

@@ -1,7 +1,7 @@
 //! The fields of an opcode.
 
 ghost use Rattle.std.specs.Prelude.{◌≡◌, ◌/◌, ◌%◌, ◌==◌};
-ghost use Rattle.m68k_opcodes.specs.PartsCode.{size_in, mode_in, operand_in, any_of, alterable_of, word_or_long};
+ghost use Rattle.m68k_opcodes.specs.code.Parts.{size_in, mode_in, operand_in, any_of, alterable_of, word_or_long};
 
 use crate::class::Class;
 use crate::operand::{Mode, Size};

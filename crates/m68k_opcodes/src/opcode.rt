@@ -3,9 +3,9 @@
 ghost use Rattle.std.specs.Prelude.{◌≡◌, ◌≤◌, ◌==◌, if◌then◌else◌};
 ghost use Rattle.m68k_opcodes.specs.declared.class.Class.TheVariants as K;
 ghost use Rattle.m68k_opcodes.specs.declared.instr.Instr.TheVariants as I;
-ghost use Rattle.m68k_opcodes.specs.PartsCode.{operand_in};
+ghost use Rattle.m68k_opcodes.specs.code.Parts.{operand_in};
 ghost use Rattle.m68k_opcodes.specs.Table.{decode_of, rows_at};
-ghost use Rattle.m68k_opcodes.specs.LinesCode as L;
+ghost use Rattle.m68k_opcodes.specs.code.Lines as L;
 
 use crate::class::Class;
 use crate::fields::{

@@ -4,7 +4,7 @@ ghost use Rattle.std.specs.Prelude.{◌≡◌, ℕ, ◌+◌, ◌*◌, ◌<◌, �
 ghost use Rattle.m68k_opcodes.specs.Clocks.{number, in_dn, to_register};
 ghost use Rattle.m68k_opcodes.specs.Modes.{sized, ea, move_dest, listed, control, control_or_post, control_alterable_or_pre};
 ghost use Rattle.m68k_opcodes.specs.Table.{decode_of, clocks_at};
-ghost use Rattle.m68k_opcodes.specs.TimingCode as T;
+ghost use Rattle.m68k_opcodes.specs.code.Timing as T;
 ghost use Rattle.m68k_opcodes.specs.declared.operand.Size.TheVariants as S;
 
 use crate::instr::Instr;

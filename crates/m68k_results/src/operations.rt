@@ -132,32 +132,48 @@ pub fn plain_operation(row: &GeneralRow, value: u32, old: u32, sr: u16) -> Outco
     ensures { result ≡ result_by row.now.op row.now.source_size row.now.size value old sr }
 {
     let size = row.size;
-    let flags = flags_of(sr);
     match row.op {
-        Op::Or => op_or(size, old, value, flags),
-        Op::And => op_and(size, old, value, flags),
-        Op::Sub => op_sub(size, old, value, flags),
-        Op::Add => op_add(size, old, value, flags),
-        Op::Eor => op_eor(size, old, value, flags),
-        Op::Cmp => op_cmp(size, old, value, flags),
-        Op::Move => op_move(size, value, 0, flags),
-        Op::MoveAddress => outcome_with_flags(extended_value(row.source_size, value), flags),
-        Op::Clr => op_clr(size, old, 0, flags),
-        Op::Tst => op_tst(size, old, 0, flags),
+        Op::Or => op_or(size, old, value, flags_of(sr)),
+        Op::And => op_and(size, old, value, flags_of(sr)),
+        Op::Sub => op_sub(size, old, value, flags_of(sr)),
+        Op::Add => op_add(size, old, value, flags_of(sr)),
+        Op::Eor => op_eor(size, old, value, flags_of(sr)),
+        Op::Cmp => op_cmp(size, old, value, flags_of(sr)),
+        Op::Move => op_move(size, value, 0, flags_of(sr)),
+        Op::MoveAddress => outcome_with_flags(extended_value(row.source_size, value), flags_of(sr)),
+        Op::Clr => op_clr(size, old, 0, flags_of(sr)),
+        Op::Tst => op_tst(size, old, 0, flags_of(sr)),
         Op::AddAddress => outcome_with_flags(
-            op_add(size, old, extended_value(row.source_size, value), flags).value,
-            flags,
+            op_add(
+                size,
+                old,
+                extended_value(row.source_size, value),
+                flags_of(sr),
+            )
+            .value,
+            flags_of(sr),
         ),
         Op::SubAddress => outcome_with_flags(
-            op_sub(size, old, extended_value(row.source_size, value), flags).value,
-            flags,
+            op_sub(
+                size,
+                old,
+                extended_value(row.source_size, value),
+                flags_of(sr),
+            )
+            .value,
+            flags_of(sr),
         ),
-        Op::CmpAddress => op_cmp(size, old, extended_value(row.source_size, value), flags),
-        Op::Btst => op_btst(size, old, value, flags),
-        Op::Not => op_not(size, old, 0, flags),
-        Op::Neg => op_neg(size, old, 0, flags),
-        Op::Swap => op_swap(size, old, 0, flags),
-        Op::Ext => op_ext(size, old, 0, flags),
+        Op::CmpAddress => op_cmp(
+            size,
+            old,
+            extended_value(row.source_size, value),
+            flags_of(sr),
+        ),
+        Op::Btst => op_btst(size, old, value, flags_of(sr)),
+        Op::Not => op_not(size, old, 0, flags_of(sr)),
+        Op::Neg => op_neg(size, old, 0, flags_of(sr)),
+        Op::Swap => op_swap(size, old, 0, flags_of(sr)),
+        Op::Ext => op_ext(size, old, 0, flags_of(sr)),
         Op::ImmediateToStatus { .. }
         | Op::MoveToStatus { .. }
         | Op::Bchg
@@ -185,7 +201,7 @@ pub fn plain_operation(row: &GeneralRow, value: u32, old: u32, sr: u16) -> Outco
         | Op::Roxr
         | Op::Rol
         | Op::Ror
-        | Op::Other => outcome_with_flags(0, flags),
+        | Op::Other => outcome_with_flags(0, flags_of(sr)),
     }
 }
 

@@ -5,7 +5,7 @@ use Rattle.m68k_opcodes.specs.declared.operand.Size.TheVariants as S
 use Rattle.m68k_opcodes.specs.declared.instr.Instr.{Instr}
 use Rattle.m68k_opcodes.specs.declared.instr.Instr.TheVariants as I
 use Rattle.m68k_opcodes.specs.Table.{decode_of}
-use Rattle.m68k_opcodes.specs.LinesCode as L
+use Rattle.m68k_opcodes.specs.code.Lines as L
 use Rattle.m68k_opcodes.proofs.Table.{all_below, from_all, Whole}
 use Rattle.m68k_opcodes.proofs.Line0.{at_0}
 use Rattle.m68k_opcodes.proofs.Line4.{at_4}

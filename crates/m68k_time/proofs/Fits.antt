@@ -7,7 +7,7 @@ use Rattle.m68k_opcodes.specs.declared.operand.Mode.TheVariants as M
 use Rattle.m68k_opcodes.specs.declared.instr.Instr.{Instr}
 use Rattle.m68k_opcodes.specs.declared.instr.Instr.TheVariants as I
 use Rattle.m68k_opcodes.specs.Clocks.{Clocks, Always, Counted}
-use Rattle.m68k_opcodes.specs.TimingCode.{timing}
+use Rattle.m68k_opcodes.specs.code.Timing.{timing}
 use Rattle.m68k_decode.specs.Places.{extensions}
 use Rattle.m68k_decode.specs.Rows.{general_row}
 use Rattle.m68k_decode.specs.RowData.{dest_size, source_size, has_source, source_mode, has_dest, dest_mode, takes_old, writes}

@@ -11,7 +11,7 @@ use Rattle.m68k_opcodes.specs.declared.instr.Instr.{Instr}
 use Rattle.m68k_opcodes.specs.declared.instr.Instr.TheVariants as I
 use Rattle.m68k_opcodes.specs.Clocks.{Clocks, Always, number}
 use Rattle.m68k_opcodes.specs.Table.{clocks_at}
-use Rattle.m68k_opcodes.specs.TimingCode.{timing}
+use Rattle.m68k_opcodes.specs.code.Timing.{timing}
 use Rattle.m68k_decode.specs.declared.place.Place68.{Place68}
 use Rattle.m68k_decode.specs.declared.place.Place68.TheVariants as D
 use Rattle.m68k_decode.specs.declared.regs.CpuRegs.{CpuRegs}

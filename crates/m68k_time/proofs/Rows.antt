@@ -7,7 +7,7 @@ use Rattle.m68k_opcodes.specs.declared.instr.Instr.{Instr}
 use Rattle.m68k_opcodes.specs.declared.instr.Instr.TheVariants as I
 use Rattle.m68k_opcodes.specs.Modes.{ea}
 use Rattle.m68k_opcodes.specs.Table.{clocks_at}
-use Rattle.m68k_opcodes.specs.TimingCode.{timing}
+use Rattle.m68k_opcodes.specs.code.Timing.{timing}
 use Rattle.m68k_decode.specs.declared.trap.Trap.TheVariants as T
 use Rattle.m68k_decode.specs.Places.{extensions}
 use Rattle.m68k_decode.specs.Results.{low}

@@ -12,8 +12,8 @@ use Rattle.std.proofs.lemmas.List.Elements.{filter-append, filter_passes, All-se
 use Rattle.mem_versions.specs.declared.write.Write.{Write}
 use Rattle.mem_versions.specs.MemoryAt.{words_after, writes_to}
 use Rattle.mem_versions.specs.declared.history.Part.{Part}
-use Rattle.mem_versions.specs.HistoryCode.{IsPart, AreToOnePage}
-use Rattle.mem_versions.specs.PagesCode.{HasPage}
+use Rattle.mem_versions.specs.code.History.{IsPart, AreToOnePage}
+use Rattle.mem_versions.specs.code.Pages.{HasPage}
 use Rattle.mem_versions.proofs.PagesLaws.{ArePages, length-joined, get_or-joined}
 
 -- the lists of a list's pages, once one is replaced

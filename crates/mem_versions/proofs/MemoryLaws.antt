@@ -14,7 +14,7 @@ use Rattle.mem_versions.specs.declared.write.Write.{Write}
 use Rattle.mem_versions.specs.MemoryAt.{words_after, memory_at, writes_below, writes_to}
 use Rattle.mem_versions.specs.Chip.{ChipValue}
 use Rattle.mem_versions.specs.MemView.{ViewValue, IsViewOf}
-use Rattle.mem_versions.specs.HistoryCode.{word_before}
+use Rattle.mem_versions.specs.code.History.{word_before}
 use Rattle.mem_versions.specs.Sound.{IsSound}
 
 pub length-words_after : (words : List ℕ) (writes : List Write) → length (words_after words writes) ≡ length words

@@ -14,7 +14,7 @@ use Rattle.std.proofs.lemmas.List.Sorted.{IsNonDecreasingBy-from_sort, ties_stil
 use Rattle.mem_versions.specs.declared.write.Write.{Write}
 use Rattle.mem_versions.specs.MemoryAt.{writes_to}
 use Rattle.mem_versions.specs.declared.history.Part.{Part}
-use Rattle.mem_versions.specs.HistoryCode.{IsInOrder, IsHistory, IsPart, IsPageEnd}
+use Rattle.mem_versions.specs.code.History.{IsInOrder, IsHistory, IsPart, IsPageEnd}
 use Rattle.mem_versions.proofs.FilterLaws.{filter-middle}
 
 -- one write may stand before another

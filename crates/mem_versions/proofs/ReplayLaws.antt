@@ -15,8 +15,8 @@ use borrow.Rule.Slice.PartMut.{put_mid, same_len_mid}
 use Rattle.std.proofs.lemmas.List.Elements.{All-push, All-same}
 use Rattle.mem_versions.specs.declared.write.Write.{Write}
 use Rattle.mem_versions.specs.MemoryAt.{words_after, memory_at, writes_below}
-use Rattle.mem_versions.specs.PagesCode.{HasPage}
-use Rattle.mem_versions.specs.ReplayCode.{ChangedValue, unset, AreNumbered, MarksPage, AreCovered, word_in, HoldsWords, HoldsPages, IsReplayed}
+use Rattle.mem_versions.specs.code.Pages.{HasPage}
+use Rattle.mem_versions.specs.code.Replay.{ChangedValue, unset, AreNumbered, MarksPage, AreCovered, word_in, HoldsWords, HoldsPages, IsReplayed}
 use Rattle.mem_versions.proofs.FilterLaws.{filter-front, filter-none}
 use Rattle.mem_versions.proofs.MemoryLaws.{words_after-more, length-words_after, words_after-early, memory_at-above}
 use Rattle.mem_versions.proofs.ChangedLaws.{untouched}

@@ -6,7 +6,7 @@ use Rattle.std.proofs.lemmas.List.{take-append-drop, take_more, get_or_default}
 use Rattle.std.proofs.lemmas.List.Elements.{All-head, All-tail}
 use Rattle.std.proofs.lemmas.Nat.{mul-le}
 use Rattle.mem_versions.specs.declared.write.Write.{Write}
-use Rattle.mem_versions.specs.HistoryCode.{word_before, IsInOrder}
+use Rattle.mem_versions.specs.code.History.{word_before, IsInOrder}
 use Rattle.mem_versions.proofs.FilterLaws.{All-front, All-back}
 use Rattle.mem_versions.proofs.MemoryLaws.{word_before-append}
 

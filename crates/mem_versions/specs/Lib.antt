@@ -1,9 +1,7 @@
 pub mod Chip
-pub mod HistoryCode
+pub mod code
 pub mod Kept
 pub mod Lending
 pub mod MemView
 pub mod MemoryAt
-pub mod PagesCode
-pub mod ReplayCode
 pub mod Sound

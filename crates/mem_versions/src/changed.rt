@@ -1,7 +1,7 @@
 //! Which pages a list of writes is to.
 
 ghost use Rattle.std.specs.Prelude.{◌≡◌, ◌≤◌, ◌<◌, ◌*◌, ◌/◌, length, slice_index, IfOk, OnOk};
-ghost use Rattle.mem_versions.specs.ReplayCode.{AreCovered, AreNumbered, MarksPage};
+ghost use Rattle.mem_versions.specs.code.Replay.{AreCovered, AreNumbered, MarksPage};
 
 use crate::group::PAGE;
 use crate::write::Write;
@@ -18,7 +18,7 @@ pub(crate) struct Changed {
 }
 
 impl Model for Changed {
-    ghost use Rattle.mem_versions.specs.ReplayCode.{ChangedValue, AreNumbered};
+    ghost use Rattle.mem_versions.specs.code.Replay.{ChangedValue, AreNumbered};
 
     ghost Value = { ChangedValue };
 

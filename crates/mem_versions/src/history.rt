@@ -4,7 +4,7 @@ ghost use Rattle.std.specs.Prelude.{◌≡◌, ◌==◌, ◌+◌, ◌-◌, ◌*�
 ghost use Rattle.std.specs.List.Sorted.{IsNonDecreasingBy};
 ghost use Rattle.mem_versions.specs.declared.write.Write.{Write as WriteValue};
 ghost use Rattle.mem_versions.specs.MemoryAt.{writes_to, page_writes};
-ghost use Rattle.mem_versions.specs.HistoryCode.{word_before, IsInOrder, IsHistory, AreParts, IsPageEnd, AreToOnePage};
+ghost use Rattle.mem_versions.specs.code.History.{word_before, IsInOrder, IsHistory, AreParts, IsPageEnd, AreToOnePage};
 
 use crate::group::PAGE;
 use crate::steps::Steps;
@@ -35,7 +35,7 @@ pub(crate) struct Part {
 
 impl Model for History {
     ghost use Rattle.std.specs.Prelude.{◌-◌, length};
-    ghost use Rattle.mem_versions.specs.HistoryCode.{HistoryValue, IsHistory};
+    ghost use Rattle.mem_versions.specs.code.History.{HistoryValue, IsHistory};
 
     ghost Value = { HistoryValue };
 

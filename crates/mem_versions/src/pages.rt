@@ -4,7 +4,7 @@
 ghost use Rattle.std.specs.Prelude.{◌≡◌, ◌+◌, ◌*◌, ◌/◌, ◌%◌, ◌^◌, ◌<◌, ◌≤◌, ℕ, length, take, drop, slice_get, slice_set, IfOk, OnOk, OnErr, All};
 ghost use Rattle.std.specs.Arc.{arc_value};
 ghost use Rattle.std.specs.List.{flat_map};
-ghost use Rattle.mem_versions.specs.PagesCode.{HasPage};
+ghost use Rattle.mem_versions.specs.code.Pages.{HasPage};
 
 use crate::group::{Group, PAGE};
 use ocs_base::OutOfMemory;

@@ -4,7 +4,7 @@ ghost use Rattle.std.specs.Prelude.{◌≡◌, ◌+◌, ◌*◌, ◌/◌, ◌≤
 ghost use Rattle.mem_versions.specs.Chip.{word_index, after_reads, after_cut};
 ghost use Rattle.mem_versions.specs.MemoryAt.{memory_at, words_after};
 ghost use Rattle.mem_versions.specs.MemView.{Covers, word_then, IsViewOf};
-ghost use Rattle.mem_versions.specs.ReplayCode.{AreCovered, AreNumbered};
+ghost use Rattle.mem_versions.specs.code.Replay.{AreCovered, AreNumbered};
 
 use crate::changed::Changed;
 use crate::chip::{Chip, count_below, count_read, take_first};

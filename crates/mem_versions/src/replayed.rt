@@ -4,8 +4,8 @@ ghost use Rattle.std.specs.Prelude.{◌≡◌, ◌+◌, ◌-◌, ◌*◌, ◌/�
 ghost use Rattle.std.specs.List.Sorted.{IsNonDecreasingBy};
 ghost use Rattle.mem_versions.specs.declared.write.Write.{Write as WriteValue};
 ghost use Rattle.mem_versions.specs.MemoryAt.{memory_at, words_after, writes_below};
-ghost use Rattle.mem_versions.specs.HistoryCode.{word_before};
-ghost use Rattle.mem_versions.specs.ReplayCode.{AreCovered, AreMadeBetween, AreNumbered, HoldsPages};
+ghost use Rattle.mem_versions.specs.code.History.{word_before};
+ghost use Rattle.mem_versions.specs.code.Replay.{AreCovered, AreMadeBetween, AreNumbered, HoldsPages};
 
 use crate::changed::Changed;
 use crate::group::PAGE;
@@ -31,7 +31,7 @@ pub(crate) struct Replayed {
 }
 
 impl Model for Replayed {
-    ghost use Rattle.mem_versions.specs.ReplayCode.{ReplayedValue, IsReplayed, AreMadeBetween};
+    ghost use Rattle.mem_versions.specs.code.Replay.{ReplayedValue, IsReplayed, AreMadeBetween};
 
     ghost Value = { ReplayedValue };
 

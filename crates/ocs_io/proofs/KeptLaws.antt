@@ -8,7 +8,7 @@ use Rattle.std.specs.Cmp.Lexicographic.{texts_ties, slice_cmp}
 use borrow.Author.Tests.{ltb-true, ltb-false}
 use Rattle.std.specs.FinMap.{get, insert, empty, get-empty}
 use Rattle.ocs_io.specs.Place.{Files}
-use Rattle.ocs_io.specs.KeptFilesCode.{files_of}
+use Rattle.ocs_io.specs.code.KeptFiles.{files_of}
 use Rattle.ocs_io.specs.declared.files.File.{File}
 use Rattle.ocs_io.proofs.MapLaws.{same_name, get_inserted, insert_same, insert_twice, insert_other}
 

@@ -2,7 +2,7 @@ pub mod Place
 pub mod Answers
 pub mod Numbers
 pub mod Files
-pub mod KeptFilesCode
+pub mod code
 pub mod Shelf
 pub mod Halves
 pub mod Said

@@ -31,7 +31,7 @@ impl Model for FilesInMemory {
 
     ghost coded = { files_code };
 
-    ghost use Rattle.ocs_io.specs.KeptFilesCode.{files_of};
+    ghost use Rattle.ocs_io.specs.code.KeptFiles.{files_of};
 
     ghost view = { λ f. files_of f.kept.items };
 }

@@ -16,7 +16,7 @@ use Rattle.ocs_words.specs.Order.{OrderValue, ExtraValue, NoFile, AudioFile, Tra
 use Rattle.out_files.specs.OutFiles.{OutNames}
 use Rattle.files_run.specs.Run.{HasAllFiles}
 use Rattle.files_run.specs.Prefix.{LeavesFiles}
-use Rattle.ocs_run.specs.SetupCode.{IsSetupOf}
+use Rattle.ocs_run.specs.code.Setup.{IsSetupOf}
 use Rattle.ocs_run.specs.Sides.{HoldsNoTrack, IsTrackFault, IsSideOf, IsSideFault}
 use Rattle.ocs_run.specs.Verdict.{Verdict, Usage as UsageVerdict, Absent, BadImage as BadImageVerdict, BadScript as BadScriptVerdict}
 use Rattle.ocs_run.specs.Verdict.{BadTrack as BadTrackVerdict, Good, Scene, Rewind, of_order, of_extra, of_track}

@@ -3,7 +3,7 @@ pub mod RewindAnswers
 pub mod RewindText
 pub mod SceneAnswers
 pub mod SceneSummary
-pub mod SetupCode
+pub mod code
 pub mod Sides
 pub mod Top
 pub mod Verdict

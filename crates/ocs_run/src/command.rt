@@ -7,7 +7,7 @@ ghost use Rattle.ocs_base.specs.Limits.{IsRunnable};
 ghost use Rattle.ocs_base.specs.Sizes.{bytes_of};
 ghost use Rattle.ocs_words.specs.AskedCode.{value_of, extra_value, AreApart, IsHeight};
 ghost use Rattle.ocs_run.specs.Command.{OrderAnswers, out_names, IsOutOf};
-ghost use Rattle.ocs_run.specs.SetupCode.{IsSetupOf};
+ghost use Rattle.ocs_run.specs.code.Setup.{IsSetupOf};
 ghost use Rattle.ocs_run.specs.Sides.{ReadableTrack};
 ghost use Rattle.run_inputs.specs.Texts.{KeepsSaid};
 ghost use Rattle.serial_model.specs.Side.{FitsSide};

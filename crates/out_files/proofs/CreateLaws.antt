@@ -6,7 +6,7 @@ use Rattle.out_files.specs.declared.fault.WriteFault.{WriteFault}
 use Rattle.out_files.specs.declared.fault.WriteFault.TheVariants.{Failed, OutOfMemory}
 use Rattle.out_files.specs.OutFiles.{OutNames}
 use Rattle.out_files.specs.Answers.{CreateAnswers}
-use Rattle.out_files.specs.PiecesCode.{MakeAnswers}
+use Rattle.out_files.specs.code.Pieces.{MakeAnswers}
 
 -- the second create was refused
 pub second_refused : (names : OutNames) (old mid new : Outside) (fault : WriteFault) → mid.files ≡ with_file old.files names.frames [] →

@@ -6,7 +6,7 @@ use Rattle.out_files.specs.declared.fault.WriteFault.{WriteFault}
 use Rattle.out_files.specs.declared.fault.WriteFault.TheVariants.{Failed, OutOfMemory}
 use Rattle.out_files.specs.OutFiles.{OutFilesValue}
 use Rattle.out_files.specs.Answers.{appended, FlushAnswers}
-use Rattle.out_files.specs.PiecesCode.{Gave, GiveAnswers}
+use Rattle.out_files.specs.code.Pieces.{Gave, GiveAnswers}
 
 first_at : (was : OutFilesValue) (frames : List ℕ) (old new : Outside) (fault : WriteFault) →
     GiveAnswers was.names.frames Frames was.frames frames old new (Err fault) → FlushAnswers was (record was { frames = frames }) old new (Err fault)

@@ -8,7 +8,7 @@ use Rattle.ocs_base.specs.declared.reg.Reg.{Reg}
 use Rattle.serial_model.specs.declared.trace.Source.{Source}
 use Rattle.serial_model.specs.declared.trace.TraceLine.TheVariants.{Wrote, Peeked, Taken}
 use Rattle.serial_model.specs.TraceText.{character_of, offset_text, word_text, letter_of, place_text, line_text}
-use Rattle.out_files.specs.LinesCode.{start_text, three_digits, access_text}
+use Rattle.out_files.specs.code.Lines.{start_text, three_digits, access_text}
 use Rattle.ocs_io.proofs.NumberLaws.{written_one, written_two, written_three}
 
 -- a number of up to three digits is its last three digits, less the zeros in front of it

@@ -1,6 +1,5 @@
 pub mod OutFiles
 pub mod Answers
-pub mod PiecesCode
+pub mod code
 pub mod Together
 pub mod Places
-pub mod LinesCode

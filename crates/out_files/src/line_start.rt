@@ -1,7 +1,7 @@
 //! What the lines of the trace begin with: the frame and the beam's line.
 
 ghost use Rattle.std.specs.Prelude.{◌≡◌, ◌++◌, OnOk, OnErr, IfOk};
-ghost use Rattle.out_files.specs.LinesCode.{start_text};
+ghost use Rattle.out_files.specs.code.Lines.{start_text};
 
 use ocs_base::{Beam, OutOfMemory};
 use ocs_io::put_dec;
@@ -20,7 +20,7 @@ pub struct LineStart {
 
 impl Model for LineStart {
     ghost use Rattle.std.specs.Prelude.{◌≡◌, ◌<◌, length};
-    ghost use Rattle.out_files.specs.LinesCode.{LineStartValue, start_text};
+    ghost use Rattle.out_files.specs.code.Lines.{LineStartValue, start_text};
 
     ghost Value = { LineStartValue };
 

@@ -2,7 +2,7 @@
 
 ghost use Rattle.std.specs.Prelude.{◌≡◌, ◌<◌, ◌≤◌, ◌+◌, ◌++◌, ◌∷◌, [], length, take, drop, OnOk, OnErr, decimal};
 ghost use Rattle.serial_model.specs.TraceText.{character_of, letter_of, line_text};
-ghost use Rattle.out_files.specs.LinesCode.{three_digits, access_text};
+ghost use Rattle.out_files.specs.code.Lines.{three_digits, access_text};
 
 use crate::line_start::LineStart;
 use ocs_base::{OutOfMemory, Reg};

@@ -2,7 +2,7 @@
 
 ghost use Rattle.std.specs.Prelude.{◌≡◌, [], OnOk};
 ghost use Rattle.ocs_io.specs.Answers.{GrowsIfOk};
-ghost use Rattle.out_files.specs.PiecesCode.{MakeAnswers, GiveAnswers};
+ghost use Rattle.out_files.specs.code.Pieces.{MakeAnswers, GiveAnswers};
 ghost use Rattle.out_files.specs.Places.{LeavesPlace, WritesFiles};
 
 use crate::fault::{OutFile, WriteFault};

@@ -1,7 +1,7 @@
 -- The tables of what the bits of a pixel keep of a held colour, and put into it.
 use Rattle.std.proofs.Common.{◌≡◌, ℕ, zero, suc, ◌<◌, ◌&&◌, Bool, true, false, nat_eq, List, [], ◌∷◌, get_or, refl, sym, ◌∙◌, ap, arith}
 use Rattle.std.proofs.lemmas.Bool.Decides.{nat_tests}
-use Rattle.painter.specs.HeldCode.{kept_bytes, new_bytes}
+use Rattle.painter.specs.code.Held.{kept_bytes, new_bytes}
 
 abbrev pub kept_entries : List ℕ
 kept_entries =

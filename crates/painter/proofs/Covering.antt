@@ -19,7 +19,7 @@ use Rattle.sprite_rows.specs.PairFrontCode.{pixel_of_byte}
 use Rattle.sprite_rows.proofs.Standing.{front_alone}
 use Rattle.plane_rows.specs.Line.{ArePaired}
 use Rattle.painter.specs.SpriteState.{attached_in}
-use Rattle.painter.specs.SteadyCode.{IsSteadyFrom}
+use Rattle.painter.specs.code.Steady.{IsSteadyFrom}
 use Rattle.painter.specs.declared.show_covered.Steady.{Steady}
 
 -- what collides at the two pixels of a column

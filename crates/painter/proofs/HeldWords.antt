@@ -8,7 +8,7 @@ use Rattle.std.proofs.lemmas.Bool.Decides.{nat_tests}
 use Rattle.serial_model.specs.Picture.{colour_bytes}
 use Rattle.priority_ham.specs.PixelColour.{modified, red, green, blue, colour_of}
 use Rattle.painter.specs.Inks.{two_pixels, ink}
-use Rattle.painter.specs.HeldCode.{word_by, colour_word, kept_by, kept_bytes, new_by, new_bytes}
+use Rattle.painter.specs.code.Held.{word_by, colour_word, kept_by, kept_bytes, new_by, new_bytes}
 use Rattle.plane_rows.proofs.Spreading.{pixel_bytes}
 use Rattle.painter.proofs.Colours.{ink_low}
 

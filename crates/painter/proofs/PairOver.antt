@@ -19,12 +19,12 @@ use Rattle.painter.specs.Inks.{InkRegisters, ink, ink_number, counted_bits, is_h
 use Rattle.plane_rows.specs.Line.{row_bits}
 use Rattle.painter.specs.Overlay.{with_front, with_front_at, covered_column, clock_over, shown_bits}
 use Rattle.painter.specs.Painter.{IsPainterOf, with_held, clock_bytes}
-use Rattle.painter.specs.PairOver.{colour_in_front, colour_over, pixels_over}
+use Rattle.painter.specs.code.PairOver.{colour_in_front, colour_over, pixels_over}
 use Rattle.painter.specs.Pixels.{ink_at}
 use Rattle.painter.specs.Span.{IsSpan}
 use Rattle.painter.specs.SpanCode.{bytes_of_clocks, held_to, all_inks, ink_pixels}
 use Rattle.painter.specs.StartsCode.{IsSteady}
-use Rattle.painter.specs.SteadyCode.{IsSteadyFrom}
+use Rattle.painter.specs.code.Steady.{IsSteadyFrom}
 use Rattle.plane_rows.specs.declared.line.Line.{Line}
 use Rattle.painter.proofs.Clocks.{inks_shown, held_of_inks}
 use Rattle.painter.proofs.Colours.{ink_low}

@@ -1,14 +1,11 @@
-pub mod HeldCode
+pub mod code
 pub mod Inks
-pub mod WindowCode
 pub mod Pixels
 pub mod SpriteState
 pub mod StartsCode
-pub mod SteadyCode
 pub mod Runs
 pub mod Overlay
 pub mod Painter
 pub mod RunningWords
 pub mod Span
 pub mod SpanCode
-pub mod PairOver

@@ -1,7 +1,7 @@
 //! What the bits of a pixel keep of a held colour in hold-and-modify, and what they put into it.
 
 ghost use Rattle.std.specs.Prelude.{◌≡◌, ◌<◌};
-ghost use Rattle.painter.specs.HeldCode.{kept_bytes, new_bytes};
+ghost use Rattle.painter.specs.code.Held.{kept_bytes, new_bytes};
 
 /// By the bits of a pixel: the bytes of two pixels of the held colour that stay.
 const KEPT: [u64; 64] = [

@@ -2,7 +2,7 @@
 
 ghost use Rattle.std.specs.Prelude.{◌≡◌, ◌<◌, ◌*◌, ◌%◌, ℕ};
 ghost use Rattle.priority_ham.specs.PixelColour.{modified};
-ghost use Rattle.painter.specs.HeldCode.{IsHeld, held_bytes, colour_word};
+ghost use Rattle.painter.specs.code.Held.{IsHeld, held_bytes, colour_word};
 ghost use Rattle.serial_model.specs.Picture.{colour_bytes};
 
 use crate::components::{kept_by_bits, new_by_bits};

@@ -2,7 +2,7 @@
 
 ghost use Rattle.std.specs.Prelude.{◌≡◌, ◌≤◌, ◌<◌, ◌+◌, ◌*◌, ◌++◌, ℕ, true, flat_map, length, slice_index, slice_set, take};
 ghost use Rattle.serial_model.specs.Picture.{colour_bytes};
-ghost use Rattle.painter.specs.HeldCode.{IsHeld, colour_word};
+ghost use Rattle.painter.specs.code.Held.{IsHeld, colour_word};
 ghost use Rattle.painter.specs.Inks.{ink, ink_number, two_pixels};
 ghost use Rattle.painter.specs.Pixels.{ink_at, modified_at, modified_along, modified_pixels, all_modified};
 ghost use Rattle.plane_rows.specs.Line.{row_bits, ArePaired};

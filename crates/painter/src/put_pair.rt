@@ -8,10 +8,10 @@ ghost use Rattle.serial_model.specs.Window.{is_inside};
 ghost use Rattle.sprite_rows.specs.PairFrontCode.{colour_of_byte};
 ghost use Rattle.painter.specs.Inks.{ink, two_pixels};
 ghost use Rattle.plane_rows.specs.Line.{row_bits, ArePaired};
-ghost use Rattle.painter.specs.PairOver.{colour_over, pixels_over};
+ghost use Rattle.painter.specs.code.PairOver.{colour_over, pixels_over};
 ghost use Rattle.painter.specs.Pixels.{ink_at};
 ghost use Rattle.painter.specs.StartsCode.{IsSteady};
-ghost use Rattle.painter.specs.SteadyCode.{IsSteadyFrom};
+ghost use Rattle.painter.specs.code.Steady.{IsSteadyFrom};
 ghost use Rattle.painter.specs.Span.{IsSpan};
 ghost use Rattle.painter.specs.SpanCode.{bytes_of_clocks};
 

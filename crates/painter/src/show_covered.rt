@@ -8,7 +8,7 @@ ghost use Rattle.painter.specs.Overlay.{clock_over, covered_column};
 ghost use Rattle.plane_rows.specs.Line.{row_bits};
 ghost use Rattle.painter.specs.SpriteState.{attached_in};
 ghost use Rattle.painter.specs.StartsCode.{IsSteady, IsAlone};
-ghost use Rattle.painter.specs.SteadyCode.{IsSteadyFrom};
+ghost use Rattle.painter.specs.code.Steady.{IsSteadyFrom};
 ghost use Rattle.painter.specs.Span.{IsSpan};
 
 use crate::field_place::FieldPlace;

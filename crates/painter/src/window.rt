@@ -18,7 +18,7 @@ pub struct Window {
 }
 
 impl Model for Window {
-    ghost use Rattle.painter.specs.WindowCode.{WindowRegisters, HasBounds};
+    ghost use Rattle.painter.specs.code.Window.{WindowRegisters, HasBounds};
 
     ghost Value = { WindowRegisters };
 
@@ -28,7 +28,7 @@ impl Model for Window {
 }
 
 impl Window {
-    ghost use Rattle.painter.specs.WindowCode.{no_window};
+    ghost use Rattle.painter.specs.code.Window.{no_window};
 
     /// The registers at reset: both are 0.
     pub fn reset() -> Window

@@ -6,7 +6,7 @@ use Rattle.ocs_base.specs.declared.beam.Beam.{Beam}
 use Rattle.paula_audio.specs.Channel.{after_start, after_switch, first_half, next_half, next_half_at_zero}
 use Rattle.paula_audio.specs.Channel.{after_count, count_if_on, after_tick, is_requested, wants_word}
 use Rattle.paula_audio.specs.Paula.{PaulaValue, has_dma, clock_of, channel_ask, paula_ask, paula_bits, paula_side}
-use Rattle.paula_audio.specs.Quiet.{ticked, counted, last_tick, paula_later, IsQuietChannel}
+use Rattle.paula_audio.specs.code.Quiet.{ticked, counted, last_tick, paula_later, IsQuietChannel}
 use Rattle.paula_audio.specs.declared.channel.Channel.{Channel}
 use Rattle.serial_model.specs.Beam.{later_beam}
 use Rattle.serial_model.specs.Registers.{bit_worth}

@@ -1,4 +1,4 @@
 pub mod Channel
 pub mod Sound
 pub mod Paula
-pub mod Quiet
+pub mod code

@@ -4,7 +4,7 @@ ghost use Rattle.std.specs.Prelude.{◌≡◌, ◌≤◌, ◌<◌, ◌+◌, ◌�
 ghost use Rattle.paula_audio.specs.Channel.{or_most as most_of, reset_channel, after_load, after_start, after_stop, after_switch};
 ghost use Rattle.paula_audio.specs.Channel.{next_half as half_after, after_tick, is_requested, wants_word, after_fetch, after_word};
 ghost use Rattle.paula_audio.specs.Channel.{after_count, after_write};
-ghost use Rattle.paula_audio.specs.Quiet.{ticked, counted, IsQuietChannel};
+ghost use Rattle.paula_audio.specs.code.Quiet.{ticked, counted, IsQuietChannel};
 ghost use Rattle.paula_audio.specs.Sound.{level_of, volume_of, signed_byte};
 
 use ocs_base::{Addr, ChipSize};

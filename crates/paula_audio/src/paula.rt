@@ -5,7 +5,7 @@ ghost use Rattle.irq_cia.specs.Bits.{has_bits};
 ghost use Rattle.ocs_base.specs.Sizes.{is_chip_size, size_of_bytes};
 ghost use Rattle.paula_audio.specs.Paula.{reset_paula, paula_write, paula_tick, paula_bits, paula_ask, paula_word, left_of, right_of};
 ghost use Rattle.paula_audio.specs.Paula.{paula_side, channel_ask as ask_of_channel};
-ghost use Rattle.paula_audio.specs.Quiet.{paula_later, last_tick as last_clock};
+ghost use Rattle.paula_audio.specs.code.Quiet.{paula_later, last_tick as last_clock};
 ghost use Rattle.paula_audio.specs.Sound.{side_byte};
 ghost use Rattle.serial_model.specs.Registers.{bit_worth};
 ghost use Rattle.serial_model.specs.Side.{FitsSide, IsInTime, IsQuietSide};

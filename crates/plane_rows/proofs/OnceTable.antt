@@ -1,7 +1,7 @@
 -- The table of a byte's bits, each as a byte.
 use Rattle.std.proofs.Common.{◌≡◌, ℕ, zero, suc, ◌+◌, ◌*◌, ◌/◌, ◌%◌, ◌<◌, ◌&&◌, Bool, true, false, nat_eq, List, [], ◌∷◌, get_or, refl, sym, ◌∙◌, ap, arith}
 use Rattle.std.proofs.lemmas.Bool.Decides.{nat_tests}
-use Rattle.plane_rows.specs.WordsCode.{bits_spread}
+use Rattle.plane_rows.specs.code.Words.{bits_spread}
 
 abbrev pub once_entries : List ℕ
 once_entries =

@@ -7,7 +7,7 @@ use Rattle.std.proofs.lemmas.Bool.Decides.{nat_tests}
 use Rattle.plane_rows.specs.declared.line.Line.{Line}
 use Rattle.plane_rows.specs.Line.{row_bits, ArePaired}
 use Rattle.plane_rows.specs.RowCode.{laid, IsPaired}
-use Rattle.plane_rows.specs.WordsCode.{spread_bits}
+use Rattle.plane_rows.specs.code.Words.{spread_bits}
 use Rattle.plane_rows.proofs.Loading.{spread_at}
 
 -- bytes of which nothing is known

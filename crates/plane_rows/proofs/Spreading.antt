@@ -2,7 +2,7 @@
 use Rattle.std.proofs.Common.{◌≡◌, ℕ, ◌+◌, ◌*◌, ◌/◌, ◌%◌, ◌<◌, [], ◌∷◌, arith, w64}
 use Rattle.std.specs.Int.{to_le_bytes}
 use Rattle.sprite_rows.proofs.Spreading.{spread_bits, eight_digits, upper_bits, lower_bits}
-use Rattle.plane_rows.specs.WordsCode.{three_last}
+use Rattle.plane_rows.specs.code.Words.{three_last}
 
 -- the bytes of three words' last eight bits
 three_small : (a b c : ℕ) → a % 2 + 4 * (b % 2) + 16 * (c % 2) < 256

@@ -2,7 +2,7 @@
 use Rattle.std.proofs.Common.{◌≡◌, ℕ, zero, suc, ◌+◌, ◌*◌, ◌/◌, ◌%◌, ◌<◌, ◌&&◌, Bool, true, false, nat_eq, List, [], ◌∷◌, get_or}
 use Rattle.std.proofs.Common.{refl, ◌∙◌, subst, arith}
 use Rattle.std.proofs.lemmas.Bool.Decides.{nat_tests}
-use Rattle.plane_rows.specs.WordsCode.{bits_doubled}
+use Rattle.plane_rows.specs.code.Words.{bits_doubled}
 
 abbrev pub twice_entries : List ℕ
 twice_entries =

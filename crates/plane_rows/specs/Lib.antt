@@ -1,3 +1,3 @@
-pub mod WordsCode
+pub mod code
 pub mod RowCode
 pub mod Line

@@ -1,7 +1,7 @@
 //! The bits of a byte, each as a byte.
 
 ghost use Rattle.std.specs.Prelude.{◌≡◌, ◌+◌, ◌*◌, ◌/◌};
-ghost use Rattle.plane_rows.specs.WordsCode.{bits_spread};
+ghost use Rattle.plane_rows.specs.code.Words.{bits_spread};
 
 /// Each bit of a byte, the highest first, as a byte, the first of them the lowest.
 const ONCE: [u64; 256] = [

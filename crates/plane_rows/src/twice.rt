@@ -1,7 +1,7 @@
 //! The bits of a byte, each as two bytes.
 
 ghost use Rattle.std.specs.Prelude.{◌≡◌, ◌/◌};
-ghost use Rattle.plane_rows.specs.WordsCode.{bits_doubled};
+ghost use Rattle.plane_rows.specs.code.Words.{bits_doubled};
 
 /// For each byte two numbers: of its upper four bits and of its lower four, each bit, the highest
 /// first, as two bytes, the first of them the lowest.

@@ -1,7 +1,7 @@
 //! The bits of three words of bitplanes, spread over the positions that show them.
 
 ghost use Rattle.std.specs.Prelude.{◌≡◌, ◌+◌, ◌*◌, ◌/◌, ◌%◌, ◌∷◌, [], flat_map, true};
-ghost use Rattle.plane_rows.specs.WordsCode.{three_last, spread_bits};
+ghost use Rattle.plane_rows.specs.code.Words.{three_last, spread_bits};
 
 use crate::once::bits_once;
 use crate::twice::{bits_twice, upper_bits};

@@ -9,7 +9,7 @@ use Rattle.serial_model.specs.declared.registers.Reading.TheVariants as R
 use Rattle.serial_model.specs.declared.registers.Writing.{Writing}
 use Rattle.serial_model.specs.declared.registers.Writing.TheVariants as W
 use Rattle.serial_model.specs.RegisterTable.{rows, row_at, reading_at, writing_at, kept_bits_at, is_pointer_high}
-use Rattle.reg_file.specs.TableCode.{is_within, is_pointer_word, pointer_writing, whole_word_in}
+use Rattle.reg_file.specs.code.Table.{is_within, is_pointer_word, pointer_writing, whole_word_in}
 
 -- a function's values at all registers
 abbrev pub at_all : {A : Type 0} → (ℕ → A) → List A

@@ -1,1 +1,1 @@
-pub mod TableCode
+pub mod code

@@ -2,7 +2,7 @@
 
 ghost use Rattle.std.specs.Prelude.{◌≡◌, ◌==◌, ◌%◌, unwrap_or, if◌then◌else◌};
 ghost use Rattle.serial_model.specs.RegisterTable.{reading_at, writing_at, kept_bits_at};
-ghost use Rattle.reg_file.specs.TableCode.{is_within, is_pointer_word, pointer_writing as pointer_writing_of, whole_word_in};
+ghost use Rattle.reg_file.specs.code.Table.{is_within, is_pointer_word, pointer_writing as pointer_writing_of, whole_word_in};
 
 use ocs_base::Reg;
 use serial_model::{Reading, Writing};

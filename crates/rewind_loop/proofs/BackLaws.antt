@@ -15,7 +15,7 @@ use Rattle.foreground.specs.Checkpoint.{fore_from}
 use Rattle.foreground.specs.Fore.{ForeOf, ForeValue, IsUnderway, IsNew}
 use Rattle.rewind_loop.specs.Places.{Place, last_of, clocks_to, back_to, reached_from}
 use Rattle.rewind_loop.specs.Present.{Checkpoint, clock_of, IsEntryOf, AreAt, IsPresent, run_of, run_in, fore_of, raster_of}
-use Rattle.rewind_loop.specs.StepsCode.{GoesBack, starting_with}
+use Rattle.rewind_loop.specs.code.Steps.{GoesBack, starting_with}
 use Rattle.rewind_loop.specs.declared.rewind.Rewind.{Rewind}
 use Rattle.rewind_loop.proofs.ClockLaws.{last_clock, clocks_up_to, last_holds}
 use Rattle.rewind_loop.proofs.PlaceLaws.{reached_here, reached_back}

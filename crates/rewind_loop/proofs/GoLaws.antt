@@ -12,7 +12,7 @@ use Rattle.rewind_loop.specs.Places.{Place, due_in, arrival_at, arrivals, gone_t
 use Rattle.rewind_loop.specs.Present.{IsPresent, told_of, run_in, run_of, fore_of, raster_of}
 use Rattle.rewind_loop.specs.declared.arrived.Arrived.{Arrived}
 use Rattle.rewind_loop.specs.declared.rewind.Rewind.{Rewind}
-use Rattle.rewind_loop.specs.StepsCode.{GoesOn}
+use Rattle.rewind_loop.specs.code.Steps.{GoesOn}
 use Rattle.rewind_loop.proofs.PlaceLaws.{first_visit, later_visit}
 use Rattle.std.specs.Arc.{arc_value}
 

@@ -21,7 +21,7 @@ use Rattle.foreground.specs.Fore.{ForeValue, IsUnderway, is_done}
 use Rattle.clock_loop.specs.RunTo.{RunsOn, HasRunOn, HasCome}
 use Rattle.rewind_loop.specs.Places.{Place, is_due, due_in}
 use Rattle.rewind_loop.specs.Present.{Checkpoint, clock_of, AreAt}
-use Rattle.rewind_loop.specs.StepsCode.{line_limit}
+use Rattle.rewind_loop.specs.code.Steps.{line_limit}
 
 -- ---- the clocks of a line
 

@@ -1,3 +1,3 @@
 pub mod Present
 pub mod Places
-pub mod StepsCode
+pub mod code

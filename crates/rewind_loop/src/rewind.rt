@@ -7,7 +7,7 @@ ghost use Rattle.foreground.specs.Fore.{IsNew, is_done};
 ghost use Rattle.rewind_loop.specs.Places.{Place, first_place, is_due as due_of, due_in, is_that, last_of, visited};
 ghost use Rattle.rewind_loop.specs.Places.{reached_from, run_to as ran_to, gone_to, arrival_at, arrivals};
 ghost use Rattle.rewind_loop.specs.Present.{IsPresent, run_in, run_of, fore_of, raster_of, told_of};
-ghost use Rattle.rewind_loop.specs.StepsCode.{GoesBack, GoesOn, line_limit, starting_with};
+ghost use Rattle.rewind_loop.specs.code.Steps.{GoesBack, GoesOn, line_limit, starting_with};
 
 use crate::arrived::Arrived;
 use band_draw::Direct;

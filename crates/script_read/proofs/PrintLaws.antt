@@ -1,7 +1,7 @@
 -- What is appended step by step.
 use Rattle.std.proofs.Common.{◌≡◌, ℕ, ◌+◌, ◌<◌, Bool, true, false, List, [], ◌∷◌, ◌++◌, length, take, get_or}
 use Rattle.std.proofs.Common.{flat_map, codes, decimal, refl, sym, ap, subst, ◌∙◌, append_assoc, append-nil}
-use Rattle.script_read.specs.ExtendsCode.{Extends}
+use Rattle.script_read.specs.code.Extends.{Extends}
 use Rattle.std.proofs.lemmas.List.{take_more}
 use Rattle.std.proofs.lemmas.Grind.{flat_map-append}
 use Rattle.ocs_base.specs.declared.chip_size.ChipSize.{ChipSize}
@@ -14,7 +14,7 @@ use Rattle.ocs_base.specs.Script.{ScriptValue}
 use Rattle.ocs_base.specs.declared.system.System.{System}
 use Rattle.ocs_base.specs.declared.system.System.TheVariants.{Pal, Ntsc}
 use Rattle.script_read.specs.Canonical.{spaced, line_of, line_text, digit_of, act_words, event_text, head_text}
-use Rattle.script_read.specs.NumberCode.{number_part}
+use Rattle.script_read.specs.code.Number.{number_part}
 use Rattle.script_read.specs.declared.printer.Number.TheVariants.{Decimal, Register, Word, Code}
 use Rattle.script_read.specs.Canonical.{script_text, HasWords, AllHaveWords, first_text, cpu_text, last_text}
 use Rattle.script_read.specs.Versions.{lowest}

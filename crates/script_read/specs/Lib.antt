@@ -4,9 +4,7 @@ pub mod Words
 pub mod Versions
 pub mod Grammar
 pub mod Verdict
-pub mod CutCode
+pub mod code
 pub mod Canonical
-pub mod ExtendsCode
-pub mod NumberCode
 pub mod Printable
 pub mod Said

@@ -3,7 +3,7 @@
 ghost use Rattle.std.specs.Prelude.{◌≡◌, ◌^◌, ◌<◌, false, IfSome};
 ghost use Rattle.ocs_base.specs.Systems.{lines};
 ghost use Rattle.script_read.specs.Words.{below, hex_number, register_named, poke_of, peek_of, joy_of, fire_of, key_of, act_of, timed, event_of};
-ghost use Rattle.script_read.specs.CutCode.{words_left};
+ghost use Rattle.script_read.specs.code.Cut.{words_left};
 
 use crate::cut::EventWords;
 use crate::parts::{event_words, one_word, same_text, two_words};

@@ -3,7 +3,7 @@
 ghost use Rattle.std.specs.Prelude.{◌≡◌, ◌==◌, ◌<◌, ◌∷◌, length, bytes_eq, IfSome};
 ghost use Rattle.std.specs.List.{position};
 ghost use Rattle.script_read.specs.Split.{words_of};
-ghost use Rattle.script_read.specs.CutCode.{words_left, IsNextLine, AreTwo, IsOne, AreEventWords};
+ghost use Rattle.script_read.specs.code.Cut.{words_left, IsNextLine, AreTwo, IsOne, AreEventWords};
 
 use crate::cut::{EventWords, Line, TwoWords, Word};
 

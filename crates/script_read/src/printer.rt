@@ -3,8 +3,8 @@
 ghost use Rattle.std.specs.Prelude.{◌≡◌, ◌++◌, flat_map, OnOk, OnErr};
 ghost use Rattle.script_read.specs.Canonical.{spaced, act_words, event_text, first_text, cpu_text, last_text};
 ghost use Rattle.script_read.specs.Canonical.{head_text, script_text, digit_of, HasWords, AllHaveWords};
-ghost use Rattle.script_read.specs.ExtendsCode.{Extends};
-ghost use Rattle.script_read.specs.NumberCode.{number_text, number_part};
+ghost use Rattle.script_read.specs.code.Extends.{Extends};
+ghost use Rattle.script_read.specs.code.Number.{number_text, number_part};
 ghost use Rattle.script_read.specs.Printable.{IsPrintable};
 ghost use Rattle.script_read.specs.Versions.{lowest};
 ghost use Rattle.script_read.specs.Grammar.{script_of, Good};

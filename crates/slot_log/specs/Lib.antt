@@ -1,5 +1,5 @@
 pub mod Entry
 pub mod Guess
 pub mod SlotLog
-pub mod SlotLogCode
+pub mod code
 pub mod Heading

@@ -4,8 +4,8 @@ ghost use Rattle.std.specs.Prelude.{◌≡◌, ◌<◌, [], OnOk, IfOk};
 ghost use Rattle.slot_log.specs.Guess.{above, head_number, trail_after, head_place, same_head};
 ghost use Rattle.slot_log.specs.Guess.{words_place, same_words};
 ghost use Rattle.slot_log.specs.Guess.{known_heads, head_guess_of, word_guess_of};
-ghost use Rattle.slot_log.specs.SlotLogCode.{with_heads_begun, guesses_head, with_known_head};
-ghost use Rattle.slot_log.specs.SlotLogCode.{guesses_words, with_known_words};
+ghost use Rattle.slot_log.specs.code.SlotLog.{with_heads_begun, guesses_head, with_known_head};
+ghost use Rattle.slot_log.specs.code.SlotLog.{guesses_words, with_known_words};
 
 use crate::entry_bytes::{EntryWords, Head};
 use ocs_base::{Beam, OutOfMemory};

@@ -2,7 +2,7 @@
 
 ghost use Rattle.std.specs.Prelude.{◌≡◌, ◌++◌, [], ◌∷◌, true, OnOk};
 ghost use Rattle.slot_log.specs.SlotLog.{no_marks, marks_after, marks_text};
-ghost use Rattle.slot_log.specs.SlotLogCode.{marks_begun, count_put};
+ghost use Rattle.slot_log.specs.code.SlotLog.{marks_begun, count_put};
 
 use ocs_base::{Beam, OutOfMemory};
 use std::alloc::Global;

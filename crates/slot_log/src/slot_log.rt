@@ -3,8 +3,8 @@
 ghost use Rattle.std.specs.Prelude.{◌≡◌, [], ◌∷◌, ◌<◌, ◌^◌, ◌++◌, List, OnOk, IfSome};
 ghost use Rattle.slot_log.specs.Entry.{SlotClock};
 ghost use Rattle.slot_log.specs.SlotLog.{log_of, frame_mark};
-ghost use Rattle.slot_log.specs.SlotLogCode.{with_line_begun, with_head, with_words};
-ghost use Rattle.slot_log.specs.SlotLogCode.{with_access, with_line_ended};
+ghost use Rattle.slot_log.specs.code.SlotLog.{with_line_begun, with_head, with_words};
+ghost use Rattle.slot_log.specs.code.SlotLog.{with_access, with_line_ended};
 
 use crate::entry::{Access, Entry, entry_of};
 use crate::entry_bytes::{Expected, Head, head_of, put_head, put_words, words_of};

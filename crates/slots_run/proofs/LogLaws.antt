@@ -11,7 +11,7 @@ use Rattle.slot_log.specs.Entry.{SlotClock}
 use Rattle.slot_log.specs.Heading.{heading}
 use Rattle.slot_log.specs.SlotLog.{SlotLogValue, log_of, log_text, slots_file}
 use Rattle.slots_run.specs.Log.{slot_clocks, run_of, IsFirstOf, IsLogOf}
-use Rattle.slots_run.specs.SlotRunCode.{run_in, Stands, Comes}
+use Rattle.slots_run.specs.code.SlotRun.{run_in, Stands, Comes}
 use Rattle.slots_run.specs.declared.slot_run.SlotRun.{SlotRun}
 
 pub if_ok_then : {T E : Type 0} {P Q : T → Type 0} (r : Result T E) → ((x : T) → P x → Q x) → IfOk r P → IfOk r Q

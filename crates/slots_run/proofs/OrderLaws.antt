@@ -9,7 +9,7 @@ use Rattle.run_inputs.specs.Inputs.{AreInputsOf}
 use Rattle.run_inputs.specs.Texts.{KeepsSaid}
 use Rattle.run_inputs.specs.Verdict.{InputsVerdict, Good, inputs_verdict}
 use Rattle.run_inputs.proofs.VerdictLaws.{told_all, at_told, good_verdict}
-use Rattle.slots_run.specs.FileCode.{MayHavePart, MayHaveGrown, IsWriteFault}
+use Rattle.slots_run.specs.code.File.{MayHavePart, MayHaveGrown, IsWriteFault}
 use Rattle.slots_run.specs.Log.{IsLogOf}
 use Rattle.slots_run.specs.Order.{SlotsOrderValue}
 use Rattle.slots_run.specs.Top.{HasLogPart, IsDone, IsUnwritten, IsWanting, OrderAnswers}

@@ -20,7 +20,7 @@ use Rattle.ocs_base.specs.declared.system.System.{System}
 use Rattle.slot_log.specs.Entry.{SlotClock}
 use Rattle.slot_log.specs.SlotLog.{SlotLogValue, log_of}
 use Rattle.slots_run.specs.Log.{slot_clock, slot_clocks}
-use Rattle.slots_run.specs.SlotRunCode.{fore_of, raster_of, run_in, frame_in, Stands, GoesOn, Comes}
+use Rattle.slots_run.specs.code.SlotRun.{fore_of, raster_of, run_in, frame_in, Stands, GoesOn, Comes}
 use Rattle.slots_run.specs.declared.slot_run.SlotRun.{SlotRun}
 use Rattle.slots_run.proofs.ClockLaws.{frames_to_line, next_frame, few_places}
 

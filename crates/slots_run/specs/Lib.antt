@@ -1,9 +1,7 @@
 pub mod Fault
-pub mod FileCode
+pub mod code
 pub mod Log
 pub mod Order
-pub mod OrderCode
-pub mod SlotRunCode
 pub mod Texts
 pub mod Top
 pub mod Verdict

@@ -2,7 +2,7 @@
 
 ghost use Rattle.std.specs.Prelude.{◌≡◌, [], OnOk, OnErr, IfErr};
 ghost use Rattle.ocs_io.specs.Place.{OnlyWrites, with_file, grown};
-ghost use Rattle.slots_run.specs.FileCode.{MayHavePart, MayHaveGrown, IsWriteFault};
+ghost use Rattle.slots_run.specs.code.File.{MayHavePart, MayHaveGrown, IsWriteFault};
 
 use crate::fault::SlotsFault;
 use ocs_io::{Place, WriteRefusal};

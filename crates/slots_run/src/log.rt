@@ -6,7 +6,7 @@ ghost use Rattle.ocs_base.specs.Limits.{IsRunnable};
 ghost use Rattle.ocs_base.specs.Script.{ScriptValue};
 ghost use Rattle.slot_log.specs.SlotLog.{log_of};
 ghost use Rattle.slots_run.specs.Log.{IsLogOf, run_of};
-ghost use Rattle.slots_run.specs.SlotRunCode.{run_in, Stands};
+ghost use Rattle.slots_run.specs.code.SlotRun.{run_in, Stands};
 
 use crate::slot_run::SlotRun;
 use band_log::Run;

@@ -2,7 +2,7 @@
 
 ghost use Rattle.std.specs.Prelude.{◌≡◌, ◌<◌, map, string_bytes, IfSome};
 ghost use Rattle.slots_run.specs.Order.{order_of, frame_of};
-ghost use Rattle.slots_run.specs.OrderCode.{IsOrder};
+ghost use Rattle.slots_run.specs.code.Order.{IsOrder};
 
 use ocs_io::dec;
 use run_inputs::are_names;

@@ -9,7 +9,7 @@ ghost use Rattle.slot_log.specs.Entry.{SlotClock};
 ghost use Rattle.slot_log.specs.SlotLog.{log_of};
 ghost use Rattle.slots_run.specs.Log.{slot_clock, slot_clocks};
 ghost use Rattle.foreground.specs.Fore.{IsNew};
-ghost use Rattle.slots_run.specs.SlotRunCode.{run_in, frame_in, fore_of, raster_of, empty_raster, Stands, GoesOn, Comes};
+ghost use Rattle.slots_run.specs.code.SlotRun.{run_in, frame_in, fore_of, raster_of, empty_raster, Stands, GoesOn, Comes};
 
 use band_draw::Direct;
 use band_log::Run;

@@ -4,7 +4,7 @@ ghost use Rattle.std.specs.Prelude.{◌≡◌, ◌++◌, map, string_bytes, OnOk
 ghost use Rattle.ocs_io.specs.Place.{OnlySays};
 ghost use Rattle.run_inputs.specs.Texts.{Says, SaysSurely};
 ghost use Rattle.slots_run.specs.Order.{order_of};
-ghost use Rattle.slots_run.specs.OrderCode.{value_of};
+ghost use Rattle.slots_run.specs.code.Order.{value_of};
 ghost use Rattle.slots_run.specs.Texts.{text_of, usage_text, unwritten_text, order_or_none as named_in};
 
 use crate::fault::SlotsFault;

@@ -5,7 +5,7 @@ ghost use Rattle.ocs_io.specs.Answers.{WhereTold};
 ghost use Rattle.ocs_io.specs.Place.{Rose};
 ghost use Rattle.run_inputs.specs.Texts.{SaysSurely, KeepsSaid};
 ghost use Rattle.slots_run.specs.Order.{order_of};
-ghost use Rattle.slots_run.specs.OrderCode.{value_of};
+ghost use Rattle.slots_run.specs.code.Order.{value_of};
 ghost use Rattle.slots_run.specs.Texts.{usage_text};
 ghost use Rattle.slots_run.specs.Top.{ReadableInputs, OrderAnswers, WordsAnswers, IsDone, IsUnwritten, IsWanting};
 ghost use Rattle.slots_run.specs.Top.{IsEarly, HasBadImage, HasBadScript, Completed, SaysStatus};

@@ -4,7 +4,7 @@ use Rattle.ocs_base.specs.declared.script.At.{At}
 use Rattle.serial_model.specs.Beam.{place_of}
 use Rattle.serial_model.specs.Events.{due_events, touches_of}
 use Rattle.serial_bands.specs.Run.{run_over}
-use Rattle.band_draw.specs.DueCode.{IsLeft}
+use Rattle.band_draw.specs.code.Due.{IsLeft}
 use Rattle.band_draw.proofs.Beginning.{left_all, begun_at}
 use Rattle.band_draw.proofs.band.begin.Goals as goal
 

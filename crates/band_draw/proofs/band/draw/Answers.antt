@@ -5,7 +5,7 @@ use Rattle.serial_bands.specs.BandShown.{IsRightUnder}
 use Rattle.serial_bands.specs.RightJob.{IsRightJob}
 use Rattle.serial_bands.specs.Run.{run_over}
 use Rattle.serial_model.specs.declared.picture.Denise.{Denise}
-use Rattle.band_draw.specs.ProgressCode.{IsSource, IsAt, IsEnded}
+use Rattle.band_draw.specs.code.Progress.{IsSource, IsAt, IsEnded}
 use Rattle.band_draw.proofs.Beginning.{job_screen, job_eight, job_source}
 use Rattle.band_draw.proofs.band.draw.Goals as goal
 

@@ -1,7 +1,7 @@
 -- All clocks before the next one are drawn. The view is the first one.
 use Rattle.std.proofs.Common.{◌≡◌, ◌-◌, length}
 use Rattle.serial_bands.specs.Run.{run_over}
-use Rattle.band_draw.specs.ProgressCode.{IsAt}
+use Rattle.band_draw.specs.code.Progress.{IsAt}
 use Rattle.band_draw.proofs.band.draw_all.Given as goal
 
 abbrev pub invariant-loop-p : goal.invariant-loop-p

@@ -1,5 +1,5 @@
 use Rattle.std.proofs.Common.{◌∙◌, ◌+◌, sym, subst, drop, arith}
-use Rattle.band_draw.specs.DueCode.{IsCounted}
+use Rattle.band_draw.specs.code.Due.{IsCounted}
 use Rattle.band_draw.proofs.Dues.{counted_none, counted_more, left_next}
 use Rattle.band_draw.proofs.due.due_from.Goals as goal
 

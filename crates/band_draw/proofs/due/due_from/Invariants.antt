@@ -1,6 +1,6 @@
 -- The writes before `next` that are due are counted.
 use Rattle.std.proofs.Common.{◌≤◌, ◌-◌, length, drop}
-use Rattle.band_draw.specs.DueCode.{IsCounted}
+use Rattle.band_draw.specs.code.Due.{IsCounted}
 use Rattle.band_draw.proofs.due.due_from.Given as goal
 
 abbrev pub invariant-loop-sets : goal.invariant-loop-sets

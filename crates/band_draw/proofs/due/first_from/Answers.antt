@@ -2,7 +2,7 @@ use Rattle.std.proofs.Common.{drop, nat_lt, rules, subst}
 use Rattle.std.proofs.lemmas.List.Sorted.{IsPartitionPoint-from_clause, IsPartitionedBy-ltb}
 use Rattle.ocs_base.specs.Limits.{time_of}
 use Rattle.ocs_base.specs.declared.script.At.{At}
-use Rattle.band_draw.specs.DueCode.{IsLeft}
+use Rattle.band_draw.specs.code.Due.{IsLeft}
 use Rattle.band_draw.proofs.Dues.{rising, left_at}
 use Rattle.band_draw.proofs.due.first_from.Goals as goal
 

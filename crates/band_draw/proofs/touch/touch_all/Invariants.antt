@@ -1,7 +1,7 @@
 -- The events before this one have touched the picture state. The view is the first one.
 use Rattle.std.proofs.Common.{◌≡◌}
 use Rattle.mem_versions.specs.MemView.{word_then}
-use Rattle.band_draw.specs.TouchedCode.{HaveTouched}
+use Rattle.band_draw.specs.code.Touched.{HaveTouched}
 use Rattle.band_draw.proofs.touch.touch_all.Given as goal
 
 abbrev pub invariant-loop-event : goal.invariant-loop-event

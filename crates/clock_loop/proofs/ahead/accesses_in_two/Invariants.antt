@@ -1,7 +1,7 @@
 use Rattle.std.proofs.Common.{◌≡◌, ◌≤◌, ◌+◌, ◌-◌, None, false}
 use Rattle.band_log.specs.Raster.{RasterValue}
 use Rattle.cpu_bus.specs.Beside.{BeginsAnew}
-use Rattle.clock_loop.specs.BusRun.{CanMakeClocks, HasRunOnBus}
+use Rattle.clock_loop.specs.code.BusRun.{CanMakeClocks, HasRunOnBus}
 use Rattle.foreground.specs.Fore.{over, CanGo}
 use Rattle.clock_loop.proofs.ahead.accesses_in_two.Given as goal
 

@@ -1,6 +1,6 @@
 use Rattle.std.proofs.Common.{◌≡◌, ◌≤◌, ◌+◌, ◌-◌, None, false}
 use Rattle.band_log.specs.Raster.{RasterValue}
-use Rattle.clock_loop.specs.BusRun.{CanMakeClocks, HasRunOnBus}
+use Rattle.clock_loop.specs.code.BusRun.{CanMakeClocks, HasRunOnBus}
 use Rattle.foreground.specs.Fore.{over, CanGo}
 use Rattle.clock_loop.proofs.ahead.clocks_alone.Given as goal
 

@@ -1,7 +1,7 @@
 use Rattle.std.proofs.Common.{◌≡◌, ◌-◌, arith, ap, subst, sym, ◌∙◌, None}
 use Rattle.foreground.proofs.MadeLaws.{on_err}
 use Rattle.foreground.specs.Fore.{over}
-use Rattle.clock_loop.specs.BusRun.{CanMakeClocks}
+use Rattle.clock_loop.specs.code.BusRun.{CanMakeClocks}
 use Rattle.clock_loop.proofs.ClockLaws.{first_can, next_can, run_and_clock, run_and_part, run_and_none, none_fewer, all_left}
 use Rattle.clock_loop.proofs.LineLaws.{can_go_then}
 use Rattle.foreground.proofs.RefusalLaws.{no_value, not_ok}

@@ -4,7 +4,7 @@ use Rattle.serial_model.specs.declared.bus.Ask.TheVariants as A
 use Rattle.chip_set.proofs.BusLaws.{claim_kept}
 use Rattle.chip_set.specs.Chips.{late_ask}
 use Rattle.foreground.specs.Fore.{over}
-use Rattle.clock_loop.specs.BusRun.{HasAskedFor}
+use Rattle.clock_loop.specs.code.BusRun.{HasAskedFor}
 use Rattle.clock_loop.proofs.EndLaws.{clock_by_end, part_by_end, bus_by_end, unit_by_end}
 use Rattle.clock_loop.proofs.bus.clock_on_bus.Goals as goal
 

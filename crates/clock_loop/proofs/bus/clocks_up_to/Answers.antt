@@ -1,7 +1,7 @@
 use Rattle.std.proofs.Common.{◌<◌, ◌-◌, arith, refl, ◌∙◌, ap, subst}
 use Rattle.std.proofs.lemmas.Result.{on_err_weaker, on_ok_weaker}
 use Rattle.foreground.specs.Fore.{over}
-use Rattle.clock_loop.specs.BusRun.{CanMakeClocks, is_made, stays_left}
+use Rattle.clock_loop.specs.code.BusRun.{CanMakeClocks, is_made, stays_left}
 use Rattle.clock_loop.proofs.BusLaws.{no_rest, none_made, no_unit, unit_as, unit_stays}
 use Rattle.clock_loop.proofs.ClockLaws.{HasGoneOn, first_can, next_can, gone_then, gone_by_clock, gone_in_part, gone_in_part_run, gone_untold}
 use Rattle.clock_loop.proofs.LineLaws.{nothing_made}

@@ -1,9 +1,9 @@
 -- A look changes nothing that counts.
 use Rattle.std.proofs.Common.{◌≡◌, false, OnOk, OnErr, subst, sym}
 use Rattle.chip_set.specs.BusCode.{LeaveBus, IsClaim}
-use Rattle.clock_loop.specs.BusRun.{HasRunOnBus, HasRunInPart, IsOpenForBus}
+use Rattle.clock_loop.specs.code.BusRun.{HasRunOnBus, HasRunInPart, IsOpenForBus}
 use Rattle.foreground.specs.Fore.{ForeOf, over, CanGo}
-use Rattle.clock_loop.specs.LineCode.{AreInLine}
+use Rattle.clock_loop.specs.code.Line.{AreInLine}
 use Rattle.clock_loop.proofs.bus.run_on_bus.Goals as goal
 
 pub clocks_by_claim-requires : goal.clocks_by_claim-requires

@@ -1,5 +1,5 @@
 use Rattle.std.proofs.Common.{Ok, ap, refl, subst}
-use Rattle.clock_loop.specs.BusRun.{ServesAsk, is_made}
+use Rattle.clock_loop.specs.code.BusRun.{ServesAsk, is_made}
 use Rattle.foreground.specs.Fore.{over}
 use Rattle.ocs_base.specs.declared.memory.OutOfMemory.{OutOfMemory}
 use Rattle.clock_loop.proofs.EndLaws.{access_ends, access_refused}

@@ -1,5 +1,5 @@
 use Rattle.std.proofs.Common.{arith, refl}
-use Rattle.clock_loop.specs.FetchesCode.{with_fetches}
+use Rattle.clock_loop.specs.code.Fetches.{with_fetches}
 use Rattle.clock_loop.proofs.FetchLaws.{no_clock_of_planes}
 use Rattle.clock_loop.proofs.UnitLaws.{units_then, units_noted}
 use Rattle.clock_loop.proofs.fetches.fetch_planes.Goals as goal

@@ -2,7 +2,7 @@ use Rattle.std.proofs.Common.{◌≡◌, ◌<◌, ◌+◌, ◌∙◌, Some, ap, 
 use Rattle.serial_model.specs.PlaneFetch.{IsLastUnit}
 use Rattle.chip_set.specs.Chips.{WorkingChips}
 use Rattle.quiet_clocks.specs.FetchClocks.{fetching_on}
-use Rattle.clock_loop.specs.FetchesCode.{with_fetches}
+use Rattle.clock_loop.specs.code.Fetches.{with_fetches}
 use Rattle.clock_loop.proofs.UnitLaws.{slot_fetched, slot_noted}
 use Rattle.clock_loop.proofs.fetches.fetch_slots.Goals as goal
 

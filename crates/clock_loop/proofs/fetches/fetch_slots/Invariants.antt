@@ -3,7 +3,7 @@ use Rattle.serial_model.specs.PlaneFetch.{IsLastUnit}
 use Rattle.bitplane_dma.specs.RulesCode.{rules_of}
 use Rattle.chip_set.specs.Quiet.{fetching_in, with_fetching}
 use Rattle.quiet_clocks.specs.FetchClocks.{fetching_on}
-use Rattle.clock_loop.specs.FetchesCode.{with_fetches}
+use Rattle.clock_loop.specs.code.Fetches.{with_fetches}
 use Rattle.clock_loop.proofs.fetches.fetch_slots.Given as goal
 
 -- the fetches of the clocks passed were made

@@ -1,7 +1,7 @@
 use Rattle.std.proofs.Common.{ap, arith, subst, sym, ◌∙◌}
 use Rattle.foreground.specs.Fore.{ForeOf, over}
 use Rattle.machine.specs.Machine.{machine_over}
-use Rattle.clock_loop.specs.QuietCode.{HasPassed}
+use Rattle.clock_loop.specs.code.Quiet.{HasPassed}
 use Rattle.clock_loop.proofs.FetchLaws.{fetches_now}
 use Rattle.clock_loop.proofs.QuietLaws.{passes_none}
 use Rattle.clock_loop.proofs.fetches.pass_fetches.Goals as goal

@@ -1,6 +1,6 @@
 use Rattle.std.proofs.Common.{◌<◌, arith, refl, ◌∙◌, ap, subst, sym}
 use Rattle.foreground.specs.Fore.{over}
-use Rattle.clock_loop.specs.LineCode.{AreInLine}
+use Rattle.clock_loop.specs.code.Line.{AreInLine}
 use Rattle.clock_loop.specs.RunTo.{RisesInSome}
 use Rattle.clock_loop.proofs.RunToLaws.{runs_none, runs_then, part_behind, can_go_on, no_reads, reads_then, few_behind}
 use Rattle.clock_loop.proofs.LineLaws.{in_line_next, first_due, open_view}

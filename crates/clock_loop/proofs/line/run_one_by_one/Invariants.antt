@@ -1,6 +1,6 @@
 use Rattle.std.proofs.Common.{◌≡◌, ◌≤◌, ◌<◌, ◌-◌, max, false}
 use Rattle.foreground.specs.Fore.{over, CanGo}
-use Rattle.clock_loop.specs.LineCode.{AreInLine}
+use Rattle.clock_loop.specs.code.Line.{AreInLine}
 use Rattle.clock_loop.specs.RunTo.{RunsOn, RisesIn}
 use Rattle.clock_loop.proofs.line.run_one_by_one.Given as goal
 

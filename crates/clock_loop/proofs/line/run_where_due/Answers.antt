@@ -1,6 +1,6 @@
 -- Where it is not time to look, or the Copper wants the slot, none is made.
 use Rattle.std.proofs.Common.{subst, sym}
-use Rattle.clock_loop.specs.BusRun.{HasRunOnBus}
+use Rattle.clock_loop.specs.code.BusRun.{HasRunOnBus}
 use Rattle.foreground.specs.Fore.{ForeOf, over}
 use Rattle.clock_loop.proofs.BusLaws.{none_made}
 use Rattle.clock_loop.proofs.line.run_where_due.Goals as goal

@@ -1,6 +1,6 @@
 use Rattle.std.proofs.Common.{subst, sym}
 use Rattle.foreground.specs.Fore.{over}
-use Rattle.clock_loop.specs.QuietCode.{HasPassed}
+use Rattle.clock_loop.specs.code.Quiet.{HasPassed}
 use Rattle.clock_loop.proofs.QuietLaws.{passes_none}
 use Rattle.clock_loop.proofs.quiet.pass_quiet.Goals as goal
 

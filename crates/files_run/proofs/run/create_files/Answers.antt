@@ -2,7 +2,7 @@ use Rattle.std.proofs.Common.{Option, List, ℕ, subst, sym}
 use Rattle.std.specs.Prelude.{option_map}
 use Rattle.out_files.specs.OutFiles.{OutFilesValue}
 use Rattle.ocs_words.specs.Order.{IsFourthName}
-use Rattle.files_run.specs.RestCode.{MayHaveCreated}
+use Rattle.files_run.specs.code.Rest.{MayHaveCreated}
 use Rattle.files_run.proofs.AudioLaws.{LeavesFiles-none, LeavesFiles-made, Begins-audio}
 use Rattle.files_run.proofs.FaultLaws.{WritesRun-err, WritesRun-again}
 use Rattle.files_run.proofs.KeptLaws.{OnlyWrites-none}

@@ -1,7 +1,7 @@
 -- The clocks of an instruction that an opcode decodes to are those of the opcode's row.
 use Rattle.std.proofs.Common.{◌∙◌, ap, sym}
 use Rattle.m68k_opcodes.specs.Clocks.{number}
-use Rattle.m68k_opcodes.specs.TimingCode.{timing}
+use Rattle.m68k_opcodes.specs.code.Timing.{timing}
 use Rattle.m68k_opcodes.proofs.Whole.{timed_at}
 use Rattle.m68k_opcodes.proofs.timing.clocks.Goals as goal
 

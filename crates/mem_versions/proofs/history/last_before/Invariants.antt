@@ -1,7 +1,7 @@
 -- The word of the first writes is found, and the writes from the upper end on do not count.
 use Rattle.std.proofs.Common.{◌≡◌, ℕ, ◌+◌, ◌-◌, ◌*◌, ◌^◌, ◌<◌, ◌≤◌, length, take, get_or}
 use Rattle.mem_versions.specs.declared.write.Write.{Write}
-use Rattle.mem_versions.specs.HistoryCode.{word_before}
+use Rattle.mem_versions.specs.code.History.{word_before}
 use Rattle.mem_versions.proofs.history.last_before.Given as goal
 
 abbrev pub invariant-loop-low : goal.invariant-loop-low

@@ -2,7 +2,7 @@
 use Rattle.std.proofs.Common.{◌≡◌, ◌≢◌, ◌/◌, ℕ, List, All, length, take, subst, ap, ◌∙◌, arith, rules}
 use Rattle.std.proofs.lemmas.List.{take_all}
 use Rattle.mem_versions.specs.declared.write.Write.{Write}
-use Rattle.mem_versions.specs.ReplayCode.{AreCovered}
+use Rattle.mem_versions.specs.code.Replay.{AreCovered}
 use Rattle.mem_versions.proofs.MemoryLaws.{length-words_after}
 use Rattle.mem_versions.proofs.ReplayLaws.{unchanged_word}
 use Rattle.mem_versions.proofs.replay.words_behind.Goals as goal

@@ -1,6 +1,6 @@
 -- A turn puts the words of one page more.
 use Rattle.std.proofs.Common.{◌≡◌, ◌+◌, ◌-◌, ◌*◌, ◌<◌, ℕ, List, length, subst, ap, sym, ◌∙◌, arith, rules}
-use Rattle.mem_versions.specs.ReplayCode.{HoldsPages}
+use Rattle.mem_versions.specs.code.Replay.{HoldsPages}
 use Rattle.mem_versions.proofs.ReplayLaws.{HoldsPages-more, lent_back, length-put}
 use borrow.Rule.Slice.PartMut.{put_mid}
 use Rattle.mem_versions.proofs.replayed.put_pages.Goals as goal

@@ -1,6 +1,6 @@
 -- The pages so far have the words of the base.
 use Rattle.std.proofs.Common.{◌≡◌, ◌*◌, length}
-use Rattle.mem_versions.specs.ReplayCode.{HoldsPages}
+use Rattle.mem_versions.specs.code.Replay.{HoldsPages}
 use Rattle.mem_versions.proofs.replayed.put_pages.Given as goal
 
 abbrev pub invariant-loop-index : goal.invariant-loop-index

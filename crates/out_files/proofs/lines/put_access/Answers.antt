@@ -1,6 +1,6 @@
 -- The bytes from the clock's first digit on are those of the line's text.
 use Rattle.std.proofs.Common.{◌++◌, ◌∷◌, [], List, ℕ, ap, ◌∙◌}
-use Rattle.out_files.specs.LinesCode.{access_text}
+use Rattle.out_files.specs.code.Lines.{access_text}
 use Rattle.out_files.proofs.LinesLaws.{clock_first, access_bytes}
 use Rattle.out_files.proofs.lines.put_access.Goals as goal
 

@@ -1,6 +1,6 @@
 use Rattle.std.proofs.Common.{ℕ, ◌∙◌, sym, ap, subst}
 use Rattle.priority_ham.specs.PixelColour.{modified}
-use Rattle.painter.specs.HeldCode.{IsHeld}
+use Rattle.painter.specs.code.Held.{IsHeld}
 use Rattle.painter.proofs.Colours.{modified_again}
 use Rattle.painter.proofs.ham.modify_again.Goals as goal
 

@@ -1,5 +1,5 @@
 use Rattle.std.proofs.Common.{◌≡◌, ◌∙◌, ◌+◌, ◌*◌, ◌++◌, ℕ, take, subst, refl, ap, arith}
-use Rattle.painter.specs.HeldCode.{IsHeld, colour_word}
+use Rattle.painter.specs.code.Held.{IsHeld, colour_word}
 use Rattle.painter.specs.Pixels.{modified_along, all_modified}
 use Rattle.painter.specs.SpanCode.{bytes_of_clocks}
 use Rattle.painter.proofs.Clocks.{none_put, one_put}

@@ -1,5 +1,5 @@
 use Rattle.std.proofs.Common.{◌≡◌, ◌∙◌, ◌+◌, ◌-◌, ◌*◌, ◌++◌, ℕ, List, take, subst, refl, ap, arith}
-use Rattle.painter.specs.HeldCode.{IsHeld}
+use Rattle.painter.specs.code.Held.{IsHeld}
 use Rattle.painter.specs.Pixels.{modified_along, all_modified}
 use Rattle.painter.specs.SpanCode.{bytes_of_clocks}
 use Rattle.painter.proofs.Clocks.{one_put}

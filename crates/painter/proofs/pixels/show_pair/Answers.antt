@@ -1,6 +1,6 @@
 use Rattle.std.proofs.Common.{◌≡◌, ◌∙◌, ℕ, ap, subst}
 use Rattle.priority_ham.specs.PixelColour.{modified}
-use Rattle.painter.specs.HeldCode.{IsHeld}
+use Rattle.painter.specs.code.Held.{IsHeld}
 use Rattle.painter.specs.Inks.{ink_number}
 use Rattle.plane_rows.specs.Line.{row_bits}
 use Rattle.painter.specs.Pixels.{modified_at}

@@ -1,5 +1,5 @@
 use Rattle.std.proofs.Math.Nat.{div-div-eq-div-mul}
-use Rattle.plane_rows.specs.WordsCode.{spread_bits}
+use Rattle.plane_rows.specs.code.Words.{spread_bits}
 use Rattle.plane_rows.proofs.words.spread.Goals as goal
 
 pub returns-else-hires : goal.returns-else-hires

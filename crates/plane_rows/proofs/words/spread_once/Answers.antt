@@ -1,5 +1,5 @@
 use Rattle.std.proofs.Math.Nat.{div-div-eq-div-mul}
-use Rattle.plane_rows.specs.WordsCode.{spread_bits}
+use Rattle.plane_rows.specs.code.Words.{spread_bits}
 use Rattle.plane_rows.proofs.words.spread_once.Goals as goal
 
 pub returns-then-c-eq0 : goal.returns-then-c-eq0

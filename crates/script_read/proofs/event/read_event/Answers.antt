@@ -1,5 +1,5 @@
 use Rattle.std.proofs.Common.{true, false, sym, ◌∙◌}
-use Rattle.script_read.specs.CutCode.{words_left}
+use Rattle.script_read.specs.code.Cut.{words_left}
 use Rattle.script_read.proofs.EventLaws.{event-words}
 use Rattle.script_read.proofs.event.read_event.Goals as goal
 

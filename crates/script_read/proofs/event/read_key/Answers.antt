@@ -1,5 +1,5 @@
 use Rattle.std.proofs.Common.{Some, None, ◌∙◌}
-use Rattle.script_read.specs.CutCode.{words_left}
+use Rattle.script_read.specs.code.Cut.{words_left}
 use Rattle.script_read.proofs.EventLaws.{key-read}
 use Rattle.script_read.proofs.event.read_key.Goals as goal
 

@@ -1,5 +1,5 @@
 use Rattle.std.proofs.Common.{Some, None, refl, ◌∙◌}
-use Rattle.script_read.specs.CutCode.{words_left}
+use Rattle.script_read.specs.code.Cut.{words_left}
 use Rattle.script_read.specs.Words.{hex_number}
 use Rattle.script_read.proofs.EventLaws.{poke-read}
 use Rattle.script_read.proofs.event.read_poke.Goals as goal

@@ -1,5 +1,5 @@
 use Rattle.std.proofs.Common.{◌∷◌, ap, ◌∙◌}
-use Rattle.script_read.specs.CutCode.{words_left}
+use Rattle.script_read.specs.code.Cut.{words_left}
 use Rattle.script_read.proofs.EventLaws.{not_one}
 use Rattle.script_read.proofs.parts.one_word.Goals as goal
 

@@ -1,5 +1,5 @@
 use Rattle.std.proofs.Common.{◌∷◌, ap, ◌∙◌}
-use Rattle.script_read.specs.CutCode.{words_left}
+use Rattle.script_read.specs.code.Cut.{words_left}
 use Rattle.script_read.proofs.EventLaws.{not_two}
 use Rattle.script_read.proofs.parts.two_words.Goals as goal
 

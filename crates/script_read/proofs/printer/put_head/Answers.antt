@@ -1,6 +1,6 @@
 use Rattle.std.proofs.Common.{◌++◌, ◌∷◌, [], ap, ◌∙◌, flat_map}
 use Rattle.script_read.specs.Canonical.{first_text, last_text, cpu_text}
-use Rattle.script_read.specs.NumberCode.{number_part}
+use Rattle.script_read.specs.code.Number.{number_part}
 use Rattle.script_read.specs.declared.printer.Number.TheVariants.{Decimal}
 use Rattle.script_read.proofs.PrintLaws.{steps-3, head-text, Extends-same, Extends-more, Extends-trans}
 use Rattle.script_read.proofs.printer.put_head.Goals as goal

@@ -1,6 +1,6 @@
 use Rattle.std.proofs.Common.{◌++◌, flat_map, sym, ap, ◌∙◌, append_assoc, append-nil}
 use Rattle.std.proofs.lemmas.List.{take_all}
-use Rattle.script_read.specs.NumberCode.{number_part}
+use Rattle.script_read.specs.code.Number.{number_part}
 use Rattle.script_read.proofs.PrintLaws.{text-more, Extends-same, Extends-more, Extends-trans}
 use Rattle.script_read.proofs.printer.put_words.Goals as goal
 

@@ -1,5 +1,5 @@
 use Rattle.std.proofs.Common.{◌≡◌, ◌++◌, take, flat_map}
-use Rattle.script_read.specs.NumberCode.{number_part}
+use Rattle.script_read.specs.code.Number.{number_part}
 use Rattle.script_read.proofs.printer.put_words.Given as goal
 
 abbrev pub invariant-loop-number : goal.invariant-loop-number

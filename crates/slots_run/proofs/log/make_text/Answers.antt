@@ -2,7 +2,7 @@ use Rattle.std.proofs.Common.{◌≡◌, [], ℕ, List, ap, sym, subst, ◌∙�
 use Rattle.ocs_base.specs.Script.{ScriptValue}
 use Rattle.slot_log.specs.SlotLog.{log_of}
 use Rattle.slots_run.specs.Log.{IsLogOf, run_of}
-use Rattle.slots_run.specs.SlotRunCode.{run_in}
+use Rattle.slots_run.specs.code.SlotRun.{run_in}
 use Rattle.slots_run.proofs.LogLaws.{and_holds}
 use Rattle.slots_run.proofs.log.make_text.Goals as goal
 

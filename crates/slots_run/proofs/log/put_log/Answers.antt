@@ -6,7 +6,7 @@ use Rattle.serial_model.specs.MemoryText.{memory_text}
 use Rattle.slot_log.specs.Heading.{heading}
 use Rattle.slot_log.specs.SlotLog.{SlotLogValue, log_of}
 use Rattle.slots_run.specs.Log.{slot_clocks}
-use Rattle.slots_run.specs.SlotRunCode.{run_in, frame_in, Comes}
+use Rattle.slots_run.specs.code.SlotRun.{run_in, frame_in, Comes}
 use Rattle.slots_run.proofs.LogLaws.{is_log}
 use Rattle.slots_run.proofs.SlotRunLaws.{frame_at_reset}
 use Rattle.slots_run.proofs.log.put_log.Goals as goal

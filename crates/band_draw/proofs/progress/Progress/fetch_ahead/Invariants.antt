@@ -1,7 +1,7 @@
 -- The fetches of the clocks before `reached` have been made. The view is the first one.
 use Rattle.std.proofs.Common.{◌≡◌, ◌≤◌, ◌-◌, length}
 use Rattle.serial_bands.specs.Run.{run_over}
-use Rattle.band_draw.specs.AheadCode.{IsFetched}
+use Rattle.band_draw.specs.code.Ahead.{IsFetched}
 use Rattle.band_draw.proofs.progress.Progress.fetch_ahead.Given as goal
 
 abbrev pub invariant-loop-fetch : goal.invariant-loop-fetch

@@ -8,7 +8,7 @@ use Rattle.serial_model.specs.Events.{due_events, touches_of}
 use Rattle.serial_bands.specs.declared.event.Event.{Event}
 use Rattle.serial_bands.specs.ClockLaws.{IsNextInField}
 use Rattle.serial_bands.specs.RightJob.{bus_events}
-use Rattle.band_draw.specs.DueCode.{IsLeft}
+use Rattle.band_draw.specs.code.Due.{IsLeft}
 use Rattle.mem_versions.specs.MemView.{word_then}
 use Rattle.serial_bands.specs.DrawnTo.{touch_by_address}
 use Rattle.serial_bands.specs.EventReading.{bus_touch_of}

@@ -7,10 +7,10 @@ use Rattle.painter.specs.Span.{visible_clocks}
 use Rattle.serial_model.specs.Beam.{place_of}
 use Rattle.serial_model.specs.Events.{due_events, touches_of}
 use Rattle.serial_bands.specs.Run.{run_over}
-use Rattle.band_draw.specs.AheadCode.{IsFetched}
-use Rattle.band_draw.specs.DueCode.{IsLeft, IsLeftEarlier}
+use Rattle.band_draw.specs.code.Ahead.{IsFetched}
+use Rattle.band_draw.specs.code.Due.{IsLeft, IsLeftEarlier}
 use Rattle.band_draw.specs.Given.{IsSpanGiven}
-use Rattle.band_draw.specs.ProgressCode.{IsSource, IsFilled, IsShown}
+use Rattle.band_draw.specs.code.Progress.{IsSource, IsFilled, IsShown}
 use Rattle.band_draw.specs.declared.progress.Progress.{Progress}
 use Rattle.band_draw.proofs.Beginning.{left_all}
 use Rattle.band_draw.proofs.Fetching.{on_line, placed}

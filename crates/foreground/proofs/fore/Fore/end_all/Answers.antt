@@ -2,7 +2,7 @@
 use Rattle.std.proofs.Common.{subst, ap}
 use Rattle.ocs_io.proofs.MapLaws.{on_err}
 use Rattle.foreground.specs.Fore.{ForeValue, over}
-use Rattle.foreground.specs.CutsCode.{EndsPartAtRead}
+use Rattle.foreground.specs.code.Cuts.{EndsPartAtRead}
 use Rattle.foreground.proofs.CutLaws.{ends_no_part, ends_submit_part, ends_gather_part, ends_all_now}
 use Rattle.foreground.proofs.RefusalLaws.{no_value, not_ok}
 use Rattle.foreground.proofs.fore.Fore.end_all.Goals as goal

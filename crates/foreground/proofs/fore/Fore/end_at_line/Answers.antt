@@ -2,7 +2,7 @@
 use Rattle.foreground.specs.Fore.{over}
 use Rattle.std.proofs.Common.{ap}
 use Rattle.ocs_io.proofs.MapLaws.{on_err}
-use Rattle.foreground.specs.CutsCode.{EndsPart}
+use Rattle.foreground.specs.code.Cuts.{EndsPart}
 use Rattle.foreground.proofs.CutLaws.{line_no_part, line_submit_part, ends_at_line_now, line_rises_now}
 use Rattle.foreground.proofs.RefusalLaws.{not_ok}
 use Rattle.foreground.proofs.fore.Fore.end_at_line.Goals as goal

@@ -2,7 +2,7 @@
 use Rattle.foreground.specs.Fore.{over}
 use Rattle.std.proofs.Common.{subst, Option, ap}
 use Rattle.serial_model.specs.declared.picture.Denise.{Denise}
-use Rattle.foreground.specs.CutsCode.{EndsAll}
+use Rattle.foreground.specs.code.Cuts.{EndsAll}
 use Rattle.foreground.proofs.CutLaws.{ends_at_read_now}
 use Rattle.foreground.proofs.fore.Fore.end_at_read.Goals as goal
 

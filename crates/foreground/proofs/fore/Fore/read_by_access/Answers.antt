@@ -3,7 +3,7 @@ use Rattle.std.proofs.Common.{rules, ◌≡◌, ◌+◌, ◌-◌, ◌<◌, ◌^�
 use Rattle.ocs_io.proofs.MapLaws.{on_err}
 use Rattle.ocs_base.specs.declared.beam.Beam.{Beam}
 use Rattle.serial_bands.specs.Run.{run_over, beam_at}
-use Rattle.foreground.specs.CutsCode.{StandsAtEnd}
+use Rattle.foreground.specs.code.Cuts.{StandsAtEnd}
 use Rattle.foreground.specs.Fore.{ForeValue, over}
 use Rattle.foreground.specs.Steps.{AccessesPart}
 use Rattle.foreground.proofs.ReadingLaws.{access_place, access_ends, access_small_now, access_taken, access_part_now}

@@ -2,7 +2,7 @@
 use Rattle.std.proofs.Common.{◌≡◌, ◌+◌, ◌*◌, ◌/◌, ◌<◌, ◌≤◌, ℕ, [], List, length, get_or, replicate, subst, sym, ap, ◌∙◌, arith, rules}
 use Rattle.std.proofs.lemmas.List.{length-replicate}
 use Rattle.mem_versions.specs.declared.write.Write.{Write}
-use Rattle.mem_versions.specs.ReplayCode.{ChangedValue, AreNumbered, AreCovered}
+use Rattle.mem_versions.specs.code.Replay.{ChangedValue, AreNumbered, AreCovered}
 use Rattle.mem_versions.proofs.ReplayLaws.{AreNumbered-none, AreCovered-kept, AreCovered-marked}
 use Rattle.mem_versions.proofs.changed.Changed.new.Goals as goal
 use Rattle.mem_versions.proofs.changed.Changed.new.Goals.{then-page-last+then-page-pages+then-slot-eq0+in_ok-number, then-page-last+else-page-pages}

@@ -1,6 +1,6 @@
 -- The writes so far are to changed pages, or above the memory; so is the last of them.
 use Rattle.std.proofs.Common.{◌≡◌, ◌≤◌, ◌*◌, length, get_or}
-use Rattle.mem_versions.specs.ReplayCode.{AreNumbered, AreCovered}
+use Rattle.mem_versions.specs.code.Replay.{AreNumbered, AreCovered}
 use Rattle.mem_versions.proofs.changed.Changed.new.Given as goal
 
 abbrev pub invariant-loop-write : goal.invariant-loop-write

@@ -7,7 +7,7 @@ use Rattle.mem_versions.specs.declared.write.Write.{Write}
 use Rattle.mem_versions.specs.MemoryAt.{words_after, writes_to, writes_below, writes_from}
 use Rattle.mem_versions.specs.Chip.{ChipValue, after_cut}
 use Rattle.mem_versions.specs.MemView.{ViewValue}
-use Rattle.mem_versions.specs.ReplayCode.{ChangedValue, ReplayedValue, AreCovered, HoldsPages}
+use Rattle.mem_versions.specs.code.Replay.{ChangedValue, ReplayedValue, AreCovered, HoldsPages}
 use Rattle.mem_versions.specs.Sound.{IsSound}
 use Rattle.mem_versions.proofs.MemoryLaws.{IsSound-cut, IsViewOf-made}
 use Rattle.mem_versions.proofs.CutLaws.{IsCut-made}

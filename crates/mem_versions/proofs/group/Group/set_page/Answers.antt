@@ -4,7 +4,7 @@ use Rattle.std.proofs.Math.ListN.{set}
 use Rattle.std.specs.Arc.{arc_value}
 use Rattle.std.specs.List.{flat_map}
 use Rattle.std.proofs.lemmas.List.{take_all}
-use Rattle.mem_versions.specs.PagesCode.{HasPage}
+use Rattle.mem_versions.specs.code.Pages.{HasPage}
 use Rattle.mem_versions.proofs.PagesLaws.{page-within}
 use Rattle.mem_versions.proofs.ChangedLaws.{HasPage-group}
 use Rattle.mem_versions.proofs.group.Group.set_page.Goals as goal

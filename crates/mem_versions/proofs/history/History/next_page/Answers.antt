@@ -3,7 +3,7 @@ use Rattle.std.proofs.Common.{◌≡◌, ◌/◌, ◌<◌, List, length, get_or,
 use Rattle.std.proofs.lemmas.Bool.Decides.{nat_tests}
 use Rattle.mem_versions.specs.declared.write.Write.{Write}
 use Rattle.mem_versions.specs.declared.history.Part.{Part}
-use Rattle.mem_versions.specs.HistoryCode.{HistoryValue, IsPart, AreToOnePage}
+use Rattle.mem_versions.specs.code.History.{HistoryValue, IsPart, AreToOnePage}
 use Rattle.mem_versions.proofs.ChangedLaws.{part_same}
 use Rattle.mem_versions.proofs.history.History.next_page.Goals as goal
 

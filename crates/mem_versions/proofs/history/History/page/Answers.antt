@@ -3,7 +3,7 @@ use Rattle.std.specs.List.{filter}
 use Rattle.std.proofs.Common.{◌==◌, ◌-◌, ◌/◌, ◌<◌, ◌≤◌, List, take, drop, length, ap, sym, subst, ◌∙◌, arith}
 use Rattle.std.proofs.lemmas.Bool.Decides.{nat_tests}
 use Rattle.mem_versions.specs.declared.write.Write.{Write}
-use Rattle.mem_versions.specs.HistoryCode.{HistoryValue, IsInOrder}
+use Rattle.mem_versions.specs.code.History.{HistoryValue, IsInOrder}
 use Rattle.mem_versions.proofs.OrderLaws.{IsInOrder-part, part_at}
 use Rattle.mem_versions.proofs.history.History.page.Goals as goal
 

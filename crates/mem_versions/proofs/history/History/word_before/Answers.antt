@@ -4,7 +4,7 @@ use Rattle.std.proofs.lemmas.Bool.Decides.{nat_tests}
 use Rattle.std.proofs.lemmas.List.{nil_from_length}
 use Rattle.std.proofs.lemmas.List.Sums.{length-filter}
 use Rattle.mem_versions.specs.declared.write.Write.{Write}
-use Rattle.mem_versions.specs.HistoryCode.{word_before}
+use Rattle.mem_versions.specs.code.History.{word_before}
 use Rattle.mem_versions.proofs.MemoryLaws.{word_before-filter}
 use Rattle.mem_versions.proofs.OrderLaws.{same-page}
 use Rattle.mem_versions.proofs.history.History.word_before.Goals as goal

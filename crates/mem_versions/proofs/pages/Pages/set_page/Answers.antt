@@ -4,7 +4,7 @@ use Rattle.std.proofs.Math.ListN.{set}
 use Rattle.std.specs.Arc.{arc_value}
 use Rattle.std.specs.List.{flat_map}
 use Rattle.std.proofs.lemmas.Result.{on_ok_weaker}
-use Rattle.mem_versions.specs.PagesCode.{HasPage}
+use Rattle.mem_versions.specs.code.Pages.{HasPage}
 use Rattle.mem_versions.proofs.PagesLaws.{length-joined, joined-same, on_err_weaker}
 use Rattle.mem_versions.proofs.ChangedLaws.{HasPage-memory}
 use Rattle.mem_versions.proofs.pages.Pages.set_page.Goals as goal

@@ -2,7 +2,7 @@
 use Rattle.std.proofs.Common.{◌≡◌, ◌<◌, ℕ, take, get_or, subst, arith}
 use Rattle.mem_versions.specs.declared.write.Write.{Write}
 use Rattle.mem_versions.specs.MemoryAt.{writes_below}
-use Rattle.mem_versions.specs.ReplayCode.{ReplayedValue}
+use Rattle.mem_versions.specs.code.Replay.{ReplayedValue}
 use Rattle.mem_versions.proofs.ReplayLaws.{at_clock}
 use Rattle.mem_versions.proofs.replayed.Replayed.go_to.Goals as goal
 

@@ -2,7 +2,7 @@
 use Rattle.std.proofs.Common.{◌-◌, ◌<◌, List, get_or, subst, ap, ◌∙◌}
 use Rattle.std.specs.List.Sorted.{IsNonDecreasingBy}
 use Rattle.mem_versions.specs.declared.write.Write.{Write}
-use Rattle.mem_versions.specs.ReplayCode.{ReplayedValue}
+use Rattle.mem_versions.specs.code.Replay.{ReplayedValue}
 use Rattle.mem_versions.proofs.MemoryLaws.{all_early}
 use Rattle.mem_versions.proofs.replayed.Replayed.is_written_from.Goals as goal
 

@@ -3,7 +3,7 @@ use Rattle.std.proofs.Common.{◌≡◌, ◌<◌, ◌≤◌, List, rules, take, 
 use Rattle.std.proofs.lemmas.List.{get_or_default}
 use Rattle.mem_versions.specs.declared.write.Write.{Write}
 use Rattle.mem_versions.specs.MemoryAt.{writes_below}
-use Rattle.mem_versions.specs.ReplayCode.{ReplayedValue}
+use Rattle.mem_versions.specs.code.Replay.{ReplayedValue}
 use Rattle.mem_versions.proofs.ReplayLaws.{IsReplayed-stored, all_before, at_clock}
 use Rattle.mem_versions.proofs.replayed.Replayed.make_writes.Goals as goal
 use Rattle.mem_versions.proofs.replayed.Replayed.make_writes.Goals.{then-loop-self-test+else-index-clock, else-loop-self-test}

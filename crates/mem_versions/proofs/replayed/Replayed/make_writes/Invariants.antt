@@ -1,7 +1,7 @@
 -- The writes that are made are of clocks below.
 use Rattle.std.proofs.Common.{◌≡◌, ◌-◌, ◌<◌, ℕ, length, get_or}
 use Rattle.mem_versions.specs.declared.write.Write.{Write}
-use Rattle.mem_versions.specs.ReplayCode.{IsReplayed}
+use Rattle.mem_versions.specs.code.Replay.{IsReplayed}
 use Rattle.mem_versions.proofs.replayed.Replayed.make_writes.Given as goal
 
 abbrev pub invariant-loop-self : goal.invariant-loop-self

@@ -1,7 +1,7 @@
 -- None of the writes is made.
 use Rattle.std.proofs.Common.{List, subst}
 use Rattle.mem_versions.specs.declared.write.Write.{Write}
-use Rattle.mem_versions.specs.ReplayCode.{AreMadeBetween}
+use Rattle.mem_versions.specs.code.Replay.{AreMadeBetween}
 use Rattle.mem_versions.proofs.ReplayLaws.{IsReplayed-begun}
 use Rattle.mem_versions.proofs.replayed.Replayed.new.Goals as goal
 

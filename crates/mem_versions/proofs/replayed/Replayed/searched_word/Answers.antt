@@ -2,8 +2,8 @@
 use Rattle.std.proofs.Common.{◌≡◌, ◌<◌, Some, None, slice_get, length, get_or, ap, sym, ◌∙◌}
 use Rattle.std.proofs.lemmas.Option.{slice_get_within, get_or_from_slice_get}
 use Rattle.mem_versions.specs.MemoryAt.{memory_at}
-use Rattle.mem_versions.specs.ReplayCode.{ReplayedValue}
-use Rattle.mem_versions.specs.HistoryCode.{word_before}
+use Rattle.mem_versions.specs.code.Replay.{ReplayedValue}
+use Rattle.mem_versions.specs.code.History.{word_before}
 use Rattle.mem_versions.proofs.MemoryLaws.{get_or-memory_at, memory_at-above}
 use Rattle.mem_versions.proofs.PagesLaws.{ended}
 use Rattle.mem_versions.proofs.replayed.Replayed.searched_word.Goals as goal

@@ -1,8 +1,8 @@
 -- The first write that is found counts, since those behind it come late.
 use Rattle.std.proofs.Common.{◌≡◌, ◌+◌, ◌-◌, ◌<◌, ℕ, take, get_or, subst, refl, ap, ◌∙◌, sym, arith}
 use Rattle.mem_versions.specs.declared.write.Write.{Write}
-use Rattle.mem_versions.specs.ReplayCode.{ReplayedValue}
-use Rattle.mem_versions.specs.HistoryCode.{word_before}
+use Rattle.mem_versions.specs.code.Replay.{ReplayedValue}
+use Rattle.mem_versions.specs.code.History.{word_before}
 use Rattle.mem_versions.proofs.SearchLaws.{word_before-last, word_before-end}
 use Rattle.mem_versions.proofs.replayed.Replayed.word_before.Goals as goal
 

@@ -3,7 +3,7 @@ use Rattle.std.proofs.Common.{◌≡◌, ◌/◌, ◌<◌, Some, None, slice_get
 use Rattle.std.proofs.lemmas.Option.{slice_get_within, get_or_from_slice_get}
 use Rattle.mem_versions.specs.MemoryAt.{memory_at, page_writes}
 use Rattle.mem_versions.specs.MemView.{ViewValue}
-use Rattle.mem_versions.specs.HistoryCode.{word_before}
+use Rattle.mem_versions.specs.code.History.{word_before}
 use Rattle.mem_versions.proofs.MemoryLaws.{get_or-memory_at, memory_at-above}
 use Rattle.mem_versions.proofs.PagesLaws.{ended}
 use Rattle.mem_versions.proofs.view.MemView.at_counted.Goals as goal

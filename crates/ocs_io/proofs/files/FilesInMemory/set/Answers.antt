@@ -1,6 +1,6 @@
 use Rattle.std.proofs.Common.{refl, ap, ◌∙◌}
 use Rattle.std.specs.FinMap.{insert}
-use Rattle.ocs_io.specs.KeptFilesCode.{files_of}
+use Rattle.ocs_io.specs.code.KeptFiles.{files_of}
 use Rattle.ocs_io.proofs.KeptLaws.{IsThere-found, with_new}
 use Rattle.ocs_io.proofs.files.FilesInMemory.set.Goals as goal
 

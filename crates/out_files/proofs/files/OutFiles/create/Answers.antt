@@ -6,7 +6,7 @@ use Rattle.out_files.specs.declared.fault.OutFile.TheVariants.{Trace, Memory}
 use Rattle.out_files.specs.declared.fault.WriteFault.{WriteFault}
 use Rattle.out_files.specs.OutFiles.{OutFilesValue}
 use Rattle.out_files.specs.Answers.{CreateAnswers}
-use Rattle.out_files.specs.PiecesCode.{MakeAnswers}
+use Rattle.out_files.specs.code.Pieces.{MakeAnswers}
 use Rattle.out_files.proofs.CreateLaws.{second_refused, third_answered}
 use Rattle.out_files.proofs.PlacesLaws.{leaves_on, leaves_refused}
 use Rattle.out_files.proofs.TogetherLaws.{created_begins}

@@ -1,7 +1,7 @@
 use Rattle.std.proofs.Common.{◌∙◌, ◌+◌, ◌*◌, ℕ, slice_index, ap}
 use Rattle.serial_model.specs.Picture.{colour_bytes}
 use Rattle.painter.specs.Inks.{two_pixels}
-use Rattle.painter.specs.PairOver.{colour_over}
+use Rattle.painter.specs.code.PairOver.{colour_over}
 use Rattle.painter.proofs.Wide.{pairs_put}
 use Rattle.painter.proofs.painter.Painter.put_clock_over.Goals as goal
 

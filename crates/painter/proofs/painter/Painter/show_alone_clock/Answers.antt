@@ -6,7 +6,7 @@ use Rattle.painter.specs.Overlay.{clock_over}
 use Rattle.painter.specs.Painter.{with_held}
 use Rattle.painter.specs.SpriteState.{SpriteRegisters, attached_in}
 use Rattle.painter.specs.StartsCode.{IsAlone}
-use Rattle.painter.specs.SteadyCode.{IsSteadyFrom}
+use Rattle.painter.specs.code.Steady.{IsSteadyFrom}
 use Rattle.painter.proofs.Covering.{steady_same, steady_runs, steady_further, steady_first, steady_second, steady_pixels, steady_bits, column_reached}
 use Rattle.painter.proofs.Overlays.{after_first, after_second, clock_shown, clock_stands, bits_apart}
 use Rattle.painter.proofs.Pairs.{column_pair}

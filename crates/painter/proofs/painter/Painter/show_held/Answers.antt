@@ -1,6 +1,6 @@
 use Rattle.std.proofs.Common.{[], ℕ, List, get_or, ap, subst}
 use Rattle.serial_model.specs.Picture.{held_after}
-use Rattle.painter.specs.HeldCode.{IsHeld}
+use Rattle.painter.specs.code.Held.{IsHeld}
 use Rattle.painter.proofs.Showing.{held_clock, with_held_stands}
 use Rattle.painter.proofs.painter.Painter.show_held.Goals as goal
 

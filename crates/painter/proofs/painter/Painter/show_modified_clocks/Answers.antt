@@ -1,5 +1,5 @@
 use Rattle.std.proofs.Common.{◌∙◌, List, ℕ, ap}
-use Rattle.painter.specs.HeldCode.{IsHeld}
+use Rattle.painter.specs.code.Held.{IsHeld}
 use Rattle.painter.proofs.painter.Painter.show_modified_clocks.Goals as goal
 
 pub returns-clause-given : goal.returns-clause-given

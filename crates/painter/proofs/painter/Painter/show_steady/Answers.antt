@@ -5,7 +5,7 @@ use Rattle.serial_model.specs.Window.{is_inside}
 use Rattle.painter.specs.declared.field_place.FieldPlace.{FieldPlace}
 use Rattle.painter.specs.Span.{IsSpan}
 use Rattle.painter.specs.StartsCode.{IsSteady}
-use Rattle.painter.specs.SteadyCode.{IsSteadyFrom}
+use Rattle.painter.specs.code.Steady.{IsSteadyFrom}
 use Rattle.painter.proofs.Covering.{steady_same, steady_further}
 use Rattle.painter.proofs.Spans.{no_span, joined}
 use Rattle.painter.proofs.painter.Painter.show_steady.Goals as goal

@@ -3,7 +3,7 @@ use Rattle.serial_model.specs.declared.picture.Denise.{Denise}
 use Rattle.serial_model.specs.Picture.{held_after, step_of}
 use Rattle.serial_model.specs.Window.{is_inside}
 use Rattle.painter.specs.Painter.{with_held}
-use Rattle.painter.specs.SteadyCode.{IsSteadyFrom}
+use Rattle.painter.specs.code.Steady.{IsSteadyFrom}
 use Rattle.painter.proofs.Covering.{steady_same, steady_runs, steady_further}
 use Rattle.painter.proofs.Overlays.{clock_shown, clock_stands, bits_apart}
 use Rattle.painter.proofs.Spans.{one_span}

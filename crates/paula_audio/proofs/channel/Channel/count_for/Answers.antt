@@ -1,5 +1,5 @@
 use Rattle.std.proofs.Common.{ap, ◌∙◌, sym, ◌-◌, arith}
-use Rattle.paula_audio.specs.Quiet.{counted}
+use Rattle.paula_audio.specs.code.Quiet.{counted}
 use Rattle.paula_audio.proofs.QuietLaws.{counted_rest, counted_none}
 use Rattle.paula_audio.proofs.channel.Channel.count_for.Goals as goal
 

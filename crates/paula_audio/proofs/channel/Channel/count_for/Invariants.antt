@@ -1,5 +1,5 @@
 use Rattle.std.proofs.Common.{◌≡◌}
-use Rattle.paula_audio.specs.Quiet.{counted}
+use Rattle.paula_audio.specs.code.Quiet.{counted}
 use Rattle.paula_audio.proofs.channel.Channel.count_for.Given as goal
 
 -- the clocks that are left lead to where all of them do

@@ -1,5 +1,5 @@
 use Rattle.std.proofs.Common.{ap, ◌∙◌, ◌-◌, arith}
-use Rattle.paula_audio.specs.Quiet.{counted}
+use Rattle.paula_audio.specs.code.Quiet.{counted}
 use Rattle.paula_audio.proofs.QuietLaws.{no_tick, ticked_on, ticked_off}
 use Rattle.paula_audio.proofs.channel.Channel.skip.Goals as goal
 

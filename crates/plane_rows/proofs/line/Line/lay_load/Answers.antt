@@ -1,7 +1,7 @@
 use Rattle.std.proofs.Common.{◌≡◌, ◌≤◌, ◌∙◌, ℕ, Bool, List, slice_index, sym, ap, subst}
 use Rattle.planes.specs.declared.load.Load.{Load}
 use Rattle.planes.specs.PlaneBit.{load_of}
-use Rattle.plane_rows.specs.WordsCode.{spread_bits}
+use Rattle.plane_rows.specs.code.Words.{spread_bits}
 use Rattle.plane_rows.proofs.Pairs.{spread_paired}
 use Rattle.plane_rows.proofs.Loading.{spread_at, spread_few, laid_shows}
 use Rattle.plane_rows.proofs.line.Line.lay_load.Goals as goal

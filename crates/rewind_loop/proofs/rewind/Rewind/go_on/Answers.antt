@@ -4,7 +4,7 @@ use Rattle.ocs_base.specs.declared.beam.Beam.{Beam}
 use Rattle.serial_bands.specs.Run.{beam_at}
 use Rattle.foreground.specs.Fore.{ForeValue}
 use Rattle.rewind_loop.specs.Present.{run_in, fore_of, raster_of}
-use Rattle.rewind_loop.specs.StepsCode.{line_limit}
+use Rattle.rewind_loop.specs.code.Steps.{line_limit}
 use Rattle.rewind_loop.proofs.LineLaws.{none_in_line, later_clock, ran_on, above_here, come_below}
 use Rattle.rewind_loop.proofs.rewind.Rewind.go_on.Goals as goal
 

@@ -4,7 +4,7 @@ use Rattle.serial_model.specs.Side.{no_side}
 use Rattle.serial_bands.specs.Run.{run_over}
 use Rattle.foreground.specs.Fore.{IsNew}
 use Rattle.rewind_loop.specs.Present.{run_of, run_in, fore_of, raster_of}
-use Rattle.rewind_loop.specs.StepsCode.{starting_with}
+use Rattle.rewind_loop.specs.code.Steps.{starting_with}
 use Rattle.rewind_loop.proofs.BackLaws.{best_kept, back_to_best, back_to_first}
 use Rattle.rewind_loop.proofs.rewind.Rewind.load_best.Goals as goal
 

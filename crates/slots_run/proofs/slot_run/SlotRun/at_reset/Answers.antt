@@ -1,5 +1,5 @@
 use Rattle.std.proofs.Common.{refl}
-use Rattle.slots_run.specs.SlotRunCode.{fore_of, raster_of}
+use Rattle.slots_run.specs.code.SlotRun.{fore_of, raster_of}
 use Rattle.slots_run.proofs.SlotRunLaws.{stands_new}
 use Rattle.slots_run.proofs.slot_run.SlotRun.at_reset.Goals as goal
 

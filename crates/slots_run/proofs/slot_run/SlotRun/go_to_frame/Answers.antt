@@ -1,7 +1,7 @@
 use Rattle.std.proofs.Common.{◌≡◌, ◌<◌, ap, arith}
 use Rattle.ocs_base.specs.declared.beam.Beam.{Beam}
 use Rattle.serial_bands.specs.Run.{RunValue}
-use Rattle.slots_run.specs.SlotRunCode.{run_in, frame_in}
+use Rattle.slots_run.specs.code.SlotRun.{run_in, frame_in}
 use Rattle.slots_run.proofs.SlotRunLaws.{going_first, going_next, going_end, fewer}
 use Rattle.slots_run.proofs.slot_run.SlotRun.go_to_frame.Goals as goal
 

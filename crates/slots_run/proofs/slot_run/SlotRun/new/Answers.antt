@@ -1,6 +1,6 @@
 use Rattle.std.proofs.Common.{◌≡◌, IfOk, sym, subst}
 use Rattle.foreground.specs.Fore.{IsNew}
-use Rattle.slots_run.specs.SlotRunCode.{run_in, fore_of}
+use Rattle.slots_run.specs.code.SlotRun.{run_in, fore_of}
 use Rattle.slots_run.proofs.slot_run.SlotRun.new.Goals as goal
 
 pub at_reset-requires : goal.at_reset-requires

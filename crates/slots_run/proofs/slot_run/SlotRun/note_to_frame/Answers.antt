@@ -3,7 +3,7 @@ use Rattle.ocs_base.specs.declared.beam.Beam.{Beam}
 use Rattle.serial_bands.specs.Run.{RunValue}
 use Rattle.slot_log.specs.SlotLog.{log_of}
 use Rattle.slots_run.specs.Log.{slot_clocks}
-use Rattle.slots_run.specs.SlotRunCode.{run_in, frame_in}
+use Rattle.slots_run.specs.code.SlotRun.{run_in, frame_in}
 use Rattle.slots_run.proofs.SlotRunLaws.{going_first, going_next, going_end, fewer, noted_more}
 use Rattle.slots_run.proofs.slot_run.SlotRun.note_to_frame.Goals as goal
 

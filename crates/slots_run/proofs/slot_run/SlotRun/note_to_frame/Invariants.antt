@@ -2,7 +2,7 @@
 use Rattle.std.proofs.Common.{◌≡◌, ◌-◌, ◌*◌}
 use Rattle.slot_log.specs.SlotLog.{log_of}
 use Rattle.slots_run.specs.Log.{slot_clocks}
-use Rattle.slots_run.specs.SlotRunCode.{run_in}
+use Rattle.slots_run.specs.code.SlotRun.{run_in}
 use Rattle.slots_run.proofs.SlotRunLaws.{Going}
 use Rattle.slots_run.proofs.slot_run.SlotRun.note_to_frame.Given as goal
 

@@ -13,7 +13,7 @@ use Rattle.serial_bands.specs.ReplayLaws.{after_kept}
 use Rattle.serial_bands.specs.RightJob.{HasMemory, events_from}
 use Rattle.serial_model.specs.StandsFor.{StandsFor}
 use Rattle.band_draw.specs.BandPainter.{IsBandPainterOf}
-use Rattle.band_draw.specs.DueCode.{IsLeft}
+use Rattle.band_draw.specs.code.Due.{IsLeft}
 use Rattle.band_draw.specs.declared.progress.Progress.{Progress}
 
 -- what a band is drawn from: no other begins within it, and a view has the run's memory at each of its clocks

@@ -7,7 +7,7 @@ use Rattle.m68k_opcodes.specs.declared.operand.Mode.{Mode}
 use Rattle.m68k_opcodes.specs.declared.class.Class.TheVariants as K
 use Rattle.m68k_opcodes.specs.declared.instr.Instr.{Instr}
 use Rattle.m68k_opcodes.specs.declared.instr.Instr.TheVariants as I
-use Rattle.m68k_opcodes.specs.PartsCode.{size_in, mode_in, operand_in, admits, any_of, alterable_of, word_or_long}
+use Rattle.m68k_opcodes.specs.code.Parts.{size_in, mode_in, operand_in, admits, any_of, alterable_of, word_or_long}
 
 abbrev pub low : ℕ → ℕ
 low n = n % 8

@@ -7,7 +7,7 @@ use Rattle.serial_bands.specs.Run.{RunValue, beam_at}
 use Rattle.serial_bands.specs.RightJob.{events_from}
 use Rattle.serial_bands.specs.Spans.{AreQuiet, fetched}
 use Rattle.band_draw.specs.BandPainter.{IsBandPainterOf}
-use Rattle.band_draw.specs.ProgressCode.{IsSamePlace}
+use Rattle.band_draw.specs.code.Progress.{IsSamePlace}
 use Rattle.band_draw.specs.declared.progress.Progress.{Progress}
 
 -- the place and the events that are left are those of the clock that comes next

@@ -26,7 +26,7 @@ use Rattle.foreground.specs.Fore.{ForeValue, IsUnderway, Advances, GivesPart, is
 use Rattle.foreground.specs.Steps.{MakesAskedAccess, AccessesPart, KeepsClock, reads_more}
 use Rattle.clock_loop.specs.declared.clock.Access.{Access}
 use Rattle.clock_loop.specs.declared.clock.Access.TheVariants as X
-use Rattle.clock_loop.specs.LineCode.{AreInLine}
+use Rattle.clock_loop.specs.code.Line.{AreInLine}
 use Rattle.clock_loop.specs.RunTo.{RunsOn, RisesIn, RisesInSome}
 
 -- no write waits for the next picture step, the open band has begun before this clock, and there is no side

@@ -1,0 +1,3 @@
+-- What only private functions cite: no public contract leads here.
+pub mod Lines
+pub mod Pieces

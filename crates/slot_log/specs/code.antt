@@ -1,0 +1,2 @@
+-- What only private functions cite: no public contract leads here.
+pub mod SlotLog
