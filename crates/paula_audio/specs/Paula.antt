@@ -20,15 +20,15 @@ pub record PaulaValue : Type 0 where
   pub three : Channel
   pub h : ℕ
 
+-- each channel, by its number, becomes what this makes of it
+abbrev pub each_channel : (ℕ → Channel → Channel) → PaulaValue → PaulaValue
+each_channel f p = record p { zero = f 0 p.zero; one = f 1 p.one; two = f 2 p.two; three = f 3 p.three }
+
 -- with a chip memory of this size
 abbrev pub reset_paula : ChipSize → PaulaValue
-reset_paula size = record {
-  zero = reset_channel size;
-  one = reset_channel size;
-  two = reset_channel size;
-  three = reset_channel size;
-  h = 0;
-}
+reset_paula size =
+    let off = reset_channel size in
+    record { zero = off; one = off; two = off; three = off; h = 0 }
 
 -- DMAEN and the channel's bit of DMACON are set
 abbrev pub has_dma : ℕ → ℕ → Bool
@@ -39,22 +39,10 @@ abbrev pub channel_write : ℕ → ℕ → ℕ → Channel → Channel
 channel_write n offset word c = if offset / 16 == 10 + n then after_write (offset % 16) word c else c
 
 abbrev pub paula_write : Reg → ℕ → PaulaValue → PaulaValue
-paula_write reg word p = record {
-  zero = channel_write 0 reg.offset word p.zero;
-  one = channel_write 1 reg.offset word p.one;
-  two = channel_write 2 reg.offset word p.two;
-  three = channel_write 3 reg.offset word p.three;
-  h = p.h;
-}
+paula_write reg word p = each_channel (λ n c. channel_write n reg.offset word c) p
 
 abbrev pub paula_tick : Beam → ℕ → PaulaValue → PaulaValue
-paula_tick b dmacon p = record {
-  zero = after_tick (has_dma 0 dmacon) p.zero;
-  one = after_tick (has_dma 1 dmacon) p.one;
-  two = after_tick (has_dma 2 dmacon) p.two;
-  three = after_tick (has_dma 3 dmacon) p.three;
-  h = b.h;
-}
+paula_tick b dmacon p = each_channel (λ n c. after_tick (has_dma n dmacon) c) (record p { h = b.h })
 
 -- the bits of INTREQ that a tick requests: bit 7 + n for channel n
 abbrev pub channel_bit : ℕ → ℕ → Channel → ℕ
@@ -84,13 +72,7 @@ abbrev pub channel_word : ℕ → ℕ → ℕ → Channel → Channel
 channel_word n h word c = if h == clock_of n then after_word word c else c
 
 abbrev pub paula_word : ℕ → PaulaValue → PaulaValue
-paula_word word p = record {
-  zero = channel_word 0 p.h word p.zero;
-  one = channel_word 1 p.h word p.one;
-  two = channel_word 2 p.h word p.two;
-  three = channel_word 3 p.h word p.three;
-  h = p.h;
-}
+paula_word word p = each_channel (λ n c. channel_word n p.h word c) p
 
 -- left is of channels 0 and 3, right of 1 and 2
 abbrev pub left_of : PaulaValue → ℕ

@@ -2,7 +2,7 @@
 use Rattle.std.specs.Prelude.{◌≡◌, ◌<◌, ℕ, zero, suc, ◌+◌, Bool, false}
 use Rattle.ocs_base.specs.declared.beam.Beam.{Beam}
 use Rattle.paula_audio.specs.Channel.{after_count, after_tick, is_requested, wants_word}
-use Rattle.paula_audio.specs.Paula.{PaulaValue, has_dma}
+use Rattle.paula_audio.specs.Paula.{PaulaValue, has_dma, each_channel}
 use Rattle.paula_audio.specs.declared.channel.Channel.{Channel}
 
 -- a channel after so many ticks, and one that is on after so many clocks of its counter
@@ -26,10 +26,4 @@ last_tick (suc n) b h = b.h + n
 
 -- the four of them after so many ticks
 abbrev pub paula_later : ℕ → Beam → ℕ → PaulaValue → PaulaValue
-paula_later n b dmacon p = record {
-  zero = ticked (has_dma 0 dmacon) n p.zero;
-  one = ticked (has_dma 1 dmacon) n p.one;
-  two = ticked (has_dma 2 dmacon) n p.two;
-  three = ticked (has_dma 3 dmacon) n p.three;
-  h = last_tick n b p.h;
-}
+paula_later n b dmacon p = each_channel (λ i c. ticked (has_dma i dmacon) n c) (record p { h = last_tick n b p.h })
