@@ -11,12 +11,12 @@ use Rattle.ocs_base.specs.declared.script.Act.{Act}
 use Rattle.ocs_base.specs.declared.script.Act.TheVariants.{Poke, Peek, Joy, Fire, Key}
 use Rattle.ocs_base.specs.declared.system.System.{System}
 use Rattle.serial_model.specs.Beam.{IsOnScreen, place_of}
-use Rattle.serial_model.specs.Events.{due_events, touches_of, add_touch, made_by_act}
+use Rattle.serial_model.specs.Events.{IsQueue, due_events, touches_of, add_touch, made_by_act}
 use Rattle.serial_model.specs.Made.{touch_of}
 use Rattle.serial_model.specs.Registers.{is_picture_register}
 use Rattle.serial_model.specs.declared.picture.Touch.{Touch}
 use Rattle.serial_model.specs.declared.picture.Touch.TheVariants.{Set}
-use Rattle.serial_model.proofs.EventLaws.{IsQueue, due_events-more, due_events-later, due_events-none, AreFrom-le, IsQueue-end}
+use Rattle.serial_model.proofs.EventLaws.{due_events-more, due_events-later, due_events-none, AreFrom-le, IsQueue-end}
 use Rattle.band_draw.specs.code.Due.{IsLeft, IsLeftEarlier, is_set, before_if, due_if, sets_if, IsCounted}
 
 first_of : List At → Option At

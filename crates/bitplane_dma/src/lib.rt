@@ -21,6 +21,7 @@ ghost use Rattle.serial_model.specs.Window.{is_window_line as in_window};
 
 mod rules;
 
+use blit_words::even_part;
 use ocs_base::offset::{BPL1MOD, BPL2MOD, BPLCON0, DDFSTOP, DDFSTRT, DIWSTOP, DIWSTRT, DMACON};
 use ocs_base::{Addr, Beam, Reg};
 use reg_file::Regs;
@@ -474,16 +475,11 @@ fn added_bytes(h: u16, start: u16, plane: u8, regs: &Regs) -> u32
     modulo_bytes(regs.word(Reg::masked(modulo)))
 }
 
-/// How far on a modulo moves an address, modulo 1 MiB, of which each span is a part: it is a signed number,
-/// whose bit 0 counts as 0.
+/// How many bytes a modulo moves an address, modulo 1 MiB, of which each span is a part: it is a signed
+/// number, whose bit 0 counts as 0.
 fn modulo_bytes(word: u16) -> u32
     ensures value { result ≡ bytes_of word }
     ensures below { result < 1048576 }
 {
-    let bytes = if word < 0x8000 {
-        word as u32
-    } else {
-        word as u32 + 0xf_0000
-    };
-    bytes / 2 * 2
+    even_part(word.cast_signed()).rem_euclid(0x10_0000) as u32
 }

@@ -2,7 +2,7 @@
 use Rattle.std.specs.Prelude.{◌≡◌, ◌≢◌, ℕ, ◌≤◌, ◌==◌, Bool, if◌then◌else◌, List, [], Option, Some, None, is_some}
 use Rattle.std.specs.Option.{option_map}
 use Rattle.blit_words.specs.declared.blit.SlotAsk.{SlotAsk}
-use Rattle.blit_words.specs.declared.blit.SlotAsk.TheVariants.{Read, Write, Rest, Done}
+use Rattle.blit_words.specs.declared.blit.SlotAsk.TheVariants.{Done}
 use Rattle.blitter.specs.StandsFor.{StandsFor, slot_shown}
 use Rattle.blitter.specs.declared.Blit.{Blit}
 use Rattle.cpu_bus.specs.Bus.{IsProcessorOf, wish_shown}
@@ -29,7 +29,7 @@ use Rattle.serial_model.specs.declared.registers.Inputs.{Inputs}
 use Rattle.chip_set.specs.declared.late.LateOwner.{LateOwner}
 use Rattle.chip_set.specs.declared.late.LateOwner.TheVariants as L
 use Rattle.mem_versions.specs.Chip.{ChipValue, after_reads}
-use Rattle.serial_bands.specs.BusReads.{reads_of_processor}
+use Rattle.serial_model.specs.Bus.{reads_of_blit, reads_of_processor}
 use Rattle.serial_model.specs.Bus.{Wishes, copper_wish, plane_wish, units_now, kinds_now, slot_state, owner_ask, copper_runs}
 use Rattle.serial_model.specs.Bus.{copper_ask, blit_owner_ask, processor_ask}
 use Rattle.serial_model.specs.Bus.{copper_word, copper_after, missed_after, ask_at, answer_processor, answer_to, answer_chips, give_blit}
@@ -215,13 +215,6 @@ IsAnswer (A.Sprite (Words sprite second at)) b clx now memory word = Unit {0}
 IsAnswer (A.Copper at) b clx now memory word = word ≡ word_of memory at.value
 IsAnswer (A.Blit ask) b clx now memory word = word ≡ answer_blit ask memory
 IsAnswer (A.Processor ask) b clx now memory word = IsRead ask b clx now memory word
-
--- of the asks of a blit a read reads one
-abbrev pub reads_of_blit : SlotAsk → ℕ
-reads_of_blit (Read at) = 1
-reads_of_blit (Write at stored) = 0
-reads_of_blit Rest = 0
-reads_of_blit Done = 0
 
 -- how many words of chip memory the chips read with an ask: the word of a sample is read by whoever gives it to the side
 abbrev pub reads_by_chips : Ask → ℕ

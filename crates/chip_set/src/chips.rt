@@ -10,7 +10,7 @@ ghost use Rattle.serial_model.specs.Made.{word_of};
 ghost use Rattle.serial_model.specs.Side.{IsInTime};
 ghost use Rattle.serial_model.specs.declared.bus.Ask.{Ask as AskOf};
 ghost use Rattle.serial_model.specs.declared.bus.SideAsk.{SideAsk};
-ghost use Rattle.serial_bands.specs.BusReads.{reads_of_processor};
+ghost use Rattle.serial_model.specs.Bus.{reads_of_blit, reads_of_processor};
 ghost use Rattle.serial_model.specs.State.{read_word, live_words, zero_of};
 ghost use Rattle.serial_model.specs.Write.{write_chips, carry_effect, restart_copper, start_blit as start_blit_of, write_interrupts as write_interrupts_of};
 ghost use Rattle.serial_model.specs.Tick.{start_chips};
@@ -18,7 +18,7 @@ ghost use Rattle.serial_model.specs.Events.{tell_chips, with_joy, with_fire};
 ghost use Rattle.cpu_bus.specs.Bus.{wish_shown};
 ghost use Rattle.bus_slots.specs.Asks.{made_with};
 ghost use Rattle.chip_set.specs.Chips.{IsChipsOf, HasAsked, HasAccessed, CanAsk, CanDo, plain_chips, kept_wish, ask_with, ask_or_late};
-ghost use Rattle.chip_set.specs.Chips.{act_at, IsAnswer, IsRead, reads_by_chips, reads_of_blit, read_by, IsBlitAsk};
+ghost use Rattle.chip_set.specs.Chips.{act_at, IsAnswer, IsRead, reads_by_chips, read_by, IsBlitAsk};
 ghost use Rattle.chip_set.specs.Chips.{AnswersOwner, answering, GivesBlit, GivesProcessor, IsGoing, end_if_blit};
 
 use crate::blit_registers::{blit_registers, keep_blit};

@@ -10,7 +10,8 @@ use Rattle.serial_model.specs.Side.{SideValue}
 use Rattle.cpu_bus.specs.Bus.{wish_shown}
 use Rattle.serial_model.specs.Bus.{processor_ask}
 use Rattle.cpu_bus.specs.Beside.{BeginsAnew}
-use Rattle.serial_bands.specs.BusReads.{bus_reads, reads_of_ask}
+use Rattle.serial_model.specs.Bus.{reads_of_ask}
+use Rattle.serial_bands.specs.BusReads.{bus_reads}
 use Rattle.serial_model.specs.Beam.{later_beam}
 use Rattle.chip_set.specs.BusCode.{CiasRest, KeepsCias}
 use Rattle.chip_set.specs.Chips.{CanAsk, IsBlitAsk, kept_wish, late_ask}

@@ -5,7 +5,8 @@ use Rattle.mem_versions.specs.Chip.{ChipValue}
 use Rattle.out_files.specs.OutFiles.{OutFilesValue}
 use Rattle.serial_model.specs.declared.bus.Ask.{Ask}
 use Rattle.serial_model.specs.Beam.{next_place}
-use Rattle.serial_bands.specs.BusReads.{bus_reads, reads_of_ask}
+use Rattle.serial_model.specs.Bus.{reads_of_ask}
+use Rattle.serial_bands.specs.BusReads.{bus_reads}
 use Rattle.bitplane_dma.specs.declared.rules.FetchRules.{FetchRules}
 use Rattle.chip_set.specs.declared.bus.BlitterClaim.{BlitterClaim}
 use Rattle.chip_set.specs.Chips.{CanAsk, IsBlitAsk, kept_wish, late_ask}

@@ -16,7 +16,7 @@ use Rattle.cpu_bus.specs.Bus.{wish_shown}
 use Rattle.serial_model.specs.Made.{touch_of}
 use Rattle.serial_model.specs.Registers.{is_interlaced, blitter_dma}
 use Rattle.serial_model.specs.Tick.{run_processor}
-use Rattle.serial_bands.specs.BusReads.{reads_of_ask}
+use Rattle.serial_model.specs.Bus.{reads_of_ask}
 use Rattle.serial_bands.specs.Shadows.{IsInRange}
 use Rattle.chip_set.specs.BusCode.{LeavesToPlanes, KeepsBus, KeepsBeside, KeepsCias, KeepsOnBus, CiasRest, IsUnitKept}
 use Rattle.chip_set.specs.declared.bus.Unit.{Unit}

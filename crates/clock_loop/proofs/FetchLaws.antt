@@ -23,7 +23,8 @@ use Rattle.serial_model.specs.State.{Chips, State}
 use Rattle.serial_model.specs.Tick.{before_access, ask_of}
 use Rattle.serial_model.proofs.FetchLaws.{IsFetch, fetched_plane-is, last_unit-units_at, units_at-is}
 use Rattle.serial_bands.specs.Bands.{begins, has_clx_read, has_read_at, has_read_before, is_band_place}
-use Rattle.serial_bands.specs.BusReads.{bus_reads, reads_of_ask}
+use Rattle.serial_model.specs.Bus.{reads_of_ask}
+use Rattle.serial_bands.specs.BusReads.{bus_reads}
 use Rattle.serial_bands.specs.Clock.{access_at, made_at, due_at, bus_touch_at}
 use Rattle.serial_bands.specs.Run.{RunValue, state_of, beam_at, run_memory}
 use Rattle.serial_bands.specs.Shadows.{IsInRange}

@@ -27,7 +27,8 @@ use Rattle.serial_model.specs.State.{Chips, State}
 use Rattle.serial_model.specs.Tick.{start_chips, count_timers, show_pixels, before_access, ask_of, side_bits}
 use Rattle.serial_model.proofs.EventLaws.{due_events-more, due_events-none, AreFrom-le, IsQueue-end, IsQueue-empty}
 use Rattle.serial_bands.specs.Bands.{begins, has_clx_read, has_read_at, has_read_before, is_band_place}
-use Rattle.serial_bands.specs.BusReads.{bus_reads, reads_of_ask}
+use Rattle.serial_model.specs.Bus.{reads_of_ask}
+use Rattle.serial_bands.specs.BusReads.{bus_reads}
 use Rattle.serial_bands.specs.Clock.{access_in, access_at, made_at, due_at, bus_touch_at}
 use Rattle.serial_bands.specs.Gathering.{IsGathered}
 use Rattle.serial_bands.specs.Run.{RunValue, state_of, beam_at, run_memory}

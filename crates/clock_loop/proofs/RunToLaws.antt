@@ -7,7 +7,7 @@ use Rattle.out_files.specs.OutFiles.{OutFilesValue}
 use Rattle.serial_bands.specs.Run.{RunValue, state_of, beam_at}
 use Rattle.serial_bands.specs.Bands.{is_band_place}
 use Rattle.serial_bands.specs.BusReads.{bus_reads, word_registers, is_fetched, latched_words}
-use Rattle.serial_bands.specs.RightJob.{events_from}
+use Rattle.serial_bands.specs.RightJob.{events_in}
 use Rattle.serial_bands.specs.OpenBand.{waiting_events}
 use Rattle.band_log.specs.Raster.{RasterValue}
 use Rattle.foreground.specs.Clock.{HasGiven, HasGivenPart, Rises}
@@ -84,7 +84,7 @@ looked_most fore first seen is =
     let to = fore.machine.t in
     subst (λ b. looked_up fore ≤ (if is_band_place run.height b then length word_registers else 0)) (sym is.at.machine.beam)
     (few_by (is_band_place run.height fore.machine.beam) (latched_words run from to)
-    (count_by-le-length (λ register. is_fetched register false (events_from run from (to - from - 1) ++ waiting_events run to)) word_registers))
+    (count_by-le-length (λ register. is_fetched register false (events_in run from to ++ waiting_events run to)) word_registers))
 
 pub no_reads : (run : RunValue) (from reads : ℕ) → RisesIn run from (from - from) reads reads
 no_reads run from reads =

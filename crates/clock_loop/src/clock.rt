@@ -6,7 +6,7 @@ ghost use Rattle.serial_model.specs.Beam.{next_place};
 ghost use Rattle.serial_model.specs.Bus.{blit_owner_ask, processor_ask};
 ghost use Rattle.serial_model.specs.declared.bus.Ask.{Ask as AskOf};
 ghost use Rattle.serial_model.specs.declared.bus.Ask.TheVariants as A;
-ghost use Rattle.serial_bands.specs.BusReads.{reads_of_ask};
+ghost use Rattle.serial_model.specs.Bus.{reads_of_ask};
 ghost use Rattle.serial_bands.specs.Shadows.{IsInRange};
 ghost use Rattle.picture_log.specs.Log.{with_access_touch};
 ghost use Rattle.band_log.specs.Raster.{RasterValue};

@@ -1,10 +1,13 @@
 -- A disk fits the chip memory that its pointer is an address of.
-use Rattle.std.proofs.Common.{◌≡◌, refl, sym, ap, subst, ◌∙◌, ℕ, Bool, true, false, if◌then◌else◌, List, [], ◌∷◌, ◌%◌}
-use Rattle.disk_dma.specs.Disk.{DiskValue, new_disk, after_end, after_begin, after_length, with_length, with_high_half}
-use Rattle.disk_dma.specs.Disk.{with_low_half, disk_write, is_arrival, word_at_head, after_arrival, join_if_taken}
-use Rattle.disk_dma.specs.Disk.{with_control, with_joined, after_last, after_one}
-use Rattle.disk_dma.specs.Disk.{arrive_if_time, ask_first, disk_ask, with_queue}
+use Rattle.std.proofs.Common.{◌≡◌, refl, sym, ap, subst, ◌∙◌, ℕ, Bool, true, false, ◌&&◌, nat_lt, if◌then◌else◌, List, [], ◌∷◌, ◌++◌, ◌%◌, ◌-◌}
+use Rattle.std.proofs.Common.{length as length_of}
+use Rattle.disk_dma.specs.Disk.{DiskValue, new_disk, after_length, with_high_half}
+use Rattle.disk_dma.specs.Disk.{with_low_half, disk_write, is_arrival, after_arrival, disk_tick}
+use Rattle.disk_dma.specs.Disk.{with_control, after_last, after_one}
+use Rattle.disk_dma.specs.Disk.{ask_first, disk_ask, with_queue}
 use Rattle.disk_dma.specs.Disk.{after_leave, disk_after, disk_side}
+use Rattle.disk_dma.specs.Track.{track_word}
+use Rattle.disk_dma.specs.code.Disk.{ends_transfer, after_end, after_begin, wants_word, join_if_wanted}
 use Rattle.ocs_base.specs.Sizes.{bytes_of, size_of_bytes}
 use Rattle.ocs_base.specs.declared.addr.Addr.{Addr}
 use Rattle.ocs_base.specs.declared.beam.Beam.{Beam}
@@ -25,22 +28,28 @@ either true x y first second = first
 either false x y first second = second
 
 length_keeps : (word : ℕ) (d : DiskValue) → HasSize d.at.size (after_length word d)
-length_keeps word d = either _ _ _ (same (after_end d)) (either _ _ _ (same (after_begin (word % 16384) d)) (same (record d { armed = true })))
+length_keeps word d =
+    let written : DiskValue = record d { length = word } in
+    either (ends_transfer word) _ _ (same (after_end written))
+    (either d.armed _ _ (same (after_begin (word % 0x4000) written)) (same (record written { armed = true })))
 
 write_keeps : (reg : Reg) (word : ℕ) (d : DiskValue) → HasSize d.at.size (disk_write reg word d)
 write_keeps reg word d =
     either _ _ _ (same (with_high_half word d))
     (either _ _ _ (same (with_low_half word d))
-    (either _ _ _ (length_keeps word (with_length word d))
+    (either _ _ _ (length_keeps word d)
     (either _ _ _ (same (record d { sync = word })) (either _ _ _ (same (with_control word d)) (same d)))))
 
-join_keeps : (word : ℕ) (d : DiskValue) → HasSize d.at.size (join_if_taken word d)
-join_keeps word d = either _ _ _ (either _ _ _ (same (with_joined word d)) (same d)) (same d)
+join_keeps : (word : ℕ) (d : DiskValue) → HasSize d.at.size (join_if_wanted word d)
+join_keeps word d =
+    either (wants_word d && nat_lt (length_of d.queue) 3) _ _
+    (same (record d { queue = d.queue ++ word ∷ []; wanted = d.wanted - 1 })) (same d)
 
-arrival_keeps : (h : ℕ) (d : DiskValue) → HasSize d.at.size (arrive_if_time h d)
-arrival_keeps h d =
-    let arrived : HasSize d.at.size (after_arrival d) = record { is = (join_keeps (word_at_head d) d).is } in
-    either (is_arrival h) (after_arrival d) d arrived (same d)
+tick_keeps : (b : Beam) (d : DiskValue) → HasSize d.at.size (disk_tick b d)
+tick_keeps b d =
+    let ticked : DiskValue = record d { due = false } in
+    let arrived : HasSize d.at.size (after_arrival ticked) = record { is = (join_keeps (track_word d.track d.place) ticked).is } in
+    either (is_arrival b.h) (after_arrival ticked) ticked arrived (same ticked)
 
 leave_keeps : (words : List ℕ) (d : DiskValue) → HasSize d.at.size (after_leave words d)
 leave_keeps [] d = same d
@@ -48,7 +57,7 @@ leave_keeps (word ∷ words) d = either _ _ _ (same (after_last (with_queue word
 
 step_keeps : (happening : Happening) (d : DiskValue) → HasSize d.at.size (disk_after happening d)
 step_keeps (Poked reg word) d = write_keeps reg word d
-step_keeps (Ticked b dmacon) d = arrival_keeps b.h (record d { due = false })
+step_keeps (Ticked b dmacon) d = tick_keeps b d
 step_keeps (Given word) d = leave_keeps d.queue d
 
 all_keep : (later : List Happening) (d : DiskValue) → (after_all disk_after later d).at.size ≡ d.at.size

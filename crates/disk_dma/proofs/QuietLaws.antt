@@ -2,7 +2,7 @@
 use Rattle.std.proofs.Common.{◌≡◌, ◌<◌, ◌≤◌, ℕ, zero, suc, ◌+◌, Bool, true, false, ◌&&◌, if◌then◌else◌, List, []}
 use Rattle.std.proofs.Common.{arith, refl, ap, ◌∙◌, sym}
 use Rattle.std.proofs.lemmas.Bool.Decides.{nat_tests}
-use Rattle.disk_dma.specs.Disk.{DiskValue, is_arrival, after_arrival, arrive_if_time, is_sync_at_head, disk_tick, disk_bits}
+use Rattle.disk_dma.specs.Disk.{DiskValue, is_arrival, after_arrival, is_sync_next, disk_tick, disk_bits}
 use Rattle.disk_dma.specs.Disk.{is_disk_clock, has_disk_dma, ask_first, disk_ask, disk_side}
 use Rattle.ocs_base.specs.declared.addr.Addr.{Addr}
 use Rattle.ocs_base.specs.declared.beam.Beam.{Beam}
@@ -16,8 +16,8 @@ not_arriving h first second = grind (arith, nat_tests, first, second)
 
 tick_stays : (b : Beam) (d : DiskValue) → d.due ≡ false → is_arrival b.h ≡ false → disk_tick b d ≡ d
 tick_stays b d due none =
-    ap (λ x. arrive_if_time b.h (record d { due = x })) (sym due)
-    ∙ ap (λ arrives. if arrives then after_arrival d else d) none
+    ap (λ arrives. if arrives then after_arrival (record d { due = false }) else record d { due = false }) none
+    ∙ ap (λ x. record d { due = x }) (sym due)
 
 abbrev NoneArrives : Beam → ℕ → Type 0
 NoneArrives b n = (k : ℕ) → k < n → is_arrival (b.h + k) ≡ false
@@ -32,8 +32,8 @@ later_stays (suc k) n b dmacon d low due none =
 
 no_bits : (b : Beam) (d : DiskValue) → d.due ≡ false → is_arrival b.h ≡ false → disk_bits b d ≡ 0
 no_bits b d due none =
-    ap (λ x. bit_worth (x && is_sync_at_head d) 4096 + bit_worth d.due 2) none
-    ∙ ap (λ x. bit_worth false 4096 + bit_worth x 2) due
+    ap (λ x. bit_worth (x && is_sync_next d) 0x1000 + bit_worth d.due 0x2) none
+    ∙ ap (λ x. bit_worth false 0x1000 + bit_worth x 0x2) due
 
 -- no word waits, or its three clocks are over
 ask_of_none : (ask dma : Bool) (queue : List ℕ) (at : Addr) → queue ≡ [] → (if ask && dma then ask_first queue at else S.Nothing) ≡ S.Nothing

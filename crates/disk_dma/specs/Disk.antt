@@ -50,34 +50,26 @@ new_disk track size = record {
   due = false;
 }
 
--- DSKLEN with bit 15 clear, or with bit 14, that of writing to the disk, set: nothing is armed and nothing runs
-abbrev pub is_end : ℕ → Bool
-is_end word = nat_lt word 32768 || nat_le 49152 word
-
-abbrev pub after_end : DiskValue → DiskValue
-after_end d = record d { armed = false; running = false; queue = [] }
-
--- a transfer of so many words begins; one of no words is done at the next tick
-abbrev pub after_begin : ℕ → DiskValue → DiskValue
-after_begin count d = record d {
-  armed = false;
-  running = not (count == 0);
-  synced = false;
-  wanted = count;
-  stored = count;
-  queue = [];
-  due = d.due || (count == 0);
-}
-
--- the first of two writes arms, and the second starts: its bits 13 to 0 are the length
-abbrev pub after_start : ℕ → DiskValue → DiskValue
-after_start word d = if d.armed then after_begin (word % 16384) d else record d { armed = true }
-
-abbrev pub with_length : ℕ → DiskValue → DiskValue
-with_length word d = record d { length = word }
-
+-- A write of DSKLEN. Where its bit 15 is clear, or bit 14, that of writing to the disk, is set, nothing is armed and nothing runs.
+-- Else the first of two writes arms, and the second starts a transfer of as many words as bits 13 to 0 say: one of no words is
+-- over at the next tick.
 abbrev pub after_length : ℕ → DiskValue → DiskValue
-after_length word d = if is_end word then after_end d else after_start word d
+after_length word d =
+    let count = word % 0x4000 in
+    if nat_lt word 0x8000 || nat_le 0xc000 word
+    then record d { length = word; armed = false; running = false; queue = [] }
+    else (if d.armed
+    then record d {
+      length = word;
+      armed = false;
+      running = not (count == 0);
+      synced = false;
+      wanted = count;
+      stored = count;
+      queue = [];
+      due = d.due || (count == 0);
+    }
+    else record d { length = word; armed = true })
 
 -- a write of one half of the pointer leaves the other half as it is by then
 abbrev pub with_high_half : ℕ → DiskValue → DiskValue
@@ -95,7 +87,7 @@ abbrev pub disk_write : Reg → ℕ → DiskValue → DiskValue
 disk_write reg word d =
     if reg.offset == 0x020 then with_high_half word d
     else (if reg.offset == 0x022 then with_low_half word d
-    else (if reg.offset == 0x024 then after_length word (with_length word d)
+    else (if reg.offset == 0x024 then after_length word d
     else (if reg.offset == 0x07e then record d { sync = word }
     else (if reg.offset == 0x09e then with_control word d
     else d))))
@@ -104,54 +96,38 @@ disk_write reg word d =
 abbrev pub is_arrival : ℕ → Bool
 is_arrival h = (h == 6) || (h == 120)
 
-abbrev pub word_at_head : DiskValue → ℕ
-word_at_head d = track_word d.track d.place
+-- whether the word that arrives next is that of DSKSYNC
+abbrev pub is_sync_next : DiskValue → Bool
+is_sync_next d = track_word d.track d.place == d.sync
 
-abbrev pub is_sync_at_head : DiskValue → Bool
-is_sync_at_head d = word_at_head d == d.sync
-
--- WORDSYNC, bit 10 of ADKCON, lets words in only once the word of DSKSYNC has passed
-abbrev pub lets_in : DiskValue → Bool
-lets_in d = not (has_bits d.control 1024) || d.synced
-
--- a word that arrives is one that a running transfer takes
-abbrev pub is_taken : DiskValue → Bool
-is_taken d = d.running && not (d.wanted == 0) && lets_in d
-
--- it joins the queue; where three wait it is lost, and still wanted
-abbrev pub with_joined : ℕ → DiskValue → DiskValue
-with_joined word d = record d { queue = d.queue ++ word ∷ []; wanted = d.wanted - 1 }
-
-abbrev pub after_join : ℕ → DiskValue → DiskValue
-after_join word d = if nat_lt (length_of d.queue) 3 then with_joined word d else d
-
-abbrev pub join_if_taken : ℕ → DiskValue → DiskValue
-join_if_taken word d = if is_taken d then after_join word d else d
-
--- and then it has passed
-abbrev pub after_pass : ℕ → DiskValue → DiskValue
-after_pass word d = record d { place = next_place d.track d.place; synced = d.synced || (word == d.sync) }
-
+-- A word arrives. A running transfer wants it, once WORDSYNC, bit 10 of ADKCON, is clear or the word of DSKSYNC has passed. It joins
+-- the queue where fewer than three wait: else it is lost, and still wanted. And then it has passed.
 abbrev pub after_arrival : DiskValue → DiskValue
-after_arrival d = after_pass (word_at_head d) (join_if_taken (word_at_head d) d)
+after_arrival d =
+    let wants = d.running && not (d.wanted == 0) && (not (has_bits d.control 0x400) || d.synced) in
+    let joins = wants && nat_lt (length_of d.queue) 3 in
+    record (if joins then record d { queue = d.queue ++ track_word d.track d.place ∷ []; wanted = d.wanted - 1 } else d) {
+      place = next_place d.track d.place;
+      synced = d.synced || is_sync_next d;
+    }
 
-abbrev pub arrive_if_time : ℕ → DiskValue → DiskValue
-arrive_if_time h d = if is_arrival h then after_arrival d else d
-
+-- a tick: what was due is requested by now
 abbrev pub disk_tick : Beam → DiskValue → DiskValue
-disk_tick b d = arrive_if_time b.h (record d { due = false })
+disk_tick b d =
+    let ticked = record d { due = false } in
+    if is_arrival b.h then after_arrival ticked else ticked
 
 -- the bits of INTREQ that a tick requests: DSKSYN, bit 12, and DSKBLK, bit 1
 abbrev pub disk_bits : Beam → DiskValue → ℕ
-disk_bits b d = bit_worth (is_arrival b.h && is_sync_at_head d) 4096 + bit_worth d.due 2
+disk_bits b d = bit_worth (is_arrival b.h && is_sync_next d) 0x1000 + bit_worth d.due 0x2
 
 -- the three clocks of a line that are the disk's
 abbrev pub is_disk_clock : ℕ → Bool
 is_disk_clock h = (h == 7) || (h == 9) || (h == 11)
 
--- DMAEN and DSKEN of DMACON are set
+-- DMAEN and DSKEN of DMACON are both set
 abbrev pub has_disk_dma : ℕ → Bool
-has_disk_dma dmacon = has_bits dmacon 528
+has_disk_dma dmacon = has_bits dmacon 0x210
 
 abbrev pub ask_first : List ℕ → Addr → SideAsk
 ask_first [] at = S.Nothing

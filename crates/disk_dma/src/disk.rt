@@ -2,10 +2,10 @@
 
 ghost use Rattle.std.specs.Prelude.{◌≡◌, ◌≤◌, ◌<◌, ◌+◌, ℕ, true, false, IfOk};
 ghost use Rattle.disk_dma.specs.Disk.{new_disk, disk_write, disk_tick, disk_bits, disk_ask, disk_given, disk_side};
-ghost use Rattle.disk_dma.specs.Disk.{after_end, after_begin, after_length, with_high_half, with_low_half};
-ghost use Rattle.disk_dma.specs.Disk.{is_end as ends_transfer, is_taken as takes_word, join_if_taken, after_arrival};
-ghost use Rattle.disk_dma.specs.Disk.{is_sync_at_head as is_sync_word, is_arrival as arrives, is_disk_clock as disk_clock};
-ghost use Rattle.disk_dma.specs.Disk.{has_disk_dma, ask_first as first_ask, with_length, with_queue, after_store};
+ghost use Rattle.disk_dma.specs.Disk.{after_length, with_high_half, with_low_half, after_arrival, is_sync_next};
+ghost use Rattle.disk_dma.specs.Disk.{is_arrival as arrives, is_disk_clock as disk_clock};
+ghost use Rattle.disk_dma.specs.Disk.{has_disk_dma, ask_first as first_ask, with_queue, after_store};
+ghost use Rattle.disk_dma.specs.code.Disk.{ends_transfer, after_end, after_begin, wants_word, join_if_wanted};
 ghost use Rattle.disk_dma.specs.code.Queue.{words_in};
 ghost use Rattle.disk_dma.specs.Track.{is_track};
 ghost use Rattle.irq_cia.specs.Bits.{set_or_clear as set_or_clear_of};
@@ -157,7 +157,7 @@ impl Disk {
     /// DSKLEN was written: with bit 15 clear or bit 14 set it ends what is armed and what runs; else a first
     /// write arms, and the next starts.
     fn write_length(&mut self, word: u16)
-        ensures { self.new ≡ after_length word (with_length word self.old) }
+        ensures { self.new ≡ after_length word self.old }
     {
         self.length = word;
         if is_end(word) {
@@ -210,7 +210,7 @@ impl Disk {
     /// DSKSYNC.
     fn arrive(&mut self) -> bool
         ensures state { self.new ≡ after_arrival self.old }
-        ensures sync { result ≡ is_sync_word self.old }
+        ensures sync { result ≡ is_sync_next self.old }
     {
         let word = word_at(&self.track, self.place);
         let is_sync = word == self.sync;
@@ -223,7 +223,7 @@ impl Disk {
     /// A word that arrived joins the queue, where the transfer takes it and there is room; where there is
     /// none it is lost, and still wanted.
     fn join(&mut self, word: u16)
-        ensures { self.new ≡ join_if_taken word self.old }
+        ensures { self.new ≡ join_if_wanted word self.old }
     {
         if self.takes() && self.queue.has_room() {
             self.queue = self.queue.with_word(word);
@@ -233,7 +233,7 @@ impl Disk {
 
     /// Whether a running transfer takes the word that arrives.
     fn takes(&self) -> bool
-        ensures { result ≡ takes_word self.now }
+        ensures { result ≡ wants_word self.now }
     {
         let lets_in = self.control & WORDSYNC != WORDSYNC || self.synced;
         self.running && self.wanted != 0 && lets_in

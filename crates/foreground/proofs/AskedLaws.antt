@@ -4,7 +4,8 @@ use Rattle.out_files.specs.OutFiles.{OutFilesValue}
 use Rattle.serial_model.specs.declared.bus.Ask.{Ask}
 use Rattle.serial_model.specs.Events.{due_events, touches_of}
 use Rattle.serial_model.specs.Tick.{start_clock}
-use Rattle.serial_bands.specs.BusReads.{bus_reads, reads_of_ask}
+use Rattle.serial_model.specs.Bus.{reads_of_ask}
+use Rattle.serial_bands.specs.BusReads.{bus_reads}
 use Rattle.band_log.specs.Raster.{RasterValue}
 use Rattle.picture_log.specs.Log.{with_script_touches}
 use Rattle.machine.specs.Machine.{MachineValue, MakesQuietly, KeepsPlace}

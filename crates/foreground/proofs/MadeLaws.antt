@@ -14,7 +14,8 @@ use Rattle.serial_model.specs.Tick.{ask_of, answer_of}
 use Rattle.serial_bands.specs.Run.{RunValue, beam_at, run_memory}
 use Rattle.serial_bands.specs.Clock.{made_at, bus_touch_at}
 use Rattle.serial_bands.specs.Bands.{begins}
-use Rattle.serial_bands.specs.BusReads.{bus_reads, reads_of_ask}
+use Rattle.serial_model.specs.Bus.{reads_of_ask}
+use Rattle.serial_bands.specs.BusReads.{bus_reads}
 use Rattle.serial_bands.specs.Stores.{stores_of, stores_at}
 use Rattle.serial_bands.specs.Shadows.{IsInRange}
 use Rattle.serial_bands.proofs.BandOrder.{bands_order}

@@ -10,10 +10,10 @@ use Rattle.ocs_base.specs.declared.system.System.TheVariants.{Pal}
 use Rattle.out_files.specs.OutFiles.{OutFilesValue}
 use Rattle.serial_model.specs.declared.picture.Touch.{Touch}
 use Rattle.serial_model.specs.Beam.{IsOnScreen, place_of}
-use Rattle.serial_model.specs.Events.{is_due, due_events, do_event, do_events, made_by_act, touches_of, add_touch}
+use Rattle.serial_model.specs.Events.{IsQueue, is_due, due_events, do_event, do_events, made_by_act, touches_of, add_touch}
 use Rattle.serial_model.specs.Made.{is_clx_read, clx_after, touch_of}
 use Rattle.serial_model.specs.State.{State}
-use Rattle.serial_model.proofs.EventLaws.{IsQueue, due_events-more, due_events-later, due_events-none, IsQueue-more, IsQueue-end, IsQueue-empty}
+use Rattle.serial_model.proofs.EventLaws.{due_events-more, due_events-later, due_events-none, IsQueue-more, IsQueue-end, IsQueue-empty}
 use Rattle.serial_bands.specs.Bands.{has_clx_read}
 use Rattle.machine.specs.Out.{GivesLines}
 use Rattle.machine.specs.Machine.{MachineValue, Start, Stands, KeepsPlace, IsSamePlace, MakesEvent}

@@ -4,7 +4,7 @@ use Rattle.out_files.specs.OutFiles.{OutFilesValue}
 use Rattle.serial_model.specs.declared.bus.Ask.{Ask}
 use Rattle.serial_model.specs.State.{State}
 use Rattle.serial_model.specs.Tick.{ask_of, answer_of}
-use Rattle.serial_bands.specs.BusReads.{reads_of_ask}
+use Rattle.serial_model.specs.Bus.{reads_of_ask}
 use Rattle.chip_set.specs.Chips.{CanAsk, IsBlitAsk, kept_wish}
 use Rattle.band_log.specs.Raster.{RasterValue}
 use Rattle.foreground.specs.Fore.{ForeValue}

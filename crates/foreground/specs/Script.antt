@@ -5,9 +5,8 @@ use Rattle.ocs_base.specs.declared.script.At.{At}
 use Rattle.ocs_base.specs.declared.system.System.{System}
 use Rattle.out_files.specs.OutFiles.{OutFilesValue}
 use Rattle.serial_model.specs.Beam.{IsOnScreen, place_of}
-use Rattle.serial_model.specs.Events.{due_events, do_events}
+use Rattle.serial_model.specs.Events.{IsQueue, due_events, do_events}
 use Rattle.serial_model.specs.State.{State}
-use Rattle.serial_model.proofs.EventLaws.{IsQueue}
 use Rattle.serial_model.specs.declared.picture.Touch.{Touch}
 use Rattle.serial_bands.specs.Bands.{has_clx_read}
 use Rattle.machine.specs.Machine.{MachineValue, Start, Stands, IsMachineOf}

@@ -1,7 +1,7 @@
 //! The access of a colour clock: each owner of the slot has a way of its own.
 
 ghost use Rattle.std.specs.Prelude.{◌≡◌, ◌+◌, ◌<◌, ◌^◌, true, false, IfOk, OnOk, OnErr};
-ghost use Rattle.serial_bands.specs.BusReads.{reads_of_ask};
+ghost use Rattle.serial_model.specs.Bus.{reads_of_ask};
 ghost use Rattle.chip_set.specs.AskLaws.{is_clx_ask as is_clx_asked};
 ghost use Rattle.chip_set.specs.BusCode.{is_fetch_ask as is_fetch_asked};
 ghost use Rattle.chip_set.specs.Chips.{late_ask, ask_or_late, ask_of_late};

@@ -17,7 +17,7 @@ use Rattle.serial_model.specs.Registers.{dmacon_of}
 use Rattle.serial_model.specs.Side.{SideValue, IsInTime, ask_of_side, answer_side}
 use Rattle.serial_model.specs.State.{Chips, State}
 use Rattle.serial_model.specs.Tick.{side_wish, ask_of, answer_of, made_of, answer_state}
-use Rattle.serial_bands.specs.BusReads.{reads_of_ask}
+use Rattle.serial_model.specs.Bus.{reads_of_ask}
 use Rattle.serial_bands.specs.Stores.{stores_of}
 use Rattle.chip_set.specs.AskLaws.{is_clx_ask}
 use Rattle.chip_set.specs.Chips.{WorkingChips, IsChipsOf, HasAsked, HasAccessed, read_by, reads_by_chips}

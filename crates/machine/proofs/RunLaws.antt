@@ -13,7 +13,8 @@ use Rattle.serial_model.specs.State.{State, reset}
 use Rattle.serial_model.specs.Tick.{start_clock, run_script, count_timers, show_pixels, before_access}
 use Rattle.serial_model.specs.Tick.{ask_of, made_of, make_access, run_processor, advance_beam, tick}
 use Rattle.serial_model.proofs.NextLaws.{memory_kept, count_kept, place_kept}
-use Rattle.serial_bands.specs.BusReads.{reads_of_ask, bus_reads}
+use Rattle.serial_model.specs.Bus.{reads_of_ask}
+use Rattle.serial_bands.specs.BusReads.{bus_reads}
 use Rattle.serial_bands.specs.Bands.{has_clx_read}
 use Rattle.serial_bands.specs.Clock.{access_at, made_at, bus_touch_at, due_at}
 use Rattle.serial_bands.specs.Run.{RunValue, state_of, beam_at, run_memory}

@@ -15,7 +15,7 @@ use Rattle.serial_model.specs.Side.{SideValue, IsInTime}
 use Rattle.serial_model.specs.State.{State, reset_chips}
 use Rattle.serial_model.specs.Tick.{side_wish, ask_of, made_of, make_access}
 use Rattle.serial_bands.specs.Stores.{stores_of}
-use Rattle.serial_bands.specs.BusReads.{reads_of_ask}
+use Rattle.serial_model.specs.Bus.{reads_of_ask}
 use Rattle.chip_set.specs.Chips.{WorkingChips, IsChipsOf, HasAsked}
 use Rattle.chip_set.specs.AskLaws.{is_clx_ask}
 use Rattle.machine.specs.Out.{Gives}

@@ -30,9 +30,9 @@ reset_paula size =
     let off = reset_channel size in
     record { zero = off; one = off; two = off; three = off; h = 0 }
 
--- DMAEN and the channel's bit of DMACON are set
+-- DMAEN of DMACON and the channel's own bit, AUD0EN to AUD3EN, which are bits 0 to 3, are both set
 abbrev pub has_dma : ℕ → ℕ → Bool
-has_dma n dmacon = has_bits dmacon (512 + 2 ^ n)
+has_dma n dmacon = has_bits dmacon (0x200 + 2 ^ n)
 
 -- the registers of channel n are those from 0a0 + 10n on
 abbrev pub channel_write : ℕ → ℕ → ℕ → Channel → Channel

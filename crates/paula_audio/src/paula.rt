@@ -177,7 +177,7 @@ impl Side for Paula {
 /// Whether DMAEN and a channel's bit of DMACON are set.
 fn has_dma(dmacon: u16, channel: u16) -> bool
     requires { channel < 512 }
-    ensures { result ≡ has_bits dmacon (512 + channel) }
+    ensures { result ≡ has_bits dmacon (0x200 + channel) }
 {
     dmacon & (DMAEN + channel) == DMAEN + channel
 }

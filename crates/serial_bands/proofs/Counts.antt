@@ -14,9 +14,10 @@ use Rattle.serial_model.specs.declared.fetch.SpriteAsk.{SpriteAsk}
 use Rattle.serial_model.specs.declared.fetch.SpriteAsk.TheVariants.{Control, Words}
 use Rattle.serial_bands.specs.Clock.{access_at}
 use Rattle.serial_bands.specs.OpenBand.{waiting_events}
-use Rattle.serial_bands.specs.RightJob.{events_from}
+use Rattle.serial_bands.specs.RightJob.{events_in}
 use Rattle.serial_bands.specs.BandShown.{tinted_bytes}
-use Rattle.serial_bands.specs.BusReads.{reads_of_side, reads_of_sprite, reads_of_blit, reads_of_processor, reads_of_ask, is_fetched, word_registers}
+use Rattle.serial_model.specs.Bus.{reads_of_side, reads_of_sprite, reads_of_blit, reads_of_processor, reads_of_ask}
+use Rattle.serial_bands.specs.BusReads.{is_fetched, word_registers}
 use Rattle.serial_bands.specs.BandLaws.{NoTint, AccessReadsFew, LatchedAreFew}
 
 pub no_tint : NoTint
@@ -64,4 +65,4 @@ access_reads_few run c = few (access_at run c)
 
 pub latched_are_few : LatchedAreFew
 latched_are_few run from to =
-    count_by-le-length (λ register. is_fetched register false (events_from run from (to - from - 1) ++ waiting_events run to)) word_registers
+    count_by-le-length (λ register. is_fetched register false (events_in run from to ++ waiting_events run to)) word_registers

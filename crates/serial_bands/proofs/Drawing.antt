@@ -17,6 +17,7 @@ use Rattle.serial_bands.specs.DrawnTo.{IsDrawnTo, behind_script, with_access, Wo
 use Rattle.serial_bands.specs.DrawnTo.{TouchIsNext, DrawingGoesOn, LastFetchIsNext, DrawingEnds}
 use Rattle.serial_bands.proofs.Counts.{no_tint}
 use Rattle.serial_bands.proofs.NextClock.{touched_twice}
+use Rattle.serial_bands.proofs.Ranges.{events_in_range}
 use Rattle.serial_model.proofs.Standing.{stands_on}
 use Rattle.serial_bands.proofs.Reading.{rest_behind_script, last_behind_script, bus_touch_is_found, last_fetch_is_found}
 use Rattle.serial_bands.proofs.Replay.{bytes_of_kept, clx_of_kept, closing_of_kept, opening_of_kept}
@@ -38,7 +39,7 @@ drawing_begins run n from to beam opening events word_found room job = record {
   least = omega arith;
   most = job.band.order;
   stands = subst (λ (b : Beam). StandsFor (4 * b.h) opening (opening_at run from)) job.place job.stands;
-  log = job.log;
+  log = job.log ∙ events_in_range run from to job.band.order;
   shown = ap (λ k. bytes_from run from k) (sym (no_clock from));
   gathered = ap (λ k. clx_from run from k) (sym (no_clock from));
 }

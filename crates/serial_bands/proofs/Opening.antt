@@ -6,17 +6,14 @@ use Rattle.serial_bands.specs.Run.{RunValue, beam_at}
 use Rattle.serial_bands.specs.Clock.{bytes_at, bus_touch_at, write_alone}
 use Rattle.serial_bands.specs.Bands.{begins}
 use Rattle.serial_bands.specs.BandShown.{bytes_from}
-use Rattle.serial_bands.specs.RightJob.{bus_events, events_from}
+use Rattle.serial_bands.specs.RightJob.{bus_events, events_from, events_of}
 use Rattle.serial_bands.specs.Stores.{stores_at, stores_from}
 use Rattle.serial_bands.specs.OpenBand.{clock_events, waiting_events, BandOpens, BandGoesOn, BandCloses}
-use Rattle.serial_bands.proofs.Ranges.{events_of_one_more}
+use Rattle.serial_bands.proofs.Ranges.{events_in_range, events_of_one_more}
 use Rattle.serial_bands.proofs.Storing.{view_has_memory}
 
 one_clock : (c : ℕ) → c + 1 - c ≡ 1
 one_clock c = omega arith
-
-none_before_last : (c : ℕ) → c + 1 - c - 1 ≡ 0
-none_before_last c = omega arith
 
 none_later : (c : ℕ) → c + 0 ≡ c
 none_later c = omega arith
@@ -38,7 +35,7 @@ band_opens run c opening chip here running stands base writes = record {
   running = running;
   place = refl;
   stands = stands;
-  log = ap (λ n. events_from run c n) (sym (none_before_last c));
+  log = ap (λ n. events_of run c n) (sym (one_clock c));
   size = ap (λ bytes. length bytes) (sym (ap (λ n. bytes_from run c n) (one_clock c) ∙ one_of_bytes run c));
   base = base;
   writes = writes ∙ sym (ap (λ n. stores_from run c n) (one_clock c) ∙ one_of_stores run c);
@@ -96,7 +93,10 @@ band_goes_on run n from c beam opening events bytes chip grown open_band none go
       running = still_running run c open_band.running going;
       place = open_band.place;
       stands = open_band.stands;
-      log = ap (λ l. l ++ (waiting_events run c ++ clock_events run c)) open_band.log ∙ sym (more_events run from c before);
+      log =
+          ap (λ l. l ++ (waiting_events run c ++ clock_events run c)) (open_band.log ∙ events_in_range run from c before)
+          ∙ sym (more_events run from c before)
+          ∙ sym (events_in_range run from (c + 1) (omega (arith, before)));
       size =
           ap (λ k. k + length (bytes_at run c)) open_band.size
           ∙ ap (λ k. length (bytes_from run from count) + length (bytes_at run k)) (sym here)

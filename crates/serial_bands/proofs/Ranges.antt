@@ -12,8 +12,8 @@ use Rattle.serial_bands.specs.Run.{RunValue, state_of}
 use Rattle.serial_bands.specs.Clock.{bytes_at, clx_at, made_at, clx_before_at, clx_after_at, due_at, bus_touch_at, write_alone, fetch_alone}
 use Rattle.serial_bands.specs.Bands.{has_clx_read, has_read_at}
 use Rattle.serial_bands.specs.BandShown.{bytes_from, clx_from}
-use Rattle.serial_bands.specs.RightJob.{events_from, bus_events, script_events}
-use Rattle.serial_bands.specs.RangeLaws.{ShownInRange, BytesOfTwo, ClxOfTwo, ReadByAccess, ReadByScript, EventsOfOneMore}
+use Rattle.serial_bands.specs.RightJob.{events_from, events_of, bus_events, script_events}
+use Rattle.serial_bands.specs.RangeLaws.{ShownInRange, BytesOfTwo, ClxOfTwo, ReadByAccess, ReadByScript, EventsInRange, EventsOfOneMore}
 use Rattle.serial_bands.proofs.NextClock.{next_shown, clx_at_start, clx_at_access, next_clx}
 use Rattle.serial_bands.proofs.Ors.{or_assoc, or_none}
 
@@ -69,6 +69,11 @@ regrouped a b c d = ap (λ l. a ++ l) (append_assoc b c d) ∙ sym (append_assoc
 
 fourfold : {A : Type 0} (a b c d : List A) → a ++ (b ++ (c ++ d)) ≡ (a ++ (b ++ c)) ++ d
 fourfold a b c d = ap (λ l. a ++ l) (sym (append_assoc b c d)) ∙ sym (append_assoc a (b ++ c) d)
+
+pub events_in_range : EventsInRange
+events_in_range run from to less =
+    let count : to - from ≡ suc (to - from - 1) = omega (arith, less) in
+    ap (λ n. events_of run from n) count
 
 shifted : (c n : ℕ) → c + 1 + n ≡ c + suc n
 shifted c n = omega arith

@@ -10,7 +10,7 @@ use Rattle.serial_bands.specs.Clock.{opening_at, bytes_at, bus_touch_at, write_a
 use Rattle.serial_bands.specs.Bands.{begins, begun}
 use Rattle.serial_model.specs.StandsFor.{StandsFor}
 use Rattle.serial_bands.specs.BandShown.{bytes_from}
-use Rattle.serial_bands.specs.RightJob.{bus_events, events_from, IsRightJob}
+use Rattle.serial_bands.specs.RightJob.{bus_events, events_of, events_in, IsRightJob}
 use Rattle.serial_bands.specs.Stores.{stores_at, stores_from}
 
 -- what is kept of band n, which began at `from`, once the clocks before c are done: the beam and the picture state of its begin,
@@ -25,14 +25,14 @@ pub record IsOpen (run : RunValue) (n from c : ℕ) (beam : Beam) (opening : Den
   pub running : (k : ℕ) → k < c → (beam_at run k).frame < run.script.frames
   pub place : beam ≡ beam_at run from
   pub stands : StandsFor (4 * beam.h) opening (opening_at run from)
-  pub log : events ≡ events_from run from (c - from - 1)
+  pub log : events ≡ events_in run from c
   pub size : bytes ≡ length (bytes_from run from (c - from))
   pub base : chip.base ≡ run_memory run from
   pub writes : chip.writes ≡ stores_from run from (c - from)
 
 -- the events of one clock alone, and those that a clock adds to the events of a band: first the write that waited
 abbrev pub clock_events : RunValue → ℕ → List Event
-clock_events run c = events_from run c 0
+clock_events run c = events_of run c 1
 
 abbrev pub waiting_events : RunValue → ℕ → List Event
 waiting_events run c = bus_events (c - 1) (write_alone (bus_touch_at run (c - 1)))

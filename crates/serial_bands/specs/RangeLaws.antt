@@ -5,7 +5,7 @@ use Rattle.serial_bands.specs.Run.{RunValue, state_of}
 use Rattle.serial_bands.specs.Clock.{made_at, bus_touch_at, clx_after_at, write_alone}
 use Rattle.serial_bands.specs.Bands.{has_read_at}
 use Rattle.serial_bands.specs.BandShown.{bytes_from, clx_from}
-use Rattle.serial_bands.specs.RightJob.{events_from, bus_events}
+use Rattle.serial_bands.specs.RightJob.{events_from, events_in, bus_events}
 
 -- the bytes of a range are what the run shows in it
 abbrev pub ShownInRange : Type 0
@@ -32,6 +32,10 @@ ReadByAccess = (run : RunValue) (from last : ℕ) → from ≤ last → IsSinceR
 abbrev pub ReadByScript : Type 0
 ReadByScript = (run : RunValue) (from last : ℕ) → from ≤ last → IsSinceRead run from last → is_clx_read (made_at run last) ≡ false →
     (state_of run (last + 1)).clx ≡ clx_from run from (last + 1 - from)
+
+-- the events of a range that has a clock: those from its first on, and of so many that follow before the last
+abbrev pub EventsInRange : Type 0
+EventsInRange = (run : RunValue) (from to : ℕ) → from < to → events_in run from to ≡ events_from run from (to - from - 1)
 
 -- one clock more at a range's end: the write that waited, of the access of its last clock, becomes an event
 abbrev pub EventsOfOneMore : Type 0

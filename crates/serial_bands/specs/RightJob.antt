@@ -45,6 +45,15 @@ unfoldable pub events_from : RunValue → ℕ → ℕ → List Event
 events_from run c zero = script_events run c ++ bus_events c (fetch_alone (bus_touch_at run c))
 events_from run c (suc n) = script_events run c ++ (bus_events c (bus_touch_at run c) ++ events_from run (c + 1) n)
 
+-- the events of so many clocks from one on: none of no clock
+abbrev pub events_of : RunValue → ℕ → ℕ → List Event
+events_of run c zero = []
+events_of run c (suc n) = events_from run c n
+
+-- the events of the clocks from one up to, not including, another
+abbrev pub events_in : RunValue → ℕ → ℕ → List Event
+events_in run from to = events_of run from (to - from)
+
 -- the words that are found are those of the run's memory, at each clock of a range, ends included, and each address
 abbrev pub HasMemory : RunValue → ℕ → ℕ → (ℕ → Addr → ℕ) → Type 0
 HasMemory run from to word_found = (c : ℕ) (at : Addr) → from ≤ c → c ≤ to →
@@ -57,6 +66,6 @@ pub record IsRightJob (run : RunValue) (n from to : ℕ) (beam : Beam) (opening 
   pub band : IsBand run n from to
   pub place : beam ≡ beam_at run from
   pub stands : StandsFor (4 * beam.h) opening (opening_at run from)
-  pub log : events ≡ events_from run from (to - from - 1)
+  pub log : events ≡ events_in run from to
   pub memory : HasMemory run from to word_found
   pub size : room ≡ length (bytes_from run from (to - from))

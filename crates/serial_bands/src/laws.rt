@@ -3,7 +3,7 @@
 ghost use Rattle.serial_bands.specs.ClockLaws.{WritesReadNothing, PictureOfTick, OpeningOfTick, ReadGivesClx, ClxOfEvents, ClxBefore, ClxAfter};
 ghost use Rattle.serial_bands.specs.ClockLaws.{ClxOfTick, PlaceOfTick, NextMemory, NextOpening, DisplayedIsStep, BytesAreOfStep, ClxIsOfStep};
 ghost use Rattle.serial_bands.specs.ClockLaws.{ClosingHasFetch, NextShown, ClxAtStart, ClxAtAccess, NextClx, NextInBand, EventsByPlace, FramesRise};
-ghost use Rattle.serial_bands.specs.RangeLaws.{ShownInRange, BytesOfTwo, ClxOfTwo, ReadByAccess, ReadByScript, EventsOfOneMore};
+ghost use Rattle.serial_bands.specs.RangeLaws.{ShownInRange, BytesOfTwo, ClxOfTwo, ReadByAccess, ReadByScript, EventsInRange, EventsOfOneMore};
 ghost use Rattle.serial_bands.specs.BandLaws.{FirstBand, NextBand, OneBand, BegunInBand, OneBandMore, BytesOfBands, ClxOfBands};
 ghost use Rattle.serial_bands.specs.BandLaws.{OpeningOfNextBand, ClockHasBand, NumberHasBand, BandsOfRun, ShownByBands, ReadAfterBands};
 ghost use Rattle.serial_bands.specs.BandLaws.{PeekAfterBands, BandsAreFew, NumberIsSmall, NoTint, AccessReadsFew, LatchedAreFew};
@@ -68,6 +68,7 @@ pub fn ranges()
     ensures clx { ClxOfTwo }
     ensures access { ReadByAccess }
     ensures script { ReadByScript }
+    ensures range { EventsInRange }
     ensures events { EventsOfOneMore }
 {}
 

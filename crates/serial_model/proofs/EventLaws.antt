@@ -1,20 +1,14 @@
 -- The events that are left when the beam has come to a place.
 use Rattle.std.proofs.Common.{◌≡◌, ◌≢◌, ℕ, ◌+◌, ◌<◌, ◌≤◌, Bool, true, false, List, [], ◌∷◌, arith, refl}
 use Rattle.std.proofs.lemmas.Bool.Decides.{nat_tests}
-use Rattle.ocs_base.specs.Limits.{AreFrom, AreInOrder, AreInLimits, time_of}
+use Rattle.ocs_base.specs.Limits.{AreFrom, AreInLimits, time_of}
 use Rattle.ocs_base.specs.declared.beam.Beam.{Beam}
 use Rattle.ocs_base.specs.declared.script.At.{At}
 use Rattle.ocs_base.specs.Systems.{lines}
 use Rattle.ocs_base.specs.declared.system.System.{System}
 use Rattle.ocs_base.specs.declared.system.System.TheVariants.{Pal, Ntsc}
 use Rattle.serial_model.specs.Beam.{place_of, next_place, IsOnScreen}
-use Rattle.serial_model.specs.Events.{is_due, due_events}
-
--- events that are none of them before the place, in order and in the limits of a run
-pub record IsQueue (system : System) (frames place : ℕ) (events : List At) : Type 0 where
-  pub from : AreFrom place events
-  pub order : AreInOrder events
-  pub limits : AreInLimits system frames events
+use Rattle.serial_model.specs.Events.{IsQueue, is_due, due_events}
 
 -- an event is due exactly where its time is the beam's place
 due_time : (b : Beam) (e : At) → e.v ≤ 311 → e.h ≤ 226 → b.v < 313 → b.h < 228 → is_due b e ≡ true → time_of e ≡ place_of b

@@ -297,3 +297,35 @@ made_by_ask (A.Sprite ask) word c = made_by_sprite ask word
 made_by_ask (A.Copper at) word c = made_by_copper (copper_act (is_danger c.registers) (Some word) c.copper)
 made_by_ask (A.Blit ask) word c = made_by_blit ask
 made_by_ask (A.Processor ask) word c = made_by_processor ask
+
+-- how many words of chip memory an ask reads while its clock runs. The words of plane latches and of a sprite's image are looked
+-- up later
+abbrev pub reads_of_side : SideAsk → ℕ
+reads_of_side S.Nothing = 0
+reads_of_side (S.Disk at word) = 0
+reads_of_side (S.Audio channel at) = 1
+
+abbrev pub reads_of_sprite : SpriteAsk → ℕ
+reads_of_sprite (Control sprite second at) = 1
+reads_of_sprite (Words sprite second at) = 0
+
+abbrev pub reads_of_blit : SlotAsk → ℕ
+reads_of_blit (Read at) = 1
+reads_of_blit (Write at word) = 0
+reads_of_blit Rest = 0
+reads_of_blit Done = 0
+
+abbrev pub reads_of_processor : ProcessorAsk → ℕ
+reads_of_processor (P.Read at) = 1
+reads_of_processor (P.Write at half word) = 0
+reads_of_processor (P.ReadRegister reg) = 0
+reads_of_processor (P.WriteRegister reg word) = 0
+
+abbrev pub reads_of_ask : Ask → ℕ
+reads_of_ask A.Free = 0
+reads_of_ask (A.Side ask) = reads_of_side ask
+reads_of_ask (A.Plane ask) = 0
+reads_of_ask (A.Sprite ask) = reads_of_sprite ask
+reads_of_ask (A.Copper at) = 1
+reads_of_ask (A.Blit ask) = reads_of_blit ask
+reads_of_ask (A.Processor ask) = reads_of_processor ask

@@ -12,11 +12,11 @@ use Rattle.serial_model.specs.State.{Chips}
 
 -- of CIA A's port A bit 7 is 0 while the fire button of port 1 is down, and bit 6 while that of port 0 is; all other pins are 1
 abbrev pub fire_pins : Inputs → ℕ
-fire_pins i = 255 - (if i.fire1 then 128 else 0) - (if i.fire0 then 64 else 0)
+fire_pins i = 0xff - (if i.fire1 then 0x80 else 0) - (if i.fire0 then 0x40 else 0)
 
 abbrev pub pins_at : CiaName → ℕ → Inputs → ℕ
-pins_at A number i = if number == 0 then fire_pins i else 255
-pins_at B number i = 255
+pins_at A number i = if number == 0 then fire_pins i else 0xff
+pins_at B number i = 0xff
 
 abbrev pub cia_of : CiaName → Chips → CiaState
 cia_of A c = c.cia_a
@@ -49,7 +49,7 @@ tick_timers t c = record c {
 
 -- at every clock a CIA whose line is active requests its interrupt: CIA A PORTS, bit 3 of INTREQ, and CIA B EXTER, bit 13
 abbrev pub line_bits : Chips → ℕ
-line_bits c = (if is_active c.cia_a.icr then 8 else 0) + (if is_active c.cia_b.icr then 0x2000 else 0)
+line_bits c = (if is_active c.cia_a.icr then 0x8 else 0) + (if is_active c.cia_b.icr then 0x2000 else 0)
 
 abbrev pub request_lines : ℕ → Chips → Chips
 request_lines bits c = record c { irq = after_request (bit_or bits (line_bits c)) c.irq }

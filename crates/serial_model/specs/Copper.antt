@@ -46,9 +46,9 @@ is_stopped c = is_stopped_phase c.phase
 -- always set; and bit 15 of the second word, BFD, is set or the blitter is not busy
 abbrev pub comparison_holds : Beam → Bool → ℕ → ℕ → Bool
 comparison_holds b busy first second =
-    let mask = bit_or 32768 (bit_and second 0x7ffe) in
+    let mask = bit_or 0x8000 (bit_and second 0x7ffe) in
     nat_le (bit_and (bit_and first 0xfffe) mask) (bit_and (256 * (b.v % 256) + 2 * (b.h / 2)) mask)
-    && (nat_le 32768 second || not busy)
+    && (nat_le 0x8000 second || not busy)
 
 -- the register that a MOVE names
 abbrev pub move_offset : ℕ → ℕ

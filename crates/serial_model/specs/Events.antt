@@ -1,10 +1,12 @@
--- The script's events of one clock.
+-- The script's events: those that are left, and those of one clock.
 use Rattle.std.specs.Prelude.{ℕ, Bool, if◌then◌else◌, ◌==◌, ◌&&◌, List, [], ◌∷◌, ◌++◌, filter, Option, Some, None}
 use Rattle.irq_cia.specs.Cia.{after_key}
+use Rattle.ocs_base.specs.Limits.{AreFrom, AreInOrder, AreInLimits}
 use Rattle.ocs_base.specs.declared.beam.Beam.{Beam}
 use Rattle.ocs_base.specs.declared.script.At.{At}
 use Rattle.ocs_base.specs.declared.script.Act.{Act}
 use Rattle.ocs_base.specs.declared.script.Act.TheVariants.{Poke, Peek, Joy, Fire, Key}
+use Rattle.ocs_base.specs.declared.system.System.{System}
 use Rattle.serial_model.specs.declared.bus.Made.{Made}
 use Rattle.serial_model.specs.declared.bus.Made.TheVariants as M
 use Rattle.serial_model.specs.declared.picture.Touch.{Touch}
@@ -13,6 +15,12 @@ use Rattle.serial_model.specs.declared.trace.Source.TheVariants.{Script}
 use Rattle.serial_model.specs.declared.trace.TraceLine.{TraceLine}
 use Rattle.serial_model.specs.Made.{touch_of, lines_of, state_after}
 use Rattle.serial_model.specs.State.{Chips, State}
+
+-- events that are none of them before the place, in order and in the limits of a run
+pub record IsQueue (system : System) (frames place : ℕ) (events : List At) : Type 0 where
+  pub from : AreFrom place events
+  pub order : AreInOrder events
+  pub limits : AreInLimits system frames events
 
 -- an event of this frame, line and clock
 abbrev pub is_due : Beam → At → Bool

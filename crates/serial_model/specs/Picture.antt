@@ -80,7 +80,7 @@ set_picture h offset word p =
     else if offset == 0x110 then add_load h (record p { latches = slice_set p.latches 0 word })
     else if is_latch offset then record p { latches = slice_set p.latches ((offset - 0x110) / 2) word }
     else if is_sprite offset then set_sprite ((offset - 0x140) / 8) ((offset - 0x140) % 8) word p
-    else if is_colour offset then record p { palette = slice_set p.palette ((offset - 0x180) / 2) (word % 4096) }
+    else if is_colour offset then record p { palette = slice_set p.palette ((offset - 0x180) / 2) (word % 0x1000) }
     else p
 
 -- the register of a plane's latch: BPL1DAT to BPL6DAT

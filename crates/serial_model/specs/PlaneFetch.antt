@@ -1,19 +1,22 @@
 -- Plane fetch: units of eight slots, the plane of each slot, and what a fetch does to the plane's pointer.
 use Rattle.std.specs.Prelude.{◌≡◌, ℕ, ◌+◌, ◌-◌, ◌*◌, ◌/◌, ◌%◌, ◌≤◌, Bool, false, not, ◌&&◌, ◌||◌, ◌==◌, nat_le}
 use Rattle.std.specs.Prelude.{nat_lt, min, max, if◌then◌else◌, List, [], ◌∷◌, slice_index, Option, Some, None}
+use Rattle.std.specs.Prelude.{pos, unsigned_abs}
+use Rattle.std.specs.Int.{w16, cast_signed, int_rem_euclid}
 use Rattle.std.specs.Option.{option_map}
+use Rattle.blit_words.specs.Blit.{even_part}
 use Rattle.ocs_base.specs.AddressOf.{addr_at}
 use Rattle.ocs_base.specs.declared.beam.Beam.{Beam}
 use Rattle.priority_ham.specs.PlaneCount.{is_hires, planes_of}
 use Rattle.serial_model.specs.declared.fetch.PlaneAsk.{PlaneAsk}
 use Rattle.serial_model.specs.Beam.{is_line_start}
 use Rattle.irq_cia.specs.Bits.{has_bits}
-use Rattle.serial_model.specs.Registers.{kept_word, pointer_at, with_pointer, Registers}
+use Rattle.serial_model.specs.Registers.{kept_word, dmacon_of, pointer_at, with_pointer, Registers}
 use Rattle.serial_model.specs.Window.{is_window_line}
 
--- DMAEN, bit 9, and BPLEN, bit 8, of DMACON are both set
+-- DMAEN and BPLEN of DMACON are both set
 abbrev pub plane_dma : Registers → Bool
-plane_dma registers = has_bits (kept_word registers 0x96) 768
+plane_dma registers = has_bits (dmacon_of registers) 0x300
 
 -- where the first unit begins: the greater of 18 (hexadecimal) and DDFSTRT, without its lowest two bits
 abbrev pub fetch_start : Registers → ℕ
@@ -108,9 +111,10 @@ plane_ask h registers last = option_map (λ plane. ask_for_plane registers plane
 abbrev pub modulo_word : Registers → ℕ → ℕ
 modulo_word registers plane = kept_word registers (if plane % 2 == 1 then 0x108 else 0x10a)
 
--- how far on a modulo moves an address, modulo 1 MiB, of which each span is a part: a signed number, whose bit 0 counts as 0
+-- how many bytes a modulo moves an address: a signed number, whose bit 0 counts as 0, as a blit's does. They are counted modulo
+-- 1 MiB, of which each span is a part
 abbrev pub modulo_bytes : ℕ → ℕ
-modulo_bytes word = (if nat_lt word 32768 then word else word + (1048576 - 65536)) / 2 * 2
+modulo_bytes word = unsigned_abs (int_rem_euclid (even_part (cast_signed w16 word)) (pos 0x100000))
 
 -- a slot in which a unit fetches its plane for the last time
 abbrev pub is_last_fetch : Bool → ℕ → Bool

@@ -38,29 +38,30 @@ pointer_at registers high = addr_at registers.size (65536 * kept_word registers 
 abbrev pub with_pointer : Registers → ℕ → ℕ → Registers
 with_pointer registers high address = with_word (with_word registers high (address / 65536)) (high + 2) (address % 65536)
 
--- the kept word of DMACON
+-- the kept word of DMACON: BLTPRI 400, DMAEN 200, BPLEN 100, COPEN 80, BLTEN 40, SPREN 20, DSKEN 10 and, for the channels 3 to 0
+-- of audio, AUD3EN 8 to AUD0EN 1 (hexadecimal)
 abbrev pub dmacon_of : Registers → ℕ
 dmacon_of registers = kept_word registers 0x96
 
--- DMAEN, bit 9, and COPEN, bit 7, of DMACON are both set
+-- DMAEN and COPEN of DMACON are both set
 abbrev pub copper_dma : Registers → Bool
-copper_dma registers = has_bits (dmacon_of registers) 640
+copper_dma registers = has_bits (dmacon_of registers) 0x280
 
--- DMAEN, bit 9, and BLTEN, bit 6, of DMACON are both set
+-- DMAEN and BLTEN of DMACON are both set
 abbrev pub blitter_dma : Registers → Bool
-blitter_dma registers = has_bits (dmacon_of registers) 576
+blitter_dma registers = has_bits (dmacon_of registers) 0x240
 
--- BLTPRI, bit 10 of DMACON
+-- BLTPRI of DMACON
 abbrev pub blitter_first : Registers → Bool
-blitter_first registers = has_bits (dmacon_of registers) 1024
+blitter_first registers = has_bits (dmacon_of registers) 0x400
 
 -- LACE, bit 2 of BPLCON0
 abbrev pub is_interlaced : Registers → Bool
-is_interlaced registers = has_bits (kept_word registers 0x100) 4
+is_interlaced registers = has_bits (kept_word registers 0x100) 0x4
 
 -- CDANG, bit 1 of COPCON
 abbrev pub is_danger : Registers → Bool
-is_danger registers = has_bits (kept_word registers 0x2e) 2
+is_danger registers = has_bits (kept_word registers 0x2e) 0x2
 
 -- while the blitter is busy, a write to 040 to 074 changes nothing (profile)
 abbrev pub is_closed : Bool → ℕ → Bool
@@ -76,7 +77,7 @@ effect_in (Jump list) word = E.Jump list
 effect_in Blit word = E.Blit
 effect_in Picture word = E.Picture
 effect_in Interrupt word = E.Interrupt
-effect_in Field word = E.Lof (nat_le 32768 word)
+effect_in Field word = E.Lof (nat_le 0x8000 word)
 
 -- the effect of a write
 unfoldable pub effect_of : Bool → ℕ → ℕ → Effect
@@ -130,8 +131,8 @@ bit_worth set worth = if set then worth else 0
 abbrev pub word_in : Reading → Live → Registers → ℕ
 word_in Zero live registers = 0
 word_in DmaAndBlitter live registers =
-    bit_and (kept_word registers 0x96) 0x7ff + bit_worth live.zero 8192 + bit_worth live.busy 16384
-word_in FieldAndLine live registers = live.beam.v / 256 % 2 + bit_worth live.beam.lof 32768
+    bit_and (dmacon_of registers) 0x7ff + bit_worth live.zero 0x2000 + bit_worth live.busy 0x4000
+word_in FieldAndLine live registers = live.beam.v / 256 % 2 + bit_worth live.beam.lof 0x8000
 word_in LineAndClock live registers = 256 * (live.beam.v % 256) + live.beam.h % 256
 word_in (Joystick port) live registers = if port == 0 then live.joy0 else live.joy1
 word_in Elsewhere live registers = 0

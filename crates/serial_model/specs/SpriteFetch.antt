@@ -10,11 +10,11 @@ use Rattle.serial_model.specs.declared.fetch.SpriteKind.TheVariants.{Nothing, Co
 use Rattle.serial_model.specs.Beam.{is_line_start}
 use Rattle.serial_model.specs.PlaneFetch.{move_pointer}
 use Rattle.irq_cia.specs.Bits.{has_bits}
-use Rattle.serial_model.specs.Registers.{kept_word, pointer_at, Registers}
+use Rattle.serial_model.specs.Registers.{kept_word, dmacon_of, pointer_at, Registers}
 
--- DMAEN, bit 9, and SPREN, bit 5, of DMACON are both set
+-- DMAEN and SPREN of DMACON are both set
 abbrev pub sprite_dma : Registers → Bool
-sprite_dma registers = has_bits (kept_word registers 0x96) 544
+sprite_dma registers = has_bits (dmacon_of registers) 0x220
 
 -- SPRxPOS and SPRxCTL of a sprite
 abbrev pub position_word : Registers → ℕ → ℕ

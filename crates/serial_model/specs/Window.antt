@@ -7,7 +7,7 @@ window_start diwstrt = diwstrt / 256
 
 -- VSTOP: bits 15 to 8 of DIWSTOP, with a V8 that is the opposite of V7
 abbrev pub window_stop : ℕ → ℕ
-window_stop diwstop = diwstop / 256 + (if nat_lt diwstop 32768 then 256 else 0)
+window_stop diwstop = diwstop / 256 + (if nat_lt diwstop 0x8000 then 256 else 0)
 
 -- whether a line is in the window
 abbrev pub is_window_line : ℕ → ℕ → ℕ → Bool

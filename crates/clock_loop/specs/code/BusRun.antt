@@ -17,7 +17,8 @@ use Rattle.serial_model.specs.Beam.{later_beam, next_place}
 use Rattle.serial_model.specs.Registers.{is_interlaced}
 use Rattle.serial_model.specs.Tick.{run_processor, advance_beam}
 use Rattle.ocs_base.specs.declared.system.System.{System}
-use Rattle.serial_bands.specs.BusReads.{bus_reads, reads_of_ask}
+use Rattle.serial_model.specs.Bus.{reads_of_ask}
+use Rattle.serial_bands.specs.BusReads.{bus_reads}
 use Rattle.serial_bands.specs.Shadows.{IsInRange}
 use Rattle.picture_log.specs.Log.{with_access_touch, waiting_write}
 use Rattle.serial_model.specs.Events.{due_events}
