@@ -14,11 +14,11 @@ use Rattle.serial_bands.proofs.BandOrder.{one_band, bands_order, one_band_more}
 use Rattle.band_log.specs.declared.job.Drawn.{Drawn}
 use Rattle.band_log.specs.Right.{IsRightFor}
 use Rattle.band_log.specs.Raster.{RasterValue, Outstanding, Takes, IsRightForFirst, with_submitted, without_first}
-use Rattle.machine.specs.Out.{Gives}
+use Rattle.out_files.specs.Gives.{Gives}
 use Rattle.band_gather.specs.Gathered.{outstanding_from, Fits, KeepsMark, tinted_range, HasGathered, HasGatheredPart}
 use Rattle.picture_log.specs.Closing.{IsClosing}
 use Rattle.band_gather.specs.Gathered.{HasGatheredOne, HasGatheredTo, GathersOne, GathersSome, GathersUpTo, GathersAll, GathersPart, Submits}
-use Rattle.machine.proofs.OutLaws.{gives_nothing, gives_then}
+use Rattle.out_files.proofs.GivesLaws.{gives_nothing, gives_then}
 
 -- a range without clocks
 no_length : (first : ℕ) → first - first ≡ 0

@@ -6,7 +6,7 @@ use Rattle.serial_bands.specs.Run.{RunValue}
 use Rattle.serial_bands.specs.Bands.{AreBands}
 use Rattle.serial_bands.specs.BandShown.{bytes_from, clx_from, tinted_bytes}
 use Rattle.band_log.specs.Raster.{RasterValue, Outstanding, Takes}
-use Rattle.machine.specs.Out.{Gives}
+use Rattle.out_files.specs.Gives.{Gives}
 use Rattle.picture_log.specs.Closing.{IsClosing}
 
 -- so many bands of a run, from number n on, as they are outstanding

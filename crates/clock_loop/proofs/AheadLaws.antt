@@ -20,7 +20,7 @@ use Rattle.chip_set.proofs.AheadLaws.{asked_alone}
 use Rattle.chip_set.proofs.BusLaws.{HasAskedOnBus, asked_without_planes, rest_kept, rest_next}
 use Rattle.chip_set.proofs.TurnLaws.{rested}
 use Rattle.band_log.specs.Raster.{RasterValue}
-use Rattle.machine.specs.Machine.{MachineValue}
+use Rattle.machine.specs.Machine.{MachineValue, reads_more}
 use Rattle.machine.specs.MachineStepsCode.{AsksInTime}
 use Rattle.machine.specs.AheadCode.{IsLeftToProcessor, IsLeftThen, IsClockAtOnce, IsAccessInTwo, IsAccessInPart}
 use Rattle.machine.proofs.AskedLaws.{asks_alone}
@@ -30,7 +30,6 @@ use Rattle.clock_loop.specs.code.BusRun.{HasAskedFor, AdvancesInLine, StaysBehin
 use Rattle.clock_loop.specs.code.BusRun.{CanMakeClock, HasMadeClock, HasMadeClockInPart, GoesOnBus, CanMakeClocks, HasRunOnBus, HasRunInPart}
 use Rattle.foreground.specs.Clock.{Rises}
 use Rattle.foreground.specs.Fore.{ForeOf, ForeValue, CanGo, GivesPart, looked_up}
-use Rattle.foreground.specs.Steps.{reads_more}
 use Rattle.foreground.proofs.BeginLaws.{begins_no_part}
 use Rattle.clock_loop.proofs.BusLaws.{none_made}
 use Rattle.clock_loop.proofs.EndLaws.{no_files, alone_whole, alone_stays, alone_cias}

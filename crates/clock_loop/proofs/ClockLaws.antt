@@ -20,7 +20,8 @@ use Rattle.clock_loop.specs.RunTo.{RisesInSome}
 use Rattle.foreground.specs.AccessCode.{CanAccess}
 use Rattle.foreground.specs.Clock.{Rises}
 use Rattle.foreground.specs.Fore.{ForeOf, ForeValue, CanGo, looked_up}
-use Rattle.foreground.specs.Steps.{BeginsClock, EndsClock, KeepsClock, MakesAskedAccess, AccessesPart, ReachesAsk, reads_more}
+use Rattle.machine.specs.Machine.{reads_more}
+use Rattle.foreground.specs.Steps.{BeginsClock, EndsClock, KeepsClock, MakesAskedAccess, AccessesPart, ReachesAsk}
 use Rattle.foreground.proofs.AdvanceLaws.{advances, part_accessing, part_ending, place_made}
 use Rattle.foreground.proofs.AskedLaws.{reaches_ask, at_ask, makes_from_ask, part_from_ask, kept_from_ask, rises_from_ask}
 use Rattle.foreground.proofs.BeginLaws.{rises_same}

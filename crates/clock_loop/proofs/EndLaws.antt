@@ -26,7 +26,7 @@ use Rattle.chip_set.proofs.BusLaws.{kept_then, cias_then, rest_kept}
 use Rattle.band_log.specs.Raster.{RasterValue}
 use Rattle.picture_log.specs.Log.{with_access_touch, waiting_write}
 use Rattle.picture_log.specs.declared.log.Log.{Log}
-use Rattle.machine.specs.Machine.{MachineValue, Makes, machine_over}
+use Rattle.machine.specs.Machine.{MachineValue, Makes, machine_over, reads_more}
 use Rattle.machine.specs.declared.machine.Machine.{Machine}
 use Rattle.machine.specs.AheadCode.{IsAccessAtOnce, IsMadeAtOnce, IsUnseenAtOnce}
 use Rattle.clock_loop.specs.code.BusRun.{IsWithinLine, HasAskedFor, HasServed, HasMadeClock, HasMadeClockInPart, StaysBehind, GoesOnBus}
@@ -35,7 +35,7 @@ use Rattle.clock_loop.specs.declared.clock.Access.TheVariants as X
 use Rattle.clock_loop.specs.code.BusRun.{IsTurned, AdvancesInLine, EndsBeside, EndsItsClock, EndsAlone, ServesAsk, is_made, stays_left}
 use Rattle.foreground.specs.AccessCode.{CanAccess}
 use Rattle.foreground.specs.Fore.{ForeOf, ForeValue, over}
-use Rattle.foreground.specs.Steps.{EndsClock, KeepsClock, MakesAskedAccess, HasAskedNow, reads_more}
+use Rattle.foreground.specs.Steps.{EndsClock, KeepsClock, MakesAskedAccess, HasAskedNow}
 use Rattle.foreground.proofs.AdvanceLaws.{ends_clock}
 use Rattle.foreground.proofs.MadeLaws.{makes_quietly, quiet_part}
 use Rattle.foreground.proofs.ScriptLaws.{lines_same}

@@ -21,7 +21,8 @@ ghost use Rattle.clock_loop.specs.code.BusRun.{StaysOnBus, ServesAsk, EndsItsClo
 ghost use Rattle.clock_loop.specs.code.BusRun.{EndsAlone, EndsBeside};
 ghost use Rattle.clock_loop.specs.code.BusRun.{is_made, stays_left};
 ghost use Rattle.foreground.specs.Fore.{ForeValue, over};
-ghost use Rattle.foreground.specs.Steps.{MakesAskedAccess, AccessesPart, KeepsClock, EndsClock, reads_more};
+ghost use Rattle.machine.specs.Machine.{reads_more};
+ghost use Rattle.foreground.specs.Steps.{MakesAskedAccess, AccessesPart, KeepsClock, EndsClock};
 
 use foreground::Fore;
 use machine::touch_of;

@@ -23,13 +23,13 @@ use Rattle.serial_bands.specs.Run.{RunValue, state_of, beam_at, IsEndOf}
 use Rattle.band_log.specs.Raster.{RasterValue}
 use Rattle.foreground.specs.Fore.{ForeValue, IsNew}
 use Rattle.clock_loop.specs.RunTo.{HasRunOn, RunsOn, HasCome}
-use Rattle.rewind_loop.proofs.LineLaws.{IsLater, clocks_on, least_last}
-use Rattle.files_run.specs.Audio.{audio_text, is_sampled, sampled, IsHeard, with_audio, grown_audio, MayHaveMade, MayHaveGrown}
+use Rattle.serial_bands.proofs.LineClocks.{IsLater, clocks_on, least_last}
+use Rattle.files_run.specs.Audio.{audio_text, is_sampled, sampled, with_audio, grown_audio, MayHaveMade, MayHaveGrown}
 use Rattle.ocs_words.specs.Order.{IsFourth, IsFourthName}
 use Rattle.files_run.specs.Prefix.{IsPartOf, LeavesPrefixesOver, LeavesFiles}
 use Rattle.files_run.specs.code.Rest.{WritesRest, WritesPart}
 use Rattle.files_run.specs.Run.{HasFilesOver, HasAllFiles}
-use Rattle.files_run.specs.UnderwayCode.{AreUnsampled, CanRun, IsFresh, IsWritten, EndsFromStart}
+use Rattle.files_run.specs.UnderwayCode.{AreUnsampled, CanRun, IsFresh, IsHeard, IsWritten, EndsFromStart}
 use Rattle.files_run.specs.declared.audio.Recording.{Recording}
 use Rattle.files_run.proofs.RunLaws.{HasFiles-run, LeavesPrefixes-memory, begins_created}
 use Rattle.files_run.proofs.PrefixLaws.{LeavesPrefixes-all, LeavesPrefixes-whole, one_end}

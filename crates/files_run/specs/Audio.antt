@@ -1,12 +1,10 @@
 -- What a run sounds, as the audio file has it.
-use Rattle.std.specs.Prelude.{◌≡◌, ℕ, zero, suc, ◌==◌, ◌||◌, ◌⊎◌, Bool, true, if◌then◌else◌, List, [], ◌++◌, take, Option, Some, None}
+use Rattle.std.specs.Prelude.{◌≡◌, ℕ, zero, suc, ◌==◌, ◌||◌, ◌⊎◌, Bool, if◌then◌else◌, List, [], ◌++◌, take, Option, Some, None}
 use Rattle.ocs_base.specs.Script.{ScriptValue}
 use Rattle.ocs_base.specs.declared.beam.Beam.{Beam}
-use Rattle.foreground.specs.Fore.{ForeValue}
 use Rattle.ocs_io.specs.Place.{Files, with_file, grown}
 use Rattle.serial_model.specs.Serial.{state_over}
 use Rattle.serial_model.specs.Side.{SideValue, shown_by_side}
-use Rattle.files_run.specs.declared.audio.Recording.{Recording}
 
 -- the clocks of a line at whose end it is taken what a side shows
 abbrev pub is_sampled : Beam → Bool
@@ -22,10 +20,6 @@ audio_text side image script zero = []
 audio_text side image script (suc n) =
     audio_text side image script n
     ++ sampled (state_over side image script n).beam (state_over side image script (suc n)).side
-
--- what was taken up to the clock of a foreground, where it is taken
-pub record IsHeard (audio : Recording) (fore : ForeValue) : Type 0 where
-  pub taken : audio.on ≡ true → audio.bytes.items ≡ audio_text fore.run.side fore.run.image fore.run.script fore.machine.t
 
 -- the files, that of this name, where there is one, set to these bytes
 abbrev pub with_audio : Option (List ℕ) → Option Files → List ℕ → Option Files

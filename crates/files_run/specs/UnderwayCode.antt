@@ -1,5 +1,5 @@
 -- What a run keeps from clock to clock: the foreground, the raster that draws its bands, and the files.
-use Rattle.std.specs.Prelude.{◌≡◌, ◌≤◌, ◌<◌, ℕ, ◌+◌, ◌-◌, max, false, [], Option}
+use Rattle.std.specs.Prelude.{◌≡◌, ◌≤◌, ◌<◌, ℕ, ◌+◌, ◌-◌, max, true, false, [], Option}
 use Rattle.ocs_base.specs.declared.system.System.{System}
 use Rattle.ocs_io.specs.Place.{Files}
 use Rattle.out_files.specs.OutFiles.{OutFilesValue}
@@ -10,7 +10,7 @@ use Rattle.run_side.specs.declared.side.RunSide.{RunSide}
 use Rattle.serial_bands.specs.Run.{RunOf, RunValue, run_over, state_of, IsEndOf}
 use Rattle.serial_bands.specs.BandShown.{bytes_from}
 use Rattle.foreground.specs.Fore.{ForeOf, ForeValue, over, IsUnderway as IsForeUnderway}
-use Rattle.files_run.specs.Audio.{is_sampled, IsHeard}
+use Rattle.files_run.specs.Audio.{is_sampled, audio_text}
 use Rattle.files_run.specs.Prefix.{LeavesPrefixesOver}
 use Rattle.files_run.specs.Run.{HasParts}
 use Rattle.files_run.specs.declared.audio.Recording.{Recording}
@@ -43,6 +43,10 @@ pub record CanRun (fore : ForeValue) (seen : RasterValue) : Type 0 where
 pub record AreUnsampled (limit : ℕ) (fore : ForeValue) : Type 0 where
   pub line : limit ≤ fore.machine.t + max 1 (227 - fore.machine.beam.h)
   pub none : (k : ℕ) → fore.machine.t + k < limit → is_sampled (record fore.machine.beam { h = fore.machine.beam.h + k }) ≡ false
+
+-- what was taken up to the clock of a foreground, where it is taken
+pub record IsHeard (audio : Recording) (fore : ForeValue) : Type 0 where
+  pub taken : audio.on ≡ true → audio.bytes.items ≡ audio_text fore.run.side fore.run.image fore.run.script fore.machine.t
 
 -- run and names of the files stay, and what the run sounds was taken up to its clock
 pub record IsOfSameRun (old new : ForeValue) (out given : OutFilesValue) (audio : Recording) : Type 0 where

@@ -19,17 +19,18 @@ use Rattle.serial_bands.specs.BusReads.{bus_reads}
 use Rattle.serial_bands.specs.Bands.{has_clx_read, has_read_before}
 use Rattle.serial_bands.proofs.BandRanges.{bytes_of_bands_tinted}
 use Rattle.band_log.specs.Raster.{RasterValue}
-use Rattle.machine.specs.Out.{Gives, GivesLines}
-use Rattle.machine.specs.Machine.{MachineValue, Start, Stands, Makes, MakesQuietly, IsSamePlace}
+use Rattle.out_files.specs.Gives.{Gives, GivesLines}
+use Rattle.machine.specs.Machine.{MachineValue, Start, Stands, Makes, MakesQuietly, IsSamePlace, reads_more}
 use Rattle.picture_log.specs.Log.{IsLogOf}
 use Rattle.foreground.specs.Script.{IsLeft, IsMachine}
 use Rattle.band_gather.specs.Gathered.{tinted_range}
-use Rattle.foreground.specs.Clock.{AreLeftFrom, IsAt, IsBehindAccess, Tells, HasGiven, HasGivenPart, Rises, access_state, accessed_state}
+use Rattle.serial_bands.specs.Access.{access_state, accessed_state}
+use Rattle.foreground.specs.Clock.{AreLeftFrom, IsAt, IsBehindAccess, Tells, HasGiven, HasGivenPart, Rises}
 use Rattle.foreground.specs.Fore.{ForeValue, HasScript, IsUnderway, HasAdvanced, Advances, GivesPart, is_done}
 use Rattle.foreground.specs.Steps.{IsBefore, IsBehind, KeepsClock, HasBegunClock, BeginsClock, HasScriptBehind}
-use Rattle.foreground.specs.Steps.{ReachesAccess, HasMadeAccess, MakesItsAccess, AccessesPart, EndsClock, reads_more}
+use Rattle.foreground.specs.Steps.{ReachesAccess, HasMadeAccess, MakesItsAccess, AccessesPart, EndsClock}
 use Rattle.picture_log.specs.declared.log.Log.{Log}
-use Rattle.machine.proofs.OutLaws.{gives_then}
+use Rattle.out_files.proofs.GivesLaws.{gives_then}
 use Rattle.machine.proofs.RunLaws.{stands_from, stands_behind_access}
 use Rattle.machine.proofs.PlaceLaws.{IsOnScreen-same}
 use Rattle.foreground.proofs.MadeLaws.{given_more, part_of_given}

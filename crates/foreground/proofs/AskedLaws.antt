@@ -8,13 +8,13 @@ use Rattle.serial_model.specs.Bus.{reads_of_ask}
 use Rattle.serial_bands.specs.BusReads.{bus_reads}
 use Rattle.band_log.specs.Raster.{RasterValue}
 use Rattle.picture_log.specs.Log.{with_script_touches}
-use Rattle.machine.specs.Machine.{MachineValue, MakesQuietly, KeepsPlace}
+use Rattle.machine.specs.Machine.{MachineValue, MakesQuietly, KeepsPlace, reads_more}
 use Rattle.foreground.specs.Script.{MakesEvents}
 use Rattle.machine.specs.MachineStepsCode.{AsksInTime}
 use Rattle.foreground.specs.Clock.{Rises}
 use Rattle.foreground.specs.Fore.{ForeValue, IsUnderway}
 use Rattle.foreground.specs.Steps.{IsBefore, IsLoggedBefore, KeepsClock, HasAskedNow, AccessesPart, HasBegunClock, BeginsClock, ReachesAsk}
-use Rattle.foreground.specs.Steps.{HasScriptBehind, RunsEvents, MakesAskedAccess, MakesItsAccess, reads_more}
+use Rattle.foreground.specs.Steps.{HasScriptBehind, RunsEvents, MakesAskedAccess, MakesItsAccess}
 use Rattle.foreground.proofs.AdvanceLaws.{before_access_of, rises_in_clock, rises_at_refusal}
 use Rattle.foreground.proofs.KeptLaws.{asked_then, part_once_asked, kept_once_asked}
 use Rattle.foreground.proofs.MadeLaws.{makes_by_access, reads_of_access}

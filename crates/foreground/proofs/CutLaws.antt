@@ -19,7 +19,7 @@ use Rattle.foreground.specs.Fore.{ForeValue}
 use Rattle.picture_log.specs.declared.band.OpenBand.{OpenBand}
 use Rattle.picture_log.specs.declared.log.Log.{Log}
 use Rattle.picture_log.proofs.Cutting.{fetches_are_few, log_cuts}
-use Rattle.machine.proofs.OutLaws.{gives_nothing}
+use Rattle.out_files.proofs.GivesLaws.{gives_nothing}
 use Rattle.band_gather.proofs.GatherLaws.{no_bytes, gathered_then, part_then}
 use Rattle.foreground.proofs.LeftLaws.{left_from, IsBeginOf, ending_band, log_band}
 

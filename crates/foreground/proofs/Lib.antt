@@ -12,6 +12,7 @@ pub mod CutLaws
 pub mod EmptyLaws
 pub mod ShownLaws
 pub mod SaveLaws
+pub mod CheckpointLaws
 pub mod SumLaws
 pub mod AskedLaws
 pub mod SlotLaws

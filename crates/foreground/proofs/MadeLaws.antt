@@ -24,16 +24,17 @@ use Rattle.chip_set.specs.AskLaws.{is_clx_ask}
 use Rattle.chip_set.specs.Chips.{CanDo}
 use Rattle.chip_set.proofs.ClxLaws.{clx_read}
 use Rattle.band_log.specs.Raster.{RasterValue}
-use Rattle.machine.specs.Out.{Gives, GivesLines}
-use Rattle.machine.specs.Machine.{MachineValue, IsMachineOf, HasMade, HasAskedOf, MakesAccess, IsSamePlace, StaysInPlace, StoresMade}
+use Rattle.out_files.specs.Gives.{Gives, GivesLines}
+use Rattle.machine.specs.Machine.{MachineValue, IsMachineOf, HasMade, HasAskedOf, MakesAccess, IsSamePlace, StaysInPlace, StoresMade, reads_more}
 use Rattle.picture_log.specs.Log.{IsLogOf, IsBandOf, with_access_touch}
 use Rattle.band_gather.specs.Gathered.{Fits, tinted_range}
-use Rattle.foreground.specs.Clock.{AreLeftFrom, IsLogged, IsBehindAccess, HasGiven, HasGivenPart, access_state, accessed_state}
+use Rattle.serial_bands.specs.Access.{access_state, accessed_state}
+use Rattle.foreground.specs.Clock.{AreLeftFrom, IsLogged, IsBehindAccess, HasGiven, HasGivenPart}
 use Rattle.foreground.specs.Fore.{ForeValue}
 use Rattle.foreground.specs.Steps.{IsBefore, IsLoggedBefore, HasReadByAccess, HasMadeAccess, MakesItsAccess}
-use Rattle.foreground.specs.Steps.{MakesAskedAccess, HasAskedNow, StandsBeforeRead, ReadsBits, AccessesPart, reads_more}
+use Rattle.foreground.specs.Steps.{MakesAskedAccess, HasAskedNow, StandsBeforeRead, ReadsBits, AccessesPart}
 use Rattle.picture_log.specs.declared.log.Log.{Log}
-use Rattle.machine.proofs.OutLaws.{gives_nothing, gives_then}
+use Rattle.out_files.proofs.GivesLaws.{gives_nothing, gives_then}
 use Rattle.band_gather.proofs.GatherLaws.{no_bytes}
 use Rattle.machine.proofs.ToldLaws.{told_none}
 use Rattle.machine.proofs.RunLaws.{made_at_clock, memory_at_clock, stores_at_clock, touch_at_clock, range_at_clock, place_at_clock, reads_at_clock}

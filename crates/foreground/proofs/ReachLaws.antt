@@ -18,7 +18,8 @@ use Rattle.machine.specs.Machine.{MachineValue, IsMachineOf, Start, Stands, Make
 use Rattle.picture_log.specs.Log.{IsShown, with_script_touch, with_script_touches}
 use Rattle.foreground.specs.Script.{MakesEvents, IsMachine}
 use Rattle.band_gather.specs.Gathered.{Fits}
-use Rattle.foreground.specs.Clock.{HasBegun, IsBeforeAccess, Tells, access_state}
+use Rattle.serial_bands.specs.Access.{access_state}
+use Rattle.foreground.specs.Clock.{HasBegun, IsBeforeAccess, Tells}
 use Rattle.foreground.specs.Fore.{ForeValue, HasScript}
 use Rattle.foreground.specs.Steps.{HasScriptBehind, ReachesAccess}
 use Rattle.picture_log.specs.declared.log.Log.{Log}

@@ -23,7 +23,7 @@ use Rattle.serial_bands.proofs.WholeRun.{place_rises}
 use Rattle.band_log.specs.Raster.{RasterValue}
 use Rattle.picture_log.specs.Log.{IsEnding}
 use Rattle.band_gather.specs.Gathered.{Fits, HasGatheredTo, GathersAll, GathersPart}
-use Rattle.foreground.specs.Clock.{access_state}
+use Rattle.serial_bands.specs.Access.{access_state}
 use Rattle.foreground.specs.code.Cuts.{StandsAtEnd, HasEnded, EndsAtRead, EndsPartAtRead}
 use Rattle.picture_log.specs.Closing.{IsClockBefore}
 use Rattle.foreground.specs.Fore.{ForeValue, IsUnderway}

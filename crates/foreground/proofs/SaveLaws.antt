@@ -3,7 +3,6 @@ use Rattle.std.proofs.Common.{◌≡◌, ◌≤◌, ◌<◌, ℕ, zero, suc, max
 use Rattle.std.proofs.Common.{refl, sym, ap, ◌∙◌, subst, arith}
 use Rattle.std.proofs.lemmas.List.{append-nil}
 use Rattle.mem_versions.specs.Chip.{ChipValue}
-use Rattle.mem_versions.specs.Kept.{kept_of, chip_back}
 use Rattle.out_files.specs.OutFiles.{OutFilesValue}
 use Rattle.serial_model.specs.declared.picture.Denise.{Denise}
 use Rattle.serial_model.specs.Beam.{is_field_start}
@@ -15,14 +14,14 @@ use Rattle.serial_bands.specs.Fetches.{IsInRangeOf, IsLeftBy}
 use Rattle.serial_bands.specs.declared.event.Event.{Event}
 use Rattle.serial_bands.specs.Gathering.{IsGathered}
 use Rattle.serial_bands.proofs.BandOrder.{bands_order}
-use Rattle.serial_bands.proofs.Gathering.{gathered_more}
+use Rattle.serial_bands.proofs.Gathering.{gathered_more, gathered_whole}
 use Rattle.band_log.specs.Raster.{RasterValue}
-use Rattle.foreground.specs.Checkpoint.{CheckpointOf, IsCheckpointOf, checkpoint_of, log_from}
+use Rattle.foreground.specs.Checkpoint.{CheckpointOf, IsCheckpointOf, checkpoint_of}
 use Rattle.foreground.specs.Clock.{AreLeftFrom}
 use Rattle.foreground.specs.code.Cuts.{StandsAtEnd, HasEnded, EndsAtRead, EndsPartAtRead}
 use Rattle.foreground.specs.Fore.{ForeOf, ForeValue, IsUnderway, GivesPart, over}
 use Rattle.band_gather.specs.Gathered.{Fits, HasGatheredTo, GathersAll, outstanding_from, tinted_range}
-use Rattle.picture_log.specs.Log.{IsLogOf, waiting_list}
+use Rattle.picture_log.specs.Log.{IsBeginning, IsLogOf, waiting_list}
 use Rattle.foreground.specs.Save.{HasSaved, Saves, IsSaved}
 use Rattle.picture_log.specs.declared.log.Log.{Log}
 use Rattle.foreground.proofs.BeginLaws.{machine_kept}
@@ -182,49 +181,29 @@ log_empty run t log chip is from =
       | inr growing ↦ absurd (let order : log.band.from < t = growing.kept.order in omega (arith, order, from))
     ]
 
-log_kept : {S : Type 0} (seen : S → SideValue) (fore : ForeOf S) (after : RasterValue) → IsUnderway (over seen fore) fore.machine.t after
-    → fore.log.band.from ≡ fore.machine.t
-    → IsLogOf (run_over seen fore.run) fore.machine.t (log_from (checkpoint_of fore)) (chip_back (kept_of fore.machine.chip))
-log_kept seen fore after underway from =
-    let run : RunValue = run_over seen fore.run in
-    let t : ℕ = fore.machine.t in
-    let log : Log = fore.log in
-    let is : IsLogOf run t log fore.machine.chip = underway.at.logged in
-    let empty : (log.band.events ≡ []) × (log.waiting ≡ None) = log_empty run t log fore.machine.chip is from in
-    let clock : max fore.machine.chip.last fore.machine.chip.newest ≡ t =
-    clock_kept fore.machine.chip.last fore.machine.chip.newest t (is.last ∙ from) underway.at.time in
-    record {
-      band = elim is.band [
-        | inl beginning ↦ inl (
-          record {
-            from = refl;
-            number = beginning.0.number;
-            begin = beginning.0.begin;
-            stands = beginning.0.stands;
-            events = refl;
-            base = sym underway.at.machine.memory;
-            writes = refl;
-          },
-          refl,
-        )
-        | inr growing ↦ absurd (let order : log.band.from < t = growing.kept.order in omega (arith, order, from))
-      ];
-      least = omega arith;
-      last = clock;
-      shadow = is.shadow;
-      range = subst (λ (k : ℕ). IsInRangeOf k t log.shadow) from is.range;
-      left = subst (λ (events : List Event). IsLeftBy events log.shadow)
-          (ap (λ (events : List Event). events ++ waiting_list log.waiting) empty.0 ∙ ap (λ w. [] ++ waiting_list w) empty.1) is.left;
-    }
+-- a band begins there
+begins_now : (run : RunValue) (t : ℕ) (log : Log) (chip : ChipValue) → IsLogOf run t log chip → log.band.from ≡ t → IsBeginning run t log.band chip
+begins_now run t log chip is from =
+    elim is.band [
+      | inl beginning ↦ beginning.0
+      | inr growing ↦ absurd (let order : log.band.from < t = growing.kept.order in omega (arith, order, from))
+    ]
 
 checkpoint_stands : {S : Type 0} (seen : S → SideValue) (fore : ForeOf S) (after : RasterValue) → IsUnderway (over seen fore) fore.machine.t after
     → fore.log.band.from ≡ fore.machine.t → IsCheckpointOf seen (run_over seen fore.run) fore.machine.t (checkpoint_of fore)
-checkpoint_stands seen fore after underway from = record {
-  run_of = refl;
-  clock = refl;
-  fits = λ raster none next takes. record {
-    good = underway.good;
-    at = record {
+checkpoint_stands seen fore after underway from =
+    let run : RunValue = run_over seen fore.run in
+    let t : ℕ = fore.machine.t in
+    let chip : ChipValue = fore.machine.chip in
+    let log : Log = fore.log in
+    let is : IsLogOf run t log chip = underway.at.logged in
+    let band : IsBeginning run t log.band chip = begins_now run t log chip is from in
+    let empty : (log.band.events ≡ []) × (log.waiting ≡ None) = log_empty run t log chip is from in
+    record {
+      run_of = refl;
+      good = underway.good;
+      clock = refl;
+      running = underway.running;
       machine = record {
         t = underway.at.machine.t;
         beam = underway.at.machine.beam;
@@ -232,30 +211,17 @@ checkpoint_stands seen fore after underway from = record {
         chips = underway.at.machine.chips;
         side = underway.at.machine.side;
       };
-      logged = log_kept seen fore after underway from;
-      fits = record {
-        least = fore.log.band.number;
-        count = 0;
-        few = omega arith;
-        outstanding = none;
-        bands = refl;
-        next = next;
-        sum = omega arith;
-        bound = takes;
-      };
-      gathered = underway.at.gathered;
-      cut = λ read. refl;
-      time = (let clock : max fore.machine.chip.last fore.machine.chip.newest ≡ fore.machine.t =
-          clock_kept fore.machine.chip.last fore.machine.chip.newest fore.machine.t (underway.at.logged.last ∙ from) underway.at.time
-          in omega (arith, clock));
-    };
-    running = underway.running;
-    frame = underway.frame;
-    screen = underway.screen;
-    count = underway.count;
-    script = underway.script;
-  };
-}
+      cut = clock_kept chip.last chip.newest t (is.last ∙ from) underway.at.time;
+      begin = band.begin;
+      number = sym band.number;
+      opening = band.stands;
+      shadow = is.shadow;
+      range = subst (λ (k : ℕ). IsInRangeOf k t log.shadow) from is.range;
+      left = subst (λ (events : List Event). IsLeftBy events log.shadow)
+          (ap (λ (events : List Event). events ++ waiting_list log.waiting) empty.0 ∙ ap (λ w. [] ++ waiting_list w) empty.1) is.left;
+      script = underway.script;
+      clx = sym (gathered_whole run t fore.clx underway.at.gathered);
+    }
 
 -- what is kept once a foreground is saved stands for the state for which it stood
 pub is_saved : {S : Type 0} (seen : S → SideValue) (old : ForeValue) (fore : ForeOf S) (k : CheckpointOf S) (before after : RasterValue)

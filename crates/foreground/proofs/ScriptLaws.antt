@@ -15,12 +15,12 @@ use Rattle.serial_model.specs.Made.{is_clx_read, clx_after, touch_of}
 use Rattle.serial_model.specs.State.{State}
 use Rattle.serial_model.proofs.EventLaws.{due_events-more, due_events-later, due_events-none, IsQueue-more, IsQueue-end, IsQueue-empty}
 use Rattle.serial_bands.specs.Bands.{has_clx_read}
-use Rattle.machine.specs.Out.{GivesLines}
+use Rattle.out_files.specs.Gives.{GivesLines}
 use Rattle.machine.specs.Machine.{MachineValue, Start, Stands, KeepsPlace, IsSamePlace, MakesEvent}
 use Rattle.foreground.specs.Script.{IsLeft, HasLater, MakesEvents, IsMachine, IsRest, with_touch_if_any}
 use Rattle.picture_log.specs.Log.{with_script_touches}
 use Rattle.picture_log.specs.declared.log.Log.{Log}
-use Rattle.machine.proofs.OutLaws.{gives_nothing, gives_then}
+use Rattle.out_files.proofs.GivesLaws.{gives_nothing, gives_then}
 use Rattle.machine.proofs.ToldLaws.{told_none}
 
 -- the place of the beam stays

@@ -7,17 +7,17 @@ use Rattle.serial_model.specs.State.{State}
 use Rattle.serial_model.specs.Tick.{ask_of, answer_of}
 use Rattle.band_log.specs.Raster.{RasterValue}
 use Rattle.machine.specs.Machine.{MachineValue}
-use Rattle.foreground.specs.Clock.{access_state}
+use Rattle.serial_bands.specs.Access.{access_state}
 use Rattle.foreground.specs.Fore.{ForeValue, IsUnderway}
-use Rattle.machine.specs.RegisterWord.{register_word}
+use Rattle.serial_model.specs.RegisterRead.{register_read}
 use Rattle.foreground.specs.Slot.{IsSlotOf}
 use Rattle.foreground.specs.Steps.{BeginsClock, ReachesAsk}
 use Rattle.foreground.specs.declared.slot.Slot.{Slot}
 
 -- the word of an ask is that of the state's own
 pub word_by_ask : (ask : Ask) (s : State) (word : Option ℕ) → ask ≡ ask_of s
-    → word ≡ register_word ask (answer_to ask s.beam s.clx s.chips s.memory) → word ≡ register_word (ask_of s) (answer_of s)
-word_by_ask ask s word same is = is ∙ ap (λ a. register_word a (answer_to a s.beam s.clx s.chips s.memory)) same
+    → word ≡ register_read ask (answer_to ask s.beam s.clx s.chips s.memory) → word ≡ register_read (ask_of s) (answer_of s)
+word_by_ask ask s word same is = is ∙ ap (λ a. register_read a (answer_to a s.beam s.clx s.chips s.memory)) same
 
 -- the slot of a clock is said of the foreground as it was once its chips had asked, and so of the one at the start of the clock
 pub slot_from_ask : (f0 f1 f3 : ForeValue) (ask : Ask) (first clx : ℕ) (slot : Slot) (seen s1 : RasterValue) (o0 o1 o2 : OutFilesValue)

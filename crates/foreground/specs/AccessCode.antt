@@ -8,8 +8,9 @@ use Rattle.serial_model.specs.Bus.{reads_of_ask}
 use Rattle.chip_set.specs.Chips.{CanAsk, IsBlitAsk, kept_wish}
 use Rattle.band_log.specs.Raster.{RasterValue}
 use Rattle.foreground.specs.Fore.{ForeValue}
-use Rattle.machine.specs.RegisterWord.{register_word}
-use Rattle.foreground.specs.Steps.{IsLoggedBefore, HasAskedNow, MakesAskedAccess, AccessesPart, KeepsClock, reads_more}
+use Rattle.serial_model.specs.RegisterRead.{register_read}
+use Rattle.machine.specs.Machine.{reads_more}
+use Rattle.foreground.specs.Steps.{IsLoggedBefore, HasAskedNow, MakesAskedAccess, AccessesPart, KeepsClock}
 
 -- the log stands before the access of the clock, and the chips have asked for the slot with this
 pub record CanAccess (ask : Ask) (fore : ForeValue) (seen : RasterValue) : Type 0 where
@@ -28,4 +29,4 @@ pub record MakesAccessWith {A E : Type 0} (ask : Ask) (old new : ForeValue) (see
 
 -- the word of a register that answers the access which is made in a state
 abbrev pub IsWordAt : Option ℕ → State → Type 0
-IsWordAt word s = word ≡ register_word (ask_of s) (answer_of s)
+IsWordAt word s = word ≡ register_read (ask_of s) (answer_of s)

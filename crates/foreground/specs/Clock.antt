@@ -4,14 +4,14 @@ use Rattle.mem_versions.specs.Chip.{ChipValue}
 use Rattle.out_files.specs.OutFiles.{OutFilesValue}
 use Rattle.serial_model.specs.declared.trace.TraceLine.{TraceLine}
 use Rattle.serial_model.specs.State.{State}
-use Rattle.serial_model.specs.Tick.{before_access, make_access}
+use Rattle.serial_bands.specs.Access.{access_state, accessed_state}
 use Rattle.serial_bands.specs.Run.{RunValue, state_of}
 use Rattle.serial_model.specs.Made.{is_clx_read}
 use Rattle.serial_bands.specs.Clock.{made_at}
 use Rattle.serial_bands.specs.Bands.{begins, begun, has_read_before}
 use Rattle.serial_bands.specs.Gathering.{IsGathered, IsGatheredIn}
 use Rattle.band_log.specs.Raster.{RasterValue}
-use Rattle.machine.specs.Out.{Gives}
+use Rattle.out_files.specs.Gives.{Gives}
 use Rattle.machine.specs.Machine.{MachineValue, IsMachineOf}
 use Rattle.picture_log.specs.Log.{IsLogOf, IsStarted, IsShown}
 use Rattle.band_gather.specs.Gathered.{Fits, KeepsMark, tinted_range}
@@ -35,13 +35,6 @@ pub record HasBegun (run : RunValue) (c first : ℕ) (m : MachineValue) (log : L
   pub fits : Fits run log.band.number log.band.from first seen
   pub gathered : IsGatheredIn run c clx first
   pub time : m.chip.newest ≤ c
-
--- the state in which the access of a clock is made, and that behind the access
-abbrev pub access_state : RunValue → ℕ → State
-access_state run c = before_access run.script.system run.script.events (state_of run c)
-
-abbrev pub accessed_state : RunValue → ℕ → State
-accessed_state run c = make_access (access_state run c)
 
 -- behind the picture step: the log, and the machine
 pub record IsLogged (run : RunValue) (c first : ℕ) (chip : ChipValue) (log : Log) (clx : ℕ) (seen : RasterValue) : Type 0 where

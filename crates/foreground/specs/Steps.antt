@@ -1,5 +1,5 @@
 -- What the parts of a clock make of a foreground, at whatever clock of its run it stands.
-use Rattle.std.specs.Prelude.{◌≡◌, ◌≤◌, ◌<◌, ◌==◌, ◌^◌, if◌then◌else◌, min, ℕ, ◌+◌, ◌-◌, Bool, true, false, List, [], ◌++◌, length, drop}
+use Rattle.std.specs.Prelude.{◌≡◌, ◌≤◌, ◌<◌, ℕ, ◌+◌, Bool, true, false, List, [], ◌++◌, length, drop}
 use Rattle.ocs_base.specs.declared.beam.Beam.{Beam}
 use Rattle.out_files.specs.OutFiles.{OutFilesValue}
 use Rattle.serial_model.specs.declared.bus.Ask.{Ask}
@@ -17,7 +17,8 @@ use Rattle.machine.specs.Machine.{MachineValue, IsMachineOf, IsSamePlace, HasAsk
 use Rattle.picture_log.specs.Log.{IsLogOf, with_script_touches}
 use Rattle.band_gather.specs.Gathered.{Fits}
 use Rattle.foreground.specs.Script.{IsLeft, HasLater, MakesEvents}
-use Rattle.foreground.specs.Clock.{IsAt, HasBegun, IsLogged, IsBeforeAccess, IsBehindAccess, Tells, HasGiven, HasGivenPart, access_state, accessed_state}
+use Rattle.serial_bands.specs.Access.{access_state, accessed_state}
+use Rattle.foreground.specs.Clock.{IsAt, HasBegun, IsLogged, IsBeforeAccess, IsBehindAccess, Tells, HasGiven, HasGivenPart}
 use Rattle.foreground.specs.Fore.{ForeValue, HasScript, IsUnderway}
 
 -- a foreground at a clock, in each of these stages
@@ -103,10 +104,6 @@ pub record ReachesAsk (clx : ℕ) (ask : Ask) (old new : ForeValue) (out given :
   pub asked : (s : State) → IsMachineOf between.machine s → HasAskedOf new.machine s
   pub chips : new.machine ≡ record between.machine { chips = new.machine.chips }
   pub same : new ≡ record between { machine = new.machine }
-
--- a count of reads once so many more words were read: it stands still at the greatest number of 64 bits
-abbrev pub reads_more : ℕ → ℕ → ℕ
-reads_more count reads = if count == 0 then reads else min (reads + count) (2 ^ 64 - 1)
 
 -- its chips have asked for the slot, as the access of the clock does
 pub record HasAskedNow (ask : Ask) (fore : ForeValue) : Type 0 where

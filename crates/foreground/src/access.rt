@@ -8,9 +8,10 @@ ghost use Rattle.chip_set.specs.Chips.{late_ask, ask_or_late, ask_of_late};
 ghost use Rattle.chip_set.specs.declared.late.LateOwner.{LateOwner};
 ghost use Rattle.band_log.specs.Raster.{RasterValue};
 ghost use Rattle.foreground.specs.AccessCode.{CanAccess, MakesAccessWith, IsWordAt};
-ghost use Rattle.foreground.specs.Clock.{access_state};
+ghost use Rattle.serial_bands.specs.Access.{access_state};
 ghost use Rattle.foreground.specs.Fore.{over};
-ghost use Rattle.foreground.specs.Steps.{MakesAskedAccess, AccessesPart, KeepsClock, reads_more};
+ghost use Rattle.machine.specs.Machine.{reads_more};
+ghost use Rattle.foreground.specs.Steps.{MakesAskedAccess, AccessesPart, KeepsClock};
 
 use crate::fore::Fore;
 use band_log::Raster;

@@ -2,7 +2,8 @@
 
 ghost use Rattle.std.specs.Prelude.{◌≡◌, ◌+◌, true, false, IsErr, IfOk, OnOk, OnErr};
 ghost use Rattle.serial_bands.specs.BusReads.{bus_reads};
-ghost use Rattle.foreground.specs.Clock.{Rises, access_state};
+ghost use Rattle.serial_bands.specs.Access.{access_state};
+ghost use Rattle.foreground.specs.Clock.{Rises};
 ghost use Rattle.foreground.specs.Slot.{IsSlotOf};
 ghost use Rattle.foreground.specs.Fore.{over, CanGo, Advances, GivesPart, is_done, looked_up};
 

@@ -6,7 +6,7 @@ ghost use Rattle.serial_model.specs.Beam.{is_field_start};
 ghost use Rattle.serial_bands.specs.Run.{run_over};
 ghost use Rattle.foreground.specs.Checkpoint.{checkpoint_of, fore_from};
 ghost use Rattle.foreground.specs.Fore.{over, CanGo, IsUnderway, GivesPart};
-ghost use Rattle.foreground.specs.Save.{Saves, IsSaved};
+ghost use Rattle.foreground.specs.Save.{Saves, IsSaved, GoesOnFrom};
 ghost use Rattle.foreground.specs.Steps.{KeepsClock};
 
 use crate::checkpoint::Checkpoint;
@@ -136,6 +136,19 @@ impl<S: Side + Copy> Fore<S> {
     /// it that takes bands of the run, has nothing outstanding, and whose next band is the checkpoint's. No
     /// word of its memory was read.
     pub fn load(
+        alloc: Global,
+        run: Arc<Run<S>>,
+        from: &Checkpoint<S>,
+    ) -> Result<Fore<S>, OutOfMemory>
+        requires { run_over S.seen (arc_value run) ≡ run_over S.seen from.now.run }
+        ensures made { IfOk result (λ fore. over S.seen fore ≡ fore_from S.seen from.now) }
+        ensures goes_on { IfOk result (λ fore. GoesOnFrom S.seen from.now (over S.seen fore)) }
+    {
+        Fore::from_checkpoint(alloc, run, from)
+    }
+
+    /// The foreground that has what the checkpoint has, and no event of a band.
+    fn from_checkpoint(
         alloc: Global,
         run: Arc<Run<S>>,
         from: &Checkpoint<S>,

@@ -6,7 +6,7 @@ ghost use Rattle.serial_model.specs.Events.{is_due as due_at, due_events, touche
 ghost use Rattle.serial_model.specs.Made.{is_clx_read, touch_of};
 ghost use Rattle.serial_bands.specs.Bands.{has_clx_read};
 ghost use Rattle.ocs_base.specs.declared.script.Act.TheVariants.{Poke};
-ghost use Rattle.machine.specs.Out.{GivesLines};
+ghost use Rattle.out_files.specs.Gives.{GivesLines};
 ghost use Rattle.machine.specs.Machine.{machine_over, MakesEvent, KeepsPlace};
 ghost use Rattle.picture_log.specs.Log.{with_script_touches};
 ghost use Rattle.foreground.specs.Script.{IsLeft, IsRest, HasLater, IsMachine, MakesEvents, with_touch_if_any};

@@ -1,6 +1,6 @@
 -- The access of the machine without its picture over plain values.
 use Rattle.std.proofs.Common.{◌≡◌, ◌≤◌, ℕ, ◌==◌, Bool, true, false, if◌then◌else◌, List, [], ◌++◌, refl, ap, subst, ◌∙◌, sym, append-nil}
-use Rattle.mem_versions.specs.Chip.{ChipValue, after_reads}
+use Rattle.mem_versions.specs.Chip.{ChipValue, after_reads, more_reads}
 use Rattle.ocs_base.specs.declared.beam.Beam.{Beam}
 use Rattle.out_files.specs.OutFiles.{OutFilesValue}
 use Rattle.serial_model.specs.declared.bus.Ask.{Ask}
@@ -23,7 +23,7 @@ use Rattle.chip_set.specs.AskLaws.{is_clx_ask}
 use Rattle.chip_set.specs.Chips.{WorkingChips, IsChipsOf, HasAsked, HasAccessed, read_by, reads_by_chips}
 use Rattle.chip_set.proofs.ClxLaws.{clx_read, clx_alone}
 use Rattle.machine.specs.Machine.{MachineValue, IsMachineOf, Start, HasTold, Stands, HasAskedOf}
-use Rattle.machine.specs.Machine.{MakesAccess, StaysInPlace, StoresMade, more_reads, reads_after}
+use Rattle.machine.specs.Machine.{MakesAccess, StaysInPlace, StoresMade, reads_after}
 use Rattle.machine.specs.MachineStepsCode.{chip_after, word_given, reads_by_side, GivesSide, Does}
 use Rattle.machine.proofs.ToldLaws.{told_same}
 use Rattle.machine.proofs.StepLaws.{wish_in, Makes-does, same_place}

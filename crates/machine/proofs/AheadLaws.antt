@@ -35,11 +35,11 @@ use Rattle.chip_set.proofs.BesideLaws.{waits_wish}
 use Rattle.machine.specs.Machine.{MachineValue}
 use Rattle.machine.specs.MachineStepsCode.{AsksInTime, chip_after}
 use Rattle.machine.specs.AheadCode.{IsLeftToProcessor, IsAccessAtOnce, IsMadeAtOnce, IsUnseenAtOnce, IsClockAtOnce}
-use Rattle.machine.specs.Out.{Gives}
+use Rattle.out_files.specs.Gives.{Gives}
 use Rattle.machine.proofs.AccessLaws.{MakesAccess-by, StoresMade-by, reads_done}
 use Rattle.machine.proofs.AskedLaws.{asks_alone}
 use Rattle.machine.proofs.BusLaws.{with_chips}
-use Rattle.machine.proofs.OutLaws.{gives_nothing}
+use Rattle.out_files.proofs.GivesLaws.{gives_nothing}
 use Rattle.machine.proofs.StepLaws.{Makes-processed}
 
 -- ---- the turn of a processor that only waits

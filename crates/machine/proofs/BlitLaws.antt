@@ -30,7 +30,7 @@ use Rattle.machine.specs.MachineStepsCode.{chip_after}
 use Rattle.machine.specs.AheadCode.{IsAccessAtOnce}
 use Rattle.machine.proofs.AccessLaws.{MakesAccess-by, StoresMade-by, reads_done}
 use Rattle.machine.proofs.AheadLaws.{counted_by}
-use Rattle.machine.proofs.OutLaws.{gives_nothing}
+use Rattle.out_files.proofs.GivesLaws.{gives_nothing}
 
 -- ---- what the blitter asks for
 

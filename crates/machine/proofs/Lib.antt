@@ -1,4 +1,3 @@
-pub mod OutLaws
 pub mod ToldLaws
 pub mod TwoLaws
 pub mod WriteLaws

@@ -3,9 +3,9 @@ use Rattle.std.proofs.Common.{◌≡◌, List, [], ◌++◌, ap, sym, ◌∙◌,
 use Rattle.out_files.specs.OutFiles.{OutFilesValue}
 use Rattle.serial_model.specs.declared.trace.TraceLine.{TraceLine}
 use Rattle.serial_model.specs.State.{State}
-use Rattle.machine.specs.Out.{Gives}
+use Rattle.out_files.specs.Gives.{Gives}
 use Rattle.machine.specs.Machine.{Start, HasTold}
-use Rattle.machine.proofs.OutLaws.{gives_nothing, gives_then}
+use Rattle.out_files.proofs.GivesLaws.{gives_nothing, gives_then}
 
 -- nothing yet
 pub told_none : (out : OutFilesValue) (s : State) → HasTold (record { out = out; trace = s.trace }) out s

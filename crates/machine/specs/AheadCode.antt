@@ -22,7 +22,7 @@ use Rattle.chip_set.specs.BusCode.{LeavesBus, CiasRest, KeepsOnBus, reaches_memo
 use Rattle.chip_set.specs.Chips.{CanAsk, CanDo, IsBlitAsk, kept_wish}
 use Rattle.machine.specs.Machine.{MachineValue, Makes, MakesAccess, StaysInPlace, StoresMade, reads_after}
 use Rattle.machine.specs.MachineStepsCode.{AsksInTime}
-use Rattle.machine.specs.Out.{Gives}
+use Rattle.out_files.specs.Gives.{Gives}
 
 -- the slot of this clock of a line is left to the processor by everybody else, and nothing is to be done for side and CIAs in it and
 -- in so many clocks in all

@@ -1,6 +1,4 @@
-pub mod Out
 pub mod AheadCode
 pub mod Machine
 pub mod MachineStepsCode
 pub mod QuietCode
-pub mod RegisterWord

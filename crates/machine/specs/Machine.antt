@@ -1,9 +1,9 @@
 -- The machine without its picture: what it stands for, and what its steps make.
-use Rattle.std.specs.Prelude.{◌≡◌, ◌≤◌, ◌^◌, ◌==◌, if◌then◌else◌, ℕ, ◌+◌, ◌-◌, min, Bool, true, List, [], ◌++◌}
+use Rattle.std.specs.Prelude.{◌≡◌, ◌≤◌, ◌==◌, if◌then◌else◌, ℕ, ◌+◌, Bool, true, List, [], ◌++◌}
 use Rattle.ocs_base.specs.declared.beam.Beam.{Beam}
 use Rattle.ocs_base.specs.declared.chip_size.ChipSize.{ChipSize}
 use Rattle.ocs_base.specs.declared.script.Act.{Act}
-use Rattle.mem_versions.specs.Chip.{ChipValue, memory_from}
+use Rattle.mem_versions.specs.Chip.{ChipValue, memory_from, more_reads}
 use Rattle.out_files.specs.OutFiles.{OutFilesValue}
 use Rattle.serial_model.specs.declared.bus.Ask.{Ask}
 use Rattle.serial_model.specs.declared.bus.Made.{Made}
@@ -18,7 +18,7 @@ use Rattle.serial_bands.specs.Stores.{stores_of}
 use Rattle.serial_model.specs.Bus.{reads_of_ask}
 use Rattle.chip_set.specs.Chips.{WorkingChips, IsChipsOf, HasAsked}
 use Rattle.chip_set.specs.AskLaws.{is_clx_ask}
-use Rattle.machine.specs.Out.{Gives}
+use Rattle.out_files.specs.Gives.{Gives}
 use Rattle.machine.specs.declared.machine.Machine.{Machine}
 
 -- the machine as it is kept, with what its side does from then on
@@ -103,13 +103,13 @@ pub record KeepsPlace (old new : MachineValue) : Type 0 where
   pub beam : IsSamePlace old.beam new.beam
   pub chip : new.chip ≡ old.chip
 
--- a count of reads after so many more: it stands still at the greatest number of 64 bits
-abbrev pub more_reads : ℕ → ℕ → ℕ
-more_reads count reads = min (reads + count) (2 ^ 64 - 1)
+-- a count of reads after so many more, or none
+abbrev pub reads_more : ℕ → ℕ → ℕ
+reads_more count reads = if count == 0 then reads else more_reads count reads
 
 -- and after an access with this ask
 abbrev pub reads_after : Ask → ℕ → ℕ
-reads_after ask reads = if reads_of_ask ask == 0 then reads else more_reads (reads_of_ask ask) reads
+reads_after ask reads = reads_more (reads_of_ask ask) reads
 
 -- the memory after an access: a store is one more write of its version, and a read counts
 pub record StoresMade (t : ℕ) (ask : Ask) (made : Made) (old new : ChipValue) : Type 0 where

@@ -16,7 +16,7 @@ use Rattle.serial_model.specs.Tick.{count_timers, ask_of}
 use Rattle.serial_model.specs.Write.{write_chips, write_lof}
 use Rattle.chip_set.specs.Chips.{IsChipsOf, read_by}
 use Rattle.machine.specs.Machine.{MachineValue, IsMachineOf, HasAskedOf, MakesQuietly}
-use Rattle.machine.specs.Out.{Gives}
+use Rattle.out_files.specs.Gives.{Gives}
 
 -- a write reached the chips and LOF; the trace has no line of it yet
 pub record WritesRegister (reg : Reg) (word : ℕ) (old new : MachineValue) : Type 0 where

@@ -12,8 +12,9 @@ ghost use Rattle.serial_model.specs.Bus.{processor_ask};
 ghost use Rattle.serial_model.specs.Beam.{later_beam};
 ghost use Rattle.serial_model.specs.Processor.{slot_wish};
 ghost use Rattle.serial_model.specs.Turns.{taken_lines};
-ghost use Rattle.machine.specs.Machine.{machine_over, more_reads, reads_after};
-ghost use Rattle.machine.specs.Out.{Gives};
+ghost use Rattle.mem_versions.specs.Chip.{more_reads};
+ghost use Rattle.machine.specs.Machine.{machine_over, reads_after};
+ghost use Rattle.out_files.specs.Gives.{Gives};
 ghost use Rattle.machine.specs.AheadCode.{IsLeftToProcessor, IsLeftThen, IsUnseenAtOnce, goes_alone};
 ghost use Rattle.machine.specs.AheadCode.{EndsInTwo, IsAccessInTwo, IsAccessInPart, asks_for_memory};
 

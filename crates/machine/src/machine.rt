@@ -16,7 +16,7 @@ ghost use Rattle.chip_set.specs.Chips.{CanAsk, CanDo, IsBlitAsk, kept_wish, ask_
 ghost use Rattle.chip_set.specs.BusCode.{KeepsBus};
 ghost use Rattle.machine.specs.Machine.{machine_over, IsMachineOf, IsReset, Makes, MakesQuietly, MakesEvent, MakesAccess};
 ghost use Rattle.machine.specs.Machine.{HasAskedOf, StoresMade, StaysInPlace, KeepsPlace, reads_after};
-ghost use Rattle.machine.specs.RegisterWord.{register_word, word_of_processor};
+ghost use Rattle.serial_model.specs.RegisterRead.{register_read, word_of_processor};
 ghost use Rattle.machine.specs.MachineStepsCode.{WritesRegister, AsksInTime, GivesSide, Does, chip_after};
 
 use chip_set::Chips;
@@ -169,7 +169,7 @@ impl<S: Side> Machine<S> {
     pub fn register_word(&self, ask: &Ask, clx: u16) -> Option<u16>
         ensures { (s : State) → HasAskedOf (machine_over S.seen self.now) s → ask.now ≡ ask_of s
             → (is_clx_ask ask.now ≡ true → s.clx ≡ clx)
-            → result ≡ register_word (ask_of s) (answer_of s) }
+            → result ≡ register_read (ask_of s) (answer_of s) }
     {
         match *ask {
             Ask::Processor { ask } => self.word_of_processor(&ask, clx),

@@ -37,9 +37,13 @@ abbrev pub memory_from : ChipSize → List ℕ → ChipValue
 memory_from size image =
     record { last = 0; base = memory_of size image; writes = []; words = memory_of size image; newest = 0; reads = 0 }
 
--- the memory after so many more reads: the count stands still at the greatest number of 64 bits
+-- a count of reads after so many more: it stands still at the greatest number of 64 bits
+abbrev pub more_reads : ℕ → ℕ → ℕ
+more_reads count reads = min (reads + count) (2 ^ 64 - 1)
+
+-- and the memory
 abbrev pub after_reads : ChipValue → ℕ → ChipValue
-after_reads c count = record c { reads = min (c.reads + count) (2 ^ 64 - 1) }
+after_reads c count = record c { reads = more_reads count c.reads }
 
 -- the memory after a write of a word at a clock
 abbrev pub after_write : ChipValue → ℕ → Addr → ℕ → ChipValue

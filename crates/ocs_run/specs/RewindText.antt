@@ -5,10 +5,9 @@ use Rattle.ocs_base.specs.Script.{ScriptValue}
 use Rattle.ocs_base.specs.declared.beam.Beam.{Beam}
 use Rattle.ocs_io.specs.Numbers.{hex_text}
 use Rattle.rewind_loop.specs.Places.{first_place, due_in, arrivals}
-use Rattle.rewind_loop.specs.Present.{told_of}
+use Rattle.rewind_loop.specs.Told.{told_of}
 use Rattle.rewind_loop.specs.declared.arrived.Arrived.{Arrived}
-use Rattle.serial_bands.specs.Run.{RunValue}
-use Rattle.serial_model.specs.Serial.{IsEndOver}
+use Rattle.serial_model.specs.Serial.{state_over, IsEndOver}
 use Rattle.serial_model.specs.Side.{no_side}
 
 -- a number, and a word of four hexadecimal digits, before what follows it in the line
@@ -29,16 +28,12 @@ line_of a =
     number_before a.at ++ place_text a.beam ++ word_before a.dmacon ++ word_before a.colour ++ number_before a.sum
     ++ decimal a.from ++ codes "\n"
 
--- the run without a side of a script over an image; on the height of its bands nothing here depends
-abbrev pub run_of : List ℕ → ScriptValue → RunValue
-run_of image script = record { image = image; script = script; height = 313; side = no_side }
-
--- The lines of clocks that are gone to one after another in a run whose last state is at the clock `end`: each is of the run's state at
--- that clock or at its last, from whatever it was reached
+-- The lines of clocks that are gone to one after another in the run of a script over an image, whose last state is at the clock `end`:
+-- each is of the run's state at that clock or at its last, from whatever it was reached
 abbrev pub rewind_text : List ℕ → ScriptValue → ℕ → ℕ → List ℕ → ℕ → List ℕ
 rewind_text image script every keep clocks end =
-    let run = run_of image script in
-    flat_map line_of (map (told_of run) (arrivals (due_in run every) keep end clocks first_place))
+    let states = state_over no_side image script in
+    flat_map line_of (map (told_of states) (arrivals (due_in states every) keep end clocks first_place))
 
 -- the text is these lines
 pub record AreLines (image : List ℕ) (script : ScriptValue) (every keep : ℕ) (clocks text : List ℕ) : Type 0 where

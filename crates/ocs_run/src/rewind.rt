@@ -8,7 +8,8 @@ ghost use Rattle.ocs_words.specs.AskedCode.{rewind_value, HasRanges};
 ghost use Rattle.ocs_run.specs.RewindAnswers.{RewindAnswers};
 ghost use Rattle.ocs_run.specs.RewindText.{AreLines, line_of};
 ghost use Rattle.rewind_loop.specs.Places.{Place as RunPlace, due_in, arrivals};
-ghost use Rattle.rewind_loop.specs.Present.{IsPresent, run_in, told_of};
+ghost use Rattle.rewind_loop.specs.Present.{IsPresent, run_in, states_in};
+ghost use Rattle.rewind_loop.specs.Told.{told_of};
 ghost use Rattle.serial_bands.specs.Run.{IsEndOf};
 
 use crate::rewind_text::make_lines;
@@ -74,8 +75,8 @@ fn go_and_tell(alloc: Global, clocks: &[u64], rewind: &mut Rewind) -> Result<Vec
     requires at { (keep : ℕ) × (p : RunPlace) × IsPresent keep p rewind.old }
     ensures { IfOk result (λ text. (keep end : ℕ) (p : RunPlace)
         → IsPresent keep p rewind.old → IsEndOf (run_in rewind.old) end
-        → text.items ≡ flat_map line_of (map (told_of (run_in rewind.old))
-        (arrivals (due_in (run_in rewind.old) rewind.old.every) keep end clocks.now p))) }
+        → text.items ≡ flat_map line_of (map (told_of (states_in rewind.old))
+        (arrivals (due_in (states_in rewind.old) rewind.old.every) keep end clocks.now p))) }
 {
     let told = rewind.go_all(clocks)?;
     make_lines(alloc, &told)

@@ -6,3 +6,4 @@ mod PlacesLaws
 pub mod FilesLaws
 pub mod TogetherLaws
 pub mod FlushLaws
+pub mod GivesLaws

@@ -3,3 +3,4 @@ pub mod Answers
 pub mod code
 pub mod Together
 pub mod Places
+pub mod Gives

@@ -13,6 +13,7 @@ use Rattle.serial_bands.specs.Run.{RunValue}
 use Rattle.band_log.specs.Raster.{RasterValue, Takes}
 use Rattle.foreground.specs.Checkpoint.{fore_from}
 use Rattle.foreground.specs.Fore.{ForeOf, ForeValue, IsUnderway, IsNew}
+use Rattle.foreground.proofs.CheckpointLaws.{checkpoint_goes_on}
 use Rattle.rewind_loop.specs.Places.{Place, last_of, clocks_to, back_to, reached_from}
 use Rattle.rewind_loop.specs.Present.{Checkpoint, clock_of, IsEntryOf, AreAt, IsPresent, run_of, run_in, fore_of, raster_of}
 use Rattle.rewind_loop.specs.code.Steps.{GoesBack, starting_with}
@@ -67,7 +68,7 @@ module _ (run : RunValue) (keep : ℕ) (p : Place) (fore : ForeValue) (raster : 
       let k : IsEntryOf run entry = best_kept entry best in
       let place : Place = record { now = entry.at.0; ring = clocks_to clock p.ring } in
       let stands : IsUnderway (fore_from (λ side. no_side) entry.state) entry.at.0 after =
-      k.fits after (ap (λ (r : RasterValue). r.outstanding) begun) (ap (λ (r : RasterValue). r.next) begun)
+      checkpoint_goes_on (λ side. no_side) run entry.at.0 entry.state after k (ap (λ (r : RasterValue). r.outstanding) begun) (ap (λ (r : RasterValue). r.next) begun)
       (subst (λ (r : RasterValue). Takes r.bound run) (sym begun) tt) in
       subst (λ (q : Place). AreAt run keep q new after (record ring { entries = up_to clock ring.entries })) (sym (turns_back (Some entry) high best))
       (subst (λ (f : ForeValue). AreAt run keep place f after (record ring { entries = up_to clock ring.entries })) (sym made) (record {

@@ -1,21 +1,14 @@
 -- Clocks of a line: no frame begins between them.
-use Rattle.std.proofs.Common.{◌≡◌, ℕ, zero, suc, ◌+◌, ◌-◌, ◌<◌, ◌≤◌, ◌^◌, min, max, Bool, true, false, ◌==◌, ◌&&◌, nat_lt, ◌%◌}
-use Rattle.std.proofs.Common.{if◌then◌else◌, refl, sym, ap, ◌∙◌, arith, subst}
+use Rattle.std.proofs.Common.{◌≡◌, ℕ, ◌+◌, ◌-◌, ◌<◌, ◌≤◌, ◌^◌, min, max, Bool, true, false, ◌==◌, ◌&&◌, nat_lt, ◌%◌}
+use Rattle.std.proofs.Common.{refl, sym, ap, ◌∙◌, arith}
 use Rattle.std.proofs.lemmas.Bool.Decides.{nat_tests}
 use Rattle.std.proofs.lemmas.List.Elements.{All-weaker}
 use Rattle.ocs_base.specs.Systems.{last_clock}
 use Rattle.ocs_base.specs.declared.beam.Beam.{Beam}
-use Rattle.ocs_base.specs.declared.system.System.{System}
-use Rattle.ocs_base.specs.declared.system.System.TheVariants.{Pal, Ntsc}
 use Rattle.ocs_rewind.specs.Ring.{RingOf, EntryOf}
 use Rattle.out_files.specs.OutFiles.{OutFilesValue}
-use Rattle.serial_model.specs.Beam.{next_place}
-use Rattle.serial_model.specs.Registers.{is_interlaced}
-use Rattle.serial_model.specs.Serial.{state_over}
-use Rattle.serial_model.specs.State.{State}
-use Rattle.serial_model.specs.Tick.{before_access, make_access, tick}
-use Rattle.serial_model.proofs.NextLaws.{beam_next}
 use Rattle.serial_bands.specs.Run.{RunValue, state_of, beam_at}
+use Rattle.serial_bands.proofs.LineClocks.{IsLater, clocks_on, least_last}
 use Rattle.band_log.specs.Raster.{RasterValue}
 use Rattle.foreground.specs.Fore.{ForeValue, IsUnderway, is_done}
 use Rattle.clock_loop.specs.RunTo.{RunsOn, HasRunOn, HasCome}
@@ -24,58 +17,6 @@ use Rattle.rewind_loop.specs.Present.{Checkpoint, clock_of, AreAt}
 use Rattle.rewind_loop.specs.code.Steps.{line_limit}
 
 -- ---- the clocks of a line
-
--- a place of the same line, so many clocks on
-pub record IsLater (b later : Beam) (k : ℕ) : Type 0 where
-  pub line : later.v ≡ b.v
-  pub clock : later.h ≡ k + b.h
-
-next_in_line : (system : System) (lace : Bool) (b : Beam) → b.h < last_clock system b.v → IsLater b (next_place system lace b) 1
-next_in_line system lace b inner = record {
-  line = grind (arith, nat_tests, inner);
-  clock = grind (arith, nat_tests, inner);
-}
-
-pub clocks_on : (run : RunValue) (t k c : ℕ) → c ≡ k + t → k + (beam_at run t).h ≤ last_clock run.script.system (beam_at run t).v
-    → IsLater (beam_at run t) (beam_at run c) k
-unfolding state_over
-clocks_on run t zero c is within =
-    let same : c ≡ t = omega (arith, is) in
-    record {
-      line = ap (λ n. (beam_at run n).v) same;
-      clock = ap (λ n. (beam_at run n).h) same ∙ none (beam_at run t).h;
-    }
-  where
-    none : (h : ℕ) → h ≡ 0 + h
-    none h = omega arith
-clocks_on run t (suc k) zero is within = absurd (omega (arith, is))
-clocks_on run t (suc k) (suc c) is within =
-    let first : Beam = beam_at run t in
-    let s : State = state_of run c in
-    let system : System = run.script.system in
-    let before : IsLater first s.beam k = clocks_on run t k c (omega (arith, is)) (omega (arith, within)) in
-    let b : State = make_access (before_access system run.script.events s) in
-    let lace : Bool = is_interlaced b.chips.registers in
-    let place : Beam = record s.beam { lof = b.beam.lof } in
-    let here : (tick system run.script.events s).beam ≡ next_place system lace place = beam_next system run.script.events s in
-    let inner : s.beam.h < last_clock system s.beam.v =
-    subst (λ v. s.beam.h < last_clock system v) (sym before.line) (omega (arith, before.clock, within)) in
-    let next : IsLater place (next_place system lace place) 1 = next_in_line system lace place inner in
-    record {
-      line = ap (λ (x : Beam). x.v) here ∙ next.line ∙ before.line;
-      clock = ap (λ (x : Beam). x.h) here ∙ next.clock ∙ one_more s.beam.h first.h before.clock;
-    }
-  where
-    one_more : (h first : ℕ) → h ≡ k + first → 1 + h ≡ suc k + first
-    one_more h first is = omega (arith, is)
-
-pub least_last : (system : System) (v : ℕ) → 226 ≤ last_clock system v
-least_last Pal v = omega arith
-least_last Ntsc v = by_parity (v % 2 == 1)
-  where
-    by_parity : (odd : Bool) → 226 ≤ (if odd then 227 else 226)
-    by_parity true = omega arith
-    by_parity false = omega arith
 
 and_no : (a c : Bool) → ((a && false) && c) ≡ false
 and_no true c = refl
@@ -89,7 +30,7 @@ none_due every b inner =
     is_no : (h : ℕ) → 0 < h → (h == 0) ≡ false
     is_no h inner = grind (arith, nat_tests)
 
-pub none_in_line : (run : RunValue) (every t c : ℕ) → c ≤ line_limit t (beam_at run t).h → (k : ℕ) → t < k → k < c → due_in run every k ≡ false
+pub none_in_line : (run : RunValue) (every t c : ℕ) → c ≤ line_limit t (beam_at run t).h → (k : ℕ) → t < k → k < c → due_in (state_of run) every k ≡ false
 none_in_line run every t c most k low high =
     let h : ℕ = (beam_at run t).h in
     let least : 226 ≤ last_clock run.script.system (beam_at run t).v = least_last run.script.system (beam_at run t).v in

@@ -6,7 +6,7 @@ use Rattle.std.proofs.lemmas.List.Elements.{All-nil, All-push, All-drop}
 use Rattle.ocs_rewind.specs.Ring.{RingOf, EntryOf, last_entry, best_of, pushed, IsAbove}
 use Rattle.out_files.specs.OutFiles.{OutFilesValue}
 use Rattle.serial_model.specs.Side.{no_side}
-use Rattle.serial_bands.specs.Run.{RunValue, beam_at}
+use Rattle.serial_bands.specs.Run.{RunValue, state_of, beam_at}
 use Rattle.band_log.specs.Raster.{RasterValue, Takes}
 use Rattle.foreground.specs.Checkpoint.{IsCheckpointOf}
 use Rattle.foreground.specs.Fore.{ForeValue, IsNew}
@@ -18,7 +18,7 @@ use Rattle.rewind_loop.proofs.ClockLaws.{last_clock, pushed_clocks, up_to_all, a
 module _ (run : RunValue) (keep : ℕ) (p : Place) (fore : ForeValue) (raster : RasterValue) (ring : RingOf Checkpoint)
     (is : AreAt run keep p fore raster ring) where
   -- whether a checkpoint is due is read off the beam
-  pub due_here : (every : ℕ) → due_in run every p.now ≡ is_due every fore.machine.beam
+  pub due_here : (every : ℕ) → due_in (state_of run) every p.now ≡ is_due every fore.machine.beam
   due_here every =
       ap (λ (r : RunValue). is_due every (beam_at r p.now)) (sym is.run_is)
       ∙ ap (λ c. is_due every (beam_at fore.run c)) (sym is.here)
@@ -45,12 +45,12 @@ module _ (run : RunValue) (keep : ℕ) (p : Place) (fore : ForeValue) (raster : 
   same_ring clocks same = subst (λ (r : List ℕ). AreAt run keep (record p { ring = r }) fore raster ring) (sym same) is
 
   pub present_none : (every : ℕ) → is_due every fore.machine.beam ≡ false
-      → AreAt run keep (record p { ring = visited (due_in run every) keep p.now p.ring }) fore raster ring
-  present_none every none = same_ring _ (visited_none (due_in run every) keep p.now p.ring (due_here every ∙ none))
+      → AreAt run keep (record p { ring = visited (due_in (state_of run) every) keep p.now p.ring }) fore raster ring
+  present_none every none = same_ring _ (visited_none (due_in (state_of run) every) keep p.now p.ring (due_here every ∙ none))
 
   pub present_again : (every : ℕ) → is_that p.now (last_of p.ring) ≡ true
-      → AreAt run keep (record p { ring = visited (due_in run every) keep p.now p.ring }) fore raster ring
-  present_again every again = same_ring _ (visited_again (due_in run every) keep p.now p.ring again)
+      → AreAt run keep (record p { ring = visited (due_in (state_of run) every) keep p.now p.ring }) fore raster ring
+  present_again every again = same_ring _ (visited_again (due_in (state_of run) every) keep p.now p.ring again)
 
   -- and the one that pushes
   pub push_allowed : (t : ℕ) → t ≡ fore.machine.t → is_that p.now (last_of p.ring) ≡ false → IsAbove t (last_entry ring.entries)
@@ -62,7 +62,7 @@ module _ (run : RunValue) (keep : ℕ) (p : Place) (fore : ForeValue) (raster : 
   pub present_pushed : (every t : ℕ) (new : ForeValue) (after : RasterValue) (k : Checkpoint) (out given : OutFilesValue)
       → is_due every fore.machine.beam ≡ true → is_that p.now (last_of p.ring) ≡ false → Saves fore new raster after out given
       → IsSaved (λ side. no_side) fore raster k → t ≡ fore.machine.t
-      → AreAt run keep (record p { ring = visited (due_in run every) keep p.now p.ring }) new after (pushed (record { at = record { 0 = t }; state = k }) ring)
+      → AreAt run keep (record p { ring = visited (due_in (state_of run) every) keep p.now p.ring }) new after (pushed (record { at = record { 0 = t }; state = k }) ring)
   present_pushed every t new after k out given due other saves saved now =
       let entry : EntryOf Checkpoint = record { at = record { 0 = t }; state = k } in
       let all : List (EntryOf Checkpoint) = ring.entries ++ entry ∷ [] in
@@ -71,12 +71,12 @@ module _ (run : RunValue) (keep : ℕ) (p : Place) (fore : ForeValue) (raster : 
       subst (λ (r : RunValue). IsCheckpointOf (λ side. no_side) r t k) is.run_is
       (subst (λ (c : ℕ). IsCheckpointOf (λ side. no_side) fore.run c k) (sym now) (saved is.first is.stands)) in
       let clock : t ≡ p.now = now ∙ is.here in
-      let clocks : map clock_of (pushed entry ring).entries ≡ visited (due_in run every) keep p.now p.ring =
+      let clocks : map clock_of (pushed entry ring).entries ≡ visited (due_in (state_of run) every) keep p.now p.ring =
       pushed_clocks ring entry
       ∙ ap (λ n. with_clock n t (map clock_of ring.entries)) is.kept.room
       ∙ ap (λ c. with_clock keep c (map clock_of ring.entries)) clock
       ∙ ap (with_clock keep p.now) is.kept.clocks_are
-      ∙ sym (visited_first (due_in run every) keep p.now p.ring (due_here every ∙ due) other) in
+      ∙ sym (visited_first (due_in (state_of run) every) keep p.now p.ring (due_here every ∙ due) other) in
       record {
         first = fore.machine.t;
         stands = has.stands;

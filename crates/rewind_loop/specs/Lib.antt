@@ -1,3 +1,4 @@
 pub mod Present
 pub mod Places
+pub mod Told
 pub mod code

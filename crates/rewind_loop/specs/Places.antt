@@ -4,15 +4,15 @@ use Rattle.std.specs.Prelude.{Option, None, Some, List, [], ◌∷◌, ◌++◌,
 use Rattle.std.specs.List.{filter}
 use Rattle.ocs_base.specs.declared.beam.Beam.{Beam}
 use Rattle.serial_model.specs.Beam.{is_field_start}
-use Rattle.serial_bands.specs.Run.{RunValue, beam_at}
+use Rattle.serial_model.specs.State.{State}
 
 -- a place of the beam that begins a frame whose number is a multiple of a number
 abbrev pub is_due : ℕ → Beam → Bool
 is_due every b = is_field_start b && (b.frame % every == 0)
 
--- the clocks of a run at which a checkpoint is due
-abbrev pub due_in : RunValue → ℕ → ℕ → Bool
-due_in run every c = is_due every (beam_at run c)
+-- the clocks at which a checkpoint is due, by the states in which they begin
+abbrev pub due_in : (ℕ → State) → ℕ → ℕ → Bool
+due_in states every c = is_due every (states c).beam
 
 -- the present clock, and the checkpoints' clocks, the oldest first
 pub record Place : Type 0 where

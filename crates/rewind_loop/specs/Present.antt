@@ -1,17 +1,16 @@
 -- A run that stands at a place: what its foreground, its raster and its ring of checkpoints are then.
-use Rattle.std.specs.Prelude.{◌≡◌, ◌≤◌, ℕ, false, List, map, sum, All}
+use Rattle.std.specs.Prelude.{◌≡◌, ◌≤◌, ℕ, false, List, map, All}
 use Rattle.std.specs.Arc.{arc_value}
 use Rattle.ocs_rewind.specs.Ring.{RingOf, EntryOf}
-use Rattle.serial_model.specs.Registers.{dmacon_of, kept_word}
 use Rattle.serial_model.specs.Side.{no_side}
+use Rattle.serial_model.specs.State.{State}
 use Rattle.serial_model.specs.declared.side.NoSide.{NoSide}
 use Rattle.serial_bands.specs.Run.{RunOf, RunValue, run_over, state_of}
 use Rattle.band_log.specs.Raster.{RasterValue}
 use Rattle.band_draw.specs.Direct.{DirectValue, seen_of}
 use Rattle.foreground.specs.Checkpoint.{CheckpointOf, IsCheckpointOf}
 use Rattle.foreground.specs.Fore.{ForeOf, ForeValue, over, IsUnderway}
-use Rattle.rewind_loop.specs.Places.{Place, Arrival}
-use Rattle.rewind_loop.specs.declared.arrived.Arrived.{Arrived}
+use Rattle.rewind_loop.specs.Places.{Place}
 use Rattle.rewind_loop.specs.declared.rewind.Rewind.{Rewind}
 
 -- a run without a side, its foreground, a raster that draws at once, and a checkpoint
@@ -51,22 +50,12 @@ pub record AreAt (run : RunValue) (keep : ℕ) (p : Place) (fore : ForeValue) (r
   pub kept : AreKept run keep p.ring ring
   pub below : All (λ entry. clock_of entry ≤ p.now) ring.entries
 
--- the run that is gone back in, and every how many frames a checkpoint is due
+-- the run that is gone back in, and the states in which its clocks begin
 abbrev pub run_in : Rewind → RunValue
 run_in rewind = run_of (arc_value rewind.run)
 
+abbrev pub states_in : Rewind → ℕ → State
+states_in rewind = state_of (run_in rewind)
+
 abbrev pub IsPresent : ℕ → Place → Rewind → Type 0
 IsPresent keep p rewind = AreAt (run_in rewind) keep p (fore_of rewind.fore) (raster_of rewind.raster) rewind.ring
-
--- what is told of a clock that was gone to: of the state of the run at that clock
-abbrev pub told_of : RunValue → Arrival → Arrived
-told_of run arrival =
-    let s = state_of run arrival.at in
-    record {
-      at = arrival.at;
-      from = arrival.from;
-      beam = s.beam;
-      dmacon = dmacon_of s.chips.registers;
-      colour = kept_word s.chips.registers 0x180;
-      sum = sum s.memory;
-    }

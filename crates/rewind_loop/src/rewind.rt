@@ -6,7 +6,8 @@ ghost use Rattle.serial_bands.specs.Run.{IsEndOf};
 ghost use Rattle.foreground.specs.Fore.{IsNew, is_done};
 ghost use Rattle.rewind_loop.specs.Places.{Place, first_place, is_due as due_of, due_in, is_that, last_of, visited};
 ghost use Rattle.rewind_loop.specs.Places.{reached_from, run_to as ran_to, gone_to, arrival_at, arrivals};
-ghost use Rattle.rewind_loop.specs.Present.{IsPresent, run_in, run_of, fore_of, raster_of, told_of};
+ghost use Rattle.rewind_loop.specs.Present.{IsPresent, run_in, states_in, run_of, fore_of, raster_of};
+ghost use Rattle.rewind_loop.specs.Told.{told_of};
 ghost use Rattle.rewind_loop.specs.code.Steps.{GoesBack, GoesOn, line_limit, starting_with};
 
 use crate::arrived::Arrived;
@@ -102,7 +103,7 @@ impl Rewind {
         ensures every { self.new.every ≡ self.old.every }
         ensures visits { OnOk result ((keep : ℕ) (p : Place) → IsPresent keep p self.old
             → IsPresent keep (record p {
-              ring = visited (due_in (run_in self.old) self.old.every) keep p.now p.ring;
+              ring = visited (due_in (states_in self.old) self.old.every) keep p.now p.ring;
             }) self.new) }
     {
         if !is_due(&self.fore.beam(), self.every) {
@@ -126,7 +127,7 @@ impl Rewind {
         ensures every { self.new.every ≡ self.old.every }
         ensures visits { OnOk result ((keep : ℕ) (p : Place) → IsPresent keep p self.old
             → IsPresent keep (record p {
-              ring = visited (due_in (run_in self.old) self.old.every) keep p.now p.ring;
+              ring = visited (due_in (states_in self.old) self.old.every) keep p.now p.ring;
             }) self.new) }
     {
         let kept = self.fore.save(&mut self.raster, &mut self.out)?;
@@ -144,10 +145,10 @@ impl Rewind {
         ensures stands { OnOk result ((keep : ℕ) × (p : Place) × IsPresent keep p self.new) }
         ensures goes { OnOk result ((keep end : ℕ) (p : Place) → IsPresent keep p self.old
             → IsEndOf (run_in self.old) end → IsPresent keep
-            (gone_to (due_in (run_in self.old) self.old.every) keep end clock p) self.new) }
+            (gone_to (due_in (states_in self.old) self.old.every) keep end clock p) self.new) }
         ensures arrives { IfOk result (λ arrived. (keep end : ℕ) (p : Place)
             → IsPresent keep p self.old → IsEndOf (run_in self.old) end
-            → arrived ≡ told_of (run_in self.old) (arrival_at end clock p)) }
+            → arrived ≡ told_of (states_in self.old) (arrival_at end clock p)) }
     {
         self.go_back(clock)?;
         let from = self.fore.clocks();
@@ -209,7 +210,7 @@ impl Rewind {
         ensures stands { OnOk result ((keep : ℕ) × (p : Place) × IsPresent keep p self.new) }
         ensures runs { OnOk result ((keep end : ℕ) (p : Place) → IsPresent keep p self.old
             → IsEndOf (run_in self.old) end → IsPresent keep
-            (ran_to (due_in (run_in self.old) self.old.every) keep end clock p) self.new) }
+            (ran_to (due_in (states_in self.old) self.old.every) keep end clock p) self.new) }
     {
         self.visit()?;
         while self.fore.clocks() < clock && !self.fore.done() {
@@ -251,7 +252,7 @@ impl Rewind {
         ensures run { self.new.run ≡ self.old.run }
         ensures every { self.new.every ≡ self.old.every }
         ensures told { (keep : ℕ) (p : Place) → IsPresent keep p self.old
-            → result ≡ told_of (run_in self.old) (record { at = p.now; from = from }) }
+            → result ≡ told_of (states_in self.old) (record { at = p.now; from = from }) }
     {
         let registers = self.fore.regs();
         let dmacon = registers.word(Reg::masked(DMACON));
@@ -272,8 +273,8 @@ impl Rewind {
         requires at { (keep : ℕ) × (p : Place) × IsPresent keep p self.old }
         ensures { IfOk result (λ list. (keep end : ℕ) (p : Place)
             → IsPresent keep p self.old → IsEndOf (run_in self.old) end
-            → list.items ≡ map (told_of (run_in self.old))
-            (arrivals (due_in (run_in self.old) self.old.every) keep end clocks.now p)) }
+            → list.items ≡ map (told_of (states_in self.old))
+            (arrivals (due_in (states_in self.old) self.old.every) keep end clocks.now p)) }
     {
         let mut list = Vec::new(self.alloc);
         for clock in clocks {

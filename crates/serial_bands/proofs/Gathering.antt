@@ -22,7 +22,7 @@ no_clocks run c = refl
 none_from : (run : RunValue) (c : ℕ) → clx_from run c (c - c) ≡ 0
 none_from run c = ap (λ n. clx_from run c n) (none_of_it c) ∙ no_clocks run c
 
-nothing_more : (run : RunValue) (c clx : ℕ) → bit_or clx (clx_from run c (c - c)) ≡ clx
+pub nothing_more : (run : RunValue) (c clx : ℕ) → bit_or clx (clx_from run c (c - c)) ≡ clx
 nothing_more run c clx = ap (λ x. bit_or clx x) (none_from run c) ∙ or_none clx
 
 -- two ranges

@@ -1,4 +1,5 @@
 pub mod NextClock
+pub mod LineClocks
 pub mod Ors
 pub mod Ranges
 pub mod BandOrder

@@ -1,4 +1,5 @@
 pub mod Run
+pub mod Access
 pub mod Clock
 pub mod Bands
 pub mod BandShown

@@ -27,3 +27,4 @@ pub mod BlitRegisters
 pub mod TraceText
 pub mod MemoryText
 pub mod Laws
+pub mod RegisterRead

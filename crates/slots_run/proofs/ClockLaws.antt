@@ -1,69 +1,17 @@
 -- The frames of the clocks of a run.
-use Rattle.std.proofs.Common.{◌≡◌, ℕ, zero, suc, ◌+◌, ◌-◌, ◌*◌, ◌<◌, ◌≤◌, Bool, ap, sym, subst, ◌∙◌, inl, inr, arith}
+use Rattle.std.proofs.Common.{◌≡◌, ℕ, zero, suc, ◌+◌, ◌-◌, ◌*◌, ◌<◌, ◌≤◌, ap, inl, inr, arith}
 use Rattle.std.proofs.lemmas.Bool.{cases_eq}
 use Rattle.std.proofs.lemmas.Bool.Decides.{nat_tests}
 use Rattle.ocs_base.specs.Systems.{last_clock}
 use Rattle.ocs_base.specs.declared.beam.Beam.{Beam}
-use Rattle.ocs_base.specs.declared.system.System.{System}
-use Rattle.serial_model.specs.Beam.{IsOnScreen, next_place, place_of}
-use Rattle.serial_model.specs.Registers.{is_interlaced}
+use Rattle.serial_model.specs.Beam.{IsOnScreen, place_of}
 use Rattle.serial_model.specs.Serial.{state_over}
-use Rattle.serial_model.specs.State.{State}
-use Rattle.serial_model.specs.Tick.{before_access, make_access, tick}
 use Rattle.serial_model.proofs.BeamLaws.{IsNext}
 use Rattle.serial_model.proofs.EndLaws.{tick-IsNext, on_screen}
-use Rattle.serial_model.proofs.NextLaws.{beam_next}
 use Rattle.serial_bands.specs.Run.{RunValue, state_of, beam_at}
+use Rattle.serial_bands.proofs.LineClocks.{IsLater, clocks_on}
 
 -- ---- the clocks of a line
-
--- a place of the same line of the same frame, so many clocks on
-record IsOnLine (b later : Beam) (k : ℕ) : Type 0 where
-  frame : later.frame ≡ b.frame
-  line : later.v ≡ b.v
-  clock : later.h ≡ k + b.h
-
-next_on_line : (system : System) (lace : Bool) (b : Beam) → b.h < last_clock system b.v → IsOnLine b (next_place system lace b) 1
-next_on_line system lace b inner = record {
-  frame = grind (arith, nat_tests, inner);
-  line = grind (arith, nat_tests, inner);
-  clock = grind (arith, nat_tests, inner);
-}
-
-clocks_on : (run : RunValue) (t k c : ℕ) → c ≡ k + t → k + (beam_at run t).h ≤ last_clock run.script.system (beam_at run t).v
-    → IsOnLine (beam_at run t) (beam_at run c) k
-unfolding state_over
-clocks_on run t zero c is within =
-    let same : c ≡ t = omega (arith, is) in
-    record {
-      frame = ap (λ n. (beam_at run n).frame) same;
-      line = ap (λ n. (beam_at run n).v) same;
-      clock = ap (λ n. (beam_at run n).h) same ∙ none (beam_at run t).h;
-    }
-  where
-    none : (h : ℕ) → h ≡ 0 + h
-    none h = omega arith
-clocks_on run t (suc k) zero is within = absurd (omega (arith, is))
-clocks_on run t (suc k) (suc c) is within =
-    let first : Beam = beam_at run t in
-    let s : State = state_of run c in
-    let system : System = run.script.system in
-    let before : IsOnLine first s.beam k = clocks_on run t k c (omega (arith, is)) (omega (arith, within)) in
-    let b : State = make_access (before_access system run.script.events s) in
-    let lace : Bool = is_interlaced b.chips.registers in
-    let place : Beam = record s.beam { lof = b.beam.lof } in
-    let here : (tick system run.script.events s).beam ≡ next_place system lace place = beam_next system run.script.events s in
-    let inner : s.beam.h < last_clock system s.beam.v =
-    subst (λ v. s.beam.h < last_clock system v) (sym before.line) (omega (arith, before.clock, within)) in
-    let next : IsOnLine place (next_place system lace place) 1 = next_on_line system lace place inner in
-    record {
-      frame = ap (λ (x : Beam). x.frame) here ∙ next.frame ∙ before.frame;
-      line = ap (λ (x : Beam). x.v) here ∙ next.line ∙ before.line;
-      clock = ap (λ (x : Beam). x.h) here ∙ next.clock ∙ one_more s.beam.h first.h before.clock;
-    }
-  where
-    one_more : (h first : ℕ) → h ≡ k + first → 1 + h ≡ suc k + first
-    one_more h first is = omega (arith, is)
 
 -- the clocks before the next line are of the frame of the first of them
 pub frames_to_line : (run : RunValue) (t limit k : ℕ) → (let b = beam_at run t in limit ≡ t + (last_clock run.script.system b.v - b.h) + 1)
@@ -83,7 +31,7 @@ frames_to_line run t limit k is low high =
     behind : (k ≡ t → ⊥) → (beam_at run k).frame ≤ (beam_at run t).frame
     behind other =
         let more : t < k = omega (arith, low, other) in
-        let on : IsOnLine (beam_at run t) (beam_at run k) (k - t) = clocks_on run t (k - t) k (omega (arith, low)) (few _ _ is more) in
+        let on : IsLater (beam_at run t) (beam_at run k) (k - t) = clocks_on run t (k - t) k (omega (arith, low)) (few _ _ is more) in
         let same : (beam_at run k).frame ≡ (beam_at run t).frame = on.frame in
         omega (arith, same)
 

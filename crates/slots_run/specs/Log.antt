@@ -5,8 +5,8 @@ use Rattle.ocs_base.specs.Sizes.{bytes_of}
 use Rattle.serial_model.specs.Side.{no_side}
 use Rattle.serial_model.specs.Tick.{ask_of, answer_of}
 use Rattle.serial_bands.specs.Run.{RunValue, beam_at, run_memory}
-use Rattle.foreground.specs.Clock.{access_state}
-use Rattle.machine.specs.RegisterWord.{register_word}
+use Rattle.serial_bands.specs.Access.{access_state}
+use Rattle.serial_model.specs.RegisterRead.{register_read}
 use Rattle.slot_log.specs.Entry.{SlotClock}
 use Rattle.slot_log.specs.SlotLog.{slots_file}
 
@@ -19,7 +19,7 @@ run_of image script = record { image = image; script = script; height = 313; sid
 abbrev pub slot_clock : RunValue → ℕ → SlotClock
 slot_clock run c =
     let s = access_state run c in
-    record { beam = beam_at run c; ask = ask_of s; read = register_word (ask_of s) (answer_of s) }
+    record { beam = beam_at run c; ask = ask_of s; read = register_read (ask_of s) (answer_of s) }
 
 -- of so many clocks, from one on, the latest first
 abbrev pub slot_clocks : RunValue → ℕ → ℕ → List SlotClock

@@ -11,7 +11,7 @@ use Rattle.chip_set.specs.BusCode.{LeaveBus, LeavesBeside, IsClaim, KeepsBeside,
 use Rattle.chip_set.specs.declared.bus.BlitterClaim.{BlitterClaim}
 use Rattle.chip_set.specs.Chips.{CanAsk, CanDo, IsBlitAsk, kept_wish, late_ask}
 use Rattle.machine.specs.AheadCode.{IsAccessAtOnce, IsMadeAtOnce}
-use Rattle.machine.specs.Machine.{MachineValue, Makes, MakesQuietly, IsSamePlace}
+use Rattle.machine.specs.Machine.{MachineValue, Makes, MakesQuietly, IsSamePlace, reads_more}
 use Rattle.machine.specs.MachineStepsCode.{AsksInTime}
 use Rattle.serial_model.specs.Beam.{later_beam, next_place}
 use Rattle.serial_model.specs.Registers.{is_interlaced}
@@ -24,7 +24,7 @@ use Rattle.picture_log.specs.Log.{with_access_touch, waiting_write}
 use Rattle.serial_model.specs.Events.{due_events}
 use Rattle.foreground.specs.Clock.{Rises}
 use Rattle.foreground.specs.Fore.{ForeValue, IsUnderway, Advances, GivesPart, is_done, looked_up}
-use Rattle.foreground.specs.Steps.{MakesAskedAccess, AccessesPart, KeepsClock, reads_more}
+use Rattle.foreground.specs.Steps.{MakesAskedAccess, AccessesPart, KeepsClock}
 use Rattle.clock_loop.specs.declared.clock.Access.{Access}
 use Rattle.clock_loop.specs.declared.clock.Access.TheVariants as X
 use Rattle.clock_loop.specs.code.Line.{AreInLine}

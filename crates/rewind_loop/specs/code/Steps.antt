@@ -5,7 +5,7 @@ use Rattle.serial_model.specs.declared.side.NoSide.{NoSide}
 use Rattle.band_log.specs.Raster.{RasterValue}
 use Rattle.foreground.specs.Fore.{ForeOf}
 use Rattle.rewind_loop.specs.Places.{Place, due_in, reached_from}
-use Rattle.rewind_loop.specs.Present.{AreAt, IsPresent, run_in, fore_of}
+use Rattle.rewind_loop.specs.Present.{AreAt, IsPresent, run_in, states_in, fore_of}
 use Rattle.rewind_loop.specs.declared.rewind.Rewind.{Rewind}
 
 -- clock 226 of the line, or the next clock where that one has come
@@ -16,7 +16,7 @@ line_limit t h = min (t + max (226 - h) 1) (2 ^ 64 - 1)
 pub record GoesOn (clock : ℕ) (old new : Rewind) : Type 0 where
   pub later : old.fore.machine.t < new.fore.machine.t
   pub most : new.fore.machine.t ≤ clock
-  pub none : (k : ℕ) → old.fore.machine.t < k → k < new.fore.machine.t → due_in (run_in old) old.every k ≡ false
+  pub none : (k : ℕ) → old.fore.machine.t < k → k < new.fore.machine.t → due_in (states_in old) old.every k ≡ false
   pub comes : (keep : ℕ) (p : Place) → IsPresent keep p old → IsPresent keep (record p { now = new.fore.machine.t }) new
 
 -- a raster without bands, whose first is to be of a number

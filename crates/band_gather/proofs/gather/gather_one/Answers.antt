@@ -2,8 +2,8 @@
 use Rattle.std.proofs.Common.{subst, List, [], ℕ, refl}
 use Rattle.ocs_io.proofs.MapLaws.{on_err}
 use Rattle.band_gather.specs.Gathered.{GathersPart}
-use Rattle.machine.specs.Out.{Gives}
-use Rattle.machine.proofs.OutLaws.{gives_pixels}
+use Rattle.out_files.specs.Gives.{Gives}
+use Rattle.out_files.proofs.GivesLaws.{gives_pixels}
 use Rattle.band_gather.proofs.GatherLaws.{gathers_one, gathers_no_pixels}
 use Rattle.band_gather.proofs.gather.gather_one.Goals as goal
 

@@ -1,7 +1,7 @@
 use Rattle.std.proofs.Common.{length}
 use Rattle.serial_model.specs.Beam.{place_of}
 use Rattle.machine.specs.Machine.{machine_over}
-use Rattle.machine.specs.Out.{GivesLines}
+use Rattle.out_files.specs.Gives.{GivesLines}
 use Rattle.foreground.specs.Script.{IsLeft, IsMachine, IsRest}
 use Rattle.foreground.proofs.ScriptLaws.{HasDone}
 use Rattle.foreground.proofs.script.run_script.Given as goal

@@ -1,7 +1,7 @@
 use Rattle.std.proofs.Common.{[], subst, sym}
 use Rattle.serial_model.specs.Turns.{taken_lines}
-use Rattle.machine.specs.Out.{Gives}
-use Rattle.machine.proofs.OutLaws.{gives_nothing, gives_line}
+use Rattle.out_files.specs.Gives.{Gives}
+use Rattle.out_files.proofs.GivesLaws.{gives_nothing, gives_line}
 use Rattle.machine.proofs.ahead.tell_interrupt.Goals as goal
 
 pub returns-in_ok-line-in-Some-clause-lines : goal.returns-in_ok-line-in-Some-clause-lines

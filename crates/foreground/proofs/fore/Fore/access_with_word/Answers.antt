@@ -1,7 +1,7 @@
 use Rattle.std.proofs.Common.{sym, subst, ap, ◌∙◌}
 use Rattle.std.proofs.lemmas.Bool.{false≢true}
 use Rattle.machine.specs.Machine.{HasAskedOf}
-use Rattle.foreground.specs.Clock.{access_state}
+use Rattle.serial_bands.specs.Access.{access_state}
 use Rattle.foreground.specs.Fore.{ForeValue, over}
 use Rattle.foreground.proofs.RefusalLaws.{no_value}
 use Rattle.foreground.proofs.fore.Fore.access_with_word.Goals as goal

@@ -1,6 +1,6 @@
 use Rattle.std.proofs.Common.{rules, sym, subst, ap}
 use Rattle.machine.specs.Machine.{HasAskedOf}
-use Rattle.foreground.specs.Clock.{access_state}
+use Rattle.serial_bands.specs.Access.{access_state}
 use Rattle.foreground.specs.Fore.{ForeValue, over}
 use Rattle.foreground.proofs.MadeLaws.{stands_at_read, asked_after_read, makes_with_read_of, part_of_read}
 use Rattle.foreground.proofs.RefusalLaws.{no_value}

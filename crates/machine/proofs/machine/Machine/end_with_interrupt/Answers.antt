@@ -1,4 +1,4 @@
-use Rattle.machine.proofs.OutLaws.{gives_line}
+use Rattle.out_files.proofs.GivesLaws.{gives_line}
 use Rattle.machine.proofs.machine.Machine.end_with_interrupt.Goals as goal
 
 pub returns-clause-lines : goal.returns-clause-lines

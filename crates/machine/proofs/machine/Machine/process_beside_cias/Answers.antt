@@ -1,6 +1,6 @@
 use Rattle.machine.specs.Machine.{machine_over}
 use Rattle.std.proofs.Common.{refl, sym, ◌∙◌, Some}
-use Rattle.machine.proofs.OutLaws.{gives_line}
+use Rattle.out_files.proofs.GivesLaws.{gives_line}
 use Rattle.machine.proofs.StepLaws.{Makes-processed}
 use Rattle.machine.proofs.machine.Machine.process_beside_cias.Goals as goal
 

@@ -3,7 +3,7 @@ use Rattle.serial_model.specs.declared.bus.ProcessorAsk.{ProcessorAsk}
 use Rattle.serial_model.specs.Bus.{answer_processor}
 use Rattle.chip_set.specs.AskLaws.{reads_clx}
 use Rattle.machine.specs.Machine.{machine_over}
-use Rattle.machine.specs.RegisterWord.{word_of_processor}
+use Rattle.serial_model.specs.RegisterRead.{word_of_processor}
 use Rattle.machine.proofs.WordLaws.{word_read}
 use Rattle.machine.proofs.machine.Machine.word_of_processor.Goals as goal
 

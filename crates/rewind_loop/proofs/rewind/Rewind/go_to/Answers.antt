@@ -1,8 +1,9 @@
 -- The run goes back where it has to, and on from there.
 use Rattle.std.proofs.Common.{◌≤◌, sym, ap, subst, min, ◌∙◌}
-use Rattle.serial_bands.specs.Run.{IsEndOf, RunValue}
+use Rattle.serial_bands.specs.Run.{IsEndOf, RunValue, state_of}
 use Rattle.rewind_loop.specs.Places.{Place, reached_from, run_to as ran_to}
-use Rattle.rewind_loop.specs.Present.{IsPresent, run_in, told_of}
+use Rattle.rewind_loop.specs.Present.{IsPresent, run_in, states_in}
+use Rattle.rewind_loop.specs.Told.{told_of}
 use Rattle.rewind_loop.proofs.GoLaws.{same_run, same_due}
 use Rattle.rewind_loop.proofs.PlaceLaws.{reached_low}
 use Rattle.rewind_loop.proofs.rewind.Rewind.go_to.Goals as goal
@@ -60,9 +61,9 @@ returns-clause-arrives c keep end p is ends =
     let last : IsEndOf (run_in mid) end = subst (λ (r : RunValue). IsEndOf r end) (sym (same_run old mid c.in_ok-go_back.ensures.run)) ends in
     let ran = c.in_ok-run_to.ensures.runs keep end from back last in
     c.tell.ensures.told keep _ ran
-    ∙ ap (λ (r : RunValue). told_of r (record { at = min c.args.clock end; from = c.clocks-from.result }))
+    ∙ ap (λ (r : RunValue). told_of (state_of r) (record { at = min c.args.clock end; from = c.clocks-from.result }))
     (same_run mid c.run_to.new.self c.in_ok-run_to.ensures.run ∙ same_run old mid c.in_ok-go_back.ensures.run)
-    ∙ ap (λ n. told_of (run_in old) (record { at = min c.args.clock end; from = n })) (c.clocks-from.ensures ∙ back.here)
+    ∙ ap (λ n. told_of (states_in old) (record { at = min c.args.clock end; from = n })) (c.clocks-from.ensures ∙ back.here)
 
 pub returns-clause-stands : goal.returns-clause-stands
 returns-clause-stands c =

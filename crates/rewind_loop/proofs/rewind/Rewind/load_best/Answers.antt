@@ -19,7 +19,7 @@ pub returns-in_ok-load-in-Some : goal.returns-in_ok-load-in-Some
 returns-in_ok-load-in-Some c keep p is raster begun =
     let self = c.args.self.now in
     back_to_best (run_in self) keep p (fore_of self.fore) (raster_of self.raster) self.ring is c.args.clock _ (fore_of c.in_ok-load-in-Some.field-0) raster
-    c.requires.above c.in-Some.ensures.best c.in-Some.ensures.last c.in_ok-load-in-Some.ensures (begun ∙ ap starting_with c.band.ensures)
+    c.requires.above c.in-Some.ensures.best c.in-Some.ensures.last c.in_ok-load-in-Some.ensures.made (begun ∙ ap starting_with c.band.ensures)
 
 pub returns-in_ok-new-in-None : goal.returns-in_ok-new-in-None
 returns-in_ok-new-in-None c keep p is raster begun =

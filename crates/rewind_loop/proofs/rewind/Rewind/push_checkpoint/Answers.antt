@@ -3,7 +3,7 @@ use Rattle.std.proofs.Common.{◌≡◌, sym, ap, subst, ◌∙◌, true}
 use Rattle.foreground.specs.Fore.{ForeValue}
 use Rattle.foreground.specs.Save.{HasSaved}
 use Rattle.rewind_loop.specs.Places.{is_due, due_in, visited}
-use Rattle.rewind_loop.specs.Present.{AreAt, run_in, fore_of, raster_of}
+use Rattle.rewind_loop.specs.Present.{AreAt, run_in, states_in, fore_of, raster_of}
 use Rattle.rewind_loop.proofs.PresentLaws.{push_allowed, present_pushed}
 use Rattle.rewind_loop.proofs.rewind.Rewind.push_checkpoint.Goals as goal
 
@@ -22,7 +22,7 @@ returns-clause-visits c keep p is =
     let has : HasSaved (fore_of self.fore) (fore_of c.save.new.self) is.first (raster_of self.raster) (raster_of c.save.new.raster) self.out c.save.new.out =
     c.in_ok-kept.ensures.saved is.first is.stands in
     let due : is_due self.every self.fore.machine.beam ≡ true = c.requires.due in
-    subst (λ ring. AreAt (run_in self) keep (record p { ring = visited (due_in (run_in self) self.every) keep p.now p.ring }) (fore_of c.save.new.self)
+    subst (λ ring. AreAt (run_in self) keep (record p { ring = visited (due_in (states_in self) self.every) keep p.now p.ring }) (fore_of c.save.new.self)
     (raster_of c.save.new.raster) ring) (sym c.push.ensures)
     (present_pushed (run_in self) keep p (fore_of self.fore) (raster_of self.raster) self.ring is self.every c.clocks.result (fore_of c.save.new.self)
     (raster_of c.save.new.raster) c.in_ok-kept.kept self.out c.save.new.out due

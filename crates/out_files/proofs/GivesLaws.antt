@@ -5,7 +5,7 @@ use Rattle.ocs_io.specs.Place.{Files}
 use Rattle.serial_model.specs.declared.trace.TraceLine.{TraceLine}
 use Rattle.out_files.specs.OutFiles.{OutFilesValue, with_pixels, with_line}
 use Rattle.out_files.specs.Together.{AreTogether, AddsPixels, AddsLine}
-use Rattle.machine.specs.Out.{Gives}
+use Rattle.out_files.specs.Gives.{Gives}
 
 -- the same files and texts by names of the lists that are equal
 moved : (system : System) (out : OutFilesValue) (base files : Option Files) (bytes others : List ℕ) (lines more : List TraceLine) → bytes ≡ others

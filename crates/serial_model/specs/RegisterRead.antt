@@ -12,11 +12,11 @@ word_of_processor (P.Write at half stored) word = None
 word_of_processor (P.ReadRegister reg) word = Some word
 word_of_processor (P.WriteRegister reg stored) word = None
 
-abbrev pub register_word : Ask → ℕ → Option ℕ
-register_word A.Free word = None
-register_word (A.Side ask) word = None
-register_word (A.Plane ask) word = None
-register_word (A.Sprite ask) word = None
-register_word (A.Copper at) word = None
-register_word (A.Blit ask) word = None
-register_word (A.Processor ask) word = word_of_processor ask word
+abbrev pub register_read : Ask → ℕ → Option ℕ
+register_read A.Free word = None
+register_read (A.Side ask) word = None
+register_read (A.Plane ask) word = None
+register_read (A.Sprite ask) word = None
+register_read (A.Copper at) word = None
+register_read (A.Blit ask) word = None
+register_read (A.Processor ask) word = word_of_processor ask word
