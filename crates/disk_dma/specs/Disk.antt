@@ -106,7 +106,9 @@ abbrev pub after_arrival : DiskValue → DiskValue
 after_arrival d =
     let wants = d.running && not (d.wanted == 0) && (not (has_bits d.control 0x400) || d.synced) in
     let joins = wants && nat_lt (length_of d.queue) 3 in
-    record (if joins then record d { queue = d.queue ++ track_word d.track d.place ∷ []; wanted = d.wanted - 1 } else d) {
+    record d {
+      queue = if joins then d.queue ++ track_word d.track d.place ∷ [] else d.queue;
+      wanted = if joins then d.wanted - 1 else d.wanted;
       place = next_place d.track d.place;
       synced = d.synced || is_sync_next d;
     }

@@ -7,7 +7,7 @@ abbrev pub system_name : System → List ℕ
 system_name Pal = codes "pal"
 system_name Ntsc = codes "ntsc"
 
--- a line of text that says the system, the frames and the number of bytes of chip memory
+-- a line of text: the system, the frames, the number of bytes of chip memory, and that of bytes a record
 abbrev pub heading : System → ℕ → ℕ → ℕ → List ℕ
 heading system from to bytes =
-    codes "ocs-slots 2 " ++ system_name system ++ codes " " ++ decimal from ++ codes " " ++ decimal to ++ codes " " ++ decimal bytes ++ codes "\n"
+    codes "ocs-slots 3 " ++ system_name system ++ codes " " ++ decimal from ++ codes " " ++ decimal to ++ codes " " ++ decimal bytes ++ codes " 10\n"

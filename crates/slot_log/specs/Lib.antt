@@ -1,5 +1,4 @@
+pub mod Purpose
 pub mod Entry
-pub mod Guess
-pub mod SlotLog
-pub mod code
+pub mod Record
 pub mod Heading

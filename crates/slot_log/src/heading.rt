@@ -17,12 +17,12 @@ pub fn put_heading(
 ) -> Result<(), OutOfMemory>
     ensures { OnOk result (into.new.items ≡ into.old.items ++ heading system from to bytes) }
 {
-    into.extend_from_slice(b"ocs-slots 2 ")?;
+    into.extend_from_slice(b"ocs-slots 3 ")?;
     put_name(system, into)?;
     put_number(from, into)?;
     put_number(to, into)?;
     put_number(bytes, into)?;
-    into.push(b'\n')?;
+    into.extend_from_slice(b" 10\n")?;
     Ok(())
 }
 

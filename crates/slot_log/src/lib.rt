@@ -1,12 +1,12 @@
-//! The log of a run's slots: who has each clock of the bus, and what for.
+//! The log of a run's slots: who has each clock of the bus, what for, and the word that is moved.
 #![tactic(auto)]
 
 mod entry;
-mod entry_bytes;
-mod guess;
-pub mod heading;
-mod marks;
-pub mod slot_log;
+mod heading;
+mod purpose;
+mod record;
 
+pub use entry::read_address;
 pub use heading::put_heading;
-pub use slot_log::SlotLog;
+pub use purpose::Purpose;
+pub use record::put_record;

@@ -1,3 +1,4 @@
+pub mod AnswerLaws
 pub mod ClockLaws
 pub mod LogLaws
 pub mod OrderLaws

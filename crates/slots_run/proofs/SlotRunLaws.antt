@@ -1,8 +1,12 @@
 -- Where a run stands whose slots are looked at, and what its calls make of that.
-use Rattle.std.proofs.Common.{◌≡◌, ℕ, suc, ◌+◌, ◌-◌, ◌*◌, ◌^◌, ◌<◌, ◌≤◌, false, ◌==◌, List, [], ◌∷◌, None}
+use Rattle.std.proofs.Common.{◌≡◌, ℕ, suc, ◌+◌, ◌-◌, ◌*◌, ◌^◌, ◌<◌, ◌≤◌, false, ◌==◌, List, [], ◌++◌, None}
+use Rattle.std.proofs.Common.{map, flat_map}
 use Rattle.std.proofs.Common.{refl, ap, sym, subst, ◌∙◌, inl, inr, arith}
 use Rattle.std.proofs.lemmas.Bool.{cases_eq, cases_lt}
 use Rattle.std.proofs.lemmas.Bool.Decides.{nat_tests}
+use Rattle.std.proofs.lemmas.List.{flat_map_more}
+use Rattle.std.proofs.lemmas.List.FromFn.{map-range_with_len_more}
+use Rattle.std.specs.List.{range_with_len}
 use Rattle.ocs_base.specs.Systems.{last_clock}
 use Rattle.ocs_base.specs.declared.beam.Beam.{Beam}
 use Rattle.band_log.specs.Raster.{RasterValue, Takes}
@@ -16,10 +20,8 @@ use Rattle.picture_log.specs.declared.log.Log.{Log}
 use Rattle.picture_log.specs.Log.{IsBandOf}
 use Rattle.foreground.specs.Fore.{ForeOf, ForeValue, IsNew, IsUnderway, is_done}
 use Rattle.clock_loop.specs.RunTo.{HasRunOn, RunsOn, HasCome}
-use Rattle.ocs_base.specs.declared.system.System.{System}
-use Rattle.slot_log.specs.Entry.{SlotClock}
-use Rattle.slot_log.specs.SlotLog.{SlotLogValue, log_of}
-use Rattle.slots_run.specs.Log.{slot_clock, slot_clocks}
+use Rattle.slot_log.specs.Record.{SlotClock, record_bytes}
+use Rattle.slots_run.specs.Log.{slot_clock, log_text}
 use Rattle.slots_run.specs.code.SlotRun.{fore_of, raster_of, run_in, frame_in, Stands, GoesOn, Comes}
 use Rattle.slots_run.specs.declared.slot_run.SlotRun.{SlotRun}
 use Rattle.slots_run.proofs.ClockLaws.{frames_to_line, next_frame, few_places}
@@ -38,7 +40,7 @@ unfolding state_over reset
 frame_at_reset r is zero =
     ap (λ (b : Beam). b.frame) (sym is.stands.at.machine.beam) ∙ ap (λ n. (beam_at (run_in r) n).frame) zero
 
--- ---- once its memory was read
+-- ---- once a word of its memory was read
 
 read_band : (run : RunValue) (c n : ℕ) (log : Log) (chip : ChipValue) → IsBandOf run c log chip → IsBandOf run c log (after_reads chip n)
 read_band run c n log chip (inl begins) =
@@ -260,18 +262,18 @@ module _ (frame : ℕ) (old now : SlotRun) (going : Going frame old now) where
 
 -- ---- the log of the clocks so far, and one more
 
-pub noted_more : (run now_run : RunValue) (system : System) (first t later : ℕ) (log new : SlotLogValue) → now_run ≡ run → first ≤ t → later ≡ t + 1
-    → log ≡ log_of system (slot_clocks run first (t - first))
-    → ((past : List SlotClock) → log ≡ log_of log.system past → new ≡ log_of log.system (slot_clock now_run t ∷ past))
-    → new ≡ log_of system (slot_clocks run first (later - first))
-noted_more run now_run system first t later log new same on next is noted =
-    let past : List SlotClock = slot_clocks run first (t - first) in
-    let system_is : log.system ≡ system = ap (λ (l : SlotLogValue). l.system) is in
-    let before : log ≡ log_of log.system past = is ∙ ap (λ s. log_of s past) (sym system_is) in
-    let more : later - first ≡ suc (t - first) = omega (arith, next, on) in
+pub noted_more : (run now_run : RunValue) (first t later : ℕ) (base text new : List ℕ) → now_run ≡ run → first ≤ t → later ≡ t + 1
+    → text ≡ base ++ log_text run.image run.script first (t - first)
+    → new ≡ text ++ record_bytes (slot_clock now_run.image now_run.script t)
+    → new ≡ base ++ log_text run.image run.script first (later - first)
+noted_more run now_run first t later base text new same on next is noted =
+    let clock : ℕ → SlotClock = slot_clock run.image run.script in
+    let past : List SlotClock = map clock (range_with_len first (t - first)) in
     let there : first + (t - first) ≡ t = omega (arith, on) in
-    noted past before
-    ∙ ap (λ s. log_of s (slot_clock now_run t ∷ past)) system_is
-    ∙ ap (λ (r : RunValue). log_of system (slot_clock r t ∷ past)) same
-    ∙ ap (λ n. log_of system (slot_clock run n ∷ past)) (sym there)
-    ∙ ap (λ n. log_of system (slot_clocks run first n)) (sym more)
+    let more : (t - first) + 1 ≡ later - first = omega (arith, next, on) in
+    noted
+    ∙ ap (λ (r : RunValue). text ++ record_bytes (slot_clock r.image r.script t)) same
+    ∙ ap (λ bytes. bytes ++ record_bytes (clock t)) is
+    ∙ flat_map_more record_bytes base past (clock t)
+    ∙ ap (λ clocks. base ++ flat_map record_bytes clocks) (sym (map-range_with_len_more clock first (t - first) t there))
+    ∙ ap (λ n. base ++ log_text run.image run.script first n) more

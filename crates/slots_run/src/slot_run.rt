@@ -1,24 +1,23 @@
 //! A run of which the slots are looked at.
 
-ghost use Rattle.std.specs.Prelude.{◌≡◌, ◌≤◌, ◌<◌, ◌+◌, ◌-◌, ◌++◌, [], ◌∷◌, List, IfOk, OnOk};
+ghost use Rattle.std.specs.Prelude.{◌≡◌, ◌≤◌, ◌<◌, ◌+◌, ◌-◌, ◌++◌, IfOk, OnOk};
 ghost use Rattle.std.specs.Arc.{arc_value};
 ghost use Rattle.serial_bands.specs.Run.{run_over};
-ghost use Rattle.serial_model.specs.MemoryText.{memory_text};
 ghost use Rattle.serial_model.specs.Side.{no_side};
-ghost use Rattle.slot_log.specs.Entry.{SlotClock};
-ghost use Rattle.slot_log.specs.SlotLog.{log_of};
-ghost use Rattle.slots_run.specs.Log.{slot_clock, slot_clocks};
+ghost use Rattle.slot_log.specs.Record.{record_bytes};
+ghost use Rattle.slots_run.specs.Log.{slot_clock, log_text};
 ghost use Rattle.foreground.specs.Fore.{IsNew};
-ghost use Rattle.slots_run.specs.code.SlotRun.{run_in, frame_in, fore_of, raster_of, empty_raster, Stands, GoesOn, Comes};
+ghost use Rattle.slots_run.specs.code.SlotRun.{run_in, frame_in, fore_of, raster_of, empty_raster};
+ghost use Rattle.slots_run.specs.code.SlotRun.{answer_after, Stands, GoesOn, Comes};
 
 use band_draw::Direct;
 use band_log::Run;
 use clock_loop::run_to;
-use foreground::Fore;
+use foreground::{Fore, Slot};
 use ocs_base::{Beam, OutOfMemory, Script};
 use out_files::OutFiles;
 use serial_model::NoSide;
-use slot_log::SlotLog;
+use slot_log::{put_record, read_address};
 use std::alloc::Global;
 use std::sync::Arc;
 
@@ -91,52 +90,54 @@ impl SlotRun {
         Ok(())
     }
 
-    /// Appends the words of the memory as it is now, the high byte of each first. After a refusal a part may
-    /// have been appended.
-    pub fn put_memory(&mut self, text: &mut Vec<u8>) -> Result<(), OutOfMemory>
-        requires stands { Stands self.old }
-        ensures text { OnOk result (text.new.items ≡ text.old.items
-            ++ memory_text self.old.fore.machine.chip.words) }
-        ensures stands { OnOk result (Stands self.new) }
-        ensures run { OnOk result (run_in self.new ≡ run_in self.old) }
-        ensures clock { OnOk result (self.new.fore.machine.t ≡ self.old.fore.machine.t) }
-        ensures frame { OnOk result (frame_in self.new ≡ frame_in self.old) }
-    {
-        self.fore.put_memory(text)?;
-        Ok(())
-    }
-
-    /// Goes on as `go_to_frame` does, and notes each clock in a log that has none yet.
-    pub fn note_to_frame(&mut self, frame: u32, log: &mut SlotLog) -> Result<(), OutOfMemory>
+    /// Goes on as `go_to_frame` does, and appends the record of each clock. After a refusal a part may have
+    /// been appended.
+    pub fn note_to_frame(&mut self, frame: u32, text: &mut Vec<u8>) -> Result<(), OutOfMemory>
         requires stands { Stands self.old }
         requires least { frame_in self.old ≤ frame }
         requires most { frame ≤ (run_in self.old).script.frames }
-        requires none { log.old ≡ log_of log.old.system [] }
         ensures comes { OnOk result (Comes frame self.old self.new) }
-        ensures noted { OnOk result (log.new ≡ log_of log.old.system (slot_clocks (run_in self.old)
-            self.old.fore.machine.t (self.new.fore.machine.t - self.old.fore.machine.t))) }
+        ensures noted { OnOk result (text.new.items ≡ text.old.items
+            ++ log_text (run_in self.old).image (run_in self.old).script
+            self.old.fore.machine.t (self.new.fore.machine.t - self.old.fore.machine.t)) }
     {
         while self.fore.beam().frame < frame {
-            self.note_clock(log)?;
+            self.note_clock(text)?;
         }
         Ok(())
     }
 
-    /// One clock, which is noted in the log.
-    fn note_clock(&mut self, log: &mut SlotLog) -> Result<(), OutOfMemory>
+    /// One clock, of which the record is appended.
+    fn note_clock(&mut self, text: &mut Vec<u8>) -> Result<(), OutOfMemory>
         requires stands { Stands self.old }
         requires running { frame_in self.old < (run_in self.old).script.frames }
         ensures goes { OnOk result (GoesOn self.old self.new) }
         ensures count { OnOk result (self.new.fore.machine.t ≡ self.old.fore.machine.t + 1) }
-        ensures noted { OnOk result ((past : List SlotClock) → log.old ≡ log_of log.old.system past →
-            log.new ≡ log_of log.old.system
-            (slot_clock (run_in self.old) self.old.fore.machine.t ∷ past)) }
+        ensures noted { OnOk result (text.new.items ≡ text.old.items
+            ++ record_bytes (slot_clock (run_in self.old).image (run_in self.old).script
+            self.old.fore.machine.t)) }
     {
         let beam = self.fore.beam();
         renew_at_frame(self.alloc, &beam, &mut self.out)?;
         let slot = self.fore.advance(&mut self.raster, &mut self.out)?;
-        log.note(&beam, &slot.ask, slot.read)?;
+        let answer = self.answer_to(&slot);
+        put_record(&beam, &slot.ask, answer, text)?;
         Ok(())
+    }
+
+    /// The word that answered what the owner of the slot of the clock before asked for; 0 where it read none.
+    /// A word of memory that was read in that clock was not written in it.
+    fn answer_to(&mut self, slot: &Slot) -> u16
+        requires { Stands self.old }
+        ensures answer { result ≡ answer_after self.old.fore.machine.chip.words slot.now }
+        ensures stands { Stands self.new }
+        ensures run { run_in self.new ≡ run_in self.old }
+        ensures clock { self.new.fore.machine.t ≡ self.old.fore.machine.t }
+    {
+        match read_address(&slot.ask) {
+            Some(at) => self.fore.word(at),
+            None => slot.read.unwrap_or(0),
+        }
     }
 }
 

@@ -30,4 +30,5 @@ wants_word d = d.running && not (d.wanted == 0) && (not (has_bits d.control 0x40
 -- it joins the queue where it is wanted and there is room
 abbrev pub join_if_wanted : ℕ → DiskValue → DiskValue
 join_if_wanted word d =
-    if wants_word d && nat_lt (length_of d.queue) 3 then record d { queue = d.queue ++ word ∷ []; wanted = d.wanted - 1 } else d
+    let joins = wants_word d && nat_lt (length_of d.queue) 3 in
+    record d { queue = if joins then d.queue ++ word ∷ [] else d.queue; wanted = if joins then d.wanted - 1 else d.wanted }

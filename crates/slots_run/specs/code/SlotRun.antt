@@ -1,11 +1,15 @@
 -- A run of which the slots are looked at: where it stands, and what its calls make of that.
-use Rattle.std.specs.Prelude.{◌≡◌, ◌≤◌, ◌<◌, ℕ, ◌+◌, [], None, false}
+use Rattle.std.specs.Prelude.{◌≡◌, ◌≤◌, ◌<◌, ℕ, ◌+◌, List, [], Option, Some, None, unwrap_or, false}
 use Rattle.band_draw.specs.Direct.{DirectValue, seen_of}
 use Rattle.band_log.specs.Raster.{RasterValue}
 use Rattle.foreground.specs.Fore.{ForeOf, ForeValue, over, IsUnderway}
 use Rattle.serial_bands.specs.Run.{RunValue, beam_at}
 use Rattle.serial_model.specs.Side.{no_side}
 use Rattle.serial_model.specs.declared.side.NoSide.{NoSide}
+use Rattle.foreground.specs.declared.slot.Slot.{Slot}
+use Rattle.ocs_base.specs.declared.addr.Addr.{Addr}
+use Rattle.serial_model.specs.Made.{word_of}
+use Rattle.slot_log.specs.Entry.{read_address}
 use Rattle.slots_run.specs.declared.slot_run.SlotRun.{SlotRun}
 
 -- a foreground without a side, and a raster that draws at once
@@ -47,3 +51,11 @@ pub record Comes (frame : ℕ) (old new : SlotRun) : Type 0 where
   pub on : old.fore.machine.t ≤ new.fore.machine.t
   pub there : frame_in new ≡ frame
   pub before : (k : ℕ) → old.fore.machine.t ≤ k → k < new.fore.machine.t → (beam_at (run_in old) k).frame < frame
+
+-- the word that answered what the owner of a slot asked for, where these are the words of memory after the clock
+abbrev pub answer_from : List ℕ → Option Addr → Option ℕ → ℕ
+answer_from memory (Some at) register = word_of memory at.value
+answer_from memory None register = unwrap_or register 0
+
+abbrev pub answer_after : List ℕ → Slot → ℕ
+answer_after memory slot = answer_from memory (read_address slot.ask) slot.read

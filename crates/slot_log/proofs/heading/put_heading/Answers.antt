@@ -5,7 +5,7 @@ use Rattle.slot_log.proofs.heading.put_heading.Goals as goal
 pub returns : goal.returns
 returns c =
     rw (
-      c.in_ok-push.ensures.items,
+      c.in_ok-extend_from_slice-2.ensures.items,
       c.in_ok-put_number-3.ensures,
       c.in_ok-put_number-2.ensures,
       c.in_ok-put_number.ensures,

@@ -1,8 +1,7 @@
-use Rattle.std.proofs.Common.{◌≡◌, ◌<◌, ◌-◌, ap, sym, ◌∙◌, arith}
+use Rattle.std.proofs.Common.{◌≡◌, ◌<◌, ◌-◌, ◌++◌, ap, sym, ◌∙◌, arith, append-nil}
 use Rattle.ocs_base.specs.declared.beam.Beam.{Beam}
 use Rattle.serial_bands.specs.Run.{RunValue}
-use Rattle.slot_log.specs.SlotLog.{log_of}
-use Rattle.slots_run.specs.Log.{slot_clocks}
+use Rattle.slots_run.specs.Log.{log_text}
 use Rattle.slots_run.specs.code.SlotRun.{run_in, frame_in}
 use Rattle.slots_run.proofs.SlotRunLaws.{going_first, going_next, going_end, fewer, noted_more}
 use Rattle.slots_run.proofs.slot_run.SlotRun.note_to_frame.Goals as goal
@@ -13,7 +12,8 @@ loop-self-init c =
     let none : 0 ≡ t - t = omega arith in
     record {
       going = going_first c.args.frame c.args.self.now c.requires.stands c.requires.least;
-      noted = c.requires.none ∙ ap (λ n. log_of c.args.log.now.system (slot_clocks (run_in c.args.self.now) t n)) none;
+      noted = sym (append-nil c.args.text.now.items)
+          ∙ ap (λ n. c.args.text.now.items ++ log_text (run_in c.args.self.now).image (run_in c.args.self.now).script t n) none;
     }
 
 pub note_clock-requires-clause-stands : goal.note_clock-requires-clause-stands
@@ -42,8 +42,9 @@ loop-self-preserved c =
     let before : frame_in now < c.args.frame = omega (arith, frame, c.loop-self-test.true) in
     record {
       going = going_next c.args.frame old now going c.note_clock.new.self before noted.goes;
-      noted = noted_more (run_in old) (run_in now) c.args.log.now.system old.fore.machine.t now.fore.machine.t c.note_clock.new.self.fore.machine.t
-          c.loop-self.log c.note_clock.new.log going.run going.on noted.count c.loop-self.invariant.noted noted.noted;
+      noted = noted_more (run_in old) (run_in now) old.fore.machine.t now.fore.machine.t c.note_clock.new.self.fore.machine.t
+          c.args.text.now.items c.loop-self.text.items c.note_clock.new.text.items going.run going.on noted.count c.loop-self.invariant.noted
+          noted.noted;
     }
 
 pub returns-clause-comes : goal.returns-clause-comes

@@ -1,7 +1,6 @@
--- The clocks so far are of earlier frames, and the log is of them.
-use Rattle.std.proofs.Common.{◌≡◌, ◌-◌, ◌*◌}
-use Rattle.slot_log.specs.SlotLog.{log_of}
-use Rattle.slots_run.specs.Log.{slot_clocks}
+-- The clocks so far are of earlier frames, and the log has them.
+use Rattle.std.proofs.Common.{◌≡◌, ◌-◌, ◌*◌, ◌++◌}
+use Rattle.slots_run.specs.Log.{log_text}
 use Rattle.slots_run.specs.code.SlotRun.{run_in}
 use Rattle.slots_run.proofs.SlotRunLaws.{Going}
 use Rattle.slots_run.proofs.slot_run.SlotRun.note_to_frame.Given as goal
@@ -10,8 +9,9 @@ abbrev pub invariant-loop-self : goal.invariant-loop-self
 invariant-loop-self l =
     record {
       going : Going l.frame l.fn.self l.self;
-      noted : l.log ≡ log_of l.fn.log.system
-          (slot_clocks (run_in l.fn.self) l.fn.self.fore.machine.t (l.self.fore.machine.t - l.fn.self.fore.machine.t));
+      noted : l.text.items ≡ l.fn.text.items
+          ++ log_text (run_in l.fn.self).image (run_in l.fn.self).script l.fn.self.fore.machine.t
+          (l.self.fore.machine.t - l.fn.self.fore.machine.t);
     }
 
 abbrev pub decreases-loop-self : goal.decreases-loop-self

@@ -1,2 +1,0 @@
--- What only private functions cite: no public contract leads here.
-pub mod SlotLog
