@@ -7,17 +7,28 @@ use crate::told::{address, colour, number, told, words};
 #[derive(Clone, Copy)]
 pub(crate) enum Kind {
     Image,
+    Track,
+    Audio,
     Left,
+    Holds,
     Pixels,
 }
 
-/// Puts what the lines of this kind tell behind the bytes; words that are left, to their addresses in them.
-pub(crate) fn push_told(bytes: &mut Vec<u8>, kind: Kind, run: &str) -> Result<(), TextFault> {
-    let word = match kind {
+/// The word with which these lines begin.
+fn word_of(kind: Kind) -> &'static str {
+    match kind {
         Kind::Image => "image",
+        Kind::Track => "track",
+        Kind::Audio => "audio",
         Kind::Left => "left",
+        Kind::Holds => "holds",
         Kind::Pixels => "pixels",
-    };
+    }
+}
+
+/// Puts what the lines of this kind tell after the bytes; words that are left or held, to their addresses in them.
+pub(crate) fn push_told(bytes: &mut Vec<u8>, kind: Kind, run: &str) -> Result<(), TextFault> {
+    let word = word_of(kind);
     for line in run.lines() {
         if let Some(text) = told(line, word) {
             push_text(bytes, kind, text)?;
@@ -29,8 +40,8 @@ pub(crate) fn push_told(bytes: &mut Vec<u8>, kind: Kind, run: &str) -> Result<()
 /// Puts what one of these lines tells.
 fn push_text(bytes: &mut Vec<u8>, kind: Kind, text: &str) -> Result<(), TextFault> {
     match kind {
-        Kind::Image => push_words(bytes, text),
-        Kind::Left => put(bytes, text),
+        Kind::Image | Kind::Track | Kind::Audio => push_words(bytes, text),
+        Kind::Left | Kind::Holds => put(bytes, text),
         Kind::Pixels => push_pixels(bytes, text),
     }
 }
@@ -43,12 +54,21 @@ pub(crate) fn push_words(bytes: &mut Vec<u8>, text: &str) -> Result<(), TextFaul
     Ok(())
 }
 
-/// Appends the bytes of a word that may stand there often.
+/// Appends the bytes of a word that may stand there often, or a byte of two digits.
 fn push_item(bytes: &mut Vec<u8>, item: &str) -> Result<(), TextFault> {
-    match words(item) {
-        Ok((count, word)) => push_often(bytes, count, &word.to_be_bytes()),
-        Err(fault) => Err(fault),
+    let (count, word) = words(item)?;
+    let [high, low] = word.to_be_bytes();
+    if has_two_digits(item) {
+        push_often(bytes, count, &[low])
+    } else {
+        push_often(bytes, count, &[high, low])
     }
+}
+
+/// Whether what stands there often is a byte.
+fn has_two_digits(item: &str) -> bool {
+    let (_count, digits) = item.split_once('*').unwrap_or(("1", item));
+    digits.len() == 2
 }
 
 /// Appends bytes so often.
@@ -71,7 +91,7 @@ fn put(memory: &mut [u8], left: &str) -> Result<(), TextFault> {
     Ok(())
 }
 
-/// Puts a word that may stand there often to an address. The answer is the one behind it.
+/// Puts a word that may stand there often to an address. The answer is the one after it.
 fn put_item(memory: &mut [u8], at: usize, item: &str) -> Result<usize, TextFault> {
     let (count, word) = words(item)?;
     let mut at = at;
@@ -81,7 +101,7 @@ fn put_item(memory: &mut [u8], at: usize, item: &str) -> Result<usize, TextFault
     Ok(at)
 }
 
-/// Puts a word to an address. The answer is the one behind it.
+/// Puts a word to an address. The answer is the one after it.
 fn put_word(memory: &mut [u8], at: usize, word: u16) -> Result<usize, TextFault> {
     let end = at.saturating_add(2);
     let Some(place) = memory.get_mut(at..end) else {

@@ -3,6 +3,7 @@
 use crate::bytes::{Kind, push_told, push_words};
 use crate::fault::TextFault;
 use crate::lines::{push_all, push_lines, script_form};
+use crate::own_lines::{has_own_lines, push_own_lines};
 use crate::told::first;
 use std::alloc::Global;
 
@@ -10,6 +11,12 @@ use std::alloc::Global;
 pub fn image(alloc: Global, run: &str) -> Result<Vec<u8>, TextFault> {
     let mut image = Vec::new(alloc);
     push_told(&mut image, Kind::Image, run).and(Ok(image))
+}
+
+/// The track.
+pub fn track(alloc: Global, run: &str) -> Result<Vec<u8>, TextFault> {
+    let mut track = Vec::new(alloc);
+    push_told(&mut track, Kind::Track, run).and(Ok(track))
 }
 
 /// The bytes of words.
@@ -24,8 +31,11 @@ pub fn script(alloc: Global, run: &str) -> Result<String, TextFault> {
     push_script(&mut script, run).and(Ok(script))
 }
 
-/// Appends the script.
+/// Appends the script, of lines that are told as they stand there, or made of what is told.
 fn push_script(script: &mut String, run: &str) -> Result<(), TextFault> {
+    if has_own_lines(run) {
+        return push_own_lines(script, run);
+    }
     push_head(script, run)?;
     push_lines(script, script_form(), run)?;
     push_all(script, &["end\n"])

@@ -2,12 +2,13 @@
 //! Nothing of it is part of the program.
 #![tactic(auto)]
 
-pub mod bars;
 mod bytes;
+pub mod failures;
 pub mod fault;
 pub mod inputs;
 mod lines;
 pub mod outputs;
+mod own_lines;
 pub mod told;
 
 pub use fault::TextFault;

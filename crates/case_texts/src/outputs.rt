@@ -1,9 +1,9 @@
-//! The frames, the trace and the memory that a run is to give, by its text.
+//! The frames, the trace, the memory, the sound and the text that a run is to give, by its own text.
 
 use crate::bytes::{Kind, push_told};
 use crate::fault::TextFault;
-use crate::lines::{push_lines, trace_form};
-use crate::told::{colour, first, number, told};
+use crate::lines::{push_all, push_lines, trace_form};
+use crate::told::{colour, first, number, tells, told};
 use std::alloc::Global;
 
 /// A frame's heading, and how many rows it has, by the system that is told.
@@ -53,6 +53,34 @@ pub fn memory(alloc: Global, run: &str) -> Result<Vec<u8>, TextFault> {
     push_memory(&mut memory, run).and(Ok(memory))
 }
 
+/// Memory in which the words that are held have their places, as long as this one, which it is elsewhere.
+pub fn memory_like(alloc: Global, run: &str, memory: &[u8]) -> Result<Vec<u8>, TextFault> {
+    let mut held = Vec::from_slice(alloc, memory)?;
+    push_told(&mut held, Kind::Holds, run).and(Ok(held))
+}
+
+/// The bytes with which the sound begins.
+pub fn audio(alloc: Global, run: &str) -> Result<Vec<u8>, TextFault> {
+    let mut audio = Vec::new(alloc);
+    push_told(&mut audio, Kind::Audio, run).and(Ok(audio))
+}
+
+/// What is said.
+pub fn said(alloc: Global, run: &str) -> Result<String, TextFault> {
+    let mut said = String::new(alloc);
+    push_said(&mut said, run).and(Ok(said))
+}
+
+/// Appends the lines that are said.
+fn push_said(said: &mut String, run: &str) -> Result<(), TextFault> {
+    for line in run.lines() {
+        if let Some(text) = told(line, "said") {
+            push_all(said, &[text, "\n"])?;
+        }
+    }
+    Ok(())
+}
+
 /// Appends memory at the end.
 fn push_memory(memory: &mut Vec<u8>, run: &str) -> Result<(), TextFault> {
     push_told(memory, Kind::Image, run)?;
@@ -60,14 +88,40 @@ fn push_memory(memory: &mut Vec<u8>, run: &str) -> Result<(), TextFault> {
     push_told(memory, Kind::Left, run)
 }
 
-/// The frames file, of equal frames.
+/// The frames file, of equal frames, or of frames that each have a colour.
 pub fn frames(alloc: Global, run: &str) -> Result<Vec<u8>, TextFault> {
-    let count = number(first(run, "frames", "1"))?;
     let mut frames = Vec::new(alloc);
-    for _ in 0..count {
-        push_frame(alloc, run, &mut frames)?;
+    push_frames(alloc, run, &mut frames).and(Ok(frames))
+}
+
+/// Appends the frames.
+fn push_frames(alloc: Global, run: &str, frames: &mut Vec<u8>) -> Result<(), TextFault> {
+    if tells(run, "grounds") {
+        return push_grounds(run, frames);
     }
-    Ok(frames)
+    for _ in 0..number(first(run, "frames", "1"))? {
+        push_frame(alloc, run, frames)?;
+    }
+    Ok(())
+}
+
+/// Appends a frame of each colour that is told.
+fn push_grounds(run: &str, frames: &mut Vec<u8>) -> Result<(), TextFault> {
+    for line in run.lines() {
+        if let Some(text) = told(line, "grounds") {
+            push_grounds_of(run, text, frames)?;
+        }
+    }
+    Ok(())
+}
+
+/// Appends a frame of each colour of a line.
+fn push_grounds_of(run: &str, colours: &str, frames: &mut Vec<u8>) -> Result<(), TextFault> {
+    for text in colours.split_whitespace() {
+        frames.extend_from_slice(heading(run))?;
+        push_rows(&[], colour(text)?, rows(run), frames)?;
+    }
+    Ok(())
 }
 
 /// Appends a frame.
@@ -124,7 +178,7 @@ fn read_part(text: &str) -> Result<Part, TextFault> {
     })
 }
 
-/// Two numbers, and what is told behind them.
+/// Two numbers, and what is told after them.
 fn read_pair(text: &str) -> Result<([u64; 2], &str), TextFault> {
     let Some((first, rest)) = text.split_once(' ') else {
         return Err(TextFault::Untold("two numbers are told"));

@@ -2,9 +2,11 @@
 //! of a run is not as it is told. Nothing of it is part of the program.
 #![tactic(auto)]
 
-pub mod answers;
 pub mod case;
+mod failing;
 pub mod fault;
 pub mod place;
+mod result;
+mod same;
 
 pub use fault::CaseFault;

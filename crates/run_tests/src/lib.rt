@@ -1,35 +1,13 @@
-//! The worked runs of the command line, as tests: images and scripts, and the files that come of
-//! them; runs with sound and with a disk; clocks of a run that are gone to, and the lines that are said of
-//! them; and logs of the slots of a run, with what each of their statuses says and leaves. All are worked by
-//! hand. Nothing of it is part of the program.
+//! Runs of the command line that a text cannot tell, as tests: of real files; of inputs that are asked for up to
+//! their greatest lengths; and logs of the slots of a run, with what each of their statuses says and leaves. All
+//! are worked by hand. Nothing of it is part of the program. All other runs are those of `test_runs`; what they rest
+//! on is here: that a run that is told wrongly is found.
 #![tactic(auto)]
 
 #[cfg(test)]
-mod blits;
+mod caps;
 #[cfg(test)]
-mod chip_memory;
-#[cfg(test)]
-mod copper_lists;
-#[cfg(test)]
-mod instructions;
-#[cfg(test)]
-mod ntsc;
-#[cfg(test)]
-mod pictures;
-#[cfg(test)]
-mod pokes;
-#[cfg(test)]
-mod processor;
-#[cfg(test)]
-mod rewind_lines;
-#[cfg(test)]
-mod rewind_refusals;
-#[cfg(test)]
-mod rewinds;
-#[cfg(test)]
-mod side_slots;
-#[cfg(test)]
-mod sides;
+mod folder;
 #[cfg(test)]
 mod slot_answers;
 #[cfg(test)]
@@ -37,10 +15,4 @@ mod slot_cases;
 #[cfg(test)]
 mod slot_logs;
 #[cfg(test)]
-mod sound;
-#[cfg(test)]
-mod sprite_pictures;
-#[cfg(test)]
 mod told_wrongly;
-#[cfg(test)]
-mod track_reads;

@@ -52,7 +52,7 @@ fn is_found<R: Threads + Wait + Clone + Drop + Send + Sync + 'static>(
     part: &str,
     run: &str,
 ) -> bool {
-    let answer = check(rt, alloc, &[run]);
+    let answer = check(rt, alloc, run);
     is_wrong_at(&answer, part)
 }
 

@@ -3,8 +3,7 @@
 use ocs_io::{Place, ReadRefusal, Shelf, WriteRefusal};
 use ocs_run::{NoGate, ocs_main};
 use run_cases::CaseFault;
-use run_cases::answers::is_true;
-use run_cases::place::shelf;
+use run_cases::place::{shelf, words_of};
 use std::alloc::Global;
 use std::sync::Wait;
 use std::thread::Threads;
@@ -48,21 +47,6 @@ impl Place for NotingShelf {
     }
 }
 
-/// The words of a text.
-fn words_of(alloc: Global, text: &str) -> Result<Vec<String>, CaseFault> {
-    let mut words = Vec::new(alloc);
-    push_words(alloc, text, &mut words)?;
-    Ok(words)
-}
-
-/// Appends the words of a text.
-fn push_words(alloc: Global, text: &str, words: &mut Vec<String>) -> Result<(), CaseFault> {
-    for word in text.split(' ') {
-        words.push(String::from_str(alloc, word)?)?;
-    }
-    Ok(())
-}
-
 /// A shelf with an image of 8 zeros, this script and a track of three bytes.
 fn inputs(alloc: Global, script: &str) -> Result<Shelf, CaseFault> {
     let mut shelf = shelf(alloc, &[0; 8], script)?;
@@ -84,6 +68,14 @@ fn reads<R: Threads + Wait + Clone + Drop + Send + Sync + 'static>(
         caps: Vec::new(alloc),
     };
     reads_on(rt, alloc, text, wanted, caps, &mut place)
+}
+
+/// Whether an answer came, and it is so.
+fn is_true(answer: Result<bool, CaseFault>) -> bool {
+    match answer {
+        Ok(found) => found,
+        Err(_fault) => false,
+    }
 }
 
 /// Whether they do on a shelf that was not read yet.
