@@ -25,10 +25,11 @@ impl<'a> Failure<'a> {
 
 /// Appends a text, with the ends of its lines.
 fn push_said(said: &mut String, text: &str) -> Result<(), TextFault> {
-    let mut end = "";
+    let mut is_first = true;
     for line in text.split("\\n") {
+        let end = if is_first { "" } else { "\n" };
         push_all(said, &[end, line])?;
-        end = "\n";
+        is_first = false;
     }
     Ok(())
 }
