@@ -8,7 +8,7 @@ use Rattle.ocs_base.specs.declared.chip_size.ChipSize.TheVariants.{Kib512, Mib1}
 use Rattle.ocs_base.proofs.Masks.{even_address_masked, wide_address_masked}
 use Rattle.serial_model.specs.PlaneFetch.{move_pointer}
 use Rattle.serial_model.specs.Registers.{Registers, kept_word, pointer_at, with_pointer}
-use Rattle.bitplane_dma.specs.RulesCode.{rules_of}
+use Rattle.bitplane_dma.specs.Rules.{rules_of}
 use Rattle.bitplane_dma.specs.declared.rules.FetchRules.{FetchRules}
 
 pub masked_as : (size : ChipSize) (mask n : ℕ) → mask ≡ bytes_of size - 2 → bit_and n mask ≡ (addr_at size n).value

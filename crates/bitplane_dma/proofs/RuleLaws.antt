@@ -16,7 +16,7 @@ use Rattle.serial_model.specs.declared.fetch.PlaneAsk.{PlaneAsk}
 use Rattle.serial_model.specs.Registers.{Registers, kept_word}
 use Rattle.serial_model.specs.Window.{is_window_line}
 use Rattle.serial_model.proofs.FetchLaws.{IsNoPlanePointer, kept_word-move_planes}
-use Rattle.bitplane_dma.specs.RulesCode.{first_unit, rules_of, is_first, follows_by, begins_by, planes_by, fetched_in_slot, slots_by, plane_by, bytes_by}
+use Rattle.bitplane_dma.specs.Rules.{first_unit, rules_of, is_first, follows_by, begins_by, planes_by, fetched_in_slot, slots_by, plane_by, bytes_by}
 use Rattle.bitplane_dma.specs.declared.rules.FetchRules.{FetchRules}
 
 -- ---- units

@@ -9,7 +9,7 @@ use Rattle.serial_model.specs.Registers.{Registers}
 use Rattle.std.specs.Option.{option_map}
 use Rattle.serial_model.proofs.FetchLaws.{last_unit_at-else, begins_unit-is}
 use Rattle.quiet_clocks.proofs.IdleClocks.{none_begins}
-use Rattle.bitplane_dma.specs.RulesCode.{rules_of, begins_by, follows_by, is_first}
+use Rattle.bitplane_dma.specs.Rules.{rules_of, begins_by, follows_by, is_first}
 use Rattle.bitplane_dma.specs.declared.rules.FetchRules.{FetchRules}
 use Rattle.bitplane_dma.proofs.Quiet.{running, rests}
 use Rattle.bitplane_dma.proofs.RuleLaws.{begins_as}

@@ -16,7 +16,7 @@ ghost use Rattle.serial_model.specs.Registers.{kept_word, Registers};
 ghost use Rattle.quiet_clocks.specs.Plan.{unit_on};
 ghost use Rattle.serial_model.specs.Beam.{later_beam};
 ghost use Rattle.bitplane_dma.specs.Quiet.{FetchesNothing, IsUnitAt};
-ghost use Rattle.bitplane_dma.specs.RulesCode.{rules_of};
+ghost use Rattle.bitplane_dma.specs.Rules.{rules_of};
 ghost use Rattle.serial_model.specs.Window.{is_window_line as in_window};
 
 mod rules;

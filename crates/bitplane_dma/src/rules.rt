@@ -4,7 +4,7 @@ ghost use Rattle.std.specs.Prelude.{◌≡◌, ◌≤◌, ◌<◌, ◌-◌, ℕ,
 ghost use Rattle.ocs_base.specs.AddressOf.{addr_at};
 ghost use Rattle.ocs_base.specs.Sizes.{bytes_of};
 ghost use Rattle.serial_model.specs.Registers.{Registers};
-ghost use Rattle.bitplane_dma.specs.RulesCode.{rules_of, first_unit, is_first, planes_by, fetched_in_slot as in_slot, bytes_by};
+ghost use Rattle.bitplane_dma.specs.Rules.{rules_of, first_unit, is_first, planes_by, fetched_in_slot as in_slot, bytes_by};
 
 use crate::{fetch_end, fetch_start, has_dma, is_window_line, modulo_bytes, slot_plane};
 use ocs_base::offset::{BPL1MOD, BPL2MOD, BPLCON0};
@@ -33,7 +33,7 @@ pub struct FetchRules {
 
 impl FetchRules {
     /// Those of the beam's line, by the registers as they are now.
-    #[tactic(auto, unfolding(crate::specs::RulesCode::slots_by))]
+    #[tactic(auto, unfolding(crate::specs::Rules::slots_by))]
     pub fn of(beam: &Beam, regs: &Regs) -> FetchRules
         ensures { result ≡ rules_of beam.now.v regs.now }
     {

@@ -10,7 +10,7 @@ use Rattle.blitter_area.specs.declared.data_path.Past.{Past}
 use Rattle.blitter_area.specs.declared.data_path.DataPath.{DataPath}
 use Rattle.blitter_area.specs.declared.data_path.Outcome.{Outcome}
 use Rattle.blitter_area.specs.Data.{outcome_filled, outcome_plain}
-use Rattle.blitter_area.specs.PathCode.{joined_with, outcome_with}
+use Rattle.blitter_area.specs.Path.{joined_with, outcome_with}
 
 -- ---- masks of ones and no shift
 

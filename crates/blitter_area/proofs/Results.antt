@@ -14,7 +14,7 @@ use Rattle.blitter_area.specs.declared.data_path.Past.{Past}
 use Rattle.blitter_area.specs.declared.data_path.Outcome.{Outcome}
 use Rattle.blitter_area.specs.declared.data_path.DataPath.{DataPath}
 use Rattle.blitter_area.specs.Data.{joined_by, mask_words, outcome_filled, outcome_plain, outcome_of}
-use Rattle.blitter_area.specs.PathCode.{IsPathOf, joined_with, mask_with, outcome_with}
+use Rattle.blitter_area.specs.Path.{IsPathOf, joined_with, mask_with, outcome_with}
 use Rattle.blitter_area.specs.Walk.{IsPast}
 use Rattle.blitter_area.proofs.Copies.{minterm_same}
 

@@ -8,7 +8,7 @@ use Rattle.blit_words.specs.declared.blit.BlitRegs.{BlitRegs}
 use Rattle.blit_words.specs.declared.blit.WordAsk.{WordAsk}
 use Rattle.blit_words.specs.declared.blit.WordAsk.TheVariants.{A, B, C, D, Rest}
 use Rattle.blit_words.specs.AreaBlit.{asks_in, code_of, asks_per_word, word_ask, place_of, is_same, is_used}
-use Rattle.blitter_area.specs.RowCode.{IsRowOf}
+use Rattle.blitter_area.specs.Row.{IsRowOf}
 use Rattle.blitter_area.specs.declared.asks.AskRow.{AskRow}
 
 -- ---- tests of all numbers below one

@@ -26,8 +26,8 @@ use Rattle.blitter_area.specs.declared.data_path.Outcome.{Outcome}
 use Rattle.blitter_area.specs.declared.channel.Pointers.{Pointers}
 use Rattle.blitter_area.specs.Pointing.{AreAt, lane_a, lane_b, lane_c, lane_d}
 use Rattle.blitter_area.specs.Data.{words_with, outcome_of, past_after}
-use Rattle.blitter_area.specs.PathCode.{outcome_with}
-use Rattle.blitter_area.specs.RowCode.{ask_in_row}
+use Rattle.blitter_area.specs.Path.{outcome_with}
+use Rattle.blitter_area.specs.Row.{ask_in_row}
 use Rattle.blitter_area.specs.Walk.{Holds, IsPast, Walks, Stands, shown, IsDoneAfterAll, shown_by, shown_ask, outcome_now, aptl_now}
 use Rattle.blitter_area.proofs.Moves.{address_at}
 use Rattle.blitter_area.proofs.Rows.{place_within, writes_last, some_asks, copied_asks, copied_write}

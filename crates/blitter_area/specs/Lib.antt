@@ -1,8 +1,8 @@
 pub mod Rows
-pub mod RowCode
+pub mod Row
 pub mod Spans
 pub mod Pointing
 pub mod Data
 pub mod code
-pub mod PathCode
+pub mod Path
 pub mod Walk

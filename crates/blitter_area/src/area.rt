@@ -7,8 +7,8 @@ ghost use Rattle.blit_words.specs.declared.blit.WordAsk.TheVariants.{D, Rest};
 ghost use Rattle.blit_words.specs.Blit.{is_line, height_of, width_of};
 ghost use Rattle.blit_words.specs.Blitter.{blit_ask, is_done as done_of, blit_zero, blit_end};
 ghost use Rattle.blitter_area.specs.Data.{outcome_of};
-ghost use Rattle.blitter_area.specs.PathCode.{IsPathOf};
-ghost use Rattle.blitter_area.specs.RowCode.{IsRowOf, ask_in_row};
+ghost use Rattle.blitter_area.specs.Path.{IsPathOf};
+ghost use Rattle.blitter_area.specs.Row.{IsRowOf, ask_in_row};
 
 use crate::asks::AskRow;
 use crate::channel::Pointers;

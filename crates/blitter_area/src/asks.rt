@@ -16,7 +16,7 @@ pub(crate) struct AskRow {
 }
 
 impl AskRow {
-    ghost use Rattle.blitter_area.specs.RowCode.{IsRowOf, AsksAt};
+    ghost use Rattle.blitter_area.specs.Row.{IsRowOf, AsksAt};
 
     /// The asks of each word of a blit.
     pub(crate) fn of(start: &BlitRegs) -> AskRow

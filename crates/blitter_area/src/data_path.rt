@@ -89,7 +89,7 @@ pub(crate) struct DataPath {
 }
 
 impl DataPath {
-    ghost use Rattle.blitter_area.specs.PathCode.{IsPathOf, joined_with, outcome_with};
+    ghost use Rattle.blitter_area.specs.Path.{IsPathOf, joined_with, outcome_with};
 
     /// The way of the words of a blit.
     pub(crate) fn of(start: &BlitRegs) -> DataPath

@@ -20,7 +20,7 @@ use Rattle.serial_model.specs.State.{Chips}
 use Rattle.serial_model.specs.Turns.{take_turn, begins_by, run_chips, interrupt_of}
 use Rattle.cpu_bus.specs.declared.BusCpu.{BusCpu}
 use Rattle.cpu_bus.specs.Bus.{IsProcessorOf, GoesOn, wish_shown}
-use Rattle.chip_set.specs.BusCode.{LeavesToPlanes}
+use Rattle.chip_set.specs.Bus.{LeavesToPlanes}
 use Rattle.chip_set.specs.Chips.{WorkingChips, IsChipsOf, HasAsked, HasAccessed, kept_wish, late_ask}
 use Rattle.chip_set.proofs.BusLaws.{turn_of_processor, no_turn, bus_answered}
 

@@ -7,7 +7,7 @@ use Rattle.serial_model.specs.declared.bus.Made.TheVariants as M
 use Rattle.serial_model.specs.declared.bus.SideAsk.{SideAsk}
 use Rattle.serial_model.specs.declared.fetch.PlaneAsk.{PlaneAsk}
 use Rattle.serial_model.specs.Side.{IsInTime}
-use Rattle.chip_set.specs.BusCode.{LeavesToPlanes}
+use Rattle.chip_set.specs.Bus.{LeavesToPlanes}
 use Rattle.chip_set.proofs.BusLaws.{bus_answered}
 use Rattle.std.proofs.lemmas.Bool.{false≢true}
 use Rattle.serial_model.specs.declared.bus.Ask.{Ask}

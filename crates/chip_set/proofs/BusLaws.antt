@@ -41,7 +41,7 @@ use Rattle.quiet_clocks.proofs.IdleClocks.{none_begins}
 use Rattle.quiet_clocks.proofs.Owners.{asked_in, late_wishes}
 use Rattle.quiet_clocks.proofs.QuietClock.{still_copper, still_steps, if_either}
 use Rattle.cpu_bus.specs.Bus.{wish_shown}
-use Rattle.chip_set.specs.BusCode.{LeavesToPlanes, LeavesBus, LeavesBeside, KeepsBus, KeepsToPlanes, KeepsBeside, KeepsCias, TimersStand, CiasRest, IsClaim}
+use Rattle.chip_set.specs.Bus.{LeavesToPlanes, LeavesBus, LeavesBeside, KeepsBus, KeepsToPlanes, KeepsBeside, KeepsCias, TimersStand, CiasRest, IsClaim}
 use Rattle.chip_set.specs.declared.bus.BlitterClaim.{BlitterClaim}
 use Rattle.chip_set.specs.declared.bus.Unit.{Unit}
 use Rattle.blitter.specs.StandsFor.{slot_shown}
@@ -50,14 +50,14 @@ use Rattle.irq_cia.specs.Icr.{is_active}
 use Rattle.irq_cia.specs.Interrupts.{Interrupts, after_request}
 use Rattle.irq_cia.specs.declared.cia.CiaState.{CiaState}
 use Rattle.quiet_clocks.specs.PlainClock.{AsksNothingNew}
-use Rattle.chip_set.specs.BusCode.{ask_beside_planes, is_bus_ask, is_bus_made, reaches_memory, KeepsOnBus, IsUnitKept}
+use Rattle.chip_set.specs.Bus.{ask_beside_planes, is_bus_ask, is_bus_made, reaches_memory, KeepsOnBus, IsUnitKept}
 use Rattle.bus_slots.specs.Asks.{made_with}
 use Rattle.chip_set.specs.Chips.{WorkingChips, IsChipsOf, HasAsked, HasAccessed, CanAsk, IsBlitAsk, some_blit, plain_chips, kept_wish, late_ask}
 use Rattle.chip_set.specs.Chips.{wishes_with, ask_with, answering, act_at, IsAnswer, AnswersOwner}
 use Rattle.chip_set.specs.Quiet.{IsCopperIdle, fetching_in, with_fetching}
 use Rattle.quiet_clocks.specs.FetchClocks.{fetching_after, ask_of_fetching}
 use Rattle.bitplane_dma.specs.Quiet.{IsUnitAt}
-use Rattle.bitplane_dma.specs.RulesCode.{rules_of}
+use Rattle.bitplane_dma.specs.Rules.{rules_of}
 use Rattle.bitplane_dma.specs.declared.rules.FetchRules.{FetchRules}
 use Rattle.bitplane_dma.proofs.RuleLaws.{rules_kept}
 use Rattle.irq_cia.specs.Bits.{has_bits}

@@ -29,7 +29,7 @@ use Rattle.quiet_clocks.specs.Ticks.{ticks_in}
 use Rattle.quiet_clocks.specs.FetchClocks.{IsStillBesidePlanes, AreResting, Fetching, fetching_on, fetching_of, planes_on, planes_of_chips, fetched_later}
 use Rattle.quiet_clocks.proofs.FetchClocks.{still_is_at_rest, fetching_later}
 use Rattle.quiet_clocks.proofs.PlainClock.{else_of}
-use Rattle.chip_set.specs.BusCode.{is_fetch_ask}
+use Rattle.chip_set.specs.Bus.{is_fetch_ask}
 use Rattle.bus_slots.specs.Asks.{made_with}
 use Rattle.chip_set.specs.Chips.{WorkingChips, IsChipsOf, IsPlane, IsAnswer, AnswersOwner, HasAsked, HasAccessed, plain_chips, answering, act_at}
 use Rattle.chip_set.specs.Quiet.{AreAtRest, HaveFetched, FetchesPass, fetching_in, with_fetching}

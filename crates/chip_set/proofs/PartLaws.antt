@@ -31,7 +31,7 @@ use Rattle.serial_model.specs.Turns.{take_turn, begins_by, go_on_with, begins_wi
 use Rattle.serial_model.specs.Beam.{is_line_start, is_field_start}
 use Rattle.serial_model.specs.Tick.{start_field, start_line, if_field_starts, start_chips}
 use Rattle.serial_model.specs.Write.{write_interrupts, restart_copper}
-use Rattle.chip_set.specs.BusCode.{KeepsCias}
+use Rattle.chip_set.specs.Bus.{KeepsCias}
 use Rattle.chip_set.specs.Chips.{WorkingChips, IsBlitOf, IsChipsOf, kept_wish}
 use Rattle.chip_set.proofs.BusLaws.{asked_of}
 use Rattle.chip_set.proofs.TurnLaws.{untouched}

@@ -8,7 +8,7 @@ use Rattle.quiet_clocks.proofs.QuietClock.{if_either}
 use Rattle.serial_bands.proofs.Ors.{or_none}
 use Rattle.serial_model.specs.Cias.{line_bits, request_lines, tick_timers, time_chips}
 use Rattle.serial_model.specs.State.{Chips}
-use Rattle.chip_set.specs.BusCode.{CiasRest, TimersStand}
+use Rattle.chip_set.specs.Bus.{CiasRest, TimersStand}
 use Rattle.chip_set.specs.Chips.{WorkingChips, IsChipsOf}
 use Rattle.chip_set.proofs.QuietLaws.{lines_of}
 

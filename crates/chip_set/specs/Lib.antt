@@ -1,5 +1,5 @@
 pub mod AskLaws
 pub mod Beside
-pub mod BusCode
+pub mod Bus
 pub mod Chips
 pub mod Quiet

@@ -2,7 +2,7 @@
 
 ghost use Rattle.std.specs.Prelude.{◌≡◌, ◌≤◌, ◌<◌, ◌+◌, ◌&&◌, ℕ, true, false, None, is_some, IfSome};
 ghost use Rattle.bitplane_dma.specs.Quiet.{IsUnitAt};
-ghost use Rattle.bitplane_dma.specs.RulesCode.{rules_of};
+ghost use Rattle.bitplane_dma.specs.Rules.{rules_of};
 ghost use Rattle.ocs_base.specs.declared.beam.Beam.{Beam as BeamOf};
 ghost use Rattle.serial_model.specs.Bus.{blit_owner_ask, processor_ask as processor_ask_of};
 ghost use Rattle.quiet_clocks.specs.PlainClock.{comes_first};
@@ -18,9 +18,9 @@ ghost use Rattle.quiet_clocks.specs.FetchClocks.{fetching_after, ask_of_fetching
 ghost use Rattle.chip_set.specs.Chips.{IsChipsOf, HasAsked, HasAccessed, CanAsk, CanDo, WorkingChips, plain_chips, IsAnswer, IsBlitAsk, kept_wish, late_ask as asked_late};
 ghost use Rattle.chip_set.specs.Chips.{reads_by_chips, read_by, IsPlane};
 ghost use Rattle.chip_set.specs.Quiet.{fetching_in, with_fetching};
-ghost use Rattle.chip_set.specs.BusCode.{LeavesToPlanes, LeavesBeside, LeaveBus, KeepsOnBus, KeepsBeside, KeepsCias};
-ghost use Rattle.chip_set.specs.BusCode.{IsClaim, IsUnitKept};
-ghost use Rattle.chip_set.specs.BusCode.{ask_beside_planes, is_bus_ask, is_bus_made};
+ghost use Rattle.chip_set.specs.Bus.{LeavesToPlanes, LeavesBeside, LeaveBus, KeepsOnBus, KeepsBeside, KeepsCias};
+ghost use Rattle.chip_set.specs.Bus.{IsClaim, IsUnitKept};
+ghost use Rattle.chip_set.specs.Bus.{ask_beside_planes, is_bus_ask, is_bus_made};
 
 use crate::chips::{Chips, read_for_blit};
 use bitplane_dma::{FetchRules, PlaneAsk};

@@ -8,7 +8,7 @@ ghost use Rattle.serial_model.specs.Bus.{ask_at};
 ghost use Rattle.serial_model.specs.declared.bus.SideAsk.{SideAsk};
 ghost use Rattle.chip_set.specs.Chips.{HasAsked, HasAccessed, CanAsk, CanDo, WorkingChips, IsAnswer};
 ghost use Rattle.chip_set.specs.Chips.{reads_by_chips, read_by};
-ghost use Rattle.chip_set.specs.BusCode.{is_fetch_ask as fetch_asked};
+ghost use Rattle.chip_set.specs.Bus.{is_fetch_ask as fetch_asked};
 ghost use Rattle.chip_set.specs.AskLaws.{is_clx_ask as clx_asked};
 ghost use Rattle.bus_slots.specs.Asks.{made_with};
 

@@ -3,7 +3,7 @@
 ghost use Rattle.std.specs.Prelude.{◌≡◌, ◌⊎◌, ◌≤◌, ◌<◌, ◌+◌, ℕ, false, true, Some, None, is_some, IfSome};
 ghost use Rattle.serial_model.specs.Registers.{blitter_dma, copper_dma};
 ghost use Rattle.serial_model.specs.State.{Chips as ChipsOf};
-ghost use Rattle.bitplane_dma.specs.RulesCode.{rules_of};
+ghost use Rattle.bitplane_dma.specs.Rules.{rules_of};
 ghost use Rattle.irq_cia.specs.Ticks.{HasNoUnderflow};
 ghost use Rattle.cpu_bus.specs.Quiet.{RestsFor, CanCount};
 ghost use Rattle.quiet_clocks.specs.PlainClock.{AsksNothingNew};

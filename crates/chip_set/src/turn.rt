@@ -8,7 +8,7 @@ ghost use Rattle.serial_model.specs.Cias.{tick_timers as ticked, line_bits as li
 ghost use Rattle.serial_model.specs.Turns.{go_on_with, begins_with, run_chips, interrupt_of};
 ghost use Rattle.serial_model.specs.Processor.{turn_of};
 ghost use Rattle.serial_model.specs.declared.processor.Turn.TheVariants.{Goes};
-ghost use Rattle.chip_set.specs.BusCode.{CiasRest, TimersStand, KeepsCias};
+ghost use Rattle.chip_set.specs.Bus.{CiasRest, TimersStand, KeepsCias};
 ghost use Rattle.chip_set.specs.Chips.{IsChipsOf};
 
 use crate::chips::Chips;

@@ -13,7 +13,7 @@ use Rattle.cpu_bus.specs.Beside.{BeginsAnew}
 use Rattle.serial_model.specs.Bus.{reads_of_ask}
 use Rattle.serial_bands.specs.BusReads.{bus_reads}
 use Rattle.serial_model.specs.Beam.{later_beam}
-use Rattle.chip_set.specs.BusCode.{CiasRest, KeepsCias}
+use Rattle.chip_set.specs.Bus.{CiasRest, KeepsCias}
 use Rattle.chip_set.specs.Chips.{CanAsk, IsBlitAsk, kept_wish, late_ask}
 use Rattle.chip_set.specs.declared.bus.BlitterClaim.{BlitterClaim}
 use Rattle.chip_set.proofs.AheadLaws.{asked_alone}
@@ -21,8 +21,8 @@ use Rattle.chip_set.proofs.BusLaws.{HasAskedOnBus, asked_without_planes, rest_ke
 use Rattle.chip_set.proofs.TurnLaws.{rested}
 use Rattle.band_log.specs.Raster.{RasterValue}
 use Rattle.machine.specs.Machine.{MachineValue, reads_more}
-use Rattle.machine.specs.MachineStepsCode.{AsksInTime}
-use Rattle.machine.specs.AheadCode.{IsLeftToProcessor, IsLeftThen, IsClockAtOnce, IsAccessInTwo, IsAccessInPart}
+use Rattle.machine.specs.MachineSteps.{AsksInTime}
+use Rattle.machine.specs.Ahead.{IsLeftToProcessor, IsLeftThen, IsClockAtOnce, IsAccessInTwo, IsAccessInPart}
 use Rattle.machine.proofs.AskedLaws.{asks_alone}
 use Rattle.machine.proofs.BusLaws.{place_in_line}
 use Rattle.machine.proofs.StepLaws.{Makes-advanced}

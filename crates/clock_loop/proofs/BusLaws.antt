@@ -9,7 +9,7 @@ use Rattle.serial_model.specs.Side.{SideValue}
 use Rattle.serial_model.specs.SpriteFetch.{kinds_at}
 use Rattle.bitplane_dma.specs.declared.rules.FetchRules.{FetchRules}
 use Rattle.band_log.specs.Raster.{RasterValue}
-use Rattle.chip_set.specs.BusCode.{LeavesToPlanes, LeavesBeside, LeaveBus, KeepsBus, KeepsBeside, KeepsCias, CiasRest, IsUnitKept, is_bus_made}
+use Rattle.chip_set.specs.Bus.{LeavesToPlanes, LeavesBeside, LeaveBus, KeepsBus, KeepsBeside, KeepsCias, CiasRest, IsUnitKept, is_bus_made}
 use Rattle.chip_set.specs.declared.bus.Unit.{Unit}
 use Rattle.chip_set.specs.Chips.{WorkingChips}
 use Rattle.chip_set.proofs.BusLaws.{leaves_beside_kept, beside_kept, beside_then, rest_kept, none_kept, unit_kept}

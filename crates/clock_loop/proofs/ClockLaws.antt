@@ -12,12 +12,12 @@ use Rattle.chip_set.specs.declared.bus.BlitterClaim.{BlitterClaim}
 use Rattle.chip_set.specs.Chips.{CanAsk, IsBlitAsk, kept_wish, late_ask}
 use Rattle.chip_set.proofs.BusLaws.{claim_kept}
 use Rattle.band_log.specs.Raster.{RasterValue}
-use Rattle.machine.specs.MachineStepsCode.{AsksInTime}
+use Rattle.machine.specs.MachineSteps.{AsksInTime}
 use Rattle.clock_loop.specs.code.BusRun.{IsWithinLine, CanMakeClock, HasMadeClock, HasMadeClockInPart, GoesOnBus, CanMakeClocks}
 use Rattle.clock_loop.specs.code.BusRun.{HasRunOnBus, HasRunInPart, HasAskedLate}
 use Rattle.clock_loop.specs.code.Line.{AreInLine}
 use Rattle.clock_loop.specs.RunTo.{RisesInSome}
-use Rattle.foreground.specs.AccessCode.{CanAccess}
+use Rattle.foreground.specs.Access.{CanAccess}
 use Rattle.foreground.specs.Clock.{Rises}
 use Rattle.foreground.specs.Fore.{ForeOf, ForeValue, CanGo, looked_up}
 use Rattle.machine.specs.Machine.{reads_more}

@@ -18,7 +18,7 @@ use Rattle.serial_model.specs.Registers.{is_interlaced, blitter_dma}
 use Rattle.serial_model.specs.Tick.{run_processor}
 use Rattle.serial_model.specs.Bus.{reads_of_ask}
 use Rattle.serial_bands.specs.Shadows.{IsInRange}
-use Rattle.chip_set.specs.BusCode.{LeavesToPlanes, KeepsBus, KeepsBeside, KeepsCias, KeepsOnBus, CiasRest, IsUnitKept}
+use Rattle.chip_set.specs.Bus.{LeavesToPlanes, KeepsBus, KeepsBeside, KeepsCias, KeepsOnBus, CiasRest, IsUnitKept}
 use Rattle.chip_set.specs.declared.bus.Unit.{Unit}
 use Rattle.bitplane_dma.specs.declared.rules.FetchRules.{FetchRules}
 use Rattle.chip_set.specs.Chips.{WorkingChips, CanDo, kept_wish, late_ask}
@@ -28,12 +28,12 @@ use Rattle.picture_log.specs.Log.{with_access_touch, waiting_write}
 use Rattle.picture_log.specs.declared.log.Log.{Log}
 use Rattle.machine.specs.Machine.{MachineValue, Makes, machine_over, reads_more}
 use Rattle.machine.specs.declared.machine.Machine.{Machine}
-use Rattle.machine.specs.AheadCode.{IsAccessAtOnce, IsMadeAtOnce, IsUnseenAtOnce}
+use Rattle.machine.specs.Ahead.{IsAccessAtOnce, IsMadeAtOnce, IsUnseenAtOnce}
 use Rattle.clock_loop.specs.code.BusRun.{IsWithinLine, HasAskedFor, HasServed, HasMadeClock, HasMadeClockInPart, StaysBehind, GoesOnBus}
 use Rattle.clock_loop.specs.declared.clock.Access.{Access}
 use Rattle.clock_loop.specs.declared.clock.Access.TheVariants as X
 use Rattle.clock_loop.specs.code.BusRun.{IsTurned, AdvancesInLine, EndsBeside, EndsItsClock, EndsAlone, ServesAsk, is_made, stays_left}
-use Rattle.foreground.specs.AccessCode.{CanAccess}
+use Rattle.foreground.specs.Access.{CanAccess}
 use Rattle.foreground.specs.Fore.{ForeOf, ForeValue, over}
 use Rattle.foreground.specs.Steps.{EndsClock, KeepsClock, MakesAskedAccess, HasAskedNow}
 use Rattle.foreground.proofs.AdvanceLaws.{ends_clock}

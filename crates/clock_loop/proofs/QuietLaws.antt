@@ -49,7 +49,7 @@ use Rattle.foreground.specs.Fore.{ForeValue, HasScript, IsUnderway, is_done}
 use Rattle.band_gather.specs.Gathered.{Fits}
 use Rattle.picture_log.specs.Log.{IsLogOf, IsShown, with_waiting, with_script_touches, with_access_touch}
 use Rattle.machine.specs.Machine.{MachineValue, IsMachineOf}
-use Rattle.machine.specs.QuietCode.{PassesClocks, PassesOver}
+use Rattle.machine.specs.Quiet.{PassesClocks, PassesOver}
 use Rattle.clock_loop.specs.code.Quiet.{HasPassed}
 use Rattle.clock_loop.specs.RunTo.{RunsOn}
 use Rattle.foreground.specs.Script.{IsLeft}

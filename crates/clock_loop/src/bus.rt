@@ -3,8 +3,8 @@
 
 ghost use Rattle.std.specs.Prelude.{◌≡◌, ◌<◌, ◌≤◌, ◌+◌, ◌-◌, ℕ, true, false, None, Some, IfOk, OnOk, OnErr};
 ghost use Rattle.band_log.specs.Raster.{RasterValue};
-ghost use Rattle.chip_set.specs.BusCode.{LeaveBus};
-ghost use Rattle.chip_set.specs.BusCode.{IsUnitKept};
+ghost use Rattle.chip_set.specs.Bus.{LeaveBus};
+ghost use Rattle.chip_set.specs.Bus.{IsUnitKept};
 ghost use Rattle.clock_loop.specs.code.BusRun.{IsOpenForBus, GoesOnBus, AreOnBus, HasRunOnBus, HasRunInPart};
 ghost use Rattle.clock_loop.specs.code.BusRun.{CanMakeClock, HasMadeClock, HasMadeClockInPart, IsWithinLine};
 ghost use Rattle.clock_loop.specs.code.BusRun.{HasAskedLate, is_made, stays_left};

@@ -6,7 +6,7 @@ ghost use Rattle.serial_model.specs.PlaneFetch.{IsLastUnit, plane_ask, move_plan
 ghost use Rattle.quiet_clocks.specs.FetchClocks.{fetching_on};
 ghost use Rattle.serial_model.specs.Beam.{later_beam};
 ghost use Rattle.bitplane_dma.specs.Quiet.{IsUnitAt};
-ghost use Rattle.bitplane_dma.specs.RulesCode.{rules_of};
+ghost use Rattle.bitplane_dma.specs.Rules.{rules_of};
 ghost use Rattle.chip_set.specs.Quiet.{AreAtRest, fetching_in, with_fetching};
 ghost use Rattle.band_log.specs.Raster.{RasterValue};
 ghost use Rattle.picture_log.specs.Log.{with_waiting};

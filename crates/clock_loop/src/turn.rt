@@ -3,13 +3,13 @@
 ghost use Rattle.std.specs.Prelude.{◌≡◌, ◌+◌, ◌-◌, ◌≤◌, ◌<◌, ◌^◌, true, false, IfOk, OnOk, OnErr};
 ghost use Rattle.serial_model.specs.Side.{no_side};
 ghost use Rattle.band_log.specs.Raster.{RasterValue};
-ghost use Rattle.chip_set.specs.BusCode.{LeavesToPlanes, LeavesBeside, KeepsBeside, IsClaim, CiasRest, IsUnitKept};
-ghost use Rattle.chip_set.specs.BusCode.{ask_beside_planes};
+ghost use Rattle.chip_set.specs.Bus.{LeavesToPlanes, LeavesBeside, KeepsBeside, IsClaim, CiasRest, IsUnitKept};
+ghost use Rattle.chip_set.specs.Bus.{ask_beside_planes};
 ghost use Rattle.chip_set.specs.Chips.{CanAsk, IsBlitAsk, kept_wish, late_ask};
 ghost use Rattle.clock_loop.specs.code.BusRun.{EndsItsClock, HasAskedLate, IsWithinLine, stays_left};
 ghost use Rattle.clock_loop.specs.code.BusRun.{CanMakeClocks, HasRunOnBus, HasRunInPart};
 ghost use Rattle.foreground.specs.Fore.{ForeValue, over, CanGo};
-ghost use Rattle.machine.specs.MachineStepsCode.{AsksInTime};
+ghost use Rattle.machine.specs.MachineSteps.{AsksInTime};
 
 use crate::ahead::clocks_alone;
 use crate::clock::{

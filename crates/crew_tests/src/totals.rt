@@ -6,7 +6,7 @@ ghost use Rattle.ocs_base.specs.Image.{is_image as good_image, fits_chip};
 ghost use Rattle.serial_model.specs.Side.{no_side};
 ghost use Rattle.crew.specs.Crew.{crew_seen, side_seen};
 ghost use Rattle.foreground.specs.Fore.{IsNew};
-ghost use Rattle.files_run.specs.UnderwayCode.{fore_of, run_of, CanRun};
+ghost use Rattle.files_run.specs.Underway.{fore_of, run_of, CanRun};
 
 use crate::bars::{BANDS, SCRIPT, image, shows_bars};
 use crate::told::{Told, Watch};

@@ -29,7 +29,7 @@ use Rattle.ocs_words.specs.Order.{IsFourth, IsFourthName}
 use Rattle.files_run.specs.Prefix.{IsPartOf, LeavesPrefixesOver, LeavesFiles}
 use Rattle.files_run.specs.code.Rest.{WritesRest, WritesPart}
 use Rattle.files_run.specs.Run.{HasFilesOver, HasAllFiles}
-use Rattle.files_run.specs.UnderwayCode.{AreUnsampled, CanRun, IsFresh, IsHeard, IsWritten, EndsFromStart}
+use Rattle.files_run.specs.Underway.{AreUnsampled, CanRun, IsFresh, IsHeard, IsWritten, EndsFromStart}
 use Rattle.files_run.specs.declared.audio.Recording.{Recording}
 use Rattle.files_run.proofs.RunLaws.{HasFiles-run, LeavesPrefixes-memory, begins_created}
 use Rattle.files_run.proofs.PrefixLaws.{LeavesPrefixes-all, LeavesPrefixes-whole, one_end}

@@ -7,7 +7,7 @@ use Rattle.crew.specs.declared.crew.Crew.{Crew}
 use Rattle.crew.specs.Crew.{crew_seen, IsNewCrew}
 use Rattle.foreground.specs.Fore.{ForeValue, IsNew}
 use Rattle.out_files.specs.declared.fault.WriteFault.{WriteFault}
-use Rattle.files_run.specs.UnderwayCode.{IsEmpty, Ends, IsCut, EndsFromStart, IsCutFromStart, IsOfSameRun}
+use Rattle.files_run.specs.Underway.{IsEmpty, Ends, IsCut, EndsFromStart, IsCutFromStart, IsOfSameRun}
 use Rattle.files_run.specs.declared.audio.Recording.{Recording}
 use Rattle.files_run.proofs.RunLaws.{IsEmpty-new, EndsFromStart-ends, IsCutFromStart-cut}
 use Rattle.band_log.specs.Raster.{RasterValue}

@@ -7,7 +7,7 @@ use Rattle.out_files.specs.declared.fault.WriteFault.TheVariants.{Failed, OutOfM
 use Rattle.files_run.specs.Audio.{IsAudioGrowable}
 use Rattle.ocs_words.specs.Fault.{IsRunFault, of_write}
 use Rattle.out_files.specs.Places.{WritesFiles}
-use Rattle.files_run.specs.PlaceCode.{WritesRun}
+use Rattle.files_run.specs.Place.{WritesRun}
 use Rattle.ocs_words.specs.declared.fault.Fault.{Fault}
 use Rattle.ocs_words.specs.declared.fault.Fault.TheVariants.{Usage, Inputs, BadTrack, UnreadTrack, Unwritten, Unsaid, OutOfMemory}
 use Rattle.files_run.proofs.KeptLaws.{OnlyWrites-more}

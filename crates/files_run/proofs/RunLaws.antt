@@ -32,8 +32,8 @@ use Rattle.clock_loop.specs.RunTo.{HasRunOn, RunsOn, HasCome}
 use Rattle.band_gather.specs.Gathered.{tinted_range}
 use Rattle.files_run.specs.Prefix.{LeavesPrefixesOver}
 use Rattle.files_run.specs.Run.{HasFilesOver, HasRun, HasParts, HasEndParts}
-use Rattle.files_run.specs.UnderwayCode.{IsUnderway, CanRun, Runs, IsStopped, IsFresh, IsEmpty, Ends, IsCut}
-use Rattle.files_run.specs.UnderwayCode.{IsSettledRun, IsWritten, StartsRun, EndsFromStart, IsCutFromStart}
+use Rattle.files_run.specs.Underway.{IsUnderway, CanRun, Runs, IsStopped, IsFresh, IsEmpty, Ends, IsCut}
+use Rattle.files_run.specs.Underway.{IsSettledRun, IsWritten, StartsRun, EndsFromStart, IsCutFromStart}
 use Rattle.files_run.proofs.PrefixLaws.{LeavesPrefixes-parts, LeavesPrefixes-end, LeavesPrefixes-all}
 
 -- what a run has shown at a clock are the bytes of its clocks

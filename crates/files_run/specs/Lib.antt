@@ -1,6 +1,6 @@
 pub mod Audio
-pub mod PlaceCode
+pub mod Place
 pub mod Prefix
 pub mod code
 pub mod Run
-pub mod UnderwayCode
+pub mod Underway

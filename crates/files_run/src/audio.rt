@@ -4,7 +4,7 @@ ghost use Rattle.std.specs.Prelude.{◌≡◌, ◌≤◌, ◌<◌, ◌+◌, ◌-
 ghost use Rattle.crew.specs.Crew.{side_seen};
 ghost use Rattle.files_run.specs.Audio.{is_sampled as is_sample_place, sampled, with_audio, grown_audio, IsAudioGrowable, MayHaveMade, MayHaveGrown};
 ghost use Rattle.out_files.specs.Places.{LeavesPlace};
-ghost use Rattle.files_run.specs.PlaceCode.{WritesRun};
+ghost use Rattle.files_run.specs.Place.{WritesRun};
 
 use crew::CrewSide;
 use ocs_base::{Beam, OutOfMemory};

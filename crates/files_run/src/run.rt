@@ -14,11 +14,11 @@ ghost use Rattle.crew.specs.Crew.{side_seen};
 ghost use Rattle.files_run.specs.Audio.{is_sampled, with_audio, IsAudioGrowable};
 ghost use Rattle.ocs_words.specs.Order.{IsFourthName};
 ghost use Rattle.out_files.specs.Places.{LeavesPlace, WritesFiles};
-ghost use Rattle.files_run.specs.PlaceCode.{WritesRun};
+ghost use Rattle.files_run.specs.Place.{WritesRun};
 ghost use Rattle.files_run.specs.Prefix.{LeavesFiles};
 ghost use Rattle.files_run.specs.Run.{HasAllFiles};
 ghost use Rattle.files_run.specs.code.Rest.{MayHaveCreated, WritesRest, WritesPart};
-ghost use Rattle.files_run.specs.UnderwayCode.{AreUnsampled, fore_of, run_of, CanRun, Runs, IsStopped, IsFresh, Ends, IsCut, EndsFromStart, IsCutFromStart, IsHeard, IsOfSameRun};
+ghost use Rattle.files_run.specs.Underway.{AreUnsampled, fore_of, run_of, CanRun, Runs, IsStopped, IsFresh, Ends, IsCut, EndsFromStart, IsCutFromStart, IsHeard, IsOfSameRun};
 
 use crate::audio::{Recording, clocks_to_sample, create_audio, listen, write_audio};
 use band_log::{Raster, Run};

@@ -10,7 +10,7 @@ use Rattle.band_log.specs.Raster.{RasterValue}
 use Rattle.picture_log.specs.Log.{with_script_touches}
 use Rattle.machine.specs.Machine.{MachineValue, MakesQuietly, KeepsPlace, reads_more}
 use Rattle.foreground.specs.Script.{MakesEvents}
-use Rattle.machine.specs.MachineStepsCode.{AsksInTime}
+use Rattle.machine.specs.MachineSteps.{AsksInTime}
 use Rattle.foreground.specs.Clock.{Rises}
 use Rattle.foreground.specs.Fore.{ForeValue, IsUnderway}
 use Rattle.foreground.specs.Steps.{IsBefore, IsLoggedBefore, KeepsClock, HasAskedNow, AccessesPart, HasBegunClock, BeginsClock, ReachesAsk}

@@ -12,7 +12,7 @@ use Rattle.serial_bands.proofs.NextClock.{bytes_are_of_step, next_shown}
 use Rattle.band_log.specs.Raster.{RasterValue}
 use Rattle.foreground.specs.Fore.{ForeValue, IsUnderway}
 use Rattle.machine.specs.Machine.{IsSamePlace}
-use Rattle.picture_log.specs.ShownCountCode.{shown_before, shown_behind}
+use Rattle.picture_log.specs.ShownCount.{shown_before, shown_behind}
 use Rattle.picture_log.proofs.ShownLaws.{shown_here, shown_at}
 
 -- whatever LOF is there

@@ -4,6 +4,6 @@ pub mod Slot
 pub mod Fore
 pub mod code
 pub mod Steps
-pub mod AccessCode
+pub mod Access
 pub mod Checkpoint
 pub mod Save

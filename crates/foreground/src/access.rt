@@ -3,11 +3,11 @@
 ghost use Rattle.std.specs.Prelude.{◌≡◌, ◌+◌, ◌<◌, ◌^◌, true, false, IfOk, OnOk, OnErr};
 ghost use Rattle.serial_model.specs.Bus.{reads_of_ask};
 ghost use Rattle.chip_set.specs.AskLaws.{is_clx_ask as is_clx_asked};
-ghost use Rattle.chip_set.specs.BusCode.{is_fetch_ask as is_fetch_asked};
+ghost use Rattle.chip_set.specs.Bus.{is_fetch_ask as is_fetch_asked};
 ghost use Rattle.chip_set.specs.Chips.{late_ask, ask_or_late, ask_of_late};
 ghost use Rattle.chip_set.specs.declared.late.LateOwner.{LateOwner};
 ghost use Rattle.band_log.specs.Raster.{RasterValue};
-ghost use Rattle.foreground.specs.AccessCode.{CanAccess, MakesAccessWith, IsWordAt};
+ghost use Rattle.foreground.specs.Access.{CanAccess, MakesAccessWith, IsWordAt};
 ghost use Rattle.serial_bands.specs.Access.{access_state};
 ghost use Rattle.foreground.specs.Fore.{over};
 ghost use Rattle.machine.specs.Machine.{reads_more};

@@ -24,7 +24,7 @@ use Rattle.chip_set.specs.Chips.{WorkingChips, IsChipsOf, HasAsked, HasAccessed,
 use Rattle.chip_set.proofs.ClxLaws.{clx_read, clx_alone}
 use Rattle.machine.specs.Machine.{MachineValue, IsMachineOf, Start, HasTold, Stands, HasAskedOf}
 use Rattle.machine.specs.Machine.{MakesAccess, StaysInPlace, StoresMade, reads_after}
-use Rattle.machine.specs.MachineStepsCode.{chip_after, word_given, reads_by_side, GivesSide, Does}
+use Rattle.machine.specs.MachineSteps.{chip_after, word_given, reads_by_side, GivesSide, Does}
 use Rattle.machine.proofs.ToldLaws.{told_same}
 use Rattle.machine.proofs.StepLaws.{wish_in, Makes-does, same_place}
 

@@ -27,14 +27,14 @@ use Rattle.cpu_bus.specs.Beside.{turn_beside_of}
 use Rattle.cpu_bus.specs.Bus.{IsProcessorOf, GoesOn, wish_shown}
 use Rattle.chip_set.specs.Beside.{WaitsBeside, missing}
 use Rattle.chip_set.specs.Chips.{WorkingChips, IsChipsOf, HasAsked, HasAccessed, CanAsk, IsBlitAsk, kept_wish, late_ask}
-use Rattle.chip_set.specs.BusCode.{LeavesToPlanes, KeepsOnBus}
+use Rattle.chip_set.specs.Bus.{LeavesToPlanes, KeepsOnBus}
 use Rattle.chip_set.proofs.BusLaws.{HasAskedOnBus, asked_without_planes, bus_answered}
 use Rattle.chip_set.proofs.TurnLaws.{rested}
 use Rattle.chip_set.proofs.AheadLaws.{asked_alone, given, gone, read_answered, word_runs, word_begins}
 use Rattle.chip_set.proofs.BesideLaws.{waits_wish}
 use Rattle.machine.specs.Machine.{MachineValue}
-use Rattle.machine.specs.MachineStepsCode.{AsksInTime, chip_after}
-use Rattle.machine.specs.AheadCode.{IsLeftToProcessor, IsAccessAtOnce, IsMadeAtOnce, IsUnseenAtOnce, IsClockAtOnce}
+use Rattle.machine.specs.MachineSteps.{AsksInTime, chip_after}
+use Rattle.machine.specs.Ahead.{IsLeftToProcessor, IsAccessAtOnce, IsMadeAtOnce, IsUnseenAtOnce, IsClockAtOnce}
 use Rattle.out_files.specs.Gives.{Gives}
 use Rattle.machine.proofs.AccessLaws.{MakesAccess-by, StoresMade-by, reads_done}
 use Rattle.machine.proofs.AskedLaws.{asks_alone}

@@ -10,7 +10,7 @@ use Rattle.serial_model.specs.State.{Chips, State}
 use Rattle.serial_model.specs.Tick.{ask_of, count_timers}
 use Rattle.chip_set.specs.Chips.{WorkingChips, IsChipsOf, HasAsked}
 use Rattle.machine.specs.Machine.{MachineValue, IsMachineOf, HasAskedOf, MakesQuietly}
-use Rattle.machine.specs.MachineStepsCode.{AsksInTime}
+use Rattle.machine.specs.MachineSteps.{AsksInTime}
 use Rattle.machine.proofs.BusLaws.{with_chips}
 use Rattle.machine.proofs.AccessLaws.{asks_of, HasAskedOf-by}
 use Rattle.machine.proofs.StepLaws.{Makes-timed}

@@ -21,13 +21,13 @@ use Rattle.cpu_bus.specs.declared.BusCpu.{BusCpu}
 use Rattle.cpu_bus.specs.Beside.{turn_beside_of}
 use Rattle.cpu_bus.specs.Bus.{IsProcessorOf, wish_shown}
 use Rattle.chip_set.specs.Beside.{missing}
-use Rattle.chip_set.specs.BusCode.{LeavesToPlanes, KeepsOnBus}
+use Rattle.chip_set.specs.Bus.{LeavesToPlanes, KeepsOnBus}
 use Rattle.chip_set.specs.Chips.{WorkingChips, IsChipsOf, IsGoing, GivesBlit, kept_wish}
 use Rattle.chip_set.proofs.BlitLaws.{going_by, read_is_none, write_is_none}
 use Rattle.chip_set.proofs.BusLaws.{bus_answered}
 use Rattle.machine.specs.Machine.{MachineValue}
-use Rattle.machine.specs.MachineStepsCode.{chip_after}
-use Rattle.machine.specs.AheadCode.{IsAccessAtOnce}
+use Rattle.machine.specs.MachineSteps.{chip_after}
+use Rattle.machine.specs.Ahead.{IsAccessAtOnce}
 use Rattle.machine.proofs.AccessLaws.{MakesAccess-by, StoresMade-by, reads_done}
 use Rattle.machine.proofs.AheadLaws.{counted_by}
 use Rattle.out_files.proofs.GivesLaws.{gives_nothing}

@@ -18,11 +18,11 @@ use Rattle.serial_model.specs.Side.{SideValue, answer_side, side_by_made}
 use Rattle.serial_model.specs.State.{Chips, State}
 use Rattle.serial_model.specs.Tick.{ask_of}
 use Rattle.chip_set.specs.AskLaws.{is_clx_ask}
-use Rattle.chip_set.specs.BusCode.{KeepsBus, KeepsOnBus, reaches_memory, is_bus_ask, is_bus_made, is_fetch_ask}
+use Rattle.chip_set.specs.Bus.{KeepsBus, KeepsOnBus, reaches_memory, is_bus_ask, is_bus_made, is_fetch_ask}
 use Rattle.chip_set.specs.Chips.{WorkingChips, IsChipsOf}
 use Rattle.chip_set.proofs.BusLaws.{kept_then, kept_alike, cias_then, cias_of_same}
 use Rattle.machine.specs.Machine.{MachineValue, HasAskedOf}
-use Rattle.machine.specs.MachineStepsCode.{Does}
+use Rattle.machine.specs.MachineSteps.{Does}
 use Rattle.machine.proofs.AccessLaws.{Answers, answered, accessed}
 
 -- such an access does not read CLXDAT

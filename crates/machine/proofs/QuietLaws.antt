@@ -17,7 +17,7 @@ use Rattle.serial_model.specs.Beam.{later_beam}
 use Rattle.quiet_clocks.proofs.QuietClocks.{quiet_span}
 use Rattle.serial_model.proofs.SideLaws.{no_side_stays, no_side_is_quiet, fewer_of_quiet_side}
 use Rattle.machine.specs.Machine.{MachineValue, IsMachineOf}
-use Rattle.machine.specs.QuietCode.{PassesOver}
+use Rattle.machine.specs.Quiet.{PassesOver}
 
 -- ---- the machine
 

@@ -30,7 +30,7 @@ use Rattle.serial_model.specs.Write.{write_chips, write_lof, lof_of}
 use Rattle.chip_set.specs.Chips.{IsChipsOf}
 use Rattle.out_files.specs.Gives.{Gives}
 use Rattle.machine.specs.Machine.{MachineValue, IsMachineOf, Start, Stands, Makes, MakesQuietly, MakesEvent, IsSamePlace, KeepsPlace}
-use Rattle.machine.specs.MachineStepsCode.{WritesRegister, chip_after, Does}
+use Rattle.machine.specs.MachineSteps.{WritesRegister, chip_after, Does}
 use Rattle.out_files.proofs.GivesLaws.{gives_nothing, gives_line}
 use Rattle.machine.proofs.ToldLaws.{told_same, told_more}
 use Rattle.machine.proofs.WriteLaws.{lof_open}

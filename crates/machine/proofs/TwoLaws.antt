@@ -18,8 +18,8 @@ use Rattle.cpu_bus.specs.Beside.{BeginsAnew, turn_beside_of}
 use Rattle.cpu_bus.specs.Bus.{IsProcessorOf, GoesOn, wish_shown}
 use Rattle.chip_set.proofs.BesideLaws.{waited_on, waits_beside, first_waits, waits_wish}
 use Rattle.machine.specs.Machine.{MachineValue}
-use Rattle.machine.specs.MachineStepsCode.{chip_after}
-use Rattle.machine.specs.AheadCode.{IsLeftToProcessor, IsLeftThen, IsClockAtOnce, EndsInTwo, IsAccessInTwo, IsAccessInPart}
+use Rattle.machine.specs.MachineSteps.{chip_after}
+use Rattle.machine.specs.Ahead.{IsLeftToProcessor, IsLeftThen, IsClockAtOnce, EndsInTwo, IsAccessInTwo, IsAccessInPart}
 use Rattle.machine.proofs.AheadLaws.{advanced, clock_at_once, nobody_then_waits, processor_asks, read_made, write_stored}
 use Rattle.machine.proofs.BusLaws.{with_chips}
 

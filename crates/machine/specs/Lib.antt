@@ -1,4 +1,4 @@
-pub mod AheadCode
+pub mod Ahead
 pub mod Machine
-pub mod MachineStepsCode
-pub mod QuietCode
+pub mod MachineSteps
+pub mod Quiet

@@ -13,14 +13,14 @@ ghost use Rattle.serial_model.specs.Registers.{is_interlaced};
 ghost use Rattle.serial_model.specs.Side.{no_side};
 ghost use Rattle.serial_model.specs.State.{Chips as ChipsOf, State};
 ghost use Rattle.serial_model.specs.Tick.{ask_of, run_processor, advance_beam};
-ghost use Rattle.chip_set.specs.BusCode.{LeavesToPlanes, LeavesBeside, KeepsBus, KeepsBeside, KeepsCias, KeepsOnBus, CiasRest, IsUnitKept};
-ghost use Rattle.chip_set.specs.BusCode.{ask_beside_planes, is_bus_ask, is_bus_made};
+ghost use Rattle.chip_set.specs.Bus.{LeavesToPlanes, LeavesBeside, KeepsBus, KeepsBeside, KeepsCias, KeepsOnBus, CiasRest, IsUnitKept};
+ghost use Rattle.chip_set.specs.Bus.{ask_beside_planes, is_bus_ask, is_bus_made};
 ghost use Rattle.chip_set.specs.Chips.{CanAsk, CanDo, IsBlitAsk, IsChipsOf, kept_wish};
 ghost use Rattle.cpu_bus.specs.Beside.{turn_beside_of, only_waits};
-ghost use Rattle.machine.specs.AheadCode.{IsAccessAtOnce, IsMadeAtOnce};
+ghost use Rattle.machine.specs.Ahead.{IsAccessAtOnce, IsMadeAtOnce};
 ghost use Rattle.machine.specs.Machine.{machine_over, Makes, MakesQuietly};
 ghost use Rattle.machine.specs.Machine.{MakesAccess, HasAskedOf, StoresMade, StaysInPlace, reads_after};
-ghost use Rattle.machine.specs.MachineStepsCode.{AsksInTime};
+ghost use Rattle.machine.specs.MachineSteps.{AsksInTime};
 
 use crate::machine::Machine;
 use chip_set::{FetchRules, Unit};

@@ -3,7 +3,7 @@
 ghost use Rattle.std.specs.Prelude.{◌≡◌, ◌≤◌, true, IfOk, OnErr};
 ghost use Rattle.serial_model.specs.State.{State};
 ghost use Rattle.serial_model.specs.Tick.{ask_of};
-ghost use Rattle.chip_set.specs.BusCode.{is_fetch_ask};
+ghost use Rattle.chip_set.specs.Bus.{is_fetch_ask};
 ghost use Rattle.chip_set.specs.Chips.{CanAsk, CanDo};
 ghost use Rattle.machine.specs.Machine.{machine_over};
 ghost use Rattle.machine.specs.Machine.{MakesAccess, HasAskedOf, StoresMade, StaysInPlace, reads_after};

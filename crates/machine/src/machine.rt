@@ -13,11 +13,11 @@ ghost use Rattle.serial_model.specs.Bus.{answer_processor};
 ghost use Rattle.serial_model.specs.Tick.{ask_of, answer_of, run_processor, advance_beam};
 ghost use Rattle.chip_set.specs.AskLaws.{is_clx_ask, reads_clx};
 ghost use Rattle.chip_set.specs.Chips.{CanAsk, CanDo, IsBlitAsk, kept_wish, ask_or_late};
-ghost use Rattle.chip_set.specs.BusCode.{KeepsBus};
+ghost use Rattle.chip_set.specs.Bus.{KeepsBus};
 ghost use Rattle.machine.specs.Machine.{machine_over, IsMachineOf, IsReset, Makes, MakesQuietly, MakesEvent, MakesAccess};
 ghost use Rattle.machine.specs.Machine.{HasAskedOf, StoresMade, StaysInPlace, KeepsPlace, reads_after};
 ghost use Rattle.serial_model.specs.RegisterRead.{register_read, word_of_processor};
-ghost use Rattle.machine.specs.MachineStepsCode.{WritesRegister, AsksInTime, GivesSide, Does, chip_after};
+ghost use Rattle.machine.specs.MachineSteps.{WritesRegister, AsksInTime, GivesSide, Does, chip_after};
 
 use chip_set::Chips;
 use mem_versions::Chip;

@@ -3,7 +3,7 @@
 ghost use Rattle.std.specs.Prelude.{◌≡◌, ◌≤◌, ◌<◌, ◌+◌, ◌^◌};
 ghost use Rattle.serial_model.specs.Beam.{later_beam};
 ghost use Rattle.machine.specs.Machine.{machine_over};
-ghost use Rattle.machine.specs.QuietCode.{PassesOver};
+ghost use Rattle.machine.specs.Quiet.{PassesOver};
 
 use crate::machine::Machine;
 use serial_model::Side;

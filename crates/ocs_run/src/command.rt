@@ -5,7 +5,7 @@ ghost use Rattle.crew.specs.Crew.{side_seen};
 ghost use Rattle.ocs_base.specs.Image.{is_image, fits_chip};
 ghost use Rattle.ocs_base.specs.Limits.{IsRunnable};
 ghost use Rattle.ocs_base.specs.Sizes.{bytes_of};
-ghost use Rattle.ocs_words.specs.AskedCode.{value_of, extra_value, AreApart, IsHeight};
+ghost use Rattle.ocs_words.specs.Asked.{value_of, extra_value, AreApart, IsHeight};
 ghost use Rattle.ocs_run.specs.Command.{OrderAnswers, out_names, IsOutOf};
 ghost use Rattle.ocs_run.specs.code.Setup.{IsSetupOf};
 ghost use Rattle.ocs_run.specs.Sides.{ReadableTrack};

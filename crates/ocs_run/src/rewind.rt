@@ -4,7 +4,7 @@ ghost use Rattle.std.specs.Prelude.{◌≡◌, ◌≤◌, ℕ, map, true, IfOk};
 ghost use Rattle.std.specs.List.{flat_map};
 ghost use Rattle.ocs_base.specs.Image.{is_image, fits_chip};
 ghost use Rattle.ocs_base.specs.Limits.{IsRunnable};
-ghost use Rattle.ocs_words.specs.AskedCode.{rewind_value, HasRanges};
+ghost use Rattle.ocs_words.specs.Asked.{rewind_value, HasRanges};
 ghost use Rattle.ocs_run.specs.RewindAnswers.{RewindAnswers};
 ghost use Rattle.ocs_run.specs.RewindText.{AreLines, line_of};
 ghost use Rattle.rewind_loop.specs.Places.{Place as RunPlace, due_in, arrivals};

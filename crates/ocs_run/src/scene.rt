@@ -4,7 +4,7 @@
 ghost use Rattle.std.specs.Prelude.{◌≡◌, ◌++◌, ◌^◌, ◌<◌, ◌≤◌, ◌==◌, [], length, sum, decimal, codes, unwrap_or, IfOk, IfErr, OnOk};
 ghost use Rattle.std.specs.FinMap.{get};
 ghost use Rattle.ocs_io.specs.Place.{OnlySays};
-ghost use Rattle.ocs_words.specs.AskedCode.{IsHeight};
+ghost use Rattle.ocs_words.specs.Asked.{IsHeight};
 ghost use Rattle.ocs_run.specs.Command.{IsOutOf};
 ghost use Rattle.ocs_run.specs.SceneAnswers.{SceneAnswers, HasSceneFiles, scene_names};
 ghost use Rattle.ocs_run.specs.SceneSummary.{IsSummary, summary_text, number_line, line_count};

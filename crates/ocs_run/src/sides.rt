@@ -6,7 +6,7 @@ ghost use Rattle.disk_dma.specs.Disk.{disk_side, new_disk};
 ghost use Rattle.disk_dma.specs.Track.{is_track as good_track};
 ghost use Rattle.ocs_base.specs.Sizes.{bytes_of};
 ghost use Rattle.ocs_io.specs.Place.{OnlyReads};
-ghost use Rattle.ocs_words.specs.AskedCode.{extra_value};
+ghost use Rattle.ocs_words.specs.Asked.{extra_value};
 ghost use Rattle.ocs_words.specs.Order.{TrackFile};
 ghost use Rattle.ocs_run.specs.Sides.{ReadableTrack, IsSideOf, IsSideFault, IsTrackOf, IsTrackFault};
 ghost use Rattle.out_files.specs.Places.{LeavesPlace};

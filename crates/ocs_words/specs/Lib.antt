@@ -1,4 +1,4 @@
-pub mod AskedCode
+pub mod Asked
 pub mod Fault
 pub mod Order
 pub mod RewindOrder

@@ -3,7 +3,7 @@
 ghost use Rattle.std.specs.Prelude.{◌≡◌, ◌<◌, ◌≤◌, ◌∷◌, map, length, string_bytes, IfSome};
 ghost use Rattle.ocs_words.specs.Order.{order_of, order_from, run_words_of, band_of, workers_of};
 ghost use Rattle.ocs_words.specs.Order.{extra_of, extra_names};
-ghost use Rattle.ocs_words.specs.AskedCode.{AreApart, IsHeight, IsOrder, AreRunWords, words_value, IsExtra, extra_value};
+ghost use Rattle.ocs_words.specs.Asked.{AreApart, IsHeight, IsOrder, AreRunWords, words_value, IsExtra, extra_value};
 ghost use Rattle.run_inputs.specs.Names.{are_names as names_of};
 
 use ocs_io::dec;
@@ -21,7 +21,7 @@ pub enum Extra<'a> {
 impl<'a> Extra<'a> {
     ghost use Rattle.std.specs.Prelude.{◌≡◌, option_map};
     ghost use Rattle.ocs_words.specs.Order.{audio_of, track_of};
-    ghost use Rattle.ocs_words.specs.AskedCode.{extra_value};
+    ghost use Rattle.ocs_words.specs.Asked.{extra_value};
 
     /// The name of the audio file, where there is one.
     pub fn audio(self) -> Option<&'a str>

@@ -2,7 +2,7 @@
 
 ghost use Rattle.std.specs.Prelude.{◌≡◌, map, string_bytes, Some, None, IfSome, MatchOption};
 ghost use Rattle.ocs_words.specs.RewindOrder.{rewind_order_of, every_of, keep_of, clock_of, clocks_of};
-ghost use Rattle.ocs_words.specs.AskedCode.{IsRewindOrder, HasRanges};
+ghost use Rattle.ocs_words.specs.Asked.{IsRewindOrder, HasRanges};
 
 use arrayvec::ArrayVec;
 use ocs_io::dec;

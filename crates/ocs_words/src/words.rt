@@ -2,7 +2,7 @@
 
 ghost use Rattle.std.specs.Prelude.{◌≡◌, ◌≤◌, map, string_bytes, IfSome};
 ghost use Rattle.ocs_words.specs.Words.{command_of, scene_order_of, number_of, begins_with as first_is};
-ghost use Rattle.ocs_words.specs.AskedCode.{IsCommand, IsSceneOrder, WritesApart, IsHeight, HasHeight, HasFewWorkers, IsInRange};
+ghost use Rattle.ocs_words.specs.Asked.{IsCommand, IsSceneOrder, WritesApart, IsHeight, HasHeight, HasFewWorkers, IsInRange};
 
 use crate::order::{Order, read_band, read_order, read_workers};
 use crate::rewind_order::{RewindOrder, read_rewind_order};

@@ -11,10 +11,10 @@ use Rattle.std.specs.Option.{option_to_list}
 use Rattle.sprites.specs.declared.runs.Start.{Start}
 use Rattle.sprites.specs.SpriteValue.{sprite_value, kept_start}
 use Rattle.serial_model.specs.Picture.{all_sprites, sprite_values}
-use Rattle.painter.specs.SpriteState.{SpriteRegisters, IsQuiet, begins_at, run_or, run_in, runs_in, first_runs}
-use Rattle.painter.specs.StartsCode.{IsIdle}
-use Rattle.painter.specs.SpriteState.{quiet_or, first_quiet, first_begun, words_begun, has_start, has_start_at, is_known_idle}
-use Rattle.painter.specs.SpriteState.{start_of, starts_in}
+use Rattle.painter.specs.code.SpriteState.{SpriteRegisters, IsQuiet, begins_at, run_or, run_in, runs_in, first_runs}
+use Rattle.painter.specs.code.Starts.{IsIdle}
+use Rattle.painter.specs.code.SpriteState.{quiet_or, first_quiet, first_begun, words_begun, has_start, has_start_at, is_known_idle}
+use Rattle.painter.specs.code.SpriteState.{start_of, starts_in}
 
 pub not_true : (b : Bool) → not b ≡ true → b ≡ false
 not_true true is = cc

@@ -10,10 +10,10 @@ use Rattle.serial_model.specs.Picture.{PictureStep, colour_bytes, pixel_colour, 
 use Rattle.serial_model.specs.Picture.{is_armed, sprite_column, held_after, run_at, runs_at, runs_after, step_of, after_step}
 use Rattle.serial_model.specs.Spans.{after_shows, shown_bytes, shown_clx}
 use Rattle.painter.specs.declared.painter.Painter.{Painter}
-use Rattle.painter.specs.Overlay.{with_runs}
+use Rattle.painter.specs.code.Overlay.{with_runs}
 use Rattle.painter.specs.Painter.{IsPainterOf}
 use Rattle.painter.specs.Span.{IsSpan}
-use Rattle.painter.specs.SpriteState.{SpriteRegisters, begins_at, run_in, runs_in, words_begun}
+use Rattle.painter.specs.code.SpriteState.{SpriteRegisters, begins_at, run_in, runs_in, words_begun}
 use Rattle.painter.proofs.Beginning.{same_eight}
 
 -- what has begun at a position begins there once more with the same words

@@ -10,11 +10,11 @@ use Rattle.serial_model.specs.Picture.{step_of, after_step, pixels, held_after, 
 use Rattle.serial_model.specs.Spans.{after_shows, shown_bytes, shown_clx}
 use Rattle.painter.specs.declared.painter.Painter.{Painter}
 use Rattle.painter.specs.Painter.{IsPainterOf, with_held, clock_bytes}
-use Rattle.painter.specs.Overlay.{quiet_collisions}
-use Rattle.painter.specs.StartsCode.{IsIdle}
+use Rattle.painter.specs.code.Overlay.{quiet_collisions}
+use Rattle.painter.specs.code.Starts.{IsIdle}
 use Rattle.painter.specs.Span.{visible_clocks, IsSpan}
-use Rattle.painter.specs.SpanCode.{bytes_of_clocks, gathered, held_to, pixels_to, AreClocks, AreInside, all_backdrop, all_inks, ink_pixels, quiet_gathered}
-use Rattle.painter.specs.Pixels.{ink_at}
+use Rattle.painter.specs.SpanParts.{bytes_of_clocks, gathered, held_to, pixels_to, AreClocks, AreInside, all_backdrop, all_inks, ink_pixels, quiet_gathered}
+use Rattle.painter.specs.code.Pixels.{ink_at}
 use Rattle.painter.specs.Inks.{is_held}
 use Rattle.serial_model.specs.Window.{is_inside}
 use Rattle.painter.proofs.Showing.{with_held_stands, four_written, ink_clock}

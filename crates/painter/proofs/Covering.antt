@@ -7,18 +7,18 @@ use Rattle.serial_model.specs.declared.picture.Denise.{Denise}
 use Rattle.serial_model.specs.Picture.{runs_at, runs_after, sprite_values, attached_pairs, clock_collisions}
 use Rattle.serial_model.specs.Window.{is_inside}
 use Rattle.painter.specs.declared.painter.Painter.{Painter}
-use Rattle.painter.specs.Overlay.{with_runs, shown_bits, covered_column, covered_collisions, clock_over}
+use Rattle.painter.specs.code.Overlay.{with_runs, shown_bits, covered_column, covered_collisions, clock_over}
 use Rattle.painter.specs.Painter.{IsPainterOf}
-use Rattle.painter.specs.StartsCode.{IsSteady, IsAlone}
+use Rattle.painter.specs.code.Starts.{IsSteady, IsAlone}
 use Rattle.painter.proofs.Overlays.{after_first, after_second, same_runs_stand, runs_same, runs_of, inside_same, attached_same}
 use Rattle.painter.proofs.Overlays.{clock_changed, clock_gathered, column_inside, bits_inside}
 use Rattle.painter.proofs.Ors.{or_reached, or_both}
 use Rattle.painter.proofs.Pairs.{later_pairs}
 use Rattle.sprite_rows.specs.LineValues.{pair_byte}
-use Rattle.sprite_rows.specs.PairFrontCode.{pixel_of_byte}
+use Rattle.sprite_rows.specs.PairFront.{pixel_of_byte}
 use Rattle.sprite_rows.proofs.Standing.{front_alone}
 use Rattle.plane_rows.specs.Line.{ArePaired}
-use Rattle.painter.specs.SpriteState.{attached_in}
+use Rattle.painter.specs.code.SpriteState.{attached_in}
 use Rattle.painter.specs.code.Steady.{IsSteadyFrom}
 use Rattle.painter.specs.declared.show_covered.Steady.{Steady}
 

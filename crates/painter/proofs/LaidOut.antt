@@ -11,7 +11,7 @@ use Rattle.sprite_rows.specs.declared.rows.SpriteRows.{SpriteRows}
 use Rattle.sprite_rows.specs.LineValues.{StartsBy, IsRowsOf}
 use Rattle.sprite_rows.specs.PairCollision.{worth_of_playfields}
 use Rattle.collisions.specs.Collision.{playfield_matches}
-use Rattle.painter.specs.SpriteState.{IsLaidOut}
+use Rattle.painter.specs.code.SpriteState.{IsLaidOut}
 use Rattle.painter.proofs.Beginning.{none_quiet, begun_quiet, none_at}
 
 none_starts_by : (x : ℕ) (o : Option Start) (start : Start) → o ≡ None → o ≡ Some start → start.x ≤ x

@@ -12,9 +12,9 @@ use Rattle.painter.specs.declared.painter.Painter.{Painter}
 use Rattle.painter.specs.Painter.{IsPainterOf, clock_bytes}
 use Rattle.painter.specs.Inks.{InkRegisters, is_held, ink_number}
 use Rattle.plane_rows.specs.Line.{row_bits, ArePaired}
-use Rattle.painter.specs.Pixels.{modified_at, modified_along, modified_pixels, all_modified}
+use Rattle.painter.specs.code.Pixels.{modified_at, modified_along, modified_pixels, all_modified}
 use Rattle.painter.specs.Span.{IsSpan}
-use Rattle.painter.specs.SpanCode.{bytes_of_clocks, quiet_gathered, AreInside, AreModified}
+use Rattle.painter.specs.SpanParts.{bytes_of_clocks, quiet_gathered, AreInside, AreModified}
 use Rattle.priority_ham.specs.PixelColour.{modified}
 use Rattle.painter.proofs.Showing.{held_pixel, four_written, with_held_stands}
 use Rattle.painter.proofs.Clocks.{quiet_shown, quiet_stands, gathered_of}

@@ -19,10 +19,10 @@ use Rattle.serial_model.specs.Picture.{colour_bytes, pixel_colour, held_after, r
 use Rattle.serial_model.specs.Picture.{shown_at, collisions_at, values_after, pixel_bytes, pixels, clock_collisions, step_of, after_step}
 use Rattle.serial_model.specs.Window.{is_inside}
 use Rattle.painter.specs.declared.painter.Painter.{Painter}
-use Rattle.painter.specs.SpriteState.{SpriteRegisters, runs_in, words_begun, attached_in}
-use Rattle.painter.specs.StartsCode.{IsIdle}
-use Rattle.painter.specs.Overlay.{with_runs, shown_bits, with_front, with_front_at, shown_over, two_changed, covered_column}
-use Rattle.painter.specs.Overlay.{covered_collisions, column_over, column_collisions, clock_over, quiet_in_column, quiet_collisions}
+use Rattle.painter.specs.code.SpriteState.{SpriteRegisters, runs_in, words_begun, attached_in}
+use Rattle.painter.specs.code.Starts.{IsIdle}
+use Rattle.painter.specs.code.Overlay.{with_runs, shown_bits, with_front, with_front_at, shown_over, two_changed, covered_column}
+use Rattle.painter.specs.code.Overlay.{covered_collisions, column_over, column_collisions, clock_over, quiet_in_column, quiet_collisions}
 use Rattle.painter.specs.Painter.{IsPainterOf, with_held, clock_bytes}
 use Rattle.painter.specs.Inks.{backdrop, counted_bits}
 use Rattle.plane_rows.specs.Line.{row_bits}

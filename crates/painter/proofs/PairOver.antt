@@ -8,7 +8,7 @@ use Rattle.ocs_base.specs.Systems.{is_visible}
 use Rattle.sprites.specs.SpriteFront.{front_pixel}
 use Rattle.priority_ham.specs.PixelColour.{hides}
 use Rattle.sprite_rows.specs.LineValues.{pair_byte}
-use Rattle.sprite_rows.specs.PairFrontCode.{colour_of_byte, pixel_of_byte}
+use Rattle.sprite_rows.specs.PairFront.{colour_of_byte, pixel_of_byte}
 use Rattle.serial_model.specs.declared.picture.Denise.{Denise}
 use Rattle.serial_model.specs.Picture.{colour_bytes, attached_pairs, sprite_values, held_after, step_of, clock_collisions}
 use Rattle.serial_model.specs.Spans.{after_shows}
@@ -17,13 +17,13 @@ use Rattle.painter.specs.declared.painter.Painter.{Painter}
 use Rattle.painter.specs.declared.show_covered.Steady.{Steady}
 use Rattle.painter.specs.Inks.{InkRegisters, ink, ink_number, counted_bits, is_held}
 use Rattle.plane_rows.specs.Line.{row_bits}
-use Rattle.painter.specs.Overlay.{with_front, with_front_at, covered_column, clock_over, shown_bits}
+use Rattle.painter.specs.code.Overlay.{with_front, with_front_at, covered_column, clock_over, shown_bits}
 use Rattle.painter.specs.Painter.{IsPainterOf, with_held, clock_bytes}
 use Rattle.painter.specs.code.PairOver.{colour_in_front, colour_over, pixels_over}
-use Rattle.painter.specs.Pixels.{ink_at}
+use Rattle.painter.specs.code.Pixels.{ink_at}
 use Rattle.painter.specs.Span.{IsSpan}
-use Rattle.painter.specs.SpanCode.{bytes_of_clocks, held_to, all_inks, ink_pixels}
-use Rattle.painter.specs.StartsCode.{IsSteady}
+use Rattle.painter.specs.SpanParts.{bytes_of_clocks, held_to, all_inks, ink_pixels}
+use Rattle.painter.specs.code.Starts.{IsSteady}
 use Rattle.painter.specs.code.Steady.{IsSteadyFrom}
 use Rattle.plane_rows.specs.declared.line.Line.{Line}
 use Rattle.painter.proofs.Clocks.{inks_shown, held_of_inks}

@@ -4,8 +4,8 @@ use Rattle.serial_model.specs.Picture.{colour_bytes}
 use Rattle.plane_rows.specs.declared.line.Line.{Line}
 use Rattle.painter.specs.Inks.{InkRegisters, ink, ink_number}
 use Rattle.plane_rows.specs.Line.{row_bits, ArePaired}
-use Rattle.painter.specs.Pixels.{ink_at}
-use Rattle.painter.specs.SpanCode.{ink_pixels}
+use Rattle.painter.specs.code.Pixels.{ink_at}
+use Rattle.painter.specs.SpanParts.{ink_pixels}
 
 -- the pairs of a clock, and of a later one
 pub first_pair : (line : Line) (x : ℕ) → ArePaired line x → row_bits line x ≡ row_bits line (x + 1)

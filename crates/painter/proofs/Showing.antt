@@ -17,7 +17,7 @@ use Rattle.priority_ham.proofs.Within.{at_most_six}
 use Rattle.plane_rows.specs.declared.line.Line.{Line}
 use Rattle.plane_rows.specs.Line.{IsLineOf, Shows, three_planes, row_bits}
 use Rattle.painter.specs.Inks.{InkRegisters, ink, ink_number, counted_bits, is_held, backdrop}
-use Rattle.painter.specs.Pixels.{ink_at, modified_at}
+use Rattle.painter.specs.code.Pixels.{ink_at, modified_at}
 use Rattle.painter.specs.declared.painter.Painter.{Painter}
 use Rattle.painter.specs.Painter.{IsPainterOf, first_colour, second_colour, with_held, clock_bytes}
 use Rattle.painter.proofs.Colours.{ink_colour, held_colour}

@@ -1,11 +1,7 @@
 pub mod code
 pub mod Inks
-pub mod Pixels
-pub mod SpriteState
-pub mod StartsCode
 pub mod Runs
-pub mod Overlay
 pub mod Painter
 pub mod RunningWords
 pub mod Span
-pub mod SpanCode
+pub mod SpanParts

@@ -6,7 +6,7 @@ use Rattle.painter.specs.declared.painter.Painter.{Painter}
 use Rattle.collisions.specs.Collision.{playfield_matches}
 use Rattle.serial_model.specs.Window.{is_inside}
 use Rattle.plane_rows.specs.Line.{IsLineOf}
-use Rattle.painter.specs.SpriteState.{is_known_idle}
+use Rattle.painter.specs.code.SpriteState.{is_known_idle}
 
 -- it stands for a picture state with the same registers, loads that show the same, the same words that run,
 -- and the same held colour

@@ -2,7 +2,7 @@
 
 ghost use Rattle.std.specs.Prelude.{◌≡◌, ◌≤◌, ◌<◌, [], Some, slice_index_or, slice_set};
 ghost use Rattle.painter.specs.Inks.{counted_bits};
-ghost use Rattle.painter.specs.Overlay.{with_front};
+ghost use Rattle.painter.specs.code.Overlay.{with_front};
 
 use crate::inks::Inks;
 use sprites::SpritePixel;

@@ -7,11 +7,11 @@ ghost use Rattle.priority_ham.specs.PlaneCount.{is_hires};
 ghost use Rattle.serial_model.specs.Picture.{pixels, colour_bytes, held_after, runs_after, runs_at, sprite_values, clock_collisions};
 ghost use Rattle.collisions.specs.Collision.{collision_bits};
 ghost use Rattle.serial_model.specs.Window.{is_inside};
-ghost use Rattle.painter.specs.Overlay.{with_runs, shown_bits, covered_column, covered_collisions, column_over};
-ghost use Rattle.painter.specs.Overlay.{column_collisions, clock_over, quiet_in_column, quiet_collisions};
+ghost use Rattle.painter.specs.code.Overlay.{with_runs, shown_bits, covered_column, covered_collisions, column_over};
+ghost use Rattle.painter.specs.code.Overlay.{column_collisions, clock_over, quiet_in_column, quiet_collisions};
 ghost use Rattle.painter.specs.Inks.{is_held, backdrop};
-ghost use Rattle.painter.specs.SpriteState.{attached_in};
-ghost use Rattle.painter.specs.StartsCode.{IsIdle};
+ghost use Rattle.painter.specs.code.SpriteState.{attached_in};
+ghost use Rattle.painter.specs.code.Starts.{IsIdle};
 ghost use Rattle.plane_rows.specs.Line.{row_bits, ArePaired};
 ghost use Rattle.ocs_base.specs.Systems.{is_visible};
 

@@ -4,9 +4,9 @@ ghost use Rattle.std.specs.Prelude.{◌≡◌, ◌≤◌, ◌<◌, ◌+◌, ◌*
 ghost use Rattle.serial_model.specs.Picture.{colour_bytes};
 ghost use Rattle.painter.specs.code.Held.{IsHeld, colour_word};
 ghost use Rattle.painter.specs.Inks.{ink, ink_number, two_pixels};
-ghost use Rattle.painter.specs.Pixels.{ink_at, modified_at, modified_along, modified_pixels, all_modified};
+ghost use Rattle.painter.specs.code.Pixels.{ink_at, modified_at, modified_along, modified_pixels, all_modified};
 ghost use Rattle.plane_rows.specs.Line.{row_bits, ArePaired};
-ghost use Rattle.painter.specs.SpanCode.{bytes_of_clocks, ink_pixels};
+ghost use Rattle.painter.specs.SpanParts.{bytes_of_clocks, ink_pixels};
 
 use crate::ham::{bytes_of, held_of, modify, modify_again, modify_word, word_of};
 use crate::held::Held;

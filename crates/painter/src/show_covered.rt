@@ -4,10 +4,10 @@ ghost use Rattle.std.specs.Prelude.{ℕ, bit_and, bit_or, ◌≡◌, ◌≤◌, 
 ghost use Rattle.ocs_base.specs.Systems.{is_visible};
 ghost use Rattle.serial_model.specs.Picture.{clock_collisions};
 ghost use Rattle.serial_model.specs.Window.{is_inside};
-ghost use Rattle.painter.specs.Overlay.{clock_over, covered_column};
+ghost use Rattle.painter.specs.code.Overlay.{clock_over, covered_column};
 ghost use Rattle.plane_rows.specs.Line.{row_bits};
-ghost use Rattle.painter.specs.SpriteState.{attached_in};
-ghost use Rattle.painter.specs.StartsCode.{IsSteady, IsAlone};
+ghost use Rattle.painter.specs.code.SpriteState.{attached_in};
+ghost use Rattle.painter.specs.code.Starts.{IsSteady, IsAlone};
 ghost use Rattle.painter.specs.code.Steady.{IsSteadyFrom};
 ghost use Rattle.painter.specs.Span.{IsSpan};
 

@@ -3,14 +3,14 @@
 ghost use Rattle.std.specs.Prelude.{ℕ, bit_or, ◌≡◌, ◌≤◌, ◌<◌, ◌+◌, ◌-◌, ◌*◌, ◌++◌, [], length, take};
 ghost use Rattle.std.specs.Prelude.{slice_index, true, false, if◌then◌else◌};
 ghost use Rattle.serial_model.specs.Picture.{colour_bytes};
-ghost use Rattle.painter.specs.Overlay.{quiet_collisions};
+ghost use Rattle.painter.specs.code.Overlay.{quiet_collisions};
 ghost use Rattle.painter.specs.Inks.{backdrop};
 ghost use Rattle.plane_rows.specs.Line.{row_bits};
-ghost use Rattle.painter.specs.Pixels.{ink_at};
+ghost use Rattle.painter.specs.code.Pixels.{ink_at};
 ghost use Rattle.painter.specs.Span.{visible_clocks, IsSpan};
-ghost use Rattle.painter.specs.StartsCode.{IsIdle};
-ghost use Rattle.painter.specs.SpanCode.{bytes_of_clocks, AreClocks, AreInside, AreModified};
-ghost use Rattle.painter.specs.SpanCode.{all_backdrop, all_inks, quiet_gathered};
+ghost use Rattle.painter.specs.code.Starts.{IsIdle};
+ghost use Rattle.painter.specs.SpanParts.{bytes_of_clocks, AreClocks, AreInside, AreModified};
+ghost use Rattle.painter.specs.SpanParts.{all_backdrop, all_inks, quiet_gathered};
 ghost use Rattle.ocs_base.specs.Systems.{is_visible};
 
 use crate::field_place::FieldPlace;

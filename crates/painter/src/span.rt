@@ -3,7 +3,7 @@
 ghost use Rattle.std.specs.Prelude.{◌≡◌, ◌≤◌, ◌+◌, ◌*◌, ◌++◌, ℕ, flat_map, length, replicate, take};
 ghost use Rattle.serial_model.specs.Picture.{colour_bytes};
 ghost use Rattle.painter.specs.Inks.{two_pixels};
-ghost use Rattle.painter.specs.SpanCode.{bytes_of_clocks};
+ghost use Rattle.painter.specs.SpanParts.{bytes_of_clocks};
 
 /// Puts the bytes of four pixels into a room from a place on.
 #[inline(always)]

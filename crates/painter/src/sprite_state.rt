@@ -7,7 +7,7 @@ ghost use Rattle.serial_model.specs.Picture.{sprite_values};
 ghost use Rattle.sprite_rows.specs.LineValues.{pair_byte};
 ghost use Rattle.sprites.specs.SpriteFront.{front_pixel as pixel_of_front};
 ghost use Rattle.collisions.specs.Collision.{collision_bits};
-ghost use Rattle.painter.specs.SpriteState.{
+ghost use Rattle.painter.specs.code.SpriteState.{
   run_in,
   runs_in,
   quiet_or,
@@ -18,7 +18,7 @@ ghost use Rattle.painter.specs.SpriteState.{
   is_known_idle,
   attached_in,
 };
-ghost use Rattle.painter.specs.StartsCode.{IsIdle, IsSteady, IsAlone};
+ghost use Rattle.painter.specs.code.Starts.{IsIdle, IsSteady, IsAlone};
 
 use collisions::{clx, playfields};
 use serial_model::Denise;
@@ -48,7 +48,7 @@ pub struct SpriteState {
 }
 
 impl Model for SpriteState {
-    ghost use Rattle.painter.specs.SpriteState.{SpriteRegisters, IsLaidOut};
+    ghost use Rattle.painter.specs.code.SpriteState.{SpriteRegisters, IsLaidOut};
 
     ghost Value = { SpriteRegisters };
 
@@ -66,7 +66,7 @@ impl Model for SpriteState {
 }
 
 impl SpriteState {
-    ghost use Rattle.painter.specs.SpriteState.{no_sprites};
+    ghost use Rattle.painter.specs.code.SpriteState.{no_sprites};
 
     /// The registers at reset: all are 0, and no words run.
     pub fn reset() -> SpriteState

@@ -9,7 +9,7 @@ use Rattle.serial_bands.specs.BandShown.{bytes_from}
 use Rattle.serial_bands.proofs.Ranges.{shown_in_range}
 use Rattle.picture_log.specs.declared.log.Log.{Log}
 use Rattle.picture_log.specs.Log.{size_to, IsEnding}
-use Rattle.picture_log.specs.ShownCountCode.{shown_before}
+use Rattle.picture_log.specs.ShownCount.{shown_before}
 
 -- at the start of a clock
 pub shown_at : (run : RunValue) (c : ℕ) → length (state_of run c).shown ≡ shown_before run.script.system (beam_at run c)

@@ -1,4 +1,4 @@
-pub mod ShownCountCode
+pub mod ShownCount
 pub mod Log
 pub mod LogLaws
 pub mod Closing

@@ -1,7 +1,7 @@
 //! How many pixel bytes a run has shown, by the place of the beam.
 
 ghost use Rattle.std.specs.Prelude.{◌≡◌};
-ghost use Rattle.picture_log.specs.ShownCountCode.{shown_before as before, shown_behind as behind};
+ghost use Rattle.picture_log.specs.ShownCount.{shown_before as before, shown_behind as behind};
 
 use ocs_base::{Beam, System};
 

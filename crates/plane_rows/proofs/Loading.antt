@@ -12,7 +12,7 @@ use Rattle.planes.specs.PlaneBit.{start_of, shown_load, word_bit, load_bit, plan
 use Rattle.planes.proofs.Showing.{later, shown-append, one_there, one_not}
 use Rattle.planes.proofs.Searching.{word_bit-lt}
 use Rattle.plane_rows.specs.code.Words.{three_bits, spread_bits}
-use Rattle.plane_rows.specs.RowCode.{laid}
+use Rattle.plane_rows.specs.Row.{laid}
 use Rattle.plane_rows.specs.Line.{three_planes, Shows}
 
 -- past bit 0 a word shows 0

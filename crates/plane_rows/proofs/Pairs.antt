@@ -6,7 +6,7 @@ use Rattle.std.proofs.Math.ListN.{get_or-eq_default}
 use Rattle.std.proofs.lemmas.Bool.Decides.{nat_tests}
 use Rattle.plane_rows.specs.declared.line.Line.{Line}
 use Rattle.plane_rows.specs.Line.{row_bits, ArePaired}
-use Rattle.plane_rows.specs.RowCode.{laid, IsPaired}
+use Rattle.plane_rows.specs.Row.{laid, IsPaired}
 use Rattle.plane_rows.specs.code.Words.{spread_bits}
 use Rattle.plane_rows.proofs.Loading.{spread_at}
 

@@ -6,7 +6,7 @@ use Rattle.std.proofs.lemmas.List.{get_or-replicate, length-replicate, get_or-se
 use Rattle.std.proofs.lemmas.List.{get_or-append_right, get_or_append_left, get_or-take, get_or-drop, length-take-le}
 use Rattle.std.proofs.lemmas.Bool.Decides.{nat_tests}
 use borrow.Rule.Slice.PartMut.{put_mid}
-use Rattle.plane_rows.specs.RowCode.{laid, cut_off}
+use Rattle.plane_rows.specs.Row.{laid, cut_off}
 
 zeros_by : (n x : ℕ) (b : Bool) → nat_lt x n ≡ b → slice_index (replicate n 0) x ≡ 0
 zeros_by n x true is =

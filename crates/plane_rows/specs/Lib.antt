@@ -1,3 +1,3 @@
 pub mod code
-pub mod RowCode
+pub mod Row
 pub mod Line

@@ -1,7 +1,7 @@
 //! What the planes of one parity show along a line.
 
 ghost use Rattle.std.specs.Prelude.{◌≡◌, ◌≤◌, ◌+◌, ◌*◌, ◌%◌, ℕ, true, nat_le, length, slice_index};
-ghost use Rattle.plane_rows.specs.RowCode.{laid, cut_off, IsPaired};
+ghost use Rattle.plane_rows.specs.Row.{laid, cut_off, IsPaired};
 
 /// How many high-resolution positions a row has: a line has 908, or 912 with NTSC, and a load may
 /// begin 36 after.

@@ -6,7 +6,7 @@ use Rattle.std.specs.Option.{option_or}
 use Rattle.std.proofs.lemmas.Nat.{le_or_l, le_or_r}
 use Rattle.sprites.specs.declared.pixel.SpritePixel.{SpritePixel}
 use Rattle.sprites.specs.SpriteFront.{pixel_of, pair_pixel, front_pixel}
-use Rattle.sprite_rows.specs.PairFrontCode.{colour_of_byte, pixel_of_byte, front_of_bytes}
+use Rattle.sprite_rows.specs.PairFront.{colour_of_byte, pixel_of_byte, front_of_bytes}
 
 -- a pair's pixel, by the values of its sprites and whether it is attached
 abbrev pub pixel_by_values : Bool → ℕ → ℕ → ℕ → Option SpritePixel

@@ -13,7 +13,7 @@ use Rattle.collisions.specs.Collision.{number_of}
 use Rattle.sprite_rows.specs.declared.rows.SpriteRows.{SpriteRows}
 use Rattle.sprite_rows.specs.Laid.{byte_of, with_value, laid_byte}
 use Rattle.sprite_rows.specs.WordValues.{word_values}
-use Rattle.sprite_rows.specs.PairFrontCode.{pixel_of_byte, front_of_bytes}
+use Rattle.sprite_rows.specs.PairFront.{pixel_of_byte, front_of_bytes}
 use Rattle.sprite_rows.specs.PairCollision.{is_byte_present, present_pairs}
 use Rattle.sprite_rows.specs.LineValues.{value_at, values_at, pair_byte, IsRowsOf, StartsBy, SpriteStartsBy}
 use Rattle.sprite_rows.proofs.LaidBytes.{is_among}

@@ -1,5 +1,5 @@
 pub mod WordValues
 pub mod Laid
-pub mod PairFrontCode
+pub mod PairFront
 pub mod PairCollision
 pub mod LineValues

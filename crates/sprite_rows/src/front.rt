@@ -1,7 +1,7 @@
 //! The sprite in front, from the bytes of the four pairs.
 
 ghost use Rattle.std.specs.Prelude.{◌≡◌, ◌≤◌, ◌+◌, ℕ, IfSome, slice_index};
-ghost use Rattle.sprite_rows.specs.PairFrontCode.{colour_of_byte, front_of_bytes};
+ghost use Rattle.sprite_rows.specs.PairFront.{colour_of_byte, front_of_bytes};
 
 use sprites::SpritePixel;
 

@@ -7,12 +7,12 @@ use Rattle.serial_model.specs.declared.bus.Made.{Made}
 use Rattle.serial_model.specs.Made.{touch_of}
 use Rattle.serial_model.specs.Side.{no_side}
 use Rattle.bitplane_dma.specs.declared.rules.FetchRules.{FetchRules}
-use Rattle.chip_set.specs.BusCode.{LeaveBus, LeavesBeside, IsClaim, KeepsBeside, KeepsBus, KeepsCias, KeepsOnBus, CiasRest}
+use Rattle.chip_set.specs.Bus.{LeaveBus, LeavesBeside, IsClaim, KeepsBeside, KeepsBus, KeepsCias, KeepsOnBus, CiasRest}
 use Rattle.chip_set.specs.declared.bus.BlitterClaim.{BlitterClaim}
 use Rattle.chip_set.specs.Chips.{CanAsk, CanDo, IsBlitAsk, kept_wish, late_ask}
-use Rattle.machine.specs.AheadCode.{IsAccessAtOnce, IsMadeAtOnce}
+use Rattle.machine.specs.Ahead.{IsAccessAtOnce, IsMadeAtOnce}
 use Rattle.machine.specs.Machine.{MachineValue, Makes, MakesQuietly, IsSamePlace, reads_more}
-use Rattle.machine.specs.MachineStepsCode.{AsksInTime}
+use Rattle.machine.specs.MachineSteps.{AsksInTime}
 use Rattle.serial_model.specs.Beam.{later_beam, next_place}
 use Rattle.serial_model.specs.Registers.{is_interlaced}
 use Rattle.serial_model.specs.Tick.{run_processor, advance_beam}

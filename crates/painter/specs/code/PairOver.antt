@@ -2,11 +2,11 @@
 use Rattle.std.specs.Prelude.{ℕ, ◌+◌, ◌*◌, ◌==◌, ◌||◌, List, [], ◌∷◌, slice_index, if◌then◌else◌}
 use Rattle.priority_ham.specs.PixelColour.{hides}
 use Rattle.serial_model.specs.Picture.{colour_bytes}
-use Rattle.sprite_rows.specs.PairFrontCode.{colour_of_byte}
+use Rattle.sprite_rows.specs.PairFront.{colour_of_byte}
 use Rattle.plane_rows.specs.declared.line.Line.{Line}
 use Rattle.painter.specs.Inks.{InkRegisters, counted_bits}
 use Rattle.plane_rows.specs.Line.{row_bits}
-use Rattle.painter.specs.Pixels.{ink_at}
+use Rattle.painter.specs.code.Pixels.{ink_at}
 
 -- the colour of a pixel, by the playfields' colour there and the byte of the pair
 unfoldable pub colour_in_front : ℕ → ℕ → ℕ → ℕ → ℕ → ℕ → ℕ → List ℕ → ℕ

@@ -4,9 +4,9 @@ use Rattle.collisions.specs.Collision.{collision_bits}
 use Rattle.serial_model.specs.Picture.{sprite_values}
 use Rattle.painter.specs.declared.painter.Painter.{Painter}
 use Rattle.painter.specs.declared.show_covered.Steady.{Steady}
-use Rattle.painter.specs.SpriteState.{attached_in}
+use Rattle.painter.specs.code.SpriteState.{attached_in}
 use Rattle.plane_rows.specs.Line.{ArePaired}
-use Rattle.painter.specs.StartsCode.{IsAlone}
+use Rattle.painter.specs.code.Starts.{IsAlone}
 
 pub record IsSteadyFrom (h : ℕ) (steady : Steady) (now : Painter) : Type 0 where
   pub attached : steady.attached ≡ attached_in now.sprites

@@ -1,7 +1,7 @@
 use Rattle.std.proofs.Common.{◌≡◌, Option, Some, ℕ, true, arith, ◌∙◌, sym, subst}
 use Rattle.serial_model.specs.PlaneFetch.{last_unit_at, is_running, IsLastUnit, IsUnitStart}
 use Rattle.serial_model.proofs.FetchLaws.{last_unit_at-is}
-use Rattle.bitplane_dma.specs.RulesCode.{begins_by, is_first}
+use Rattle.bitplane_dma.specs.Rules.{begins_by, is_first}
 use Rattle.bitplane_dma.proofs.Units.{last_runs, last_begun, last_stays, start_begun, runs_in_slot, begun_in_slot, first_behind_some, first_behind_none}
 use Rattle.bitplane_dma.proofs.Fetcher.unit_by.Goals.{in-Some+else-slot-lt8+else-slot-eq8, in_default}
 use Rattle.bitplane_dma.proofs.Fetcher.unit_by.Goals.{else-slot-eq8-via-then-slot-eq8+else-has_next, else-slot-eq8-via-else-slot-eq8}

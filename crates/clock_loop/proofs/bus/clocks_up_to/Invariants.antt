@@ -1,5 +1,5 @@
 use Rattle.std.proofs.Common.{◌≡◌, ◌≤◌, ◌+◌, ◌-◌, false}
-use Rattle.chip_set.specs.BusCode.{IsUnitKept}
+use Rattle.chip_set.specs.Bus.{IsUnitKept}
 use Rattle.clock_loop.specs.code.BusRun.{CanMakeClocks, HasRunOnBus}
 use Rattle.foreground.specs.Fore.{over, CanGo}
 use Rattle.clock_loop.proofs.bus.clocks_up_to.Given as goal

@@ -1,6 +1,6 @@
 -- A look changes nothing that counts.
 use Rattle.std.proofs.Common.{◌≡◌, false, OnOk, OnErr, subst, sym}
-use Rattle.chip_set.specs.BusCode.{LeaveBus, IsClaim}
+use Rattle.chip_set.specs.Bus.{LeaveBus, IsClaim}
 use Rattle.clock_loop.specs.code.BusRun.{HasRunOnBus, HasRunInPart, IsOpenForBus}
 use Rattle.foreground.specs.Fore.{ForeOf, over, CanGo}
 use Rattle.clock_loop.specs.code.Line.{AreInLine}

@@ -1,5 +1,5 @@
 use Rattle.std.proofs.Common.{◌+◌, ap, refl, subst, sym, ◌∙◌}
-use Rattle.chip_set.specs.BusCode.{CiasRest}
+use Rattle.chip_set.specs.Bus.{CiasRest}
 use Rattle.machine.specs.declared.machine.Machine.{Machine}
 use Rattle.machine.specs.Machine.{machine_over}
 use Rattle.foreground.specs.Fore.{ForeOf, over}

@@ -1,5 +1,5 @@
 use Rattle.std.proofs.Common.{◌≡◌, ◌≤◌, ◌-◌}
-use Rattle.bitplane_dma.specs.RulesCode.{rules_of}
+use Rattle.bitplane_dma.specs.Rules.{rules_of}
 use Rattle.chip_set.specs.Quiet.{fetching_in}
 use Rattle.clock_loop.specs.code.Fetches.{with_fetches, clocks_of_planes}
 use Rattle.clock_loop.proofs.fetches.fetch_planes.Given as goal

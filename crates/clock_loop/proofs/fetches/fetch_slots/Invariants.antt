@@ -1,6 +1,6 @@
 use Rattle.std.proofs.Common.{◌≡◌, ◌≤◌, ◌-◌, Some}
 use Rattle.serial_model.specs.PlaneFetch.{IsLastUnit}
-use Rattle.bitplane_dma.specs.RulesCode.{rules_of}
+use Rattle.bitplane_dma.specs.Rules.{rules_of}
 use Rattle.chip_set.specs.Quiet.{fetching_in, with_fetching}
 use Rattle.quiet_clocks.specs.FetchClocks.{fetching_on}
 use Rattle.clock_loop.specs.code.Fetches.{with_fetches}

@@ -1,6 +1,6 @@
 -- The raster keeps its mark, however the run ends.
 use Rattle.std.proofs.Common.{◌∙◌}
-use Rattle.files_run.specs.UnderwayCode.{fore_of}
+use Rattle.files_run.specs.Underway.{fore_of}
 use Rattle.files_run.proofs.RunLaws.{fewer_clocks, room_for_clocks, line_is_later, CanRun-ran, mark_ran, mark_part, mark_settled}
 use Rattle.crew_tests.proofs.totals.run_clocks.Goals as goal
 

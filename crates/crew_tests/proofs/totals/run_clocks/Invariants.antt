@@ -1,6 +1,6 @@
 -- The foreground stands somewhere in the run, and the raster keeps its mark.
 use Rattle.std.proofs.Common.{◌≡◌, ◌-◌, ◌*◌}
-use Rattle.files_run.specs.UnderwayCode.{fore_of, CanRun}
+use Rattle.files_run.specs.Underway.{fore_of, CanRun}
 use Rattle.crew_tests.proofs.totals.run_clocks.Given as goal
 
 abbrev pub invariant-loop-fore : goal.invariant-loop-fore

@@ -2,7 +2,7 @@ use Rattle.std.proofs.Common.{subst}
 use Rattle.run_side.specs.declared.side.RunSide.{RunSide}
 use Rattle.serial_bands.specs.Run.{RunOf}
 use Rattle.foreground.specs.Fore.{IsNew}
-use Rattle.files_run.specs.UnderwayCode.{run_of, fore_of}
+use Rattle.files_run.specs.Underway.{run_of, fore_of}
 use Rattle.files_run.proofs.run.begin.Goals as goal
 
 pub returns-clause-new : goal.returns-clause-new

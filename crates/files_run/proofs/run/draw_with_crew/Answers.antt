@@ -1,7 +1,7 @@
 use Rattle.std.proofs.Common.{rules, subst}
 use Rattle.std.specs.Arc.{arc_value}
 use Rattle.crew.specs.Crew.{crew_seen}
-use Rattle.files_run.specs.UnderwayCode.{run_of, fore_of, IsCutFromStart}
+use Rattle.files_run.specs.Underway.{run_of, fore_of, IsCutFromStart}
 use Rattle.files_run.proofs.RunLaws.{on_err, CanRun-start, IsCutFromStart-now}
 use Rattle.files_run.proofs.AudioLaws.{IsHeard-start}
 use Rattle.files_run.proofs.CrewLaws.{IsEmpty-lent, mark_left, EndsFromStart-left, IsCutFromStart-left, IsOfSameRun-left}

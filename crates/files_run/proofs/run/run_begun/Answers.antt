@@ -4,7 +4,7 @@ use Rattle.std.specs.Arc.{arc_value}
 use Rattle.crew.specs.Crew.{side_seen}
 use Rattle.files_run.specs.Audio.{with_audio}
 use Rattle.files_run.specs.Prefix.{LeavesFiles}
-use Rattle.files_run.specs.UnderwayCode.{run_of, fore_of}
+use Rattle.files_run.specs.Underway.{run_of, fore_of}
 use Rattle.files_run.proofs.AudioLaws.{LeavesFiles-empty, HasAllFiles-rest, LeavesFiles-rest}
 use Rattle.files_run.proofs.FaultLaws.{WritesRun-err, WritesRun-again, fault_of_all}
 use Rattle.files_run.proofs.KeptLaws.{OnlyWrites-none, OnlyWrites-more}

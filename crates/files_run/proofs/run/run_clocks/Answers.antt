@@ -1,5 +1,5 @@
 use Rattle.std.proofs.Common.{◌≡◌, ◌∙◌, sym}
-use Rattle.files_run.specs.UnderwayCode.{fore_of}
+use Rattle.files_run.specs.Underway.{fore_of}
 use Rattle.files_run.proofs.KeptLaws.{OnlyWrites-more, WritesFiles-err, KeepsNames-more, AreGrowable-kept}
 use Rattle.files_run.proofs.RunLaws.{on_err, fewer_left, stop-advance}
 use Rattle.files_run.proofs.RunLaws.{stop-flush, IsUnderway-ran, IsUnderway-flushed, CanRun-ran, mark_ran, names_ran}

@@ -2,7 +2,7 @@ use Rattle.std.proofs.Common.{◌≡◌, ◌-◌, ◌*◌}
 use Rattle.ocs_io.specs.Place.{OnlyWrites}
 use Rattle.out_files.specs.Answers.{AreGrowable}
 use Rattle.out_files.specs.Places.{LeavesPlace}
-use Rattle.files_run.specs.UnderwayCode.{fore_of, CanRun, Runs, IsOfSameRun}
+use Rattle.files_run.specs.Underway.{fore_of, CanRun, Runs, IsOfSameRun}
 use Rattle.files_run.proofs.run.run_clocks.Given as goal
 
 abbrev pub invariant-loop-fore : goal.invariant-loop-fore

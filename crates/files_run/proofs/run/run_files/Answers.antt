@@ -9,7 +9,7 @@ use Rattle.out_files.specs.OutFiles.{OutFilesValue}
 use Rattle.ocs_words.specs.Order.{IsFourthName}
 use Rattle.files_run.specs.Prefix.{LeavesFiles}
 use Rattle.files_run.specs.Run.{HasAllFiles}
-use Rattle.files_run.specs.UnderwayCode.{run_of, fore_of, IsFresh}
+use Rattle.files_run.specs.Underway.{run_of, fore_of, IsFresh}
 use Rattle.files_run.proofs.AudioLaws.{LeavesFiles-none}
 use Rattle.files_run.proofs.PrefixLaws.{prefixes_kept}
 use Rattle.files_run.proofs.RunLaws.{on_err}

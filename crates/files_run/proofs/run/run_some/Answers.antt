@@ -1,7 +1,7 @@
 use Rattle.std.proofs.Common.{◌++◌, refl, ap, ◌∙◌}
 use Rattle.crew.specs.Crew.{side_seen}
 use Rattle.files_run.specs.Audio.{sampled}
-use Rattle.files_run.specs.UnderwayCode.{fore_of}
+use Rattle.files_run.specs.Underway.{fore_of}
 use Rattle.files_run.proofs.AudioLaws.{IsHeard-next}
 use Rattle.files_run.proofs.RunLaws.{on_ok, ok_then, later_clock, room_for_clocks, mark_ran, mark_part}
 use Rattle.files_run.proofs.run.run_some.Goals as goal

@@ -1,5 +1,5 @@
 use Rattle.std.proofs.Common.{◌≡◌, ◌∙◌, ap}
-use Rattle.files_run.specs.UnderwayCode.{fore_of}
+use Rattle.files_run.specs.Underway.{fore_of}
 use Rattle.files_run.proofs.AudioLaws.{IsHeard-same}
 use Rattle.files_run.proofs.KeptLaws.{OnlyWrites-more, WritesFiles-err, KeepsNames-more, AreGrowable-kept}
 use Rattle.files_run.proofs.RunLaws.{on_err, IsCut-clocks, IsCut-settle, IsCut-flush}

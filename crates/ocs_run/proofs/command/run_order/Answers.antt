@@ -1,6 +1,6 @@
 use Rattle.std.proofs.Common.{arith, subst, ◌∙◌}
 use Rattle.crew.specs.Crew.{side_seen}
-use Rattle.ocs_words.specs.AskedCode.{value_of, extra_value}
+use Rattle.ocs_words.specs.Asked.{value_of, extra_value}
 use Rattle.ocs_run.specs.Command.{OrderAnswers}
 use Rattle.ocs_run.specs.Sides.{IsSideOf}
 use Rattle.ocs_words.specs.declared.fault.Fault.TheVariants.{Inputs}

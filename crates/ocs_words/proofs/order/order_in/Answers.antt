@@ -1,6 +1,6 @@
 use Rattle.std.proofs.Common.{◌≡◌, ◌∷◌, true, arith, rules}
 use Rattle.std.proofs.lemmas.Grind.{common_steps}
-use Rattle.ocs_words.specs.AskedCode.{extra_value}
+use Rattle.ocs_words.specs.Asked.{extra_value}
 use Rattle.run_inputs.specs.Names.{are_names}
 use Rattle.ocs_words.specs.Order.{extra_names}
 use Rattle.ocs_words.proofs.NameLaws.{three_apart, audio_apart}

@@ -1,7 +1,7 @@
 use Rattle.std.proofs.Common.{◌∙◌, ℕ, ap}
 use Rattle.serial_model.specs.Picture.{colour_bytes}
 use Rattle.painter.specs.Inks.{ink, ink_number}
-use Rattle.painter.specs.Pixels.{ink_at}
+use Rattle.painter.specs.code.Pixels.{ink_at}
 use Rattle.painter.proofs.pixels.ink_bytes.Goals as goal
 
 pub returns : goal.returns

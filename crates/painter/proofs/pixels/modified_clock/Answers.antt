@@ -1,6 +1,6 @@
 use Rattle.std.proofs.Common.{◌∙◌, subst}
 use Rattle.painter.specs.code.Held.{IsHeld}
-use Rattle.painter.specs.Pixels.{modified_along}
+use Rattle.painter.specs.code.Pixels.{modified_along}
 use Rattle.painter.proofs.Showing.{two_written}
 use Rattle.painter.proofs.Modifying.{four_modified, one_modified, two_modified, three_modified, last_modified}
 use Rattle.painter.proofs.Pairs.{first_pair, second_pair}

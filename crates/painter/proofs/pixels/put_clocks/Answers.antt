@@ -1,5 +1,5 @@
 use Rattle.std.proofs.Common.{◌≡◌, ◌∙◌, ◌+◌, ◌*◌, ◌++◌, ℕ, take, subst, refl, arith}
-use Rattle.painter.specs.SpanCode.{bytes_of_clocks, ink_pixels}
+use Rattle.painter.specs.SpanParts.{bytes_of_clocks, ink_pixels}
 use Rattle.painter.proofs.Clocks.{none_put, one_put}
 use Rattle.painter.proofs.Pairs.{later_pairs}
 use Rattle.painter.proofs.pixels.put_clocks.Goals as goal

@@ -1,6 +1,6 @@
 -- The clocks so far are put.
 use Rattle.std.proofs.Common.{◌≡◌, ℕ, ◌+◌, ◌*◌, ◌++◌, length, take}
-use Rattle.painter.specs.SpanCode.{bytes_of_clocks, ink_pixels}
+use Rattle.painter.specs.SpanParts.{bytes_of_clocks, ink_pixels}
 use Rattle.painter.proofs.pixels.put_clocks.Given as goal
 
 abbrev pub invariant-loop-clock : goal.invariant-loop-clock

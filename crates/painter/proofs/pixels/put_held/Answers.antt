@@ -3,7 +3,7 @@ use Rattle.std.specs.Int.{to_le_bytes}
 use Rattle.priority_ham.specs.PixelColour.{modified}
 use Rattle.painter.specs.Inks.{ink_number}
 use Rattle.painter.specs.code.Held.{colour_word}
-use Rattle.painter.specs.Pixels.{modified_at}
+use Rattle.painter.specs.code.Pixels.{modified_at}
 use Rattle.painter.proofs.HeldWords.{word_bytes}
 use Rattle.painter.proofs.Modifying.{paired_along, paired_modified}
 use Rattle.painter.proofs.Wide.{pairs_put}

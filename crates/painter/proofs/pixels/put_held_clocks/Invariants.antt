@@ -1,8 +1,8 @@
 -- The clocks so far are put, and their last pixel is held.
 use Rattle.std.proofs.Common.{◌≡◌, ℕ, ◌+◌, ◌*◌, ◌++◌, length, take}
 use Rattle.painter.specs.code.Held.{IsHeld, colour_word}
-use Rattle.painter.specs.Pixels.{modified_along, all_modified}
-use Rattle.painter.specs.SpanCode.{bytes_of_clocks}
+use Rattle.painter.specs.code.Pixels.{modified_along, all_modified}
+use Rattle.painter.specs.SpanParts.{bytes_of_clocks}
 use Rattle.painter.proofs.pixels.put_held_clocks.Given as goal
 
 abbrev pub invariant-loop-clock : goal.invariant-loop-clock

@@ -1,7 +1,7 @@
 use Rattle.std.proofs.Common.{◌≡◌, ◌∙◌, ◌+◌, ◌-◌, ◌*◌, ◌++◌, ℕ, List, take, subst, refl, ap, arith}
 use Rattle.painter.specs.code.Held.{IsHeld}
-use Rattle.painter.specs.Pixels.{modified_along, all_modified}
-use Rattle.painter.specs.SpanCode.{bytes_of_clocks}
+use Rattle.painter.specs.code.Pixels.{modified_along, all_modified}
+use Rattle.painter.specs.SpanParts.{bytes_of_clocks}
 use Rattle.painter.proofs.Clocks.{one_put}
 use Rattle.painter.proofs.Modifying.{clock_more, one_clock}
 use Rattle.painter.proofs.pixels.put_modified.Goals as goal

@@ -1,7 +1,7 @@
 use Rattle.std.proofs.Common.{◌≡◌, ◌∙◌, ◌+◌, ◌*◌, ◌++◌, ℕ, take, subst, refl, arith}
 use Rattle.painter.specs.code.Held.{IsHeld}
-use Rattle.painter.specs.Pixels.{modified_along, all_modified}
-use Rattle.painter.specs.SpanCode.{bytes_of_clocks}
+use Rattle.painter.specs.code.Pixels.{modified_along, all_modified}
+use Rattle.painter.specs.SpanParts.{bytes_of_clocks}
 use Rattle.painter.proofs.Clocks.{none_put, one_put}
 use Rattle.painter.proofs.Modifying.{none_along, clock_more}
 use Rattle.painter.proofs.Pairs.{later_pairs}

@@ -1,6 +1,6 @@
 use Rattle.std.proofs.Common.{◌∙◌, ◌++◌, ◌+◌, ℕ, List, flat_map, refl, take, ap}
 use Rattle.serial_model.specs.Picture.{colour_bytes}
-use Rattle.painter.specs.Pixels.{ink_at}
+use Rattle.painter.specs.code.Pixels.{ink_at}
 use Rattle.painter.proofs.Pairs.{ink_pairs}
 use Rattle.painter.proofs.Wide.{pairs_put}
 use Rattle.painter.proofs.pixels.put_pairs.Goals as goal

@@ -3,7 +3,7 @@ use Rattle.serial_model.specs.Picture.{colour_bytes}
 use Rattle.plane_rows.specs.declared.line.Line.{Line}
 use Rattle.painter.specs.Inks.{InkRegisters, ink, ink_number, two_pixels}
 use Rattle.plane_rows.specs.Line.{row_bits}
-use Rattle.painter.specs.Pixels.{ink_at}
+use Rattle.painter.specs.code.Pixels.{ink_at}
 use Rattle.painter.proofs.Wide.{singles_put}
 use Rattle.painter.proofs.pixels.put_singles.Goals as goal
 

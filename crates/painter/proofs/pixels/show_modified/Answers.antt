@@ -2,7 +2,7 @@ use Rattle.std.proofs.Common.{◌∙◌, ℕ, ap, subst}
 use Rattle.priority_ham.specs.PixelColour.{modified}
 use Rattle.painter.specs.code.Held.{IsHeld}
 use Rattle.painter.specs.Inks.{ink_number}
-use Rattle.painter.specs.Pixels.{modified_at}
+use Rattle.painter.specs.code.Pixels.{modified_at}
 use Rattle.painter.proofs.pixels.show_modified.Goals as goal
 
 pub returns-clause-held : goal.returns-clause-held

@@ -3,7 +3,7 @@ use Rattle.priority_ham.specs.PixelColour.{modified}
 use Rattle.painter.specs.code.Held.{IsHeld}
 use Rattle.painter.specs.Inks.{ink_number}
 use Rattle.plane_rows.specs.Line.{row_bits}
-use Rattle.painter.specs.Pixels.{modified_at}
+use Rattle.painter.specs.code.Pixels.{modified_at}
 use Rattle.painter.proofs.pixels.show_pair.Goals as goal
 
 pub returns-clause-held : goal.returns-clause-held

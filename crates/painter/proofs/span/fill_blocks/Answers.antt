@@ -1,5 +1,5 @@
 use Rattle.std.proofs.Common.{◌≡◌, ◌∙◌, ◌+◌, ◌*◌, ◌++◌, ℕ, take, subst, refl, sym, arith}
-use Rattle.painter.specs.SpanCode.{bytes_of_clocks}
+use Rattle.painter.specs.SpanParts.{bytes_of_clocks}
 use Rattle.painter.proofs.Clocks.{none_put}
 use Rattle.painter.proofs.Fills.{four_put}
 use Rattle.painter.proofs.span.fill_blocks.Goals as goal

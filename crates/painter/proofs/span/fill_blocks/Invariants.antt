@@ -1,6 +1,6 @@
 -- The blocks so far are put.
 use Rattle.std.proofs.Common.{◌≡◌, ℕ, ◌+◌, ◌*◌, ◌++◌, length, take}
-use Rattle.painter.specs.SpanCode.{bytes_of_clocks}
+use Rattle.painter.specs.SpanParts.{bytes_of_clocks}
 use Rattle.painter.proofs.span.fill_blocks.Given as goal
 
 abbrev pub invariant-loop-block : goal.invariant-loop-block

@@ -1,6 +1,6 @@
 -- The clocks so far are put.
 use Rattle.std.proofs.Common.{◌≡◌, ℕ, ◌+◌, ◌*◌, ◌++◌, length, take}
-use Rattle.painter.specs.SpanCode.{bytes_of_clocks}
+use Rattle.painter.specs.SpanParts.{bytes_of_clocks}
 use Rattle.painter.proofs.span.fill_each.Given as goal
 
 abbrev pub invariant-loop-clock : goal.invariant-loop-clock

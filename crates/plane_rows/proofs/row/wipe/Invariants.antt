@@ -1,6 +1,6 @@
 -- The places before x are blank, and the others as they were.
 use Rattle.std.proofs.Common.{◌≡◌, ◌≤◌, ℕ, length, slice_index}
-use Rattle.plane_rows.specs.RowCode.{cut_off}
+use Rattle.plane_rows.specs.Row.{cut_off}
 use Rattle.plane_rows.proofs.row.wipe.Given as goal
 
 abbrev pub invariant-loop-x : goal.invariant-loop-x

@@ -1,5 +1,5 @@
 use Rattle.std.proofs.Common.{◌∙◌, Some, ap, subst}
-use Rattle.bitplane_dma.specs.RulesCode.{rules_of}
+use Rattle.bitplane_dma.specs.Rules.{rules_of}
 use Rattle.bitplane_dma.proofs.RuleLaws.{rules_kept}
 use Rattle.serial_model.specs.PlaneFetch.{IsLastUnit}
 use Rattle.serial_model.specs.Registers.{Registers}

@@ -1,6 +1,6 @@
 use Rattle.std.proofs.Common.{ℕ, ◌+◌, arith, ◌∙◌, ap, subst, sym}
-use Rattle.bitplane_dma.specs.RulesCode.{rules_of}
-use Rattle.chip_set.specs.BusCode.{IsUnitKept}
+use Rattle.bitplane_dma.specs.Rules.{rules_of}
+use Rattle.chip_set.specs.Bus.{IsUnitKept}
 use Rattle.chip_set.specs.Chips.{WorkingChips}
 use Rattle.chip_set.proofs.BusLaws.{unit_later}
 use Rattle.chip_set.proofs.chips.Chips.fetch_plane.Goals as goal

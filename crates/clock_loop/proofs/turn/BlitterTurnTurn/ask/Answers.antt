@@ -1,5 +1,5 @@
 use Rattle.std.proofs.Common.{subst, sym}
-use Rattle.chip_set.specs.BusCode.{CiasRest}
+use Rattle.chip_set.specs.Bus.{CiasRest}
 use Rattle.foreground.specs.Fore.{ForeOf}
 use Rattle.clock_loop.proofs.BusLaws.{unit_view}
 use Rattle.clock_loop.proofs.turn.BlitterTurnTurn.ask.Goals as goal

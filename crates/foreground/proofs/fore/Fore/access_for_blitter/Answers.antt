@@ -1,7 +1,7 @@
 use Rattle.std.proofs.Common.{◌≡◌, sym, subst}
 use Rattle.serial_model.specs.Bus.{blit_owner_ask}
 use Rattle.chip_set.specs.Chips.{kept_wish}
-use Rattle.foreground.specs.AccessCode.{CanAccess}
+use Rattle.foreground.specs.Access.{CanAccess}
 use Rattle.foreground.specs.Fore.{over}
 use Rattle.foreground.proofs.fore.Fore.access_for_blitter.Goals as goal
 

@@ -1,7 +1,7 @@
 use Rattle.std.proofs.Common.{sym, subst}
 use Rattle.serial_model.specs.declared.bus.Ask.{Ask}
 use Rattle.foreground.specs.Fore.{over}
-use Rattle.machine.specs.MachineStepsCode.{AsksInTime}
+use Rattle.machine.specs.MachineSteps.{AsksInTime}
 use Rattle.foreground.proofs.fore.Fore.ask_alone.Goals as goal
 
 pub returns-clause-asks : goal.returns-clause-asks

@@ -3,7 +3,7 @@ use Rattle.std.proofs.Common.{Option, Some, sym, ap, subst, ◌∙◌}
 use Rattle.serial_model.specs.declared.bus.ProcessorAsk.{ProcessorAsk}
 use Rattle.serial_model.specs.Bus.{processor_ask}
 use Rattle.chip_set.proofs.BesideLaws.{asks_slot, asks_wish}
-use Rattle.machine.specs.AheadCode.{IsUnseenAtOnce, asks_for_memory}
+use Rattle.machine.specs.Ahead.{IsUnseenAtOnce, asks_for_memory}
 use Rattle.machine.specs.Machine.{machine_over, reads_after}
 use Rattle.machine.proofs.RefusalLaws.{on_err_held}
 use Rattle.machine.proofs.machine.Machine.access_alone.Goals as goal

@@ -1,7 +1,7 @@
 -- What the processor waits for is what is made, where it is an access to memory.
 use Rattle.std.proofs.Common.{Some, sym, ap, ◌∙◌}
 use Rattle.serial_model.specs.declared.bus.ProcessorAsk.{ProcessorAsk}
-use Rattle.machine.specs.AheadCode.{asks_for_memory}
+use Rattle.machine.specs.Ahead.{asks_for_memory}
 use Rattle.machine.proofs.RefusalLaws.{on_err_held}
 use Rattle.machine.proofs.machine.Machine.access_in_two.Goals as goal
 

@@ -1,7 +1,7 @@
 use Rattle.machine.specs.Machine.{machine_over}
 use Rattle.std.proofs.Common.{refl, sym, subst}
 use Rattle.serial_model.specs.Events.{made_by_act}
-use Rattle.machine.specs.MachineStepsCode.{Does}
+use Rattle.machine.specs.MachineSteps.{Does}
 use Rattle.machine.proofs.StepLaws.{Makes-happened, KeepsPlace-happened}
 use Rattle.machine.proofs.machine.Machine.act.Goals as goal
 

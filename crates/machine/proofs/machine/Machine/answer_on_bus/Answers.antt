@@ -1,5 +1,5 @@
 use Rattle.std.proofs.Common.{◌≡◌, ◌≤◌, is_some, ap, sym, subst}
-use Rattle.chip_set.specs.BusCode.{KeepsOnBus}
+use Rattle.chip_set.specs.Bus.{KeepsOnBus}
 use Rattle.chip_set.specs.Chips.{WorkingChips}
 use Rattle.machine.specs.Machine.{MachineValue, machine_over}
 use Rattle.machine.proofs.AccessLaws.{MakesAccess-by, time_left, StoresMade-by, StaysInPlace-does, reads_done, reads_of_both, answers_given, does_given}

@@ -1,7 +1,7 @@
 use Rattle.machine.specs.Machine.{machine_over}
 use Rattle.std.proofs.Common.{sym, subst, ap}
 use Rattle.serial_model.specs.Made.{is_clx_read}
-use Rattle.machine.specs.MachineStepsCode.{Does}
+use Rattle.machine.specs.MachineSteps.{Does}
 use Rattle.machine.proofs.machine.Machine.carry_out.Goals as goal
 
 pub returns-in_ok-write-in-Wrote-clause-does : goal.returns-in_ok-write-in-Wrote-clause-does

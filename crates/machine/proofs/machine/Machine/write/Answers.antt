@@ -1,7 +1,7 @@
 use Rattle.machine.specs.Machine.{machine_over}
 use Rattle.std.proofs.Common.{OnOk, sym, subst}
 use Rattle.serial_model.specs.declared.bus.Made.TheVariants as M
-use Rattle.machine.specs.MachineStepsCode.{Does}
+use Rattle.machine.specs.MachineSteps.{Does}
 use Rattle.machine.proofs.StepLaws.{Does-quietly}
 use Rattle.machine.proofs.machine.Machine.write.Goals as goal
 

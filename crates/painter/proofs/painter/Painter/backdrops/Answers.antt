@@ -1,5 +1,5 @@
 use Rattle.std.proofs.Common.{◌∙◌, ◌+◌, ◌*◌, ℕ, arith}
-use Rattle.painter.specs.Overlay.{quiet_collisions}
+use Rattle.painter.specs.code.Overlay.{quiet_collisions}
 use Rattle.painter.proofs.Showing.{unset_clock, border_clock}
 use Rattle.painter.proofs.Overlays.{inside_same, same_bits, clock_outside}
 use Rattle.painter.proofs.Clocks.{gathered_already}

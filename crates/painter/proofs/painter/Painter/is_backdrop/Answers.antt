@@ -1,6 +1,6 @@
 use Rattle.std.proofs.Common.{◌∙◌, Bool, sym, ap, ◌&&◌}
 use Rattle.std.proofs.lemmas.Bool.{false≢true}
-use Rattle.painter.specs.SpriteState.{is_known_idle}
+use Rattle.painter.specs.code.SpriteState.{is_known_idle}
 use Rattle.painter.proofs.painter.Painter.is_backdrop.Goals as goal
 
 pub returns-then-is_blank-clause-known : goal.returns-then-is_blank-clause-known

@@ -1,5 +1,5 @@
 use Rattle.std.proofs.Common.{◌+◌, ℕ, arith}
-use Rattle.painter.specs.Overlay.{quiet_collisions}
+use Rattle.painter.specs.code.Overlay.{quiet_collisions}
 use Rattle.painter.proofs.Overlays.{quiet_kept}
 use Rattle.painter.proofs.Clocks.{gathered_already}
 use Rattle.painter.proofs.painter.Painter.meet_clocks.Goals as goal

@@ -1,6 +1,6 @@
 use Rattle.std.proofs.Common.{◌≡◌, ◌∙◌, ◌+◌, ℕ, bit_or, ap, arith}
-use Rattle.painter.specs.Overlay.{quiet_collisions}
-use Rattle.painter.specs.SpanCode.{quiet_gathered}
+use Rattle.painter.specs.code.Overlay.{quiet_collisions}
+use Rattle.painter.specs.SpanParts.{quiet_gathered}
 use Rattle.painter.proofs.Clocks.{none_gathered, one_gathered}
 use Rattle.painter.proofs.painter.Painter.meet_each.Goals as goal
 

@@ -2,7 +2,7 @@
 use Rattle.std.proofs.Common.{◌≡◌, bit_or}
 use Rattle.serial_model.specs.declared.picture.Denise.{Denise}
 use Rattle.painter.specs.Painter.{IsPainterOf}
-use Rattle.painter.specs.SpanCode.{quiet_gathered}
+use Rattle.painter.specs.SpanParts.{quiet_gathered}
 use Rattle.painter.proofs.painter.Painter.meet_each.Given as goal
 
 abbrev pub invariant-loop-clock : goal.invariant-loop-clock

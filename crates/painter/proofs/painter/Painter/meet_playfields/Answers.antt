@@ -1,5 +1,5 @@
 use Rattle.std.proofs.Common.{◌+◌, ◌*◌, ◌∙◌, ℕ, bit_or, ap}
-use Rattle.painter.specs.Overlay.{quiet_in_column}
+use Rattle.painter.specs.code.Overlay.{quiet_in_column}
 use Rattle.painter.proofs.Ors.{or_assoc}
 use Rattle.painter.proofs.painter.Painter.meet_playfields.Goals as goal
 

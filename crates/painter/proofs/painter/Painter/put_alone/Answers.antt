@@ -1,6 +1,6 @@
 use Rattle.std.proofs.Common.{◌≡◌, ◌+◌, ◌*◌, ◌∙◌, ℕ, false, nat_eq, sym, ap, arith}
 use Rattle.std.proofs.lemmas.Bool.Decides.{nat_tests}
-use Rattle.sprite_rows.specs.PairFrontCode.{pixel_of_byte}
+use Rattle.sprite_rows.specs.PairFront.{pixel_of_byte}
 use Rattle.sprite_rows.proofs.FrontByBytes.{some_pixel}
 use Rattle.painter.specs.Inks.{counted_bits}
 use Rattle.painter.proofs.Covering.{front_of_pair}

@@ -1,6 +1,6 @@
 use Rattle.std.proofs.Common.{◌≡◌, ◌∙◌, ◌+◌, ◌*◌, ◌++◌, ℕ, take, subst, refl, arith}
 use Rattle.painter.specs.code.PairOver.{pixels_over}
-use Rattle.painter.specs.SpanCode.{bytes_of_clocks}
+use Rattle.painter.specs.SpanParts.{bytes_of_clocks}
 use Rattle.painter.proofs.Clocks.{none_put, one_put}
 use Rattle.painter.proofs.painter.Painter.put_clocks_over.Goals as goal
 

@@ -1,7 +1,7 @@
 -- The clocks so far are put.
 use Rattle.std.proofs.Common.{◌≡◌, ℕ, ◌+◌, ◌*◌, ◌++◌, length, take}
 use Rattle.painter.specs.code.PairOver.{pixels_over}
-use Rattle.painter.specs.SpanCode.{bytes_of_clocks}
+use Rattle.painter.specs.SpanParts.{bytes_of_clocks}
 use Rattle.painter.proofs.painter.Painter.put_clocks_over.Given as goal
 
 abbrev pub invariant-loop-clock : goal.invariant-loop-clock

@@ -2,10 +2,10 @@ use Rattle.std.proofs.Common.{◌≡◌, ◌∙◌, ◌+◌, ◌*◌, ◌++◌, 
 use Rattle.serial_model.specs.declared.picture.Denise.{Denise}
 use Rattle.serial_model.specs.Picture.{clock_collisions, held_after, step_of}
 use Rattle.serial_model.specs.Window.{is_inside}
-use Rattle.painter.specs.Overlay.{clock_over}
+use Rattle.painter.specs.code.Overlay.{clock_over}
 use Rattle.painter.specs.Painter.{with_held}
-use Rattle.painter.specs.SpriteState.{SpriteRegisters, attached_in}
-use Rattle.painter.specs.StartsCode.{IsAlone}
+use Rattle.painter.specs.code.SpriteState.{SpriteRegisters, attached_in}
+use Rattle.painter.specs.code.Starts.{IsAlone}
 use Rattle.painter.specs.code.Steady.{IsSteadyFrom}
 use Rattle.painter.proofs.Covering.{steady_same, steady_runs, steady_further, steady_first, steady_second, steady_pixels, steady_bits, column_reached}
 use Rattle.painter.proofs.Overlays.{after_first, after_second, clock_shown, clock_stands, bits_apart}

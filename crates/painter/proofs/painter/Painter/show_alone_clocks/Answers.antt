@@ -4,7 +4,7 @@ use Rattle.serial_model.specs.Spans.{after_shows}
 use Rattle.serial_model.specs.Window.{is_inside}
 use Rattle.painter.specs.declared.field_place.FieldPlace.{FieldPlace}
 use Rattle.painter.specs.Span.{IsSpan}
-use Rattle.painter.specs.StartsCode.{IsSteady}
+use Rattle.painter.specs.code.Starts.{IsSteady}
 use Rattle.painter.specs.code.Steady.{IsSteadyFrom}
 use Rattle.painter.proofs.Covering.{steady_same, steady_further}
 use Rattle.painter.proofs.Spans.{no_span, joined}

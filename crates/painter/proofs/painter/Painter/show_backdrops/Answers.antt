@@ -1,6 +1,6 @@
 use Rattle.std.proofs.Common.{◌∙◌, ◌++◌, ℕ, List, take, slice_index, sym, ap}
 use Rattle.painter.specs.Inks.{backdrop}
-use Rattle.painter.specs.SpanCode.{bytes_of_clocks}
+use Rattle.painter.specs.SpanParts.{bytes_of_clocks}
 use Rattle.painter.proofs.painter.Painter.show_backdrops.Goals as goal
 
 pub returns-then-count-eq4-clause-shown : goal.returns-then-count-eq4-clause-shown

@@ -2,7 +2,7 @@ use Rattle.std.proofs.Common.{◌≡◌, ◌∙◌, true, false, sym}
 use Rattle.serial_model.specs.declared.picture.Denise.{Denise}
 use Rattle.serial_model.specs.Picture.{runs_at, sprite_values}
 use Rattle.serial_model.specs.Window.{is_inside}
-use Rattle.painter.specs.Overlay.{with_runs}
+use Rattle.painter.specs.code.Overlay.{with_runs}
 use Rattle.painter.proofs.Overlays.{begun_stands, column_inside, column_outside, bits_inside, bits_outside, inside_same, same_bits}
 use Rattle.painter.proofs.painter.Painter.show_sprite_column.Goals as goal
 

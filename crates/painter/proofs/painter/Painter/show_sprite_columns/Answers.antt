@@ -1,6 +1,6 @@
 use Rattle.std.proofs.Common.{List, Option, subst}
 use Rattle.sprites.specs.declared.runs.Start.{Start}
-use Rattle.painter.specs.Overlay.{with_runs}
+use Rattle.painter.specs.code.Overlay.{with_runs}
 use Rattle.painter.specs.Painter.{IsPainterOf}
 use Rattle.painter.proofs.Overlays.{after_first, clock_changed, clock_gathered, runs_of}
 use Rattle.painter.proofs.painter.Painter.show_sprite_columns.Goals as goal

@@ -1,6 +1,6 @@
 use Rattle.std.proofs.Common.{◌≡◌, ◌∙◌, ℕ, List, Option, length, slice_index, sym, ap, subst, arith}
 use Rattle.sprites.specs.declared.runs.Start.{Start}
-use Rattle.painter.specs.SpriteState.{SpriteRegisters, first_quiet, first_begun}
+use Rattle.painter.specs.code.SpriteState.{SpriteRegisters, first_quiet, first_begun}
 use Rattle.painter.proofs.Beginning.{NoneBegins, none_armed, none_there_at, none_begun_at_all, none_more, one_more, all_begun, none_of_one}
 use Rattle.painter.proofs.sprite_state.SpriteState.begin_words.Goals as goal
 use Rattle.painter.proofs.sprite_state.SpriteState.begin_words.Goals.{then-self-eq0-via-then-self-eq0, then-self-eq0-via-else-self-eq0+then-not-may_begin_at}

@@ -1,7 +1,7 @@
 use Rattle.std.proofs.Common.{◌≡◌, ◌<◌, ◌+◌, ◌*◌, ℕ, zero, suc, List, Option, length, sym, ap, subst, arith, ◌∙◌}
 use Rattle.sprites.specs.declared.runs.Start.{Start}
-use Rattle.painter.specs.SpriteState.{SpriteRegisters}
-use Rattle.painter.specs.StartsCode.{IsSteady}
+use Rattle.painter.specs.code.SpriteState.{SpriteRegisters}
+use Rattle.painter.specs.code.Starts.{IsSteady}
 use Rattle.painter.proofs.Beginning.{none_begun, none_starts, none_there_at}
 use Rattle.painter.proofs.sprite_state.SpriteState.begun_clocks.Goals as goal
 

@@ -1,6 +1,6 @@
 use Rattle.std.proofs.Common.{◌≡◌, ◌≢◌, ◌≤◌, ◌<◌, ◌+◌, ◌%◌, ℕ, List, Bool, true, false, nat_eq, slice_index, refl, ap, sym, ◌∙◌, arith}
 use Rattle.std.proofs.lemmas.Bool.Decides.{nat_tests}
-use Rattle.painter.specs.SpriteState.{SpriteRegisters}
+use Rattle.painter.specs.code.SpriteState.{SpriteRegisters}
 use Rattle.painter.proofs.sprite_state.SpriteState.clocks_before_start.Goals as goal
 
 one_more : (f : ℕ → ℕ) (h n now next : ℕ) → next ≤ now → ((sprite k : ℕ) → sprite < n → k < now → f sprite ≢ h + k) →

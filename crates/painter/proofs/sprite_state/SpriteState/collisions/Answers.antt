@@ -1,7 +1,7 @@
 use Rattle.std.proofs.Common.{◌∙◌, sym, subst, arith}
 use Rattle.sprite_rows.specs.LineValues.{IsRowsOf, values_at}
 use Rattle.collisions.proofs.Quiet.{quiet_bits}
-use Rattle.painter.specs.SpriteState.{SpriteRegisters}
+use Rattle.painter.specs.code.SpriteState.{SpriteRegisters}
 use Rattle.painter.proofs.LaidOut.{later_rows, worth_is, quiet_is}
 use Rattle.painter.proofs.sprite_state.SpriteState.collisions.Goals as goal
 

@@ -1,5 +1,5 @@
 use Rattle.std.proofs.Common.{◌≡◌, ◌+◌, ◌*◌, ◌∙◌, sym, ap, subst, arith}
-use Rattle.painter.specs.SpriteState.{SpriteRegisters, IsQuiet}
+use Rattle.painter.specs.code.SpriteState.{SpriteRegisters, IsQuiet}
 use Rattle.painter.proofs.Beginning.{idle, none_armed, none_starts}
 use Rattle.painter.proofs.sprite_state.SpriteState.idle_clocks.Goals as goal
 

@@ -1,6 +1,6 @@
 use Rattle.std.proofs.Common.{◌≡◌, ◌+◌, ◌*◌, true, false, nat_eq, nat_le, refl, ◌∙◌, sym, ap, subst, arith}
 use Rattle.std.proofs.lemmas.Bool.Decides.{nat_tests}
-use Rattle.painter.specs.SpriteState.{SpriteRegisters, IsQuiet}
+use Rattle.painter.specs.code.SpriteState.{SpriteRegisters, IsQuiet}
 use Rattle.painter.proofs.Beginning.{idle, none_armed, none_starts, none_there, known_by, not_true}
 use Rattle.painter.proofs.sprite_state.SpriteState.is_idle.Goals as goal
 

@@ -1,6 +1,6 @@
 use Rattle.std.proofs.Common.{◌∙◌, sym, subst, arith}
 use Rattle.sprite_rows.specs.LineValues.{IsRowsOf}
-use Rattle.painter.specs.SpriteState.{SpriteRegisters}
+use Rattle.painter.specs.code.SpriteState.{SpriteRegisters}
 use Rattle.painter.proofs.sprite_state.SpriteState.lone_from.Goals as goal
 
 pub returns : goal.returns

@@ -1,5 +1,5 @@
 use Rattle.std.proofs.Common.{ℕ, ◌+◌, ◌*◌, ◌%◌, nat_eq, slice_index, ◌∙◌, ap}
-use Rattle.painter.specs.SpriteState.{SpriteRegisters, has_start_at}
+use Rattle.painter.specs.code.SpriteState.{SpriteRegisters, has_start_at}
 use Rattle.painter.proofs.Beginning.{any_of_eight}
 use Rattle.painter.proofs.sprite_state.SpriteState.may_begin_at.Goals as goal
 

@@ -1,6 +1,6 @@
 use Rattle.std.proofs.Common.{subst, arith}
 use Rattle.sprite_rows.specs.LineValues.{IsRowsOf}
-use Rattle.painter.specs.SpriteState.{SpriteRegisters}
+use Rattle.painter.specs.code.SpriteState.{SpriteRegisters}
 use Rattle.painter.proofs.LaidOut.{later_rows}
 use Rattle.sprite_rows.proofs.Reaching.{all_within}
 use Rattle.serial_model.specs.Picture.{sprite_values}

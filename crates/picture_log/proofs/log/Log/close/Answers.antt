@@ -3,7 +3,7 @@ use Rattle.std.proofs.Common.{◌≡◌, ◌+◌, ◌-◌, ◌≤◌, rules, ref
 use Rattle.std.specs.Arc.{arc_value}
 use Rattle.ocs_base.specs.Script.{ScriptValue}
 use Rattle.picture_log.specs.Log.{IsCut, blank_after, size_to}
-use Rattle.picture_log.specs.ShownCountCode.{shown_before}
+use Rattle.picture_log.specs.ShownCount.{shown_before}
 use Rattle.picture_log.proofs.Beginning.{ended_job}
 use Rattle.picture_log.proofs.Cutting.{log_cuts, number_fits}
 use Rattle.picture_log.proofs.ShownLaws.{ended_size}

@@ -18,10 +18,10 @@ use Rattle.cpu_bus.specs.declared.TurnBeside.TheVariants as T
 use Rattle.cpu_bus.specs.Bus.{IsProcessorOf, GoesOn}
 use Rattle.cpu_bus.specs.Beside.{turn_beside_of}
 use Rattle.chip_set.specs.AskLaws.{is_clx_ask}
-use Rattle.chip_set.specs.BusCode.{LeavesBus, CiasRest, KeepsOnBus, reaches_memory}
+use Rattle.chip_set.specs.Bus.{LeavesBus, CiasRest, KeepsOnBus, reaches_memory}
 use Rattle.chip_set.specs.Chips.{CanAsk, CanDo, IsBlitAsk, kept_wish}
 use Rattle.machine.specs.Machine.{MachineValue, Makes, MakesAccess, StaysInPlace, StoresMade, reads_after}
-use Rattle.machine.specs.MachineStepsCode.{AsksInTime}
+use Rattle.machine.specs.MachineSteps.{AsksInTime}
 use Rattle.out_files.specs.Gives.{Gives}
 
 -- the slot of this clock of a line is left to the processor by everybody else, and nothing is to be done for side and CIAs in it and

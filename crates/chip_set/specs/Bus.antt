@@ -1,7 +1,7 @@
 -- Clocks that refresh, sprites and the Copper leave to the planes, the blitter and the processor.
 use Rattle.std.specs.Prelude.{◌≡◌, ◌⊎◌, ◌≤◌, ◌<◌, ℕ, ◌+◌, ◌%◌, ◌==◌, Bool, true, false, not, Option, Some, None, is_some}
 use Rattle.bitplane_dma.specs.Quiet.{IsUnitAt}
-use Rattle.bitplane_dma.specs.RulesCode.{rules_of}
+use Rattle.bitplane_dma.specs.Rules.{rules_of}
 use Rattle.bitplane_dma.specs.declared.rules.FetchRules.{FetchRules}
 use Rattle.irq_cia.specs.Cia.{after_tick}
 use Rattle.ocs_base.specs.declared.beam.Beam.{Beam}

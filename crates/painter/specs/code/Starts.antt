@@ -3,7 +3,7 @@ use Rattle.std.specs.Prelude.{◌≡◌, ◌≢◌, ◌≤◌, ◌<◌, ℕ, ◌
 use Rattle.sprites.specs.declared.runs.Start.{Start}
 use Rattle.sprite_rows.specs.LineValues.{pair_byte}
 use Rattle.serial_model.specs.Picture.{sprite_values}
-use Rattle.painter.specs.SpriteState.{SpriteRegisters, runs_in}
+use Rattle.painter.specs.code.SpriteState.{SpriteRegisters, runs_in}
 
 -- nothing begins at a clock, and nothing shows from it on
 pub record IsIdle (h : ℕ) (s : SpriteRegisters) : Type 0 where

@@ -5,11 +5,11 @@ use Rattle.serial_model.specs.Picture.{colour_bytes}
 use Rattle.plane_rows.specs.declared.line.Line.{Line}
 use Rattle.painter.specs.declared.painter.Painter.{Painter}
 use Rattle.painter.specs.Inks.{InkRegisters, backdrop}
-use Rattle.painter.specs.Overlay.{quiet_collisions}
+use Rattle.painter.specs.code.Overlay.{quiet_collisions}
 use Rattle.painter.specs.Painter.{IsPainterOf, clock_bytes}
-use Rattle.painter.specs.Pixels.{ink_at, modified_along, all_modified}
+use Rattle.painter.specs.code.Pixels.{ink_at, modified_along, all_modified}
 use Rattle.serial_model.specs.Window.{is_inside}
-use Rattle.painter.specs.StartsCode.{IsIdle}
+use Rattle.painter.specs.code.Starts.{IsIdle}
 
 -- the bytes of n clocks, of which each has four pixels
 unfoldable pub bytes_of_clocks : (ℕ → List (List ℕ)) → ℕ → List ℕ
