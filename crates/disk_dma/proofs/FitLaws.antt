@@ -40,16 +40,10 @@ write_keeps reg word d =
     (either _ _ _ (length_keeps word d)
     (either _ _ _ (same (record d { sync = word })) (either _ _ _ (same (with_control word d)) (same d)))))
 
-join_keeps : (word : ℕ) (d : DiskValue) → HasSize d.at.size (join_if_wanted word d)
-join_keeps word d =
-    either (wants_word d && nat_lt (length_of d.queue) 3) _ _
-    (same (record d { queue = d.queue ++ word ∷ []; wanted = d.wanted - 1 })) (same d)
-
 tick_keeps : (b : Beam) (d : DiskValue) → HasSize d.at.size (disk_tick b d)
 tick_keeps b d =
     let ticked : DiskValue = record d { due = false } in
-    let arrived : HasSize d.at.size (after_arrival ticked) = record { is = (join_keeps (track_word d.track d.place) ticked).is } in
-    either (is_arrival b.h) (after_arrival ticked) ticked arrived (same ticked)
+    either (is_arrival b.h) (after_arrival ticked) ticked (same (after_arrival ticked)) (same ticked)
 
 leave_keeps : (words : List ℕ) (d : DiskValue) → HasSize d.at.size (after_leave words d)
 leave_keeps [] d = same d
