@@ -1,6 +1,7 @@
 """tools/definitions: the table in the documents is that of the tree, and a contract leads to the files that it names."""
 from __future__ import annotations
 
+import glob
 import os
 import shutil
 import subprocess
@@ -36,11 +37,11 @@ class DefinitionsTest(unittest.TestCase):
                 self.assertEqual((asked.returncode, asked.stdout, asked.stderr), (status, "", ""))
 
     def test_files_of_a_crate(self) -> None:
-        """`clx` of `collisions` says its result by one definition, which cites no other file."""
+        """`clx` of `collisions` says its result by one definition,."""
         said = run("collisions").stdout.splitlines()
         self.assertEqual(len(said), 2)
         self.assertTrue(said[0].endswith(" crates/collisions/specs/Collision.antt"))
-        self.assertEqual(said[1].split()[1:], ["lines", "for", "collisions"])
+        self.assertRegex(said[1], r"^ *\d+ lines in \d+ definitions for collisions$")
         self.assertEqual(said[0].split()[0], said[1].split()[0])
 
     def test_files_of_a_call(self) -> None:
@@ -52,8 +53,24 @@ class DefinitionsTest(unittest.TestCase):
 
     def test_what_no_contract_leads_to(self) -> None:
         said = run("--unread").stdout.splitlines()
-        self.assertIn("crates/m68k_opcodes/specs/LinesCode.antt", said)
+        self.assertIn("crates/m68k_opcodes/specs/code/Lines.antt", said)
         self.assertNotIn("crates/serial_model/specs/Tick.antt", said)
+
+    def test_private_definitions_stand_apart(self) -> None:
+        """A file of specs/ stands in its folder code/ exactly where no public contract leads to it; tests' own have no such folder."""
+        unread = {path for path in run("--unread").stdout.splitlines() if "_tests/" not in path and "/test_" not in path}
+        private = {os.path.relpath(path, TOP) for path in glob.glob(os.path.join(TOP, "crates", "*", "specs", "code", "*.antt"))}
+        self.assertEqual(sorted(unread ^ private), [])
+
+    def test_programs_lead_to_no_crate_that_makes_the_machine_run(self) -> None:
+        said = run("--apart")
+        self.assertEqual((said.returncode, said.stdout), (0, ""))
+
+    def test_definitions_of_a_call(self) -> None:
+        """One definition of a file counts without the others: the end of a line does without the order of the places."""
+        said = run("--names", "beam::advance_in").stdout.splitlines()
+        self.assertIn("crates/serial_model/specs/Beam.antt: next_place", said)
+        self.assertNotIn("crates/serial_model/specs/Beam.antt: is_line_start", said)
 
     def test_no_such_crate(self) -> None:
         said = run("no_such_crate")
