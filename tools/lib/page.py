@@ -3,21 +3,28 @@ from __future__ import annotations
 
 import base64
 import os
+import zlib
 from typing import Iterable
 
 from faults import BadFile
 from files import write_whole
 from frames import Frame, FramesFile, System
-from png import png
+from threads import made_in_order
+
+# the frames that a page of one run holds at most
+MOST_FRAMES = 200
+# more takes three times as long, and makes a page little smaller
+LEVEL = 4
+
+
+def packed(data: bytes) -> str:
+    """Bytes as a page holds them: compressed, and in base64."""
+    return base64.b64encode(zlib.compress(data, LEVEL)).decode("ascii")
 
 
 def frame_data(frame: Frame) -> dict[str, object]:
-    """A frame as a page reads it: its number, its rows and its PNG file in base64."""
-    return {
-        "number": frame.number,
-        "rows": frame.rows,
-        "png": base64.b64encode(png(frame.pixels, frame.rows)).decode("ascii"),
-    }
+    """A frame as a page reads it: its number, its rows, and red, green and blue of each pixel of them."""
+    return {"number": frame.number, "rows": frame.rows, "pixels": packed(frame.pixels)}
 
 
 def system_data(system: System) -> dict[str, object]:
@@ -27,7 +34,7 @@ def system_data(system: System) -> dict[str, object]:
 
 
 def frames_data(file: FramesFile, numbers: Iterable[int]) -> list[dict[str, object]]:
-    return [frame_data(file.frame(number)) for number in numbers]
+    return list(made_in_order(frame_data, map(file.frame, numbers)))
 
 
 def write_page(wanted: str | None, usual: str, inputs: Iterable[str], text: str) -> str:

@@ -5,7 +5,7 @@ from typing import Iterator, NamedTuple
 
 from denise import Denise, Write, writes_of
 from frames import FIRST_CLOCK, PIXELS_A_CLOCK, ROW_BYTES, WIDTH, FramesFile, colour_word
-from slots import SlotLine, SlotsFile
+from slots import SlotLine, SlotLog
 from trace import TraceLine, read_trace
 
 FIRST_POSITION = FIRST_CLOCK * PIXELS_A_CLOCK
@@ -51,7 +51,7 @@ class Model:
 
 def rows(frames: str, trace: str, slots: str) -> Iterator[Row]:
     """The rows of a run's frames, whose log begins with frame 0."""
-    file, log, model = FramesFile(frames), SlotsFile(slots), Model()
+    file, log, model = FramesFile(frames), SlotLog(slots), Model()
     traced: dict[tuple[int, int], list[TraceLine]] = {}
     for line in read_trace(trace, range(file.count)).lines:
         traced.setdefault(line.beam[:2], []).append(line)

@@ -113,13 +113,16 @@ def column(records: bytes, kind: str, *places: int) -> array[int]:
 
 
 class SlotFrame:
-    """The records of a frame, one for each clock in order."""
+    """The records of a frame, one for each clock in order: as slots one by one, by their number from the frame's begin, or as columns."""
 
     def __init__(self, number: int, system: System, records: bytes) -> None:
         self.number, self.system, self.records = number, system, records
 
     def __len__(self) -> int:
         return len(self.records) // RECORD.size
+
+    def __getitem__(self, at: int) -> Slot:
+        return Slot._make(RECORD.unpack_from(self.records, at * RECORD.size))
 
     def __iter__(self) -> Iterator[Slot]:
         return map(Slot._make, RECORD.iter_unpack(self.records))
@@ -220,8 +223,9 @@ class SlotLog:
         strange = frame.codes.translate(None, bytes(CODES))
         if strange:
             raise self.foreign(frame, frame.codes.index(strange[0]), f"the code {strange[0]}")
-        odd = frame.records[7 :: RECORD.size].translate(None, bytes(range(0, 256, 2)))
-        if odd or max(frame.addresses) >= self.size:
+        # the bytes that an even address below the memory's end may have, from its highest to its lowest
+        allowed = bytes(1), bytes(range(self.size >> 16)), bytes(range(256)), bytes(range(0, 256, 2))
+        if any(frame.records[4 + at :: RECORD.size].translate(None, one) for at, one in enumerate(allowed)):
             at = next(at for at, address in enumerate(frame.addresses) if address % 2 or address >= self.size)
             raise self.foreign(frame, at, f"the address {frame.addresses[at]:x}")
 

@@ -1,17 +1,22 @@
 // The blits of a frame as bars over its time, and what each was.
 
 const BLIT_REGISTERS = [
-  ["Control", ["040", "042"]], ["Masks of A", ["044", "046"]], ["Modulos A, B, C, D", ["064", "062", "060", "066"]],
-  ["Data A, B, C", ["074", "072", "070"]],
+  ["Control", [BLTCON0, BLTCON1]], ["Masks of A", [0x44, 0x46]], ["Modulos A, B, C, D", [0x64, 0x62, 0x60, 0x66]],
+  ["Data A, B, C", [0x74, 0x72, 0x70]],
 ];
+
+// what stands where blits or functions are to come
+const READING_LOG = "Reading the log ..";
 
 // the fields of BLTCON1 in a blit that draws a line
 const LINE_FIELDS = [[15, 12, "BSH"], [6, 6, "SIGN"], [4, 4, "SUD"], [3, 3, "SUL"], [2, 2, "AUL"], [1, 1, "SING"]];
 
 class BlitPanel {
   /** `whenChosen(blit)` is called with a blit that the user wants to see, `whenWritten(at)` with the index of the write that starts one. */
-  constructor(blits, field, trace, whenChosen, whenWritten) {
-    Object.assign(this, { blits, field, trace, whenChosen, whenWritten });
+  constructor(field, trace, whenChosen, whenWritten) {
+    Object.assign(this, { field, trace, whenChosen, whenWritten });
+    // those of all frames, once they were asked for
+    this.blits = null;
     this.chosen = null;
     const strip = byId("blit-strip");
     strip.addEventListener("click", (event) => {
@@ -24,10 +29,10 @@ class BlitPanel {
   /** Shows the blits that run in a frame of `clocks` clocks; 0 of a frame of which the log has no slots. */
   show(frame, clocks) {
     Object.assign(this, { frame, clocks });
+    if (!this.blits) return this.list.setItems([], READING_LOG);
     const items = [];
-    this.blits.forEach((blit, at) => {
-      const last = blit.end ? blit.end[0] : blit.start[0];
-      if (blit.start[0] <= frame && frame <= last) items.push(at);
+    this.blits.forEach(({ start, end }, at) => {
+      if (start.frame <= frame && frame <= (end ?? start).frame) items.push(at);
     });
     this.list.setItems(clocks ? items : [], clocks ? `No blit runs in frame ${frame}.` : `The log has no slots of frame ${frame}.`);
     const busy = items.reduce((sum, at) => sum + this.clocksOf(this.blits[at]), 0);
@@ -46,8 +51,8 @@ class BlitPanel {
 
   /** The first clock of a blit in the frame that is shown, and the one behind its last. */
   range({ start, end }) {
-    const from = start[0] < this.frame ? 0 : this.field.indexOf(start[1], start[2]);
-    const last = end && end[0] === this.frame ? this.field.indexOf(end[1], end[2]) : end && end[0] > this.frame ? this.clocks - 1 : from;
+    const from = start.frame < this.frame ? 0 : start.index;
+    const last = !end ? from : end.frame === this.frame ? end.index : end.frame > this.frame ? this.clocks - 1 : from;
     return [from, last + 1];
   }
 
@@ -60,18 +65,19 @@ class BlitPanel {
     const blit = this.blits[at], bar = element("span", "bar-of"), [from, end] = this.range(blit);
     bar.append(this.barOf(blit));
     row.classList.toggle("chosen", blit === this.chosen);
-    const place = blit.start[0] === this.frame ? `${blit.start[1]}, ${blit.start[2]}` : `frame ${blit.start[0]}`;
-    const texts = [place, blit.number ? blit.channels || "none" : "?", this.sizeOf(blit), counted(end - from)];
+    const { line, clock } = this.field.beam(blit.start.index);
+    const place = blit.start.frame === this.frame ? `${line}, ${clock}` : `frame ${blit.start.frame}`;
+    const texts = [place, blit.at < 0 ? "?" : blit.channels || "none", this.sizeOf(blit), counted(end - from)];
     row.replaceChildren(...texts.map((text) => element("span", "", text)), bar);
   }
 
   sizeOf(blit) {
-    if (!blit.number) return "from before";
-    return blit.line ? `line ${blit.size[0]}` : `${blit.size[1]} x ${blit.size[0]}`;
+    if (blit.at < 0) return "from before";
+    return blit.line ? `line ${blit.height}` : `${blit.width} x ${blit.height}`;
   }
 
   choose(at) {
-    this.chosen = this.blits[at] ?? null;
+    this.chosen = this.blits?.[at] ?? null;
     this.list.redraw();
     byId("blit-detail").replaceChildren(...(this.chosen ? this.detail(this.chosen) : ["Choose a blit: its clocks are marked in the map."]));
     this.whenChosen(this.chosen);
@@ -108,8 +114,8 @@ class BlitPanel {
   }
 
   detail(blit) {
-    if (!blit.number) return ["A blit that began before the log: its registers are not known."];
-    const [reads, writes, rests] = blit.slots, taken = reads + writes + rests;
+    if (blit.at < 0) return ["A blit that began before the log, or before the frames of this page: its registers are not known."];
+    const { reads, writes, rests, slots: taken } = blit;
     const head = element("p", "strong", this.headline(blit));
     const part = Math.round((100 * taken) / Math.max(1, blit.clocks));
     const rest = taken < blit.asks ? ` It has not ended in the log: ${counted(blit.asks)} slots are wanted.` : "";
@@ -120,24 +126,23 @@ class BlitPanel {
       table.append(this.fact(`Channel ${channel}`, `${hex(first, 5)} to ${hex(last, 5)}`));
     }
     for (const [name, registers] of BLIT_REGISTERS) {
-      table.append(this.fact(name, registers.map((one) => hex(blit.words[one] ?? 0, 4)).join(" ")));
+      table.append(this.fact(name, registers.map((one) => hex(blit.word(one), 4)).join(" ")));
     }
     return [head, this.startOf(blit), element("p", "faint", slots), table];
   }
 
   /** Who started a blit and when, with a way to that write. */
-  startOf(blit) {
-    const line = element("p", "faint"), at = this.trace.number.indexOf(blit.number), [frame, row, clock] = blit.start;
-    const where = `${frame === this.frame ? "" : `frame ${frame}, `}line ${row}, clock ${clock}`;
-    if (at < 0) line.append(`Started at ${where}.`);
-    else line.append(`Started by the ${SOURCE_NAMES[this.trace.source[at]]} at `, linkTo(where, () => this.whenWritten(at)), ".");
+  startOf({ start, at }) {
+    const line = element("p", "faint"), beam = this.field.beam(start.index);
+    const where = `${start.frame === this.frame ? "" : `frame ${start.frame}, `}line ${beam.line}, clock ${beam.clock}`;
+    line.append(`Started by the ${SOURCE_NAMES[this.trace.source[at]]} at `, linkTo(where, () => this.whenWritten(at)), ".");
     return line;
   }
 
   headline(blit) {
-    const kind = blit.line ? `Line of ${countOf(blit.size[0], "point")}` : `${countOf(blit.size[1], "word")} by ${countOf(blit.size[0], "row")}`;
-    const first = blit.words["040"] ?? 0, fields = blit.line ? LINE_FIELDS : this.trace.registers["042"][3];
-    const control = [`LF ${hex(first & 255, 2)}`, `ASH ${first >> 12}`, fieldsOf(fields, blit.words["042"] ?? 0)].join(", ");
+    const kind = blit.line ? `Line of ${countOf(blit.height, "point")}` : `${countOf(blit.width, "word")} by ${countOf(blit.height, "row")}`;
+    const first = blit.word(BLTCON0), fields = blit.line ? LINE_FIELDS : this.trace.registers["042"][3];
+    const control = [`LF ${hex(first & 255, 2)}`, `ASH ${first >> 12}`, fieldsOf(fields, blit.word(BLTCON1))].join(", ");
     return `${kind}, channels ${blit.channels || "none"}: ${control}`;
   }
 

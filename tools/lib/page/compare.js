@@ -68,7 +68,7 @@ class Comparison {
     const count = frame.pixels === 1 ? "1 pixel differs" : `${counted(frame.pixels)} pixels differ`;
     byId("frame-label").textContent = `frame ${frame.number}: ${count}${more}`;
     const wanted = this.index;
-    const images = await Promise.all(frame.sides.map((side) => pixelsOf(side.png, this.data.system.height)));
+    const images = await Promise.all(frame.sides.map((side) => pixelsOf(side.pixels, this.data.system.height)));
     if (wanted !== this.index) return;
     this.images = [...images, differenceOf(images[0], images[1])];
     if (!this.differsAt(this.place.column, this.place.row)) this.findNext();

@@ -4,6 +4,8 @@ const DIWSTRT = 0x8e, DIWSTOP = 0x90, BPLCON0 = 0x100, BPLCON1 = 0x102, BPLCON2 
 const BPL1DAT = 0x110, BPL6DAT = 0x11a, SPR0POS = 0x140, SPR7DATB = 0x17e;
 const POS = 0, CTL = 2, SPRITE_DATA = 4, SPRITE_DATB = 6;
 const SPRITE_RUN = 16;
+// the bits of DMACON that let planes and sprites fetch
+const BPLEN = 0x100, SPREN = 0x20;
 
 /** Denise's registers on which a picture depends. */
 function pictureRegisters() {
@@ -16,32 +18,50 @@ function pictureRegisters() {
 const PICTURE_REGISTERS = pictureRegisters();
 const IS_PICTURE = new Set(PICTURE_REGISTERS);
 
+/** Whether one write or fetch came after another; null is none. At one clock a fetch comes after what the trace has. */
+function isLater(one, other) {
+  if (!one || !other) return Boolean(one);
+  const order = one.frame - other.frame || one.line - other.line || one.clock - other.clock;
+  return (order || (one.at < 0) - (other.at < 0) || one.at - other.at) > 0;
+}
+
 /** Denise at some clock of a frame. Each register has, beside its word, where that came from. */
 class Denise {
   constructor(trace, slots, frame) {
     Object.assign(this, { trace, slots, frame });
     this.words = new Uint16Array(256);
     this.causes = new Array(256).fill(null);
-    this.armed = slots.state.armed;
-    this.armedUnknown = slots.state.armedUnknown;
-    this.unknown = new Set(slots.state.unknown.map((name) => parseInt(name, 16)));
     this.tracedTo = trace.indexOf(frame, 0, 0);
     this.fetchedTo = 0;
     this.takeWords();
+    this.takeArmed();
     this.beginLine();
   }
 
-  /** The words as the frame begins: the trace's, and those that were fetched in frames before. */
+  /** The words as the frame begins: of each register the later of the trace's last write and the last fetch before it. */
   takeWords() {
+    const { trace, slots } = this;
     for (const register of PICTURE_REGISTERS) {
-      const kept = this.slots.state.words[hex(register, 3)];
-      const at = this.trace.lastWriteBefore(register, this.tracedTo);
-      if (kept && kept[4] >= 0) {
-        const [word, frame, line, clock, address] = kept;
-        this.set(register, word, { frame, line, clock, address, at: -1 });
-      } else if (at >= 0) {
-        this.set(register, this.trace.word[at], this.traced(at));
-      }
+      const at = trace.lastWriteBefore(register, this.tracedTo);
+      if (at >= 0) this.set(register, trace.word[at], this.traced(at));
+    }
+    for (const [code, [frame, line, clock, address, word]] of Object.entries(slots.before)) {
+      const register = fetchedRegister(Number(code)), cause = { frame, line, clock, address, at: -1 };
+      if (!isLater(this.causes[register >> 1], cause)) this.set(register, word, cause);
+    }
+  }
+
+  /** Which sprites are armed as the frame begins; and, of a log that begins later than the run, what a fetch before it may have written. */
+  takeArmed() {
+    const { first, dmaBefore } = this.slots.log, cause = (register) => this.causes[register >> 1];
+    const isUnknown = (register) => !(cause(register)?.at < 0) && !(cause(register)?.frame >= first);
+    const fetched = PICTURE_REGISTERS.filter((one) => (one <= BPL6DAT ? one >= BPL1DAT && dmaBefore & BPLEN : one <= SPR7DATB && dmaBefore & SPREN));
+    this.unknown = new Set(fetched.filter(isUnknown));
+    this.armed = this.armedUnknown = 0;
+    for (let sprite = 0; sprite < 8; sprite++) {
+      const [control, data] = [CTL, SPRITE_DATA].map((part) => SPR0POS + 8 * sprite + part);
+      if (isLater(cause(data), cause(control))) this.armed |= 1 << sprite;
+      if (this.unknown.has(control) && this.unknown.has(data)) this.armedUnknown |= 1 << sprite;
     }
   }
 
@@ -63,6 +83,8 @@ class Denise {
     this.loads = [];
     this.runs = new Array(8).fill(null);
     this.held = this.word(FIRST_COLOUR);
+    // the positions at which red, green and blue of the held colour were set; -1 as the line began
+    this.heldFrom = { red: -1, green: -1, blue: -1 };
     this.doubtful = new Set();
   }
 
@@ -233,7 +255,14 @@ class Denise {
     const low = bits & 15, control = (bits >> 4) & 3;
     if (!control) return { number: low, colour: this.colour(low) };
     const shift = [0, 0, 8, 4][control], modified = ["", "blue", "red", "green"][control];
-    return { number: -1, modified, before: this.held, colour: (this.held & ~(15 << shift)) | (low << shift) };
+    return { number: -1, modified, before: this.held, beforeFrom: this.heldFrom, colour: (this.held & ~(15 << shift)) | (low << shift) };
+  }
+
+  /** Holds a colour, of which a position has set one component, or all. */
+  hold(colour, position, component) {
+    this.held = colour;
+    const set = component ? { [component]: position } : { red: position, green: position, blue: position };
+    this.heldFrom = { ...this.heldFrom, ...set };
   }
 
   /** The pixel at a position of a line, and why it is so. The next is that of the position behind it. */
@@ -242,13 +271,13 @@ class Denise {
     if (this.unknown.size || this.armedUnknown) this.gatherDoubtful();
     if (position % 2 === 0) this.startSprites(x);
     if (!this.isInside(line, x)) {
-      this.held = this.colour(0);
+      this.hold(this.colour(0), position);
       return { inside: false, number: 0, colour: this.held };
     }
     const planes = this.shownPlanes(position);
     const bits = planes.reduce((sum, one) => sum | (one.bit << (one.plane - 1)), 0);
     const field = this.playfield(bits), front = this.frontSprite(x);
-    this.held = field.colour;
+    this.hold(field.colour, position, field.modified);
     const hidden = Boolean(front && field.value && field.code <= front.pair);
     const number = front && !hidden ? front.number : field.number;
     const colour = front && !hidden ? this.colour(front.number) : field.colour;

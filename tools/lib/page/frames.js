@@ -1,4 +1,4 @@
-// The geometry of a frame, and its pixels out of the PNG that the page holds.
+// The geometry of a frame, and its pixels as the page holds them.
 
 const WIDTH = 720;
 const FIRST_CLOCK = 47;
@@ -19,38 +19,15 @@ async function inflate(bytes) {
   return new Uint8Array(await new Response(stream).arrayBuffer());
 }
 
-/** The chunks of a PNG file by their kind. */
-function chunksOf(png) {
-  const view = new DataView(png.buffer);
-  const chunks = {};
-  for (let at = 8; at < png.length; ) {
-    const length = view.getUint32(at);
-    const kind = String.fromCharCode(...png.subarray(at + 4, at + 8));
-    chunks[kind] = png.subarray(at + 8, at + 8 + length);
-    at += 12 + length;
-  }
-  return chunks;
-}
-
-/**
- * The pixels of a frame as ImageData. They are taken from the PNG's own bytes (its rows are not filtered), since what a
- * canvas gives back may be changed by colour management or by protection from fingerprinting.
- */
-async function pixelsOf(base64, height) {
-  const chunks = chunksOf(bytesOf(base64));
-  const palette = chunks.PLTE;
-  const rows = await inflate(chunks.IDAT);
+/** The pixels of a frame as ImageData, of red, green and blue of each, which a page holds packed. */
+async function pixelsOf(packed, height) {
+  const bytes = await inflate(bytesOf(packed));
   const image = new ImageData(WIDTH, height);
-  const stride = 1 + WIDTH * (palette ? 1 : 3);
-  for (let to = 0, row = 0; row * stride < rows.length; row++) {
-    for (let from = row * stride + 1; from < (row + 1) * stride; from += palette ? 1 : 3, to += 4) {
-      const source = palette ? palette : rows;
-      const at = palette ? 3 * rows[from] : from;
-      image.data[to] = source[at];
-      image.data[to + 1] = source[at + 1];
-      image.data[to + 2] = source[at + 2];
-      image.data[to + 3] = 255;
-    }
+  for (let from = 0, to = 0; from < bytes.length; from += 3, to += 4) {
+    image.data[to] = bytes[from];
+    image.data[to + 1] = bytes[from + 1];
+    image.data[to + 2] = bytes[from + 2];
+    image.data[to + 3] = 255;
   }
   return image;
 }
@@ -80,7 +57,7 @@ class Frames {
   async decode(index) {
     if (!(index in this.frames) || this.coming.has(index) || this.decoded.has(index)) return;
     this.coming.add(index);
-    const image = await pixelsOf(this.frames[index].png, this.height);
+    const image = await pixelsOf(this.frames[index].pixels, this.height);
     this.coming.delete(index);
     this.decoded.set(index, image);
     if (this.decoded.size > MOST_DECODED) this.decoded.delete(this.decoded.keys().next().value);
@@ -138,6 +115,17 @@ function onceBeforeDrawing(draw) {
       asked = 0;
       draw();
     });
+  };
+}
+
+/** A function that has `act` called so many milliseconds after it was called first, once however often it is called until then. */
+function onceIn(delay, act) {
+  let asked = 0;
+  return () => {
+    asked ||= setTimeout(() => {
+      asked = 0;
+      act();
+    }, delay);
   };
 }
 

@@ -3,6 +3,8 @@
 const AHEAD = 3;
 const ARROWS = { ArrowLeft: [-1, 0], ArrowRight: [1, 0], ArrowUp: [0, -1], ArrowDown: [0, 1] };
 const LINES_A_LEAP = 8;
+// browsers refuse an address that is changed too often
+const ADDRESS_DELAY = 100;
 
 class Look {
   constructor(data, trace) {
@@ -13,6 +15,7 @@ class Look {
     this.playing = false;
     this.chosen = -1;
     this.markedLine = -1;
+    this.keepAddress = onceIn(ADDRESS_DELAY, () => this.writeAddress());
     this.frames = new Frames(data.frames, data.system.height, (index) => index === this.index && this.showFrame());
     this.buildPicture();
     const choose = (at) => this.choose(at, true);
@@ -38,6 +41,7 @@ class Look {
       byId("zoom-label").textContent = (fitted ? zoom.toFixed(2).replace(/\.?0+$/, "") : zoom) + "\u00d7";
       byId("fit").setAttribute("aria-pressed", String(fitted));
       this.slotView?.whenZoomed(zoom, fitted);
+      this.keepAddress();
     };
   }
 
@@ -74,6 +78,7 @@ class Look {
     this.applyFilter();
     this.showCounts();
     this.slotView?.showFrame();
+    this.keepAddress();
   }
 
   showFrame() {
@@ -168,18 +173,18 @@ class Look {
 
   /** Goes to the frame and the place of a trace line, where the page has its frame. */
   goToLine(at) {
-    this.goToPlace(this.trace.frame[at], this.trace.line[at], this.trace.clock[at]);
+    this.goToPlace(this.trace.frame[at], this.trace.line[at], this.trace.clock[at] * PIXELS_A_CLOCK);
   }
 
-  /** Goes to a clock of a line of a frame, where the page has that. */
-  goToPlace(frame, line, clock) {
+  /** Goes to a position of a line of a frame, where the page has that. */
+  goToPlace(frame, line, x) {
     const index = this.data.frames.findIndex((one) => one.number === frame);
     if (index < 0) return;
     if (index !== this.index) this.goToFrame(index);
-    const place = { x: clock * PIXELS_A_CLOCK, line };
-    this.picture.cursor = place;
-    this.picture.reveal(place.x, place.line);
+    this.picture.cursor = { x, line };
+    this.picture.reveal(x, line);
     this.showReading();
+    this.keepAddress();
   }
 
   showDetail(at) {
@@ -212,9 +217,9 @@ class Look {
     if (mark >= 0) this.choose(mark, false);
     else this.showLine(place.line);
     this.showReading();
-    this.slotView?.showClicked(place);
-    const column = place.x - FIRST_CLOCK * PIXELS_A_CLOCK;
-    history.replaceState(null, "", `#frame=${this.frame}&line=${place.line}&column=${column}`);
+    if (mark >= 0) this.slotView?.tabs.show("trace");
+    else this.slotView?.showClicked(place);
+    this.keepAddress();
   }
 
   /** Shows the trace of a line of the picture: its rows are marked, and the first stands near the top. */
@@ -288,6 +293,7 @@ class Look {
     this.slotView?.blits.choose(-1);
     this.choose(-1, false);
     this.showReading();
+    this.keepAddress();
   }
 
   /** Keys of the picture or the list, where one has the focus; whether there was one. */
@@ -327,6 +333,7 @@ class Look {
     this.picture.reveal(place.x, place.line);
     this.picture.redraw();
     this.showReading();
+    this.keepAddress();
     byId("spoken").textContent = `line and clock ${byId("beam").textContent}, colour ${byId("colour").textContent}`;
   }
 
@@ -381,10 +388,25 @@ class Look {
     byId("filter-register").focus();
   }
 
-  /** Goes to the place that the page's address names, as a click leaves it there. */
+  /** Lets the page's address name what is shown, so that it is there again after a reload. */
+  writeAddress() {
+    const { cursor, fitted, zoom } = this.picture, view = this.slotView;
+    const named = new URLSearchParams({ frame: this.frame });
+    if (cursor) named.set("line", cursor.line);
+    if (cursor) named.set("column", cursor.x - FIRST_CLOCK * PIXELS_A_CLOCK);
+    if (!fitted) named.set("zoom", zoom);
+    if (view && view.tabs.shown !== "trace") named.set("tab", view.tabs.shown);
+    if (view && view.mode !== "off") named.set("map", view.mode);
+    history.replaceState(null, "", "#" + named);
+  }
+
+  /** Shows what the page's address names. */
   followAddress() {
-    const wanted = new URLSearchParams(location.hash.slice(1));
-    const [frame, line, column] = ["frame", "line", "column"].map((name) => Number(wanted.get(name) ?? NaN));
+    const named = new URLSearchParams(location.hash.slice(1)), view = this.slotView;
+    const [frame, line, column, zoom] = ["frame", "line", "column", "zoom"].map((name) => Number(named.get(name) ?? NaN));
+    if (view?.tabs.names.includes(named.get("tab"))) view.tabs.show(named.get("tab"));
+    if (view && MAP_MODES.includes(named.get("map"))) view.setMode(named.get("map"));
+    if (zoom > 0) this.picture.zoomTo(zoom);
     const index = this.data.frames.findIndex((one) => one.number === frame);
     if (index < 0) return;
     if (index !== this.index) this.goToFrame(index);

@@ -47,8 +47,8 @@ class SlotView {
     this.slots = new Slots(data, look.system, (frame) => frame === look.frame && this.showFrame());
     this.field = this.slots.field;
     this.map = new SlotMap(look.system, this.field);
-    this.why = new Why(byId("why"), look.trace, (at) => this.goToWrite(at), (cause) => this.goToSlot(cause));
-    this.blits = new BlitPanel(data.blits, this.field, look.trace, (blit) => this.markBlit(blit), (at) => this.goToWrite(at));
+    this.why = new Why(byId("why"), look.trace, (at) => this.goToWrite(at), (place) => this.goToSlot(place));
+    this.blits = new BlitPanel(this.field, look.trace, (blit) => this.markBlit(blit), (at) => this.goToWrite(at));
     this.copper = new CopperPanel(look.trace, (beam) => this.goToSlot({ frame: look.frame, ...beam }));
     this.showWhy = onceBeforeDrawing(() => this.drawWhy());
     this.buildOwners();
@@ -57,7 +57,10 @@ class SlotView {
     byId("slot-fact").hidden = false;
     byId("all-functions").addEventListener("change", () => this.showFunctions());
     const names = ["trace", "why", "slots", "blits", "copper", ...(data.symbols ? ["functions"] : [])];
-    this.tabs = new Tabs(names, () => this.showPanel());
+    this.tabs = new Tabs(names, () => {
+      this.showPanel();
+      look.keepAddress();
+    });
   }
 
   /** The slots of the frame that is shown; null where the log has none, or they are not unpacked yet. */
@@ -98,6 +101,7 @@ class SlotView {
     if (mode === "beside" && !this.beside) this.buildBeside();
     this.look.picture.resize();
     this.paint();
+    this.look.keepAddress();
   }
 
   nextMode() {
@@ -156,14 +160,13 @@ class SlotView {
 
   showFrame() {
     const slots = this.current;
-    const shares = this.slots.has(this.look.frame) ? this.slots.shares(this.look.frame) : OWNERS.map(() => 0);
-    const all = shares.reduce((sum, one) => sum + one, 0);
+    const has = this.slots.has(this.look.frame), shares = has ? this.slots.shares(this.look.frame) : OWNERS.map(() => 0);
+    const all = has ? this.slots.clocks(this.look.frame) : 0;
     this.chips.forEach(({ label, number }, at) => {
       label.hidden = !shares[at];
       number.textContent = percent(shares[at], all);
     });
-    this.blits.show(this.look.frame, all);
-    if (slots || !this.slots.has(this.look.frame)) this.paint();
+    if (slots || !has) this.paint();
     this.showPanel();
     this.showPlace(this.place, this.colour);
     for (let ahead = 1; ahead <= AHEAD; ahead++) this.slots.frame(this.look.frame + ahead);
@@ -189,12 +192,13 @@ class SlotView {
     return [signOfOwner(OWNERS[OWNER_OF[slots.codes[index]]]), " ", text];
   }
 
-  /** After a click on a place: the Copper's list goes to what ran there, that of blits to the one that ran then. */
+  /** After a click on a place: the Copper's list goes to what ran there, that of blits to the one that ran then; else why its pixel is so is shown. */
   showClicked(place) {
-    const slots = this.current;
+    const slots = this.current, shown = this.tabs.shown;
+    if (shown !== "copper" && shown !== "blits") this.tabs.show("why");
     if (!slots || !slots.has(place.line, place.x >> 2)) return;
-    if (this.tabs.shown === "copper") this.copper.reveal(place);
-    if (this.tabs.shown === "blits") this.blits.chooseAt(this.field.indexOf(place.line, place.x >> 2));
+    if (shown === "copper") this.copper.reveal(place);
+    if (shown === "blits") this.blits.chooseAt(this.field.indexOf(place.line, place.x >> 2));
   }
 
   /** Keys in the lists of blits and of the Copper's instructions; whether there was one. */
@@ -222,8 +226,9 @@ class SlotView {
     this.look.choose(at, true);
   }
 
-  goToSlot({ frame, line, clock }) {
-    this.look.goToPlace(frame, line, clock);
+  /** Goes to a clock, or to a pixel where its position is given. */
+  goToSlot({ frame, line, clock, position = clock * PIXELS_A_CLOCK }) {
+    this.look.goToPlace(frame, line, position);
   }
 
   // panels
@@ -231,9 +236,32 @@ class SlotView {
   showPanel() {
     const shown = this.tabs?.shown;
     if (shown === "slots") this.showShares();
+    if (shown === "blits") this.showBlits();
     if (shown === "copper") this.showCopper();
     if (shown === "functions") this.showFunctions();
     this.showWhy();
+  }
+
+  /** Goes through all frames of the log, once, for the panels of what goes on from frame to frame. */
+  async readAll() {
+    if (this.asked) return;
+    this.asked = true;
+    const slots = this.slots, numbers = slots.numbers;
+    const blits = new BlitLog(this.field, this.look.trace, numbers[0]), profile = new Profile(slots.functions);
+    for (const number of numbers) {
+      const frame = await slots.read(number);
+      blits.take(number, frame);
+      profile.take(number, frame);
+    }
+    this.blits.blits = blits.all;
+    this.profile = profile;
+    this.showPanel();
+  }
+
+  showBlits() {
+    this.readAll();
+    const frame = this.look.frame;
+    this.blits.show(frame, this.slots.has(frame) ? this.slots.clocks(frame) : 0);
   }
 
   showCopper() {
@@ -252,7 +280,7 @@ class SlotView {
       body.replaceChildren();
       return;
     }
-    const shares = this.slots.shares(frame), all = shares.reduce((sum, one) => sum + one, 0);
+    const shares = this.slots.shares(frame), all = this.slots.clocks(frame);
     const rows = OWNERS.map((owner, at) => shareRow(signOfOwner(owner), owner.name, [counted(shares[at])], shares[at], all, owner.colour));
     const total = shareRow("", "All", [counted(all)], all, all, "");
     body.replaceChildren(...rows, total);
@@ -282,7 +310,7 @@ class SlotView {
 
   drawColumn(pen, style, frame, x, width) {
     if (!this.slots.has(frame)) return;
-    const shares = this.slots.shares(frame), all = shares.reduce((sum, one) => sum + one, 0);
+    const shares = this.slots.shares(frame), all = this.slots.clocks(frame);
     let bottom = CHART_HEIGHT;
     for (let owner = OWNERS.length - 1; owner > FREE; owner--) {
       const height = (CHART_HEIGHT * shares[owner]) / all;
@@ -295,23 +323,15 @@ class SlotView {
   }
 
   showFunctions() {
-    const { symbols, functions } = this.data, all = byId("all-functions").checked;
-    const wanted = all ? Object.values(functions) : [functions[this.look.frame] ?? []];
-    const sums = new Map();
-    for (const rows of wanted) {
-      for (const [number, clocks, reads] of rows) {
-        const [before, read] = sums.get(number) ?? [0, 0];
-        sums.set(number, [before + clocks, read + reads]);
-      }
-    }
-    const whole = [...sums.values()].reduce((sum, [clocks]) => sum + clocks, 0);
-    const sorted = [...sums].sort((a, b) => b[1][0] - a[1][0]);
-    const rows = sorted.map(([number, [clocks, reads]]) => {
-      const name = number < 0 ? symbols.unknown : symbols.names[number];
-      return shareRow("", name, [counted(clocks), counted(reads)], clocks, whole, "--processor");
-    });
+    this.readAll();
+    const all = byId("all-functions").checked, { names, unknown } = this.data.symbols;
+    byId("functions-title").textContent = !this.profile ? READING_LOG : all ? "All frames of the page" : `Frame ${this.look.frame}`;
+    const found = this.profile?.rows(all ? this.slots.numbers : [this.look.frame]) ?? [];
+    const whole = found.reduce((sum, { clocks }) => sum + clocks, 0);
+    const rows = found.map(({ number, clocks, reads }) =>
+      shareRow("", names[number] ?? unknown, [counted(clocks), counted(reads)], clocks, whole, "--processor"),
+    );
     byId("functions").replaceChildren(...rows);
-    byId("functions-title").textContent = all ? "All frames of the page" : `Frame ${this.look.frame}`;
   }
 }
 

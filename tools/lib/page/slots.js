@@ -1,12 +1,9 @@
 // The slots of a frame: of each clock who had the bus, and what was read or written then.
 
-const DISTANCES = 1 << 24;
-const FAR = 128;
-const COPPER_READS = 3;
+const BLITTER_RESTS = 2, COPPER_READS = 3, BLITTER_READS = 4, BLITTER_WRITES = 5, PROCESSOR_READS = 6;
 const FIRST_PLANE = 33, LAST_PLANE = 38, FIRST_SPRITE = 40, LAST_SPRITE = 71;
-const REGISTER_READ = 10, REGISTER_WRITTEN = 11;
-const FREE = 0, BITPLANES = 4, BLITTER = 7, PROCESSOR_SLOT = 8;
-const MOST_UNPACKED = 24;
+const FREE = 0, PROCESSOR_SLOT = 8;
+const MOST_UNPACKED = 24, MEMORY_WORDS = 1 << 19;
 // the names and colours of the owners, in the order of their numbers
 const OWNERS = [
   { name: "Free", colour: "--slot-free" },
@@ -19,35 +16,17 @@ const OWNERS = [
   { name: "Blitter", colour: "--slot-blitter" },
   { name: "Processor", colour: "--processor" },
 ];
-// the codes from 0 to 12, and of planes and sprites: what is done, the stream whose address is next, and how many words follow
-const PLAIN_CODES = [
-  ["free", -1, 0], ["refresh", -1, 0], ["blitter rests", -1, 0], ["Copper reads", 0, 0], ["blitter reads", 1, 0],
-  ["blitter writes", 2, 1], ["processor reads", 3, 0], ["processor writes", 4, 1],
-  ["processor writes the high byte", 4, 1], ["processor writes the low byte", 4, 1],
-  ["processor reads", -1, 2], ["processor writes", -1, 2], ["disk writes", 5, 1],
-];
-const SPRITE_PARTS = ["POS", "CTL", "DATA", "DATB"];
+// of each code its words, its owner, and whether memory or a register is accessed: the page's data has them
+const CODES = [];
+const OWNER_OF = new Uint8Array(256);
 
-/** Of each code its words, stream, count of words and owner. */
-function codeTable() {
-  const table = new Array(FAR).fill(null);
-  const owners = [0, 1, 7, 6, 7, 7, 8, 8, 8, 8, 8, 8, 2];
-  PLAIN_CODES.forEach(([says, stream, words], code) => (table[code] = { says, stream, words, owner: owners[code] }));
-  for (let channel = 0; channel < 4; channel++) {
-    table[16 + channel] = { says: `audio channel ${channel} reads`, stream: 8 + channel, words: 0, owner: 3 };
+/** Takes the table of codes of a page's data. */
+function takeCodes(table) {
+  for (const [code, [says, owner, space]] of Object.entries(table)) {
+    CODES[code] = { says, space };
+    OWNER_OF[code] = owner;
   }
-  for (let plane = 1; plane <= 6; plane++) {
-    table[32 + plane] = { says: `bitplane ${plane} reads`, stream: 16 + plane, words: 0, owner: BITPLANES };
-  }
-  for (let code = FIRST_SPRITE; code <= LAST_SPRITE; code++) {
-    const sprite = code % 8, part = SPRITE_PARTS[(code - FIRST_SPRITE) >> 3];
-    table[code] = { says: `sprite ${sprite} reads SPR${sprite}${part}`, stream: 24 + sprite, words: 0, owner: 5 };
-  }
-  return table;
 }
-
-const CODES = codeTable();
-const OWNER_OF = Uint8Array.from(CODES, (code) => code?.owner ?? 0);
 
 /** Denise's register that a fetched word is written to, by the code of its slot; 0 for other codes. */
 function fetchedRegister(code) {
@@ -80,35 +59,20 @@ class Field {
 
 /** The slots of one frame, clock by clock: codes, addresses (or offsets of registers) and words, -1 where there is none. */
 class FrameSlots {
-  constructor(field, data, entries, read) {
-    this.field = field;
-    this.state = data.state;
-    this.unpack(entries, read, Int32Array.from(data.expected));
-  }
-
-  unpack(entries, read, expected) {
-    const codes = new Uint8Array(entries.length), addresses = new Int32Array(entries.length).fill(-1);
-    const words = new Int32Array(entries.length).fill(-1);
-    let count = 0, reads = 0;
-    for (let at = 0; at < entries.length; count++) {
-      const head = entries[at++], code = head % FAR, { stream, words: follow } = CODES[code];
-      codes[count] = code;
-      if (stream >= 0) {
-        const far = head >= FAR ? (entries[at] << 16) | (entries[at + 1] << 8) | entries[at + 2] : 0;
-        at += head >= FAR ? 3 : 0;
-        addresses[count] = (expected[stream] + far) % DISTANCES;
-        expected[stream] = addresses[count] + 2;
-        if (!follow) words[count] = read[reads++];
-      }
-      if (follow === 2) addresses[count] = (entries[at] << 8) | entries[at + 1];
-      if (follow) words[count] = (entries[at + 2 * follow - 2] << 8) | entries[at + 2 * follow - 1];
-      at += 2 * follow;
+  /** `log` is the page's data of it; `before` has the last fetches of planes and sprites before the frame, and `bytes` the records byte by byte,
+   *  each of all clocks. */
+  constructor(field, log, before, bytes) {
+    const count = bytes.length / 6, column = (at) => bytes.subarray(at * count, (at + 1) * count);
+    const [codes, high, middle, low, wordHigh, wordLow] = [0, 1, 2, 3, 4, 5].map(column);
+    Object.assign(this, { field, log, before, count, codes });
+    this.addresses = new Int32Array(count).fill(-1);
+    this.words = new Int32Array(count).fill(-1);
+    for (let at = 0; at < count; at++) {
+      if (!CODES[codes[at]].space) continue;
+      this.addresses[at] = (high[at] << 16) | (middle[at] << 8) | low[at];
+      this.words[at] = (wordHigh[at] << 8) | wordLow[at];
     }
-    this.count = count;
-    this.codes = codes.subarray(0, count);
-    this.addresses = addresses.subarray(0, count);
-    this.words = words.subarray(0, count);
-    this.lines = this.field.beam(count - 1).line + 1;
+    this.lines = field.beam(count - 1).line + 1;
   }
 
   /** Whether the beam came to a clock of a line in this frame. */
@@ -130,19 +94,36 @@ class FrameSlots {
 /** The log of the slots of a page's frames: a frame is unpacked when it is wanted, and the last ones are kept. */
 class Slots {
   constructor(data, system, whenReady) {
+    takeCodes(data.codes);
     this.data = data;
     this.field = new Field(system);
     this.whenReady = whenReady;
     this.unpacked = new Map();
     this.coming = new Set();
+    // of each word of memory the number of the function that it is in; -1 for none
+    this.functions = new Int32Array(MEMORY_WORDS).fill(-1);
+    data.symbols?.addresses.forEach((address, at) => {
+      this.functions.fill(at, Math.floor(address / 2), Math.ceil(data.symbols.ends[at] / 2));
+    });
   }
 
   has(frame) {
     return frame in this.data.frames;
   }
 
+  /** The numbers of the frames that there are, in order. */
+  get numbers() {
+    return Object.keys(this.data.frames).map(Number);
+  }
+
+  /** How many clocks of a frame each owner has. */
   shares(frame) {
     return this.data.frames[frame].shares;
+  }
+
+  /** The clocks of a frame. */
+  clocks(frame) {
+    return this.shares(frame).reduce((sum, one) => sum + one, 0);
   }
 
   /** The slots of a frame; null where the log has none, and while they are unpacked: whenReady is called with its number after that. */
@@ -152,32 +133,34 @@ class Slots {
     return slots || null;
   }
 
+  /** The slots of a frame that there is. */
+  async read(frame) {
+    const { records, before } = this.data.frames[frame];
+    return this.unpacked.get(frame) ?? new FrameSlots(this.field, this.data, before, await inflate(bytesOf(records)));
+  }
+
   async unpack(frame) {
     if (this.coming.has(frame)) return;
     this.coming.add(frame);
-    const data = this.data.frames[frame];
-    const [entries, read] = await Promise.all([data.entries, data.read].map((text) => inflate(bytesOf(text))));
+    const slots = await this.read(frame);
     this.coming.delete(frame);
-    this.unpacked.set(frame, new FrameSlots(this.field, data, entries, new Uint16Array(read.buffer)));
+    this.unpacked.set(frame, slots);
     if (this.unpacked.size > MOST_UNPACKED) this.unpacked.delete(this.unpacked.keys().next().value);
     this.whenReady(frame);
   }
 
   /** The function that an address of the program is in; empty where it is in none, or no names are there. */
   functionAt(address) {
-    const symbols = this.data.symbols;
-    if (!symbols) return "";
-    const at = symbols.addresses.findLastIndex((first) => first <= address);
-    return at < 0 ? "" : symbols.names[at];
+    return this.data.symbols?.names[this.functions[address >> 1]] ?? "";
   }
 }
 
 /** What the slot of a clock was for, in words: who and what, the address and the word. */
 function slotSentence(slots, index, trace, functionAt) {
-  const code = slots.codes[index], address = slots.addresses[index], word = slots.words[index];
-  const says = CODES[code].says;
-  if (address < 0) return says;
-  if (code === REGISTER_READ || code === REGISTER_WRITTEN) return `${says} ${trace.name(address)} ${hex(word, 4)}`;
+  const code = slots.codes[index], address = slots.addresses[index], word = hex(slots.words[index], 4);
+  const { says, space } = CODES[code];
+  if (!space) return says;
+  if (space === "register") return `${says} ${trace.name(address)} ${word}`;
   const name = OWNER_OF[code] === PROCESSOR_SLOT ? functionAt(address) : "";
-  return `${says} ${hex(word, 4)} at ${hex(address, 5)}${name ? " in " + name : ""}`;
+  return `${says} ${word} at ${hex(address, 5)}${name ? " in " + name : ""}`;
 }

@@ -4,7 +4,8 @@ const MODES = { plain: "", "half-brite": ", extra half-brite", "hold and modify"
 const ALL_SPRITES = [0, 1, 2, 3, 4, 5, 6, 7];
 
 class Why {
-  /** `whenChosen(at)` is called with the index of a write of the trace that the user wants to see, `whenPlaced(place)` with a fetch. */
+  /** `whenChosen(at)` is called with the index of a write of the trace that the user wants to see, `whenPlaced(place)` with a fetch, or with
+   *  the position of a pixel. */
   constructor(box, trace, whenChosen, whenPlaced) {
     Object.assign(this, { box, trace, whenChosen, whenPlaced });
   }
@@ -54,7 +55,7 @@ class Why {
     const box = element("div", "answer"), swatch = element("div", "swatch"), said = element("div");
     swatch.style.background = cssColour(pixel.colour);
     const first = element("p", "strong");
-    first.append(...this.reason(pixel, denise));
+    first.append(...this.reason(pixel, denise, place));
     said.append(first, element("p", "faint", this.mode(pixel, denise, place)));
     const warning = this.unknown(denise.unknownOf(pixel)) || this.verdict(pixel, colour);
     if (warning) said.append(element("p", "wrong", warning));
@@ -63,9 +64,9 @@ class Why {
   }
 
   /** Whose colour it is, and who wrote that. */
-  reason(pixel, denise) {
+  reason(pixel, denise, place) {
     const colour = hex(pixel.colour, 3);
-    if (pixel.number < 0) return [`${colour}: ${this.modified(pixel)}.`];
+    if (pixel.number < 0) return [`${colour}: `, ...this.modified(pixel, place.line), "."];
     const register = FIRST_COLOUR + 2 * pixel.number, name = this.trace.name(register);
     const sprite = pixel.front && !pixel.hidden, halved = !sprite && pixel.field?.halved;
     const whose = sprite ? `${name} of the sprite` : halved ? `half of ${name}` : name;
@@ -73,10 +74,17 @@ class Why {
     return [`${colour}: ${whose}`, ...(cause ? [", written by ", ...this.writer(cause), "."] : [", which was never written."])];
   }
 
-  /** What hold and modify has made. */
-  modified({ bits, field }) {
-    const others = ["red", "green", "blue"].filter((name) => name !== field.modified).join(" and ");
-    return `the planes set ${field.modified} to ${bits & 15}, and ${others} stay those of the pixel before, ${hex(field.before, 3)}`;
+  /** What hold and modify has made, with ways to the pixels that set the components which stay. */
+  modified({ bits, field }, line) {
+    const { modified, before, beforeFrom } = field, others = ["red", "green", "blue"].filter((name) => name !== modified);
+    const stays = others.map((name) => [`${name} stays `, String(before >> { red: 8, green: 4, blue: 0 }[name] & 15), ", ", ...this.setter(beforeFrom[name], line)]);
+    return [`the planes set ${modified} to ${bits & 15}; `, ...stays[0], "; ", ...stays[1]];
+  }
+
+  /** Which pixel set a component that stays, with a way to it. */
+  setter(position, line) {
+    if (position < 0) return ["as the line began"];
+    return ["set at ", linkTo(`x ${position >> 1}`, () => this.whenPlaced({ frame: this.frame, line, position }))];
   }
 
   mode(pixel, denise, place) {
