@@ -16,7 +16,7 @@ from script_reader import USUAL_CHIP, head_lines
 CROSS = "m68k-linux-gnu-"
 PACKAGES = {"as": "binutils-m68k-linux-gnu", "gcc": "gcc-m68k-linux-gnu"}
 GCC = """-m68000 -O2 -ffreestanding -fno-pic -fomit-frame-pointer -fno-tree-loop-distribute-patterns -nostdlib -static
--Wl,--build-id=none""".split()
+-Wl,--build-id=none -Wl,--no-warn-rwx-segments""".split()
 COPPER_ENDS, ASSEMBLER_ENDS = (".copper", ".txt"), (".s", ".S", ".asm")
 MOST_TOLD = 20
 LEAST_IMAGE = 8
@@ -35,6 +35,8 @@ class Source:
     chip: int = USUAL_CHIP
     # the other files that the last build read
     read: list[str] = field(default_factory=list)
+    # the ELF file that the last build linked; empty where it linked none
+    program: str = ""
 
     @property
     def watched(self) -> list[str]:
@@ -64,7 +66,7 @@ def build(source: Source, folder: str) -> tuple[str, str]:
     end = os.path.splitext(source.path)[1]
     image, made = os.path.join(folder, "image"), os.path.join(folder, "script")
     text = "\n".join([*head_lines("on", source.frames, source.system, source.chip), "end"]) + "\n"
-    source.read = []
+    source.read, source.program = [], ""
     if is_copper(source.path):
         copper = read_copper(source.path)
         source.read = copper.files
@@ -90,7 +92,8 @@ def write(place: str, data: bytes) -> None:
 
 def assemble(source: Source, folder: str, image: str) -> None:
     """Assembles a source from address 0 on."""
-    made, linked = os.path.join(folder, "source.o"), os.path.join(folder, "source.elf")
+    made = os.path.join(folder, "source.o")
+    linked = source.program = os.path.join(folder, "source.elf")
     call(source, "as", "-m68000", "-o", made, os.path.basename(source.path))
     call(source, "ld", "-Ttext=0", "-e", "0", "-o", linked, made)
     call(source, "objcopy", "-O", "binary", linked, image)
@@ -101,7 +104,7 @@ def compile_c(source: Source, folder: str, image: str) -> None:
     beside = os.path.join(os.path.dirname(source.path), "image.ld")
     script = beside if os.path.exists(beside) else os.path.join(TOP, "examples", "solid", "image.ld")
     source.read = [script]
-    linked = os.path.join(folder, "source.elf")
+    linked = source.program = os.path.join(folder, "source.elf")
     words = [*GCC, f"-Wl,-T,{os.path.abspath(script)}", "-o", linked, os.path.basename(source.path)]
     call(source, "gcc", *words)
     call(source, "objcopy", "-O", "binary", linked, image)

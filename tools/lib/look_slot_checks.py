@@ -9,7 +9,7 @@ from example import MADE, words_of
 from faults import plural
 from frames import PAL, PIXELS_A_CLOCK, ROW_BYTES
 from program import TOP, program
-from slots import OWNER_OF, OWNERS, SlotsFile
+from slots import OWNER_OF, OWNERS, SlotLog
 
 RED = b"\xff\0\0"
 TABS = ("trace", "why", "slots", "blits", "copper", "functions")
@@ -53,7 +53,7 @@ MOVES = """look.slotView.copper.instructions.filter(({ first, second }) => first
 
 def write_small_run(run: str) -> list[str]:
     """A run of one frame that is black up to a clock of line 100 and red from there on, and its log; gives the words of the tool that name them."""
-    from slot_bytes import far, field, heading, line, memory, near
+    from slot_bytes import field, heading
 
     os.mkdir(run)
     row, column = 100 - PAL.first_line, 4 * 63 - 188
@@ -62,13 +62,13 @@ def write_small_run(run: str) -> list[str]:
         file.write(PAL.heading + bytes(black) + RED * ((PAL.pixel_bytes - black) // 3))
     with open(os.path.join(run, MADE[1]), "w", encoding="ascii") as file:
         file.write("0 100 62 W 180 0f00 C\n0 101 5 W 040 09f0 S\n0 101 9 W 058 0041 S\n0 101 14 W 096 8200 M\n")
-    first = line({60: far(3, 0x100), 62: near(3)})
-    second = line({10: far(4, 0x100), 12: far(5, 0x200, 0x1234), 14: near(11, 0x96, 0x8200), 16: far(33, 0x200), 20: far(6, 0x300)})
+    first = {60: (3, 0x100, 0x0180), 62: (3, 0x102, 0x0F00)}
+    second = {10: (4, 0x100, 0x0180), 12: (5, 0x200, 0x1234), 14: (11, 0x96, 0x8200), 16: (33, 0x200, 0x1234), 20: (6, 0x300, 0)}
     log, names = os.path.join(run, "slots"), os.path.join(run, "names")
     with open(names, "w", encoding="ascii") as file:
         file.write("00000300 T main\n")
     with open(log, "wb") as file:
-        file.write(heading() + memory({0x100: 0x0180, 0x102: 0x0F00}) + field([*[line({})] * 100, first, second]))
+        file.write(heading() + field({100: first, 101: second}))
     return ["--slots", log, "--symbols", names]
 
 
@@ -77,7 +77,7 @@ def rgb(colour: str) -> list[int]:
 
 
 def go_to(page: Any, line: int, clock: int) -> None:
-    page.browser.value(f"look.goToPlace(look.frame, {line}, {clock})")
+    page.browser.value(f"look.goToPlace(look.frame, {line}, {PIXELS_A_CLOCK * clock})")
     page.browser.settle()
 
 
@@ -121,6 +121,8 @@ def check_panels(page: Any) -> None:
     shares = browser.value(cells.format("#shares td:nth-child(2)"))
     checks.equal("shares", shares, ["69,792", "1,252", "0", "0", "1", "0", "2", "2", "2", "71,051"])
     page.key("4")
+    browser.wait_for("look.slotView.profile")
+    browser.settle()
     checks.equal("blits", browser.value(cells.format("#blit-list .row:not([hidden]) span"))[:4], ["101, 9", "AD", "1 x 1", "4"])
     browser.value("byId('blit-list').focus()")
     page.key("ArrowDown")
@@ -161,10 +163,8 @@ def check_example(page: Any, log: str) -> None:
     all_pixels, wrong, first = browser.value(PIXELS % [0, last])
     checks.holds(f"{page.frames}: {wrong} of {all_pixels} pixels differ, the first at {first}", all_pixels > 0 and wrong == 0)
     counts = [0] * len(OWNERS)
-    for line in SlotsFile(log).lines():
-        if line.frame == 0:
-            for code in line.codes:
-                counts[OWNER_OF[code]] += 1
+    for slot in next(SlotLog(log).frames()):
+        counts[OWNER_OF[slot.code]] += 1
     browser.value("look.goToFrame(0)")
     browser.wait_for("look.slotView.current !== null")
     checks.equal(f"{page.frames}: clocks by owner", browser.value(COUNTS), counts)

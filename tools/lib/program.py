@@ -12,10 +12,11 @@ TOP = os.path.dirname(os.path.dirname(os.path.dirname(os.path.realpath(__file__)
 BUILD = os.path.join(TOP, "tools", "build")
 BUILT = os.path.join(TOP, "crates", "ocs", "out", "ocs")
 RELEASED = os.path.join(TOP, "ocs")
-# the program that writes the log of slots: the one that the environment names so, else the built one, or that of a release
-SLOTS_NAME = "OCS_SLOTS"
+# the program that writes the log of slots: the one that the environment names so, or that stands beside the one that OCS names; else the built one,
+# or that of a release
+SLOTS_NAME, SLOTS_FILE = "OCS_SLOTS", "ocs-slots"
 BUILT_SLOTS = os.path.join(TOP, "crates", "ocs_slots", "out", "ocs_slots")
-RELEASED_SLOTS = os.path.join(TOP, "ocs-slots")
+RELEASED_SLOTS = os.path.join(TOP, SLOTS_FILE)
 
 
 def named_program(variable: str = "OCS") -> str | None:
@@ -29,9 +30,16 @@ def named_program(variable: str = "OCS") -> str | None:
     return os.path.abspath(place)
 
 
+def slots_beside(run: str | None) -> str | None:
+    """The program for slots that stands beside one that runs; none is that of the sources' top, which proves and builds it first."""
+    place = os.path.join(os.path.dirname(run), SLOTS_FILE) if run else ""
+    builds = place == RELEASED_SLOTS and os.path.exists(BUILD)
+    return place if os.access(place, os.X_OK) and not builds else None
+
+
 def slots_program() -> str | None:
     """The program that writes the log of a run's slots; None where there is none."""
-    named = named_program(SLOTS_NAME)
+    named = named_program(SLOTS_NAME) or slots_beside(named_program())
     if named:
         return named
     if not os.path.exists(BUILD):

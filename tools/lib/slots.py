@@ -157,6 +157,7 @@ class SlotLog:
         start = self.file.readline(LONGEST_HEADING)
         match = HEADING.fullmatch(start)
         if not match:
+            self.file.close()
             raise BadFile(self.path, self.fault_of_heading(start))
         self.system: System = SYSTEMS[match[1]]
         # the frames that were asked for: from `first` up to `end`, and not with it; a run may have fewer
@@ -205,11 +206,11 @@ class SlotLog:
 
     def checked(self, frame: SlotFrame) -> SlotFrame:
         """A frame of which each clock is where it belongs, and what a log can have; BadFile for any other."""
-        count = len(frame)
-        for place, wanted in enumerate(beams(self.system)):
-            found = frame.records[place :: RECORD.size][:count]
-            if found != wanted[:count]:
-                raise self.foreign(frame, next(at for at in range(count) if found[at] != wanted[at]), "what stands")
+        count, found = len(frame), [frame.records[place :: RECORD.size] for place in range(3)]
+        wanted = beams(self.system)
+        if any(one[:count] != right[:count] for one, right in zip(found, wanted)):
+            at = next(at for at in range(count) if any(one[at] != right[at] for one, right in zip(found, wanted)))
+            raise self.foreign(frame, at, "what stands")
         line, clock = self.system.beam(count)
         if clock or len(frame.records) % RECORD.size:
             raise BadFile(self.path, f"is cut short in line {line} of frame {frame.number}")

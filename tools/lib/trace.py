@@ -3,7 +3,7 @@ from __future__ import annotations
 
 import re
 from dataclasses import dataclass, field
-from typing import Iterator
+from typing import Iterator, NamedTuple
 
 from faults import BadFile, quoted
 
@@ -14,8 +14,7 @@ LONGEST_LINE = 64
 LAST_LINE, LAST_CLOCK = 312, 227
 
 
-@dataclass(frozen=True)
-class TraceLine:
+class TraceLine(NamedTuple):
     """One line: its number in the file from 1, its text, the beam, and the register of a write (else None)."""
 
     number: int
@@ -29,6 +28,7 @@ class Trace:
     """The lines of a range of frames, and what a page must know of the lines before them."""
 
     path: str
+    frames: range
     lines: list[TraceLine] = field(default_factory=list)
     # for each register that was written before the range, its last write
     earlier: list[TraceLine] = field(default_factory=list)
@@ -71,7 +71,7 @@ def read_lines(path: str) -> Iterator[TraceLine | str]:
 
 def read_trace(path: str, frames: range) -> Trace:
     """The lines of `frames`. A cut at the end is told in `cut_short`; a line of another form is BadFile."""
-    trace = Trace(path)
+    trace = Trace(path, frames)
     earlier: dict[int, TraceLine] = {}
     for line in read_lines(path):
         if isinstance(line, str):

@@ -9,8 +9,8 @@ from frames import PAL
 from pixels import compare
 from program import TOP, slots_program
 from runs import TOOLS, Tools, frame
-from slot_bytes import far, field, heading, line, memory, near
-from slots import SlotsFile
+from slot_bytes import field, heading
+from slots import SlotLog
 from trace import parse_line
 
 LINE, CLOCKS = 100, 227
@@ -139,8 +139,8 @@ class SpritesTest(unittest.TestCase):
 class CompareTest(Tools):
     def test_fetches(self) -> None:
         """Where the words of planes and sprites go that the log has."""
-        entries = {21: far(43, 0x10), 23: near(51), 37: far(60, 0x20), 39: near(68), 90: far(36, 0x30)}
-        log = SlotsFile(self.write("slots", heading() + memory({0x12: 0xABCD, 0x30: 0x1357}) + field([line(entries)])))
+        entries = {21: (43, 0x10, 0), 23: (51, 0x12, 0xABCD), 37: (60, 0x20, 0), 39: (68, 0x22, 0), 90: (36, 0x30, 0x1357)}
+        log = SlotLog(self.write("slots", heading() + field({0: entries})))
         found = fetched_writes(next(log.lines()))
         self.assertEqual([write.register for write in found], [0x158, 0x15A, 0x164, 0x166, 0x116])
         self.assertEqual(found[1], Write(23, 24, 0x15A, 0xABCD, 0x12))
@@ -148,7 +148,7 @@ class CompareTest(Tools):
 
     def compare(self, pixels: dict[tuple[int, int], bytes], trace: str) -> tuple[int, str]:
         frames, traced = self.write("frames", frame(pixels)), self.write("trace", trace)
-        return compare(frames, traced, self.write("slots", heading() + memory({}) + field([])))
+        return compare(frames, traced, self.write("slots", heading() + field({})))
 
     def test_equal(self) -> None:
         pixels = {(column, 74): b"\xff\0\0" for column in range(56, 720)}
