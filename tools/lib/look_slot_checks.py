@@ -49,27 +49,148 @@ MOVES = """look.slotView.copper.instructions.filter(({ first, second }) => first
     const { line, clock } = look.slotView.field.beam(end);
     return [line, clock, first & 0x1fe, second];
 })"""
+# what a test of blits and functions asks of a page: of each blit its places, counts, registers and addresses; and the rows of the functions
+BLITS = """look.slotView.blits.blits.map((blit) => {
+    const place = (one) => one && [one.frame, look.slotView.field.beam(one.index).line, look.slotView.field.beam(one.index).clock];
+    return [place(blit.start), place(blit.end), blit.clocks, blit.asks, blit.slots, blit.rests, blit.channels, blit.height, blit.width, blit.word(0x40), blit.addresses];
+})"""
+FUNCTIONS = "look.slotView.profile.rows([0]).map(({ number, clocks, reads }) => [number, clocks, reads])"
+ASKS = "[...Array(16).keys()].map((used) => new Blit(null, 0, new Map([[0x40, used << 8]]))).map((blit) => [blit.pattern, blit.asks])"
+# how many pixels of a line are made of the held colour, and how many say of a component that another pixel set it than the last that did
+HELD = """(() => {
+    const shift = { red: 8, green: 4, blue: 0 }, line = new DeniseLine(look.trace, look.slotView.current, look.frame, %d), last = {};
+    let made = 0, wrong = 0;
+    for (let position = 0; position < PIXELS_A_CLOCK * look.system.clocks; position++) {
+        const { field, inside } = line.pixel(position), names = Object.keys(shift);
+        if (inside && field.modified) {
+            made++;
+            for (const name of names.filter((one) => one !== field.modified)) {
+                const { from, value } = last[name];
+                if (field.beforeFrom[name] !== from || ((field.before >> shift[name]) & 15) !== value) wrong++;
+            }
+        }
+        const colour = inside ? field.colour : line.denise.colour(0);
+        for (const name of inside && field.modified ? [field.modified] : names) last[name] = { from: position, value: (colour >> shift[name]) & 15 };
+    }
+    return [made, wrong];
+})()"""
+SHOWN = """(({ picture, slotView, frame }) => [frame, picture.cursor?.x, picture.cursor?.line, slotView.tabs.shown, slotView.mode, picture.zoom])(look)"""
+# the meanings of the trace's lines that the list does not show whole
+CUT = """(() => {
+    const cell = document.querySelector('#list .row:not([hidden]) .says'), before = cell.textContent;
+    const said = new Set([...trace.word.keys()].map((at) => (trace.kind[at] === READ ? 'read: ' : '') + trace.meaning(at, true)));
+    const cut = [...said].filter((text) => {
+        cell.textContent = text;
+        return cell.scrollWidth > cell.clientWidth || cell.scrollHeight > cell.clientHeight;
+    });
+    cell.textContent = before;
+    return cut;
+})()"""
 
 
-def write_small_run(run: str) -> list[str]:
-    """A run of one frame that is black up to a clock of line 100 and red from there on, and its log; gives the words of the tool that name them."""
+def write_run(run: str, pixels: bytes, trace: str, lines: dict[int, dict[int, tuple[int, int, int]]], names: str) -> list[str]:
+    """A run of one frame, its log with these lines and the names of its functions; gives the words of the tool that name the last two."""
     from slot_bytes import field, heading
 
     os.mkdir(run)
+    log, symbols = os.path.join(run, "slots"), os.path.join(run, "names")
+    made = {os.path.join(run, MADE[0]): PAL.heading + pixels, os.path.join(run, MADE[1]): trace.encode("ascii")}
+    for place, data in (made | {log: heading() + field(lines), symbols: names.encode("ascii")}).items():
+        with open(place, "wb") as file:
+            file.write(data)
+    return ["--slots", log, "--symbols", symbols]
+
+
+def write_small_run(run: str) -> list[str]:
+    """A run that is black up to a clock of line 100 and red from there on."""
     row, column = 100 - PAL.first_line, 4 * 63 - 188
     black = row * ROW_BYTES + 3 * column
-    with open(os.path.join(run, MADE[0]), "wb") as file:
-        file.write(PAL.heading + bytes(black) + RED * ((PAL.pixel_bytes - black) // 3))
-    with open(os.path.join(run, MADE[1]), "w", encoding="ascii") as file:
-        file.write("0 100 62 W 180 0f00 C\n0 101 5 W 040 09f0 S\n0 101 9 W 058 0041 S\n0 101 14 W 096 8200 M\n")
+    pixels = bytes(black) + RED * ((PAL.pixel_bytes - black) // 3)
+    trace = "0 100 62 W 180 0f00 C\n0 101 5 W 040 09f0 S\n0 101 9 W 058 0041 S\n0 101 14 W 096 8200 M\n"
     first = {60: (3, 0x100, 0x0180), 62: (3, 0x102, 0x0F00)}
     second = {10: (4, 0x100, 0x0180), 12: (5, 0x200, 0x1234), 14: (11, 0x96, 0x8200), 16: (33, 0x200, 0x1234), 20: (6, 0x300, 0)}
-    log, names = os.path.join(run, "slots"), os.path.join(run, "names")
-    with open(names, "w", encoding="ascii") as file:
-        file.write("00000300 T main\n")
-    with open(log, "wb") as file:
-        file.write(heading() + field({100: first, 101: second}))
-    return ["--slots", log, "--symbols", names]
+    return write_run(run, pixels, trace, {100: first, 101: second}, "00000300 T main\n")
+
+
+def write_blits_run(run: str) -> list[str]:
+    """A run with a blit that began before it; with one of two words from A to D, during which writes change nothing, and one that is not over
+    when the next line comes; with a line of two points; and with three functions.
+    """
+    area = {10: (4, 0x100, 0), 12: (5, 0x200, 1), 13: (4, 0x102, 0), 14: (5, 0x202, 2), 20: (2, 0, 0), 21: (2, 0, 0)}
+    points = {20: (2, 0, 0), 21: (4, 0x100, 0), 22: (2, 0, 0), 23: (5, 0x100, 7), 30: (2, 0, 0), 31: (4, 0x102, 0), 32: (2, 0, 0), 33: (5, 0x102, 8)}
+    reads = {10: (6, 0x100, 0), 20: (6, 0x200, 0), 30: (6, 0x180, 0), 100: (6, 0x300, 0)}
+    texts = ["0 1 9 W 040 09f0 S", "0 1 10 W 058 0042 S", "0 1 11 W 040 0fff C", "0 1 14 W 058 0041 S", "0 1 16 W 040 0100 C", "0 1 18 W 058 0041 C"]
+    texts += ["0 2 1 W 040 0b4a C", "0 2 3 W 042 0001 C", "0 2 15 W 058 0082 C"]
+    names = "100 T first\n140 a number\n180 t second\n200 D table\n300 T third\n"
+    lines = {0: {4: (4, 6, 0), 9: (2, 0, 0)}, 1: area, 2: points, 3: reads}
+    return write_run(run, bytes(PAL.pixel_bytes), "".join(text + "\n" for text in texts), lines, names)
+
+
+def check_blits(page: Any) -> None:
+    """What the page makes of slots and trace of blits and functions."""
+    browser, checks = page.browser, page.checks
+    checks.equal("nothing is made before it is asked for", browser.value("look.slotView.blits.blits"), None)
+    page.key("4")
+    browser.wait_for("look.slotView.profile")
+    before = [[0, 0, 4], [0, 0, 9], 6, 0, 2, 1, "", 1024, 64, 0, {}]
+    first = [[0, 1, 10], [0, 1, 14], 5, 4, 4, 0, "AD", 1, 2, 0x09F0, {"A": [0x100, 0x102], "D": [0x200, 0x202]}]
+    second = [[0, 1, 18], [0, 1, 21], 4, 2, 2, 2, "D", 1, 1, 0x0100, {}]
+    points = [[0, 2, 15], [0, 2, 33], 19, 8, 8, 4, "ACD", 2, 2, 0x0B4A, {"C": [0x100, 0x102], "D": [0x100, 0x102]}]
+    checks.equal("blits", browser.value(BLITS), [before, first, second, points])
+    checks.equal("functions", browser.value(FUNCTIONS), [[2, 71051 - 3 * 227 - 100, 1], [-1, 3 * 227 + 10, 0], [1, 70, 1], [0, 20, 1]])
+    wanted = ["--", "-D", "-C", "-CD", "-B-", "-BD", "-BC", "-BCD", "A-", "AD", "AC", "ACD", "AB-", "ABD", "ABC", "ABCD"]
+    checks.equal("asks", browser.value(ASKS), [[pattern, 1024 * 64 * len(pattern)] for pattern in wanted])
+
+
+def check_clicks(page: Any) -> None:
+    """A click on a pixel shows why it is so, but where the list of the Copper or of blits is shown."""
+    place = page.place(600, 200)
+    for tab, shown in (("trace", "why"), ("slots", "why"), ("copper", "copper"), ("blits", "blits")):
+        page.browser.value(f"look.slotView.tabs.show('{tab}')")
+        page.browser.click(*place)
+        page.checks.equal(f"the panel after a click where {tab} was", page.browser.value("look.slotView.tabs.shown"), shown)
+    page.key("Escape")
+    page.key("1")
+
+
+def check_reload(page: Any, frame: int) -> None:
+    """Frame, place, tab, map and zoom are there again after a page is loaded anew."""
+    browser = page.browser
+    browser.value(f"look.goToPlace({frame}, 150, 413); look.slotView.tabs.show('slots'); look.slotView.setMode('over'); look.picture.zoomTo(2)")
+    browser.value("new Promise((done) => setTimeout(done, 3 * ADDRESS_DELAY))")
+    browser.value("window.before = true; location.reload()")
+    browser.wait_for("window.before !== true && document.readyState === 'complete' && look.picture.image !== null && look.picture.cursor !== null")
+    browser.settle()
+    page.checks.equal(f"{page.frames}: shown after a reload", browser.value(SHOWN), [frame, 413, 150, "slots", "over", 2])
+    browser.value("look.slotView.setMode('off'); look.picture.fit()")
+    page.key("1")
+
+
+def check_held(page: Any, line: int) -> None:
+    """Of a pixel of hold and modify the pixels that set what stays, and the way to them."""
+    browser, checks = page.browser, page.checks
+    made, wrong = browser.value(HELD % line)
+    checks.holds(f"{wrong} of {made} pixels of line {line} name another pixel", made > 100 and wrong == 0)
+    page.key("2")
+    for x in range(400, 440, 4):
+        browser.value(f"look.goToPlace(0, {line}, {x})")
+        browser.settle()
+        links = browser.value("[...document.querySelectorAll('#why .answer .link')].map((link) => link.textContent)")
+        if not links or not links[0].startswith("x "):
+            continue
+        browser.value("document.querySelector('#why .answer .link').click()")
+        found = browser.value("[look.frame, look.picture.cursor.line, look.picture.cursor.x >> 1]")
+        checks.equal(f"where the link of x {x} leads", found, [0, line, int(links[0][2:])])
+        page.key("1")
+        return
+    checks.holds(f"a pixel of line {line} that leads to another", False)
+
+
+def check_meanings(page: Any, name: str) -> None:
+    """Each meaning of a trace line is whole in the list, at the narrower of two sizes of the window."""
+    page.browser.resize(*WIDE)
+    page.browser.settle()
+    page.checks.equal(f"meanings of {name} that are cut", page.browser.value(CUT), [])
 
 
 def rgb(colour: str) -> list[int]:
@@ -174,6 +295,7 @@ def check_example(page: Any, log: str) -> None:
     wanted = [[int(words[1]), int(words[2]), int(words[4], 16), int(words[5], 16)] for words in traced]
     checks.equal(f"{page.frames}: MOVEs of the Copper", browser.value(MOVES), wanted)
     page.key("1")
+    check_meanings(page, page.frames)
 
 
 def take_picture(page: Any, place: str) -> None:

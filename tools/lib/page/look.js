@@ -147,15 +147,17 @@ class Look {
     row.setAttribute("aria-selected", String(chosen));
     const numbers = [trace.frame[at], trace.line[at], trace.clock[at]];
     const word = element("span", "", interrupt ? "" : hex(trace.word[at], 4));
+    const by = interrupt ? "interrupt" : SOURCE_NAMES[trace.source[at]], says = (trace.kind[at] === READ ? "read: " : "") + trace.meaning(at, true);
     if (isColour(trace.register[at])) word.append(dotOf(trace.word[at]));
     row.replaceChildren(
       ...numbers.map((number) => element("span", "", String(number))),
       signOf(trace.group(at)),
-      element("span", "", interrupt ? "interrupt" : SOURCE_NAMES[trace.source[at]]),
+      element("span", "by", by),
       element("span", "", interrupt ? "level " + trace.word[at] : trace.name(trace.register[at])),
       word,
-      element("span", "says", (trace.kind[at] === READ ? "read: " : "") + trace.meaning(at, true)),
+      element("span", "says", says),
     );
+    row.title = `${by}: ${says}`;
   }
 
   /** Chooses a trace line: its row, its mark and its words; with `go` the picture shows its place too. */

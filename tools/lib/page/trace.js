@@ -178,13 +178,20 @@ function fieldsOf(fields, word) {
   return said.join(", ");
 }
 
+/** What a word sets or clears of a register's bits: their names, or all, or the names of those that it leaves where these are fewer. */
+function bitsOf(fields, word) {
+  const isSet = ([high, low]) => (word >> low) & ((1 << (high - low + 1)) - 1), left = fields.filter((field) => !isSet(field));
+  if (left.length >= fields.length / 2) return fieldsOf(fields, word) || "nothing";
+  return left.length ? `all but ${left.map(([, , name]) => name).join(", ")}` : "all";
+}
+
 /** What a word means by the form of its register; empty where the form says nothing of it. */
 function meaningOf(form, fields, word, short) {
   if (form === "colour") {
     const [red, green, blue] = [(word >> 8) & 15, (word >> 4) & 15, word & 15];
     return short ? `r ${red}  g ${green}  b ${blue}` : `red ${red}, green ${green}, blue ${blue}`;
   }
-  if (form === "set") return `${word & 0x8000 ? "sets" : "clears"} ${fieldsOf(fields, word) || "nothing"}`;
+  if (form === "set") return `${word & 0x8000 ? "sets" : "clears"} ${bitsOf(fields, word)}`;
   if (form === "size") return `${(word >> 6) || 1024} lines of ${(word & 63) || 64} words`;
   if (form === "start") return `from line ${word >> 8}, position ${word & 255}`;
   if (form === "stop") return `to line ${(word >> 8) + (word & 0x8000 ? 0 : 256)}, position ${(word & 255) + 256}`;
