@@ -75,15 +75,17 @@ HELD = """(() => {
     return [made, wrong];
 })()"""
 SHOWN = """(({ picture, slotView, frame }) => [frame, picture.cursor?.x, picture.cursor?.line, slotView.tabs.shown, slotView.mode, picture.zoom])(look)"""
-# the meanings of the trace's lines that the list does not show whole
+# the meanings of the trace's lines that take more than two lines of the list, or have a word that is too wide
 CUT = """(() => {
     const cell = document.querySelector('#list .row:not([hidden]) .says'), before = cell.textContent;
     const said = new Set([...trace.word.keys()].map((at) => (trace.kind[at] === READ ? 'read: ' : '') + trace.meaning(at, true)));
+    cell.style.maxHeight = 'none';
     const cut = [...said].filter((text) => {
         cell.textContent = text;
-        return cell.scrollWidth > cell.clientWidth || cell.scrollHeight > cell.clientHeight;
+        return cell.scrollWidth > cell.clientWidth || cell.clientHeight > 24;
     });
     cell.textContent = before;
+    cell.style.maxHeight = '';
     return cut;
 })()"""
 

@@ -1,7 +1,9 @@
 """A file that is run again whenever it changes."""
 from __future__ import annotations
 
+import json
 import os
+import re
 import shutil
 import signal
 import subprocess
@@ -28,6 +30,13 @@ open(sys.argv[4], "wb").write(frame({{}}))
 open(sys.argv[5], "w").write("0 44 100 W 180 %04x C\\n" % int.from_bytes(image[0x102:0x104], "big"))
 open(sys.argv[6], "wb").write(bytes(524288))
 """
+# one that writes a log of a frame in which the processor reads the words from 0 to 400 on line 100
+SLOTS_PROGRAM = """#!/usr/bin/env python3
+import sys
+sys.path[:0] = {folders!r}
+from slot_bytes import field, heading
+open(sys.argv[5], "wb").write(heading() + field({{100: {{10 + at: (6, 8 * at, 0) for at in range(128)}}}}))
+"""
 # beside much other work a run takes long
 SECONDS = 150
 
@@ -43,8 +52,17 @@ class LiveTest(Tools):
     def setUp(self) -> None:
         super().setUp()
         tests = os.path.dirname(os.path.realpath(__file__))
-        self.program = self.write("program", PROGRAM.format(folders=[tests, os.path.dirname(tests)]))
-        os.chmod(self.program, 0o755)
+        self.folders = [tests, os.path.dirname(tests)]
+        self.program = self.write_program("program", PROGRAM)
+
+    def write_program(self, name: str, text: str) -> str:
+        place = self.write(name, text.format(folders=self.folders))
+        os.chmod(place, 0o755)
+        return place
+
+    def slots_of(self, page: str) -> dict:
+        """What a page has of the log of slots."""
+        return json.loads(re.search(r'id="data">(.*?)</script>', page).group(1))["slots"]
 
     def start(self, *words: str) -> str:
         """Starts the tool; gives the page's address."""
@@ -134,6 +152,28 @@ class LiveTest(Tools):
             word = file.read()[0x102:0x104].hex()
         self.wait_for(self.start("solid.c"), f"0 44 100 W 180 {word} C")
 
+    def test_slots(self) -> None:
+        """The page has them where their program stands beside the one that runs, and the file's name as its title."""
+        self.write("list.copper", "move COLOR00 f00\n")
+        page = self.wait_for(self.start("list.copper"), "0 44 100 W 180 0f00 C")
+        self.assertIsNone(self.slots_of(page))
+        self.write_program("ocs-slots", SLOTS_PROGRAM)
+        page = self.wait_for(self.start("list.copper"), "0 44 100 W 180 0f00 C")
+        self.assertIn("<title>list.copper</title>", page)
+        self.assertEqual(self.slots_of(page)["frames"]["0"]["shares"][-1], 128)
+        self.assertNotIn("symbols", self.slots_of(page))
+
+    @unittest.skipUnless(shutil.which("m68k-linux-gnu-as"), "m68k-linux-gnu-as: apt-get install binutils-m68k-linux-gnu")
+    def test_functions(self) -> None:
+        """They are those of the program that was built; the stack and the linker's marks are none."""
+        self.write_program("ocs-slots", SLOTS_PROGRAM)
+        self.write("program.s", ".long 0x80000,8\nstart: bra next\nnext: bra start\n.org 0x102\n.word 0x777\n.data\ncount: .word 0\n")
+        address = self.start("program.s")
+        found = self.slots_of(self.wait_for(address, "0 44 100 W 180 0777 C"))["symbols"]
+        self.assertEqual((found["names"], found["addresses"], found["ends"]), (["start", "next"], [8, 12], [12, 0x104]))
+        self.write("program.s", ".long 0x80000,8\n.org 0x102\n.word 0x333\n")
+        self.assertNotIn("symbols", self.slots_of(self.wait_for(address, "0 44 100 W 180 0333 C")))
+
     def test_script_of_a_program(self) -> None:
         """By its system; a text for Copper lists names its own."""
         self.write("bytes", bytes(8))
@@ -182,13 +222,16 @@ class LiveTest(Tools):
     @unittest.skipUnless(browser_is_there(), "chromium: apt-get install --no-install-recommends chromium fonts-dejavu-core")
     def test_the_page_loads_itself_anew(self) -> None:
         self.write("list.copper", "move COLOR00 f00\n")
+        self.write_program("ocs-slots", SLOTS_PROGRAM)
         address = self.start("list.copper")
         self.wait_for(address, "0 44 100 W 180 0f00 C")
         with Browser(1200, 800) as browser:
-            browser.open(address + "#frame=0&line=100&column=212")
+            browser.open(address + "#frame=0&line=100&column=212&tab=slots")
             self.write("list.copper", "move COLOR00 0f0\n")
             browser.wait_for("document.body && document.body.innerHTML.includes('0 44 100 W 180 00f0 C')")
             self.assertIn("line=100", browser.value("location.hash"))
+            shown = "[look.frame, look.picture.cursor.line, look.slotView.tabs.shown]"
+            self.assertEqual(browser.value(shown), [0, 100, "slots"])
             self.write("list.copper", "what\n")
             browser.wait_for("document.body && document.body.innerText.includes('is none of wait')")
             self.write("list.copper", "move COLOR00 00f\n")
