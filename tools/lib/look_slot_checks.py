@@ -52,7 +52,8 @@ MOVES = """look.slotView.copper.instructions.filter(({ first, second }) => first
 # what a test of blits and functions asks of a page: of each blit its places, counts, registers and addresses; and the rows of the functions
 BLITS = """look.slotView.blits.blits.map((blit) => {
     const place = (one) => one && [one.frame, look.slotView.field.beam(one.index).line, look.slotView.field.beam(one.index).clock];
-    return [place(blit.start), place(blit.end), blit.clocks, blit.asks, blit.slots, blit.rests, blit.channels, blit.height, blit.width, blit.word(0x40), blit.addresses];
+    const counts = [blit.clocks, blit.asks, blit.slots, blit.rests, blit.channels, blit.height, blit.width];
+    return [place(blit.start), place(blit.end), ...counts, blit.word(0x40), blit.addresses];
 })"""
 FUNCTIONS = "look.slotView.profile.rows([0]).map(({ number, clocks, reads }) => [number, clocks, reads])"
 ASKS = "[...Array(16).keys()].map((used) => new Blit(null, 0, new Map([[0x40, used << 8]]))).map((blit) => [blit.pattern, blit.asks])"

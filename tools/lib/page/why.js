@@ -76,9 +76,10 @@ class Why {
 
   /** What hold and modify has made, with ways to the pixels that set the components which stay. */
   modified({ bits, field }, line) {
-    const { modified, before, beforeFrom } = field, others = ["red", "green", "blue"].filter((name) => name !== modified);
-    const stays = others.map((name) => [`${name} stays `, String(before >> { red: 8, green: 4, blue: 0 }[name] & 15), ", ", ...this.setter(beforeFrom[name], line)]);
-    return [`the planes set ${modified} to ${bits & 15}; `, ...stays[0], "; ", ...stays[1]];
+    const { modified, before, beforeFrom } = field, shifts = { red: 8, green: 4, blue: 0 };
+    const others = Object.keys(shifts).filter((name) => name !== modified);
+    const stays = others.map((name) => [`; ${name} stays ${(before >> shifts[name]) & 15}, `, ...this.setter(beforeFrom[name], line)]);
+    return [`the planes set ${modified} to ${bits & 15}`, ...stays.flat()];
   }
 
   /** Which pixel set a component that stays, with a way to it. */
