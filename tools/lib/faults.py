@@ -19,7 +19,10 @@ class BadFile(Exception):
     """A file that cannot be used: its name, and what is wrong with it."""
 
     def __init__(self, path: str, wrong: str) -> None:
-        super().__init__(f"{path}: {wrong}")
+        super().__init__(path, wrong)
+
+    def __str__(self) -> str:
+        return "{}: {}".format(*self.args)
 
 
 class Ended(KeyboardInterrupt):

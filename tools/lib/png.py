@@ -2,6 +2,7 @@
 from __future__ import annotations
 
 import struct
+import sys
 import zlib
 
 from frames import WIDTH
@@ -22,21 +23,23 @@ def indexed_rows(pixels: bytes, rows: int) -> tuple[list[bytes], bytes] | None:
 
     Many rows of a frame are alike, so each different row is looked at once.
     """
-    numbers: dict[tuple[int, int, int], int] = {}
+    numbers: dict[int, int] = {}
     seen: dict[bytes, bytes] = {}
     made = []
-    size = 3 * WIDTH
+    size, four = 3 * WIDTH, bytearray(4 * WIDTH)
     for at in range(0, rows * size, size):
         row = pixels[at : at + size]
         if row not in seen:
-            colours = list(zip(row[0::3], row[1::3], row[2::3]))
+            # red, green and blue of each pixel as one number
+            four[0::4], four[1::4], four[2::4] = row[0::3], row[1::3], row[2::3]
+            colours = memoryview(four).cast("I").tolist()
             for colour in dict.fromkeys(colours):
                 numbers.setdefault(colour, len(numbers))
             if len(numbers) > 256:
                 return None
             seen[row] = bytes(map(numbers.__getitem__, colours))
         made.append(seen[row])
-    return made, b"".join(bytes(colour) for colour in numbers)
+    return made, b"".join(colour.to_bytes(4, sys.byteorder)[:3] for colour in numbers)
 
 
 def plain_rows(pixels: bytes, rows: int) -> list[bytes]:

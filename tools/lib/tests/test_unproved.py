@@ -1,13 +1,12 @@
-"""bench/unproved: what it takes out of a module, which attributes it finds, and what stops it."""
+"""A build without proof: what it takes out of a module, which attributes it finds, and what stops it."""
 from __future__ import annotations
 
-import importlib.machinery
-import importlib.util
 import os
 import subprocess
 import sys
 
 from runs import TOOLS, Tools
+from unproved_build import attributes_in, without_checks
 
 UNPROVED = os.path.join(os.path.dirname(TOOLS), "bench", "unproved")
 
@@ -44,20 +43,11 @@ attributes #0 = { nounwind sanitize_address "frame-pointer"="all" "probe-stack"=
 """
 
 
-def unproved():
-    loader = importlib.machinery.SourceFileLoader("unproved", UNPROVED)
-    module = importlib.util.module_from_spec(importlib.util.spec_from_loader("unproved", loader))
-    sys.modules["unproved"] = module
-    loader.exec_module(module)
-    return module
-
-
 class UnprovedTest(Tools):
     def test_checks_are_left_out_and_attributes_are_given(self) -> None:
-        tool = unproved()
-        known = tool.attributes_in(self.write("fore.rt", SOURCE), "foreground")
+        known = attributes_in(self.write("fore.rt", SOURCE), "foreground")
         self.assertEqual(known, {("foreground", "Fore", "ask"): 91, ("foreground", None, "apart"): 92})
-        text = tool.without_checks(MODULE, known)
+        text = without_checks(MODULE, known)
         self.assertEqual(
             [line for line in text.splitlines() if line.startswith(("define", "  "))],
             [
