@@ -49,6 +49,10 @@ class Case(NamedTuple):
             raise BadFile(place, "names no command")
         return words
 
+    def inputs(self) -> list[str]:
+        """The files that the case is made of, without its folders."""
+        return [os.path.join(self.folder, name) for name in sorted(self.files) if name != "kept"] + list(self.kept().values())
+
     def kept(self) -> dict[str, str]:
         """The kept files of what the run must give."""
         if "kept" not in self.files:
@@ -124,6 +128,11 @@ def find_cases(folder: str, out: str) -> list[Case]:
     if not cases:
         raise BadFile(folder, "has no case: a folder with image and script, or with command")
     return sorted(cases, key=lambda case: case.name)
+
+
+def part_of(cases: list[Case], part: int, parts: int) -> list[Case]:
+    """One of so many parts of the cases, counted from 1: each `parts`-th case from the `part`-th on."""
+    return cases[part - 1 :: parts]
 
 
 def cases_in(folder: str, before: str, out: int | None) -> Iterator[Case]:

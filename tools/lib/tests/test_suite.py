@@ -11,7 +11,10 @@ import subprocess
 import time
 import unittest
 import xml.etree.ElementTree as trees
+from unittest import mock
 
+import suite_plan
+import suite_run
 from faults import BadFile
 from runs import TOOLS, Tools, frame
 from suite_command import Commands
@@ -445,6 +448,53 @@ class SuiteTest(Tools):
         self.assertEqual(self.ninja(), (0, ["one", "three", "two $x"]))
         self.assertIn("3 of 3 cases pass", self.read("cases/out/report.html"))
 
+    @unittest.skipUnless(shutil.which("ninja"), "ninja is not installed: apt-get install ninja-build")
+    def test_an_edge_is_a_part(self) -> None:
+        """A part of many cases is one edge, of which those run that changed, whose result is gone, or that are new."""
+        names = [f"case {number}" for number in range(9)]
+        for name in names:
+            self.case(name)
+            self.golden(name)
+        with mock.patch.object(os, "sched_getaffinity", lambda _: {0, 1}):
+            self.assertEqual(suite_plan.count_of_parts(suite_run.Suite("", self.place("cases/out"), 1, 0), [None] * 9), 2)
+        self.assertEqual(self.suite("--plan", "plan.ninja", "--shard", "2/3"), (0, []))
+        self.assertEqual(self.ninja(), (0, ["case 1", "case 4", "case 7"]))
+        self.assertEqual(self.suite("--plan", "plan.ninja"), (0, []))
+        self.assertEqual(self.read("plan.ninja").count(": part "), len(os.sched_getaffinity(0)))
+        self.assertEqual(self.ninja(), (0, sorted(set(names) - {"case 1", "case 4", "case 7"})))
+        self.case("case 8", GREEN)
+        self.golden("case 8", GREEN)
+        self.assertEqual(self.ninja(), (0, ["case 8"]))
+        os.remove(self.place("cases/out/case 3/result.json"))
+        self.assertEqual(self.ninja(), (0, ["case 3"]))
+        self.assertEqual(self.ninja(), (0, []))
+
+    @unittest.skipUnless(shutil.which("snakemake"), "Snakemake is not installed: apt-get install snakemake")
+    def test_snakemake_runs_what_changed(self) -> None:
+        for name in ("one", "two x", "thr'ee"):
+            self.case(name)
+            self.golden(name)
+        self.assertEqual(self.suite("--plan", "plan.smk"), (0, []))
+        self.assertEqual(self.snakemake(), (0, ["one", "thr'ee", "two x"]))
+        self.assertEqual(self.snakemake(), (0, []))
+        self.case("one", GREEN)
+        status, ran = self.snakemake()
+        self.assertEqual((status != 0, ran), (True, ["one"]))
+        self.golden("one", GREEN)
+        self.case("four")
+        self.golden("four")
+        self.assertEqual(self.snakemake(), (0, ["four", "one"]))
+        self.assertIn("4 of 4 cases pass", self.read("cases/out/report.html"))
+        self.case("fi{ve}")
+        said = f"suite: {self.place('cases/fi{ve}/image')}: has a brace in its name, which Snakemake cannot name"
+        self.assertEqual(self.refused("suite", self.place("cases"), "--plan", "plan.smk"), said)
+
+    def snakemake(self) -> tuple[int, list[str]]:
+        """Runs the plan; gives the status, and the cases that ran."""
+        words = ["snakemake", "--snakefile", "plan.smk", "--cores", "2"]
+        done = subprocess.run(words, cwd=self.folder, env={**os.environ, "HOME": self.folder}, capture_output=True, text=True)
+        return done.returncode, self.ran()
+
     def ninja(self) -> tuple[int, list[str]]:
         """Runs the plan; gives the status, and the cases that ran."""
         done = subprocess.run(["ninja", "-f", "plan.ninja"], cwd=self.folder, capture_output=True, text=True)
@@ -460,3 +510,6 @@ class SuiteTest(Tools):
         subprocess.run(shell, shell=True, cwd=self.folder, check=True)
         self.assertEqual(self.ran(), ["one", "two'x"])
         self.assertEqual(self.suite("--report")[0], 0)
+        shell = f"seq 2 | parallel --will-cite '{tool}' cases --jobs 1 --only-run --shard {{}}/2"
+        subprocess.run(shell, shell=True, cwd=self.folder, check=True)
+        self.assertEqual(self.ran(), ["one", "two'x"])
