@@ -1,7 +1,9 @@
 """Modules: what the tool makes of them, what the player writes to the channels tick by tick, and that libxmp plays the same."""
 from __future__ import annotations
 
+import hashlib
 import itertools
+import os
 import random
 import shutil
 import subprocess
@@ -15,8 +17,13 @@ from mod_player import Layout, as_text, assembled, kept
 from mod_song import Song, Sounding, Tick
 from modules import SINE, SOUNDS, Place, Sound, drawn, module
 from program import program
-from runs import Tools
+from runs import TOOLS, Tools
 
+EXAMPLE = os.path.join(os.path.dirname(TOOLS), "examples", "module")
+# the sums of what the example's run gives
+EXPECTED = {"audio": "42347dc516dcc0fed9429b53689ffe30451dcfac61ab60fe80e84dc5eacfb487",
+            "trace": "aeeb97c483a4a85cddc5477a43847c158e02651c2d915bbcebb7b634bd2beda9",
+            "memory": "d226e7afbb2b1bd5be6d51a6c453d61174178b9fa9eb1c9173a6129d285f66d9"}
 ALL_EFFECTS = (0, 1, 2, 3, 4, 5, 6, 7, 9, 0xA, 0xC, 0xD, 0xE, 0xF)
 AUDIO, CHANNEL, LC, LCL, LEN, PER, VOL, DMACON = 0xA0, 16, 0, 2, 4, 6, 8, 0x96
 # a sample that goes on: libxmp says the volume 0 once a sample has ended
@@ -159,21 +166,34 @@ class ModTest(Tools):
 
     def test_player(self) -> None:
         """The player of the image writes at each tick what the rules say, for modules with all effects drawn by chance."""
-        try:
-            place = program()
-        except BadFile as fault:
-            self.skipTest(str(fault))
         for seed, frames in ((1, 300), (2, 300), (3, 500)):
             data = drawn(seed, ALL_EFFECTS)
             self.made(data, "--frames", str(frames))
-            words = [place, "sound", "image", "script", "/dev/null", "trace", "memory", "audio", "20", "0"]
-            subprocess.run(words, cwd=self.folder, check=True)
+            self.run_sound("image", "script")
             song = self.read(data)
             layout, heard = Layout(song), writes_of(self.place("trace"))
             self.assertGreater(len(heard), frames // 2)
             # the run may end in its last tick
             for number, (found, tick) in enumerate(zip(heard[:-1], Song(song).ticks())):
                 self.assertEqual(found, wanted(layout, tick), f"seed {seed}, tick {number}: {tick}")
+
+    def run_sound(self, *words: str) -> None:
+        """Runs an image and a script, and leaves trace, memory and audio; the test is skipped where there is no program."""
+        try:
+            place = program()
+        except BadFile as fault:
+            self.skipTest(str(fault))
+        subprocess.run([place, "sound", *words, "/dev/null", "trace", "memory", "audio", "20", "0"], cwd=self.folder, check=True)
+
+    def test_example(self) -> None:
+        """The example's image and script are those of its song, and its run gives what it gave."""
+        with open(os.path.join(EXAMPLE, "song.mod"), "rb") as file:
+            self.assertEqual(self.made(file.read(), "--frames", "200").stderr, "")
+        for name in ("image", "script"):
+            with open(os.path.join(EXAMPLE, name), "rb") as file:
+                self.assertEqual(self.bytes_of(name), file.read(), name)
+        self.run_sound("image", "script")
+        self.assertEqual({name: hashlib.sha256(self.bytes_of(name)).hexdigest() for name in EXPECTED}, EXPECTED)
 
     def compare_with_xmp(self, name: str) -> None:
         effect, parameters, before, slides = GENTLE[name]
