@@ -16,7 +16,7 @@ from script_reader import USUAL_CHIP, head_lines
 CROSS = "m68k-linux-gnu-"
 PACKAGES = {"as": "binutils-m68k-linux-gnu", "gcc": "gcc-m68k-linux-gnu"}
 GCC = """-m68000 -O2 -ffreestanding -fno-pic -fomit-frame-pointer -fno-tree-loop-distribute-patterns -nostdlib -static
--Wl,--build-id=none -Wl,--no-warn-rwx-segments""".split()
+-Wl,--build-id=none""".split()
 COPPER_ENDS, ASSEMBLER_ENDS = (".copper", ".txt"), (".s", ".S", ".asm")
 MOST_TOLD = 20
 LEAST_IMAGE = 8

@@ -91,17 +91,34 @@ CUT = """(() => {
 })()"""
 
 
-def write_run(run: str, pixels: bytes, trace: str, lines: dict[int, dict[int, tuple[int, int, int]]], names: str) -> list[str]:
+Lines = dict[int, dict[int, tuple[int, int, int]]]
+
+
+def write_files(run: str, files: dict[str, bytes]) -> list[str]:
+    """Makes the folder of a run with files of these names; gives the words of the tool for its log and its names."""
+    os.mkdir(run)
+    for name, data in files.items():
+        with open(os.path.join(run, name), "wb") as file:
+            file.write(data)
+    return [word for name in ("slots", "symbols") if name in files for word in ("--" + name, os.path.join(run, name))]
+
+
+def write_run(run: str, pixels: bytes, trace: str, lines: Lines, names: str) -> list[str]:
     """A run of one frame, its log with these lines and the names of its functions; gives the words of the tool that name the last two."""
     from slot_bytes import field, heading
 
-    os.mkdir(run)
-    log, symbols = os.path.join(run, "slots"), os.path.join(run, "names")
-    made = {os.path.join(run, MADE[0]): PAL.heading + pixels, os.path.join(run, MADE[1]): trace.encode("ascii")}
-    for place, data in (made | {log: heading() + field(lines), symbols: names.encode("ascii")}).items():
-        with open(place, "wb") as file:
-            file.write(data)
-    return ["--slots", log, "--symbols", symbols]
+    files = {MADE[0]: PAL.heading + pixels, MADE[1]: trace.encode("ascii")}
+    return write_files(run, files | {"slots": heading() + field(lines), "symbols": names.encode("ascii")})
+
+
+def write_later_run(run: str) -> list[str]:
+    """A run of three frames whose log begins with the second: before that the DMA of planes and sprites was on."""
+    from slot_bytes import field, heading
+
+    trace = b"0 0 0 W 096 8120 S\n0 0 0 W 140 1234 S\n0 9 0 W 096 8200 S\n0 10 0 W 096 0020 S\n1 40 7 W 112 0001 C\n"
+    fetches = {7: (33, 0x200, 0x8001), 40: (47, 0x600, 1), 42: (55, 0x602, 2), 44: (63, 0x604, 3), 46: (71, 0x606, 4)}
+    files = {MADE[0]: 3 * (PAL.heading + bytes(PAL.pixel_bytes)), MADE[1]: trace}
+    return write_files(run, files | {"slots": heading(1, 3) + field({30: fetches}) + field({})})
 
 
 def write_small_run(run: str) -> list[str]:
@@ -143,6 +160,19 @@ def check_blits(page: Any) -> None:
     checks.equal("functions", browser.value(FUNCTIONS), [[2, 71051 - 3 * 227 - 100, 1], [-1, 3 * 227 + 10, 0], [1, 70, 1], [0, 20, 1]])
     wanted = ["--", "-D", "-C", "-CD", "-B-", "-BD", "-BC", "-BCD", "A-", "AD", "AC", "ACD", "AB-", "ABD", "ABC", "ABCD"]
     checks.equal("asks", browser.value(ASKS), [[pattern, 1024 * 64 * len(pattern)] for pattern in wanted])
+
+
+def check_later(page: Any) -> None:
+    """Of a log that begins later it is not known what planes and sprites had fetched before, until they are written anew."""
+    script = """(async (found) => {
+        for (const frame of [1, 2]) {
+            const denise = new Denise(look.trace, await look.slotView.slots.read(frame), frame), word = (at) => denise.word(at);
+            found.push([denise.unknown.size, denise.armedUnknown, denise.armed, word(0x110), word(0x112), word(0x140), word(0x17c)]);
+        }
+        return found;
+    })([])"""
+    wanted = [[38, 255, 0, 0, 0, 0x1234, 0], [38 - 6, 0x7F, 0x80, 0x8001, 1, 0x1234, 3]]
+    page.checks.equal("what is not known of a later log", page.browser.value(script), wanted)
 
 
 def check_clicks(page: Any) -> None:
