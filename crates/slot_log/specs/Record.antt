@@ -1,5 +1,5 @@
 -- The record that the log has of a clock.
-use Rattle.std.specs.Prelude.{◌≡◌, ℕ, ◌/◌, ◌%◌, ◌^◌, List, [], ◌∷◌, ◌++◌}
+use Rattle.std.specs.Prelude.{◌≡◌, ℕ, ◌/◌, ◌%◌, List, ◌∷◌, ◌++◌}
 use Rattle.ocs_base.specs.declared.beam.Beam.{Beam}
 use Rattle.serial_model.specs.declared.bus.Ask.{Ask}
 use Rattle.serial_model.specs.MemoryText.{word_bytes}
@@ -18,7 +18,7 @@ clock_entry clock = entry_of clock.beam.h clock.answer clock.ask
 
 -- an address has four bytes, the highest first
 abbrev pub address_bytes : ℕ → List ℕ
-address_bytes address = address / 2 ^ 24 ∷ address / 2 ^ 16 % 256 ∷ address / 256 % 256 ∷ address % 256 ∷ []
+address_bytes address = word_bytes (address / 65536) ++ word_bytes (address % 65536)
 
 -- ten bytes: the line, the clock of the line, the code, the address and the word
 abbrev pub entry_bytes : Entry → List ℕ

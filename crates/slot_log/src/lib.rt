@@ -9,4 +9,4 @@ mod record;
 pub use entry::read_address;
 pub use heading::put_heading;
 pub use purpose::Purpose;
-pub use record::put_record;
+pub use record::{put_record, records_tell};
