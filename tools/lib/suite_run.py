@@ -8,18 +8,20 @@ import signal
 from typing import Callable, Iterable, NamedTuple
 
 from faults import BadFile
-from suite_cases import KINDS, USUAL_KINDS, Case, Golden, read_bytes, read_golden, sum_of, unpack
+from suite_cases import KINDS, USUAL_KINDS, Case, Golden, pieces, read_bytes, read_golden, sum_of, unpack
 from suite_command import Commands, Ended
 from suite_pieces import Pieces, sums_of_pieces
 
 PASSED, ACCEPTED, DIFFERS, NEW, FAILED = "passed", "accepted", "differs", "new", "failed"
 GOOD = (PASSED, ACCEPTED)
 RESULT, STORED = "result.json", "stored.json"
-# what a case has that has another command than the usual one, packed files, or goldens that are files
-UNUSUAL = ("command", "image.xz", "script.xz", "kept")
+# what a case has that has another command than the usual one, or packed files
+UNUSUAL = ("command", "image.xz", "script.xz")
 USUAL = frozenset(USUAL_KINDS)
 # of a program's text so many lines are kept
 MOST_SAID = 20
+# bytes of all that a case keeps, packed, where nobody asks for more; to pack so takes a quarter of the usual time
+MOST_KEPT, STRENGTH = 64 << 10, 3
 # where each name of a command stands for a file of the run
 NAMES = {kind.upper(): kind for kind in KINDS}
 
@@ -60,12 +62,14 @@ class Known(NamedTuple):
 
 class Suite:
     """How cases are run: the program, the folder of what comes out, seconds a case may take, bytes it may leave; whether
-    what comes out is accepted, and kept whole; what runs commands, and pieces of files at hand.
+    what comes out is accepted, and how many bytes are kept of it, packed: None is all; what runs commands, and pieces of files at hand.
     """
 
-    def __init__(self, program: str, out: str, limit: float, most_stored: int, accepts: bool = False, keeps: bool = False) -> None:
+    def __init__(
+        self, program: str, out: str, limit: float, most_stored: int, accepts: bool = False, most_kept: int | None = MOST_KEPT,
+    ) -> None:
         self.program, self.out, self.limit, self.most_stored = program, out, limit, most_stored
-        self.accepts, self.keeps = accepts, keeps
+        self.accepts, self.most_kept, self.keeps_all = accepts, most_kept, accepts and most_kept is None
         self.home, self.pieces = os.getcwd(), Pieces()
         # a process that runs cases has its own
         self.commands: Commands | None = None
@@ -94,8 +98,8 @@ def known_of(suite: Suite, case: Case) -> Known:
         except OSError:
             pass
     before = read_result(suite, case)
-    simple = case.files.isdisjoint(UNUSUAL) and case.files.issuperset(("image", "script"))
-    same = simple and not suite.keeps and before is not None and is_met_by(suite, case, before, golden)
+    simple = case.files.isdisjoint(UNUSUAL) and case.files.issuperset(("image", "script")) and USUAL.issuperset(case.kept())
+    same = simple and not suite.keeps_all and before is not None and is_met_by(suite, case, before, golden)
     return Known(before, golden, os.path.join(suite.home, case.folder) if same else None)
 
 
@@ -241,7 +245,7 @@ def judge(suite: Suite, case: Case, result: Result, text: bytes | None) -> None:
     else:
         golden = golden_of(case)
         compare(suite, case, result, golden)
-    if suite.accepts and (suite.keeps or result.verdict != PASSED):
+    if suite.accepts and (suite.keeps_all or result.verdict != PASSED):
         accept(suite, case, result, golden)
     if result.verdict in GOOD:
         store(suite, case, result, came, kept)
@@ -255,7 +259,7 @@ def files_in(suite: Suite, case: Case, folder: str) -> dict[str, int]:
 
 def met_at_once(case: Case, result: Result, golden: bytes | None) -> bool:
     """Whether the golden says exactly what came, word for word; where not, it may still be met."""
-    return "kept" not in case.files and golden == came_of(result).text().encode("utf-8")
+    return result.sums.keys() >= case.kept().keys() and golden == came_of(result).text().encode("utf-8")
 
 
 def came_of(result: Result) -> Golden:
@@ -317,9 +321,11 @@ def sum_by_store(suite: Suite, case: Case, kind: str, size: int, kept: Stored | 
 
 
 def stored_file(suite: Suite, case: Case, kind: str, golden: Golden, stored: dict[str, Stored]) -> str | None:
-    """The stored file that is the golden one."""
-    place, old = suite.place(case, "passed", kind), stored.get(kind)
-    return place if old and old.sum == golden.sums.get(kind) and is_as_stored(place, old) else None
+    """The stored file that is the golden one, also where it was copied to where it stands."""
+    place, old, wanted = suite.place(case, "passed", kind), stored.get(kind), golden.sums.get(kind)
+    if not os.path.exists(place):
+        return None
+    return place if wanted == (old.sum if old and is_as_stored(place, old) else sum_of(place)) else None
 
 
 def store(suite: Suite, case: Case, result: Result, came: dict[str, int], kept: dict[str, Stored]) -> None:
@@ -360,11 +366,17 @@ def remove(place: str) -> None:
 
 def accept(suite: Suite, case: Case, result: Result, old: Golden | None) -> None:
     """Makes what came out what must come out; of the files that the old golden did not name none is named."""
-    kept = case.kept()
     wanted = {kind: value for kind, value in result.sums.items() if not old or not old.sums or kind in old.sums}
-    for kind in KINDS if suite.keeps else kept:
-        keep_file(suite, case, kind, result)
-    if suite.keeps or not kept or "golden" in case.files:
+    has_golden = "golden" in case.files or not case.kept()
+    left = suite.most_kept
+    for kind in KINDS:
+        # what has no sum is compared with the file that is kept
+        most = left if has_golden else None
+        size = keep_file(suite, case, kind, result, most) if kind in wanted else 0
+        left = None if left is None else left - size
+        if not size:
+            remove_kept(case, kind)
+    if has_golden or suite.most_kept is None:
         place = os.path.join(case.folder, "golden")
         with open(place + ".new", "w", encoding="utf-8") as file:
             file.write(Golden(result.status, result.spoken, wanted).text())
@@ -372,18 +384,30 @@ def accept(suite: Suite, case: Case, result: Result, old: Golden | None) -> None
     result.verdict = ACCEPTED
 
 
-def keep_file(suite: Suite, case: Case, kind: str, result: Result) -> None:
-    """Packs a file of the run into the case's folder, in the place of the one that is kept."""
-    folder = os.path.join(case.folder, "kept")
-    for name in (kind, kind + ".xz"):
-        remove(os.path.join(folder, name))
-    if kind not in result.sums:
-        return
+def keep_file(suite: Suite, case: Case, kind: str, result: Result, most: int | None) -> int:
+    """Packs a file of the run into the case's folder, in the place of the one that is kept, where it takes no more bytes than `most`;
+    gives how many it takes, or 0 where none is kept.
+    """
     import lzma
-    import shutil
 
-    os.makedirs(folder, exist_ok=True)
-    place = os.path.join(folder, kind + ".xz")
-    with open(suite.place(case, "now", kind), "rb") as file, lzma.open(place + ".new", "wb") as packed:
-        shutil.copyfileobj(file, packed, 1 << 20)
+    place, packer = os.path.join(case.folder, "kept", kind + ".xz"), lzma.LZMACompressor(preset=STRENGTH)
+    packed = bytearray()
+    for piece in pieces(suite.place(case, "now", kind)):
+        packed += packer.compress(piece)
+        if most is not None and len(packed) > most:
+            return 0
+    packed += packer.flush()
+    if most is not None and len(packed) > most:
+        return 0
+    os.makedirs(os.path.dirname(place), exist_ok=True)
+    remove_kept(case, kind)
+    with open(place + ".new", "wb") as file:
+        file.write(packed)
     os.replace(place + ".new", place)
+    return len(packed)
+
+
+def remove_kept(case: Case, kind: str) -> None:
+    """Removes the file of a kind that a case keeps, if there is one."""
+    for name in (kind, kind + ".xz"):
+        remove(os.path.join(case.folder, "kept", name))

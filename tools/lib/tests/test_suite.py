@@ -44,7 +44,8 @@ system = NTSC if "ntsc" in script else PAL
 open(sys.argv[4], "wb").write(frame({{}}, system) + frame({{(212, 74): bytes(image[:3])}}, system))
 if "without trace" not in script:
     open(sys.argv[5], "w").write("0 44 100 W 180 %04x C\\n" % image[3])
-open(sys.argv[6], "wb").write(image + bytes(524288 - len(image)))
+rest = os.urandom(524288 - len(image)) if "noise" in script else bytes(524288 - len(image))
+open(sys.argv[6], "wb").write(image + rest)
 if "replaces" in script:
     for place in places:
         os.replace(place + ".new", place)
@@ -306,6 +307,49 @@ class SuiteTest(Tools):
         self.write("cases/one/kept/frames", frame({}))
         os.remove(self.place("cases/one/kept/frames.xz"))
         self.assertIn("frames: 1 frame and 2 frames", self.suite()[1][0])
+
+    def test_small_goldens_are_kept(self) -> None:
+        """A fresh machine tells and shows what differs; what is kept makes no run another one."""
+        for name in ("one", "two"):
+            self.case(name)
+        self.assertEqual(self.suite("--accept")[0], 0)
+        self.assertEqual(sorted(os.listdir(self.place("cases/one/kept"))), ["frames.xz", "memory.xz", "trace.xz"])
+        shutil.rmtree(self.place("cases/out"))
+        self.case("one", GREEN)
+        status, said = self.suite("--store", "0")
+        self.assertEqual(status, 1)
+        self.assertIn("one: frames: first at frame 1, line 100, clock 100 (column 212, row 74): f00 and 0f0; 1 pixel", said[0])
+        page = self.read("cases/out/report.html")
+        self.assertIn('"pictures"' if '"pictures"' in page else "data:image/png", page)
+        self.assertEqual(self.suite("--accept")[0], 0)
+        shutil.rmtree(self.place("cases/out"))
+        self.assertEqual(self.suite()[0], 0)
+
+    def test_goldens_of_sums_alone(self) -> None:
+        """None is kept where that is asked, none that takes too much, and of a kind that the golden leaves out."""
+        self.case("one")
+        self.golden("one", GREEN, kinds=("frames", "trace"))
+        self.case("noise", script="noise")
+        self.assertEqual(self.suite("--accept")[0], 0)
+        self.assertEqual(sorted(os.listdir(self.place("cases/one/kept"))), ["frames.xz", "trace.xz"])
+        self.assertEqual(sorted(os.listdir(self.place("cases/noise/kept"))), ["frames.xz", "trace.xz"])
+        self.case("one", GREEN)
+        self.assertEqual(self.suite("--accept", "--sums")[0], 0)
+        self.assertEqual(os.listdir(self.place("cases/one/kept")), [])
+        self.assertEqual(self.suite("--accept", "--keep")[0], 0)
+        self.assertEqual(sorted(os.listdir(self.place("cases/noise/kept"))), ["frames.xz", "memory.xz", "trace.xz"])
+
+    def test_results_that_were_copied(self) -> None:
+        """What OUT holds of a run that passed is known by its sums, where its times are others."""
+        self.case("one")
+        self.golden("one")
+        self.assertEqual(self.suite()[0], 0)
+        os.rename(self.place("cases/out"), self.place("elsewhere"))
+        shutil.copytree(self.place("elsewhere"), self.place("cases/out"), copy_function=shutil.copyfile)
+        self.case("one", GREEN)
+        self.assertIn("first at frame 1, line 100, clock 100", self.suite()[1][0])
+        self.write("cases/out/one/passed/frames", frame({}))
+        self.assertIn("is not kept here", self.suite()[1][0])
 
     def test_packed_files_commands_and_statuses(self) -> None:
         self.case("packed")
