@@ -42,6 +42,21 @@ class BuildTest(Tools):
                 self.assertIn(said, done.stderr)
                 self.assertFalse(os.path.exists(self.place("solid/image")))
 
+    def test_lines_of_the_document(self) -> None:
+        """The commands of docs/real-material.md make the images of both examples, and no tool warns."""
+        with open(os.path.join(TOP, "docs", "real-material.md"), encoding="utf-8") as file:
+            text = file.read()
+        for name in ("balls", "solid"):
+            with self.subTest(example=name):
+                end = rf"    m68k-linux-gnu-objcopy -O binary {name}.elf image\n"
+                lines = re.search(rf"\n\n(    m68k-linux-gnu-(?:as|gcc) .*\n(?:    .*\n)*{end})", text).group(1)
+                folder = self.place(f"from/{name}")
+                shutil.copytree(os.path.join(TOP, "examples", name), folder, ignore=shutil.ignore_patterns("out", "image"))
+                done = subprocess.run(["sh", "-ec", lines], cwd=folder, capture_output=True, text=True)
+                self.assertEqual((done.returncode, done.stdout, done.stderr), (0, "", ""))
+                with open(os.path.join(TOP, "examples", name, "image"), "rb") as kept, open(os.path.join(folder, "image"), "rb") as made:
+                    self.assertEqual(made.read(), kept.read())
+
     def test_program_of_the_document(self) -> None:
         """The C program of docs/real-material.md: its vectors stand at the image's begin."""
         with open(os.path.join(TOP, "docs", "real-material.md"), encoding="utf-8") as file:
