@@ -4,15 +4,19 @@ from __future__ import annotations
 import base64
 import os
 import zlib
-from typing import Iterable
+from typing import Callable, Iterable, Sequence, TypeVar
 
 from faults import BadFile
 from files import write_whole
 from frames import Frame, FramesFile, System
+from progress import over
 from threads import made_in_order
 
+Item, Made = TypeVar("Item"), TypeVar("Made")
 # the frames that a page of one run holds at most
 MOST_FRAMES = 200
+# so few are there before anybody asks how far they are
+FEW = 10
 # more takes three times as long, and makes a page little smaller
 LEVEL = 4
 
@@ -33,8 +37,14 @@ def system_data(system: System) -> dict[str, object]:
     return {**numbers, "evenClocks": system.line_start(1)}
 
 
-def frames_data(file: FramesFile, numbers: Iterable[int]) -> list[dict[str, object]]:
-    return list(made_in_order(frame_data, map(file.frame, numbers)))
+def made_of_frames(what: str, count: int, work: Callable[[Item], Made], items: Iterable[Item]) -> Iterable[Made]:
+    """What `work` makes of something of each of so many frames, in order; how far that is is said on the error output."""
+    made = made_in_order(work, items)
+    return over(made, what, count, "frames") if count > FEW else made
+
+
+def frames_data(file: FramesFile, numbers: Sequence[int]) -> list[dict[str, object]]:
+    return list(made_of_frames("pictures", len(numbers), frame_data, map(file.frame, numbers)))
 
 
 def write_page(wanted: str | None, usual: str, inputs: Iterable[str], text: str) -> str:

@@ -6,10 +6,9 @@ from collections.abc import Iterable, Iterator
 
 from faults import BadFile
 from frames import System
-from page import packed
+from page import made_of_frames, packed
 from slots import CODES, OWNER_OF, OWNERS, PLANE, RECORD, SlotFrame, SlotLog
 from symbols import UNKNOWN, Symbols
-from threads import made_in_order
 from trace import read_lines
 
 DMACON, DMAEN = 0x096, 0x200
@@ -65,14 +64,15 @@ class SlotsPage:
         self.numbers = numbers
         if self.log.system != system:
             raise BadFile(self.log.path, f"is of another machine than the frames: {self.log.system.name}, and they of {system.name}")
-        if not set(numbers) & set(range(self.log.first, self.log.end)):
+        both = set(numbers) & set(range(self.log.first, self.log.end))
+        if not both:
             last = self.log.end - 1
             raise BadFile(self.log.path, f"has frames {self.log.first} to {last}, and the page frames {numbers[0]} to {numbers[-1]}")
         if self.log.first and not os.path.isfile(trace_path):
             raise BadFile(trace_path, "is no regular file, and a trace is read more than once with a log that begins later: copy it into one first")
         self.symbols = Symbols(symbols) if symbols else None
         self.dma_before = dma_before(trace_path, self.log.first)
-        self.frames = {number: data for number, data in made_in_order(numbered_data, self.shown_frames())}
+        self.frames = dict(made_of_frames("slots", len(both), numbered_data, self.shown_frames()))
 
     def shown_frames(self) -> Iterator[tuple[SlotFrame, dict[int, tuple[int, ...]]]]:
         """The frames that the page shows, each with what was fetched before it."""
