@@ -23,7 +23,7 @@ module _ (image : List ℕ) (script : ScriptValue) (every keep : ℕ) (clocks : 
   -- of a run of the script over the image
   pub AreLines-told : (height : ℕ) (text : List ℕ) → IsRunnable script → run ≡ run_of image script height → frames ≡ every
       → ((end : ℕ) → IsEndOf run end
-          → text ≡ flat_map line_of (map (told_of (state_of run)) (arrivals (due_in (state_of run) frames) keep end clocks first_place)))
+      → text ≡ flat_map line_of (map (told_of (state_of run)) (arrivals (due_in (state_of run) frames) keep end clocks first_place)))
       → AreLines image script every keep clocks text
   unfolding said_by
   AreLines-told height text good run_is frames_are says =

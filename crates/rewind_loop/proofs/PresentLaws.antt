@@ -63,7 +63,7 @@ module _ (run : RunValue) (keep : ℕ) (p : Place) (fore : ForeValue) (raster : 
       → is_due every fore.machine.beam ≡ true → is_that p.now (last_of p.ring) ≡ false → Saves fore new raster after out given
       → IsSaved (λ side. no_side) fore raster k → t ≡ fore.machine.t
       → AreAt run keep (record p { ring = visited (due_in (state_of run) every) keep p.now p.ring }) new after
-          (pushed (record { at = record { 0 = t }; state = k }) ring)
+      (pushed (record { at = record { 0 = t }; state = k }) ring)
   present_pushed every t new after k out given due other saves saved now =
       let entry : EntryOf Checkpoint = record { at = record { 0 = t }; state = k } in
       let all : List (EntryOf Checkpoint) = ring.entries ++ entry ∷ [] in

@@ -48,10 +48,22 @@ impl Purpose {
             Purpose::DiskWrites => 12,
             Purpose::AudioReads { channel } => 16 + channel,
             Purpose::PlaneReads { plane } => 32 + plane,
-            Purpose::ControlOfSprite { sprite, second: false } => 40 + sprite,
-            Purpose::ControlOfSprite { sprite, second: true } => 48 + sprite,
-            Purpose::ImageOfSprite { sprite, second: false } => 56 + sprite,
-            Purpose::ImageOfSprite { sprite, second: true } => 64 + sprite,
+            Purpose::ControlOfSprite {
+                sprite,
+                second: false,
+            } => 40 + sprite,
+            Purpose::ControlOfSprite {
+                sprite,
+                second: true,
+            } => 48 + sprite,
+            Purpose::ImageOfSprite {
+                sprite,
+                second: false,
+            } => 56 + sprite,
+            Purpose::ImageOfSprite {
+                sprite,
+                second: true,
+            } => 64 + sprite,
         }
     }
 }

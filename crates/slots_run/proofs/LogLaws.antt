@@ -52,7 +52,7 @@ module _ (from to : ℕ) (start first last : SlotRun) (order : from ≤ to) (res
 
   pub is_log : (text : List ℕ)
       → text ≡ (let script : ScriptValue = (run_in start).script in heading script.system from to (bytes_of script.chip))
-        ++ log_text (run_in first).image (run_in first).script first.fore.machine.t (last.fore.machine.t - first.fore.machine.t)
+      ++ log_text (run_in first).image (run_in first).script first.fore.machine.t (last.fore.machine.t - first.fore.machine.t)
       → IsLogOf (run_in start).image (run_in start).script from to text
   is_log text is =
       let script : ScriptValue = (run_in start).script in

@@ -40,12 +40,7 @@ pub fn make_log(
 
 /// Appends the log of these frames to an empty text, from a run at its reset. After a refusal a part may have
 /// been appended.
-fn put_log(
-    from: u32,
-    to: u32,
-    run: &mut SlotRun,
-    text: &mut Vec<u8>,
-) -> Result<(), OutOfMemory>
+fn put_log(from: u32, to: u32, run: &mut SlotRun, text: &mut Vec<u8>) -> Result<(), OutOfMemory>
     requires stands { Stands run.old }
     requires first { run.old.fore.machine.t ≡ 0 }
     requires order { from ≤ to }
