@@ -94,8 +94,8 @@ fn fails_at(alloc: Global, call: u64, answer: u8, said: &str) -> Result<bool, Ca
 fn has_part(shelf: &Shelf) -> bool {
     let out = shelf.file("out").unwrap_or(&[]);
     shelf.said() == b"cannot write out\n".as_slice()
-        && out.len() > 262_144
-        && out.starts_with(b"ocs-slots 2 pal 0 1 524288\n")
+        && out.len() > 355_000
+        && out.starts_with(b"ocs-slots 3 pal 0 1 524288 10\n")
 }
 
 /// Whether a run whose append fails leaves a part of its log.

@@ -1,7 +1,7 @@
-//! A run that is told as a text, and the bytes of its log.
+//! A run that is told as a text, and the records of its frames.
 
 use case_texts::inputs::{image, script};
-use ocs_io::{Shelf, dec, hex};
+use ocs_io::{Shelf, hex};
 use run_cases::CaseFault;
 use run_cases::place::shelf;
 use slots_run::slots_main;
@@ -37,19 +37,50 @@ pub fn status(alloc: Global, text: &str, shelf: &mut Shelf) -> Result<u8, CaseFa
     Ok(slots_main(alloc, &words, shelf))
 }
 
-/// The bytes of a text: each of two hexadecimal digits, or two of four; and `98*e300` for what stands so
-/// often.
-pub fn bytes(alloc: Global, text: &str) -> Result<Vec<u8>, CaseFault> {
-    let mut bytes = Vec::new(alloc);
-    for item in text.split_whitespace() {
-        let (count, digits) = item.split_once('*').unwrap_or(("1", item));
-        let value = hex(digits.as_bytes()).ok_or("a byte is told")?;
-        for _ in 0..dec(count.as_bytes()).ok_or("a count is told")? {
-            if digits.len() == 4 {
-                bytes.push((value / 256 % 256) as u8)?;
-            }
-            bytes.push((value % 256) as u8)?;
+/// The records of a frame of PAL: those of a text, in order, and of each other clock that of a free slot, or
+/// of refresh.
+pub fn records(alloc: Global, text: &str) -> Result<Vec<u8>, CaseFault> {
+    let told = bytes(alloc, text)?;
+    let mut left = told.as_slice();
+    let mut records = Vec::new(alloc);
+    for line in 0..313 {
+        for clock in 0..227 {
+            left = put_clock(
+                [(line / 256) as u8, (line % 256) as u8, clock],
+                left,
+                &mut records,
+            )?;
         }
+    }
+    Ok(records)
+}
+
+/// Appends the record of the clock at a place, which is the first of those that are left where that is of the
+/// place. The answer is what is left then.
+fn put_clock<'a>(
+    place: [u8; 3],
+    left: &'a [u8],
+    records: &mut Vec<u8>,
+) -> Result<&'a [u8], CaseFault> {
+    if left.len() >= 10 && left.starts_with(&place) {
+        records.extend_from_slice(&left[..10])?;
+        return Ok(&left[10..]);
+    }
+    let is_refresh = matches!(place[2], 1 | 3 | 5 | 225);
+    records.extend_from_slice(&place)?;
+    records.extend_from_slice(&[u8::from(is_refresh), 0, 0, 0, 0, 0, 0])?;
+    Ok(left)
+}
+
+/// The bytes of a text, each of two hexadecimal digits, or two of four.
+fn bytes(alloc: Global, text: &str) -> Result<Vec<u8>, CaseFault> {
+    let mut bytes = Vec::new(alloc);
+    for digits in text.split_whitespace() {
+        let value = hex(digits.as_bytes()).ok_or("a byte is told")?;
+        if digits.len() == 4 {
+            bytes.push((value / 256 % 256) as u8)?;
+        }
+        bytes.push((value % 256) as u8)?;
     }
     Ok(bytes)
 }
