@@ -3,6 +3,7 @@ from __future__ import annotations
 
 import contextlib
 import os
+import shutil
 
 from faults import BadFile
 
@@ -20,24 +21,39 @@ def check_made(place: str, source: str, force: bool) -> None:
         raise BadFile(place, "is there already; --force overwrites it")
 
 
-def write_whole(place: str, data: bytes) -> None:
-    """Writes a file, in place of one that is there. An OSError names it, and then what was there still is."""
+def is_no_file(place: str) -> bool:
+    """Whether something stands there that is no file: a device, or a pipe as /dev/stdout can be. It is written to, and never replaced."""
+    return os.path.exists(place) and not os.path.isfile(place)
+
+
+def write_whole(place: str, data: bytes, runs: bool = False) -> None:
+    """Writes a file, in place of one that is there; `runs` lets it be run. An OSError names it, and then what was there still is."""
     try:
-        if os.path.exists(place) and not os.path.isfile(place):
-            # a device, or a pipe as /dev/stdout can be
+        if is_no_file(place):
             with open(place, "wb") as file:
                 file.write(data)
         else:
-            replace(os.path.realpath(place), data)
+            replace(os.path.realpath(place), data, 0o111 if runs else 0)
     except OSError as fault:
         raise named(fault, place) from fault
 
 
-def replace(target: str, data: bytes) -> None:
+def move_whole(made: str, place: str) -> None:
+    """Moves a file to a place, in place of one that is there."""
+    if is_no_file(place):
+        with open(made, "rb") as source, open(place, "wb") as target:
+            shutil.copyfileobj(source, target)
+        os.remove(made)
+    else:
+        os.replace(made, place)
+
+
+def replace(target: str, data: bytes, mode: int) -> None:
     beside = f"{target}.{os.getpid()}.part"
     try:
         with open(beside, "xb") as file:
             file.write(data)
+            os.chmod(beside, os.fstat(file.fileno()).st_mode | mode)
         os.replace(beside, target)
     except BaseException:
         with contextlib.suppress(OSError):

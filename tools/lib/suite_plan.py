@@ -8,6 +8,7 @@ import shlex
 from typing import Callable, NamedTuple
 
 from faults import BadFile
+from files import write_whole
 from suite_cases import Case, find_cases, part_of
 from suite_report import PAGE, XML
 from suite_run import RESULT, Suite, read_result
@@ -159,8 +160,6 @@ def write_plan(words, suite: Suite, cases: list[Case]) -> None:
     count, plan = count_of_parts(suite, cases), os.path.abspath(words.plan)
     text = snakemake_plan(words, suite, cases, count) if plan.endswith(SNAKEFILE) else ninja_plan(words, suite, cases, count)
     os.makedirs(suite.out, exist_ok=True)
-    with open(plan + ".new", "w", encoding="utf-8", errors="surrogateescape") as file:
-        file.write(text)
-    os.replace(plan + ".new", plan)
+    write_whole(plan, text.encode("utf-8", "surrogateescape"))
     # later than its folder, which the plan may stand in
     os.utime(plan)

@@ -5,6 +5,7 @@ import os
 import re
 
 from faults import BadFile, plural
+from files import write_whole
 from page_text import escaped, fill, json_text
 from suite_cases import Case
 from suite_run import DIFFERS, FAILED, GOOD, NEW, Result, Suite, expected, golden_of
@@ -21,10 +22,7 @@ def write_reports(suite: Suite, cases: list[Case], results: list[Result]) -> lis
     """Writes both; gives their places."""
     texts = {PAGE: page(suite, cases, results), XML: junit(suite, results)}
     for name, text in texts.items():
-        place = os.path.join(suite.out, name)
-        with open(place + ".new", "w", encoding="utf-8", errors="backslashreplace") as file:
-            file.write(text)
-        os.replace(place + ".new", place)
+        write_whole(os.path.join(suite.out, name), text.encode("utf-8", "backslashreplace"))
     return [os.path.join(suite.out, name) for name in texts]
 
 

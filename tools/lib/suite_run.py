@@ -8,6 +8,7 @@ import signal
 from typing import Callable, Iterable, NamedTuple
 
 from faults import BadFile
+from files import write_whole
 from suite_cases import KINDS, USUAL_KINDS, Case, Golden, pieces, read_bytes, read_golden, sum_of, unpack
 from suite_command import Commands, Ended
 from suite_pieces import Pieces, sums_of_pieces
@@ -377,10 +378,7 @@ def accept(suite: Suite, case: Case, result: Result, old: Golden | None) -> None
         if not size:
             remove_kept(case, kind)
     if has_golden or suite.most_kept is None:
-        place = os.path.join(case.folder, "golden")
-        with open(place + ".new", "w", encoding="utf-8") as file:
-            file.write(Golden(result.status, result.spoken, wanted).text())
-        os.replace(place + ".new", place)
+        write_whole(os.path.join(case.folder, "golden"), Golden(result.status, result.spoken, wanted).text().encode("utf-8"))
     result.verdict = ACCEPTED
 
 
@@ -401,9 +399,7 @@ def keep_file(suite: Suite, case: Case, kind: str, result: Result, most: int | N
         return 0
     os.makedirs(os.path.dirname(place), exist_ok=True)
     remove_kept(case, kind)
-    with open(place + ".new", "wb") as file:
-        file.write(packed)
-    os.replace(place + ".new", place)
+    write_whole(place, packed)
     return len(packed)
 
 
