@@ -27,6 +27,14 @@ class Needs:
     def glibc_text(self) -> str:
         return ".".join(map(str, self.glibc))
 
+    @property
+    def text(self) -> str:
+        return f"glibc {self.glibc_text} or later ({', '.join(self.libraries)})"
+
+    def both(self, other: Needs) -> Needs:
+        """What this and another program need."""
+        return Needs(tuple(sorted({*self.libraries, *other.libraries})), max(self.glibc, other.glibc))
+
 
 def text_at(strings: bytes, at: int) -> str:
     return strings[at : strings.index(b"\0", at)].decode("ascii")

@@ -7,6 +7,7 @@ import re
 import shutil
 import subprocess
 import tarfile
+import tempfile
 import unittest
 
 from archive import Packed, pack, with_sums
@@ -14,6 +15,7 @@ from elf import needs_of
 from faults import BadFile
 from program import program
 from runs import TOOLS, Tools
+from unkitted import Unpacked, check_library, check_licences, check_sums
 
 TOP = os.path.dirname(TOOLS)
 NAMES = ("LICENSE", "README.md", "CHANGELOG.md", "crates.txt", "HANDLES", ".gitignore", "bench", "docs", "examples", "tools")
@@ -198,6 +200,45 @@ class PackedTest(Release):
                 target = os.path.normpath(os.path.join(os.path.dirname(name), link))
                 there = target in names or any(other.startswith(target + "/") for other in names)
                 self.assertTrue(there or "://" in link, f"{name}: {link}")
+
+
+class StrangerTest(Tools):
+    """What a release says of itself, in a small one."""
+
+    def walk(self, **changes: bytes | None) -> str:
+        """What is wrong with a release with some files changed or left out; nothing where all is right."""
+        with open("/bin/true", "rb") as file:
+            program = file.read()
+        needs = needs_of("/bin/true").text
+        files = {
+            "ocs": program, "ocs-slots": program, "LICENSE": b"MIT", "RELEASE": f"system: Linux on x86-64 with {needs}; tools".encode(),
+            "docs/licences.md": b"| `itoa` | digits | MIT |\n| `own` | ours | none is given |\n", "licences/itoa/LICENSE": b"MIT",
+        }
+        packed = with_sums({name: Packed(data, runs=True) for name, data in {**files, **changes}.items() if data is not None})
+        archive = self.write("archive", pack("ocs-1", packed))
+        with tempfile.TemporaryDirectory() as folder:
+            release = Unpacked(folder, archive)
+            try:
+                for check in (check_sums, check_licences, check_library):
+                    check(release)
+            except BadFile as fault:
+                return str(fault)
+            with open(os.path.join(release.top, "added"), "wb"):
+                pass
+            with self.assertRaisesRegex(BadFile, "SHA256SUMS: has no line for added"):
+                check_sums(release)
+        return ""
+
+    def test_walk(self) -> None:
+        self.assertEqual(self.walk(), "")
+        self.assertIn("licences/itoa: is not there", self.walk(**{"licences/itoa/LICENSE": None}))
+        self.assertIn("LICENSE: is not there", self.walk(LICENSE=b""))
+        self.assertIn("RELEASE: does not say that the programs need glibc 2.", self.walk(RELEASE=b"glibc 2.1 or later"))
+
+    def test_sum_of_another_file(self) -> None:
+        archive = self.write("archive", pack("ocs-1", {**with_sums({"ocs": Packed(b"one")}), "ocs": Packed(b"two")}))
+        with tempfile.TemporaryDirectory() as folder, self.assertRaisesRegex(BadFile, "sha256sum .* ended with status 1"):
+            check_sums(Unpacked(folder, archive))
 
 
 class ArchiveTest(unittest.TestCase):
