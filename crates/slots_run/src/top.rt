@@ -23,7 +23,7 @@ use std::alloc::Global;
 /// Does what the words `IMAGE SCRIPT FROM TO OUT` ask for and answers the exit status: runs the script over
 /// the image, without a side, and writes to OUT the log of the slots of the frames FROM up to TO, which is
 /// not among them. FROM is below TO, and TO at most 1000. Where the script has fewer frames, those that it
-/// has are logged; where it has not even FROM, the log is empty, and the memory that of the run's end.
+/// has are logged; where it has not even FROM, the file is the heading alone.
 ///
 /// 0 done; 2 the words are not of this form; 3 the image is bad; 4 the script is bad; 5 an input could not be
 /// read; 6 OUT could not be written; 7 memory was wanting. Each status but 0 says its text. What a bad image
