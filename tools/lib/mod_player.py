@@ -32,7 +32,7 @@ def assembled() -> bytes:
     """The player's words, by the assembler."""
     with tempfile.TemporaryDirectory() as folder:
         made, program = os.path.join(folder, "object"), os.path.join(folder, "program")
-        subprocess.run(["m68k-linux-gnu-as", "-m68000", SOURCE, "-o", made], check=True)
+        subprocess.run(["m68k-linux-gnu-as", "-m68000", "-I", HERE, SOURCE, "-o", made], check=True)
         subprocess.run(["m68k-linux-gnu-ld", "-Ttext", "0", "-e", "0", "--oformat", "binary", made, "-o", program], check=True)
         with open(program, "rb") as file:
             return file.read()
