@@ -33,7 +33,10 @@ class Kind:
 def kind_of(opcode: int) -> Kind | None:
     """The row of an opcode; None where it has none, and where it is of line A or F."""
     found = next(filter(None, (fits(opcode, *ROWS[n : n + 5]) for n in range(0, len(ROWS), 5))), None)
-    return None if found is None or found[0] == "refused" else Kind(*found)
+    if found is None or found[0] == "refused":
+        return None
+    method, which, clocks, fields = found
+    return Kind(method, which, clocks, fields)
 
 
 def operand_size(kind: Kind) -> int:

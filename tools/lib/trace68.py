@@ -16,7 +16,7 @@ PROCESSOR = 8
 IN_MEMORY = range(IND, PC_INDEX + 1)
 WRITTEN = ("alone", "from_sr", "nbcd", "tas", "scc", "quick", "from_dn", "shift_memory")
 # a program's word, or a word of an operand that is read or written, and which operand
-PROGRAM, READ_STEP, WRITE_STEP = "prw"
+PROGRAM, READ_STEP, WRITE_STEP = "p", "r", "w"
 Step = tuple[str, int]
 # an instruction with what follows it has fewer accesses than this
 FAR_ENOUGH = 128

@@ -15,8 +15,8 @@ PERIODS = {PAL: 281_937, NTSC: 279_365}
 APART = 1000
 # each signal's scope and name, and its bits; 0 is a text
 SIGNALS = {
-    "beam.frame": 10, "beam.line": 9, "beam.clock": 8, "bus.owner": 0, "bus.owner_number": 4, "bus.address": 20, "bus.data": 16, "bus.access": 1, "bus.write": 1,
-    "bus.high": 1, "bus.low": 1, "register.offset": 9, "register.data": 16, "register.write": 1, "register.read": 1, "copper.reads": 1,
+    "beam.frame": 10, "beam.line": 9, "beam.clock": 8, "bus.owner": 0, "bus.owner_number": 4, "bus.address": 20, "bus.data": 16,
+    "bus.access": 1, "bus.write": 1, "bus.high": 1, "bus.low": 1, "register.offset": 9, "register.data": 16, "register.write": 1, "register.read": 1, "copper.reads": 1,
     "blitter.blit": 1, "blitter.slot": 1, "processor.slot": 1, "interrupt.level": 3, "chips.DMACON": 15, "chips.INTENA": 15, "chips.INTREQ": 14,
 }
 IDS = {name: chr(33 + number) for number, name in enumerate(SIGNALS)}
@@ -71,7 +71,9 @@ class Registers:
         self.left = 0
 
     def values(self) -> Values:
-        return self.kept | {"blitter.blit": int(self.left > 0)}
+        made: Values = {"blitter.blit": int(self.left > 0)}
+        made.update(self.kept)
+        return made
 
     def write(self, register: int, word: int) -> None:
         """A register is written; while a blit is under way its registers are not."""

@@ -8,6 +8,10 @@ from faults import BadFile
 from frames import FramesFile
 
 
+# above any number of a frame or of a line
+ENDLESS = 1 << 20
+
+
 def number(least: int, most: int) -> Callable[[str], int]:
     """What reads a number from `least` to `most`."""
 
@@ -31,6 +35,12 @@ def parse_range(text: str) -> tuple[int, int | None]:
     if pair[0] > pair[1]:
         raise argparse.ArgumentTypeError(f"'{text}' ends before it begins")
     return pair
+
+
+def span(pair: tuple[int, int | None]) -> range:
+    """The numbers from the first to the last of a pair; without a last one they have no end that matters."""
+    first, last = pair
+    return range(first, ENDLESS if last is None else last + 1)
 
 
 def add_range(parser: argparse.ArgumentParser, usual: str) -> None:
