@@ -2,6 +2,7 @@
 whose files or whose program changed, and one for the report."""
 from __future__ import annotations
 
+import argparse
 import math
 import os
 import shlex
@@ -109,14 +110,14 @@ def nameable(place: str) -> str:
     return place
 
 
-def suite_command(words, suite: Suite, quoted: Callable[[str], str]) -> str:
+def suite_command(words: argparse.Namespace, suite: Suite, quoted: Callable[[str], str]) -> str:
     """The words of the suite with those that each step has."""
     tool = os.path.join(os.path.dirname(os.path.dirname(os.path.realpath(__file__))), "suite")
     same = ["env", f"OCS={suite.program}", tool, "--out", suite.out, "--limit", str(words.limit), "--store", str(words.store)]
     return " ".join(map(quoted, same))
 
 
-def ninja_plan(words, suite: Suite, cases: list[Case], count: int) -> str:
+def ninja_plan(words: argparse.Namespace, suite: Suite, cases: list[Case], count: int) -> str:
     """The plan for Ninja."""
     folder, plan, shard = os.path.abspath(words.folder), os.path.abspath(words.plan), Part(*words.shard)
     named = {"suite": suite_command(words, suite, value), "folder": value(folder), "quoted_plan": value(plan), "shard": shard.text()}
@@ -140,7 +141,7 @@ def above(case: Case, folder: str) -> str:
     return os.path.dirname(os.path.join(folder, case.name))
 
 
-def snakemake_plan(words, suite: Suite, cases: list[Case], count: int) -> str:
+def snakemake_plan(words: argparse.Namespace, suite: Suite, cases: list[Case], count: int) -> str:
     """The plan for Snakemake, which finds the cases anew each time that it is read."""
     folder, shard = os.path.abspath(words.folder), Part(*words.shard)
     for place in (folder, suite.out, suite.program, *(place for case in cases for place in case.inputs())):
@@ -155,7 +156,7 @@ def snakemake_plan(words, suite: Suite, cases: list[Case], count: int) -> str:
     )
 
 
-def write_plan(words, suite: Suite, cases: list[Case]) -> None:
+def write_plan(words: argparse.Namespace, suite: Suite, cases: list[Case]) -> None:
     """Writes the file that the words name."""
     count, plan = count_of_parts(suite, cases), os.path.abspath(words.plan)
     text = snakemake_plan(words, suite, cases, count) if plan.endswith(SNAKEFILE) else ninja_plan(words, suite, cases, count)
