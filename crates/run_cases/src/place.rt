@@ -122,8 +122,11 @@ pub fn is_absent(run: &str, file: &str) -> bool {
 
 /// Puts the image and the printed script of a scene there.
 fn put_scene(alloc: Global, scene: u64, shelf: &mut Shelf) -> Result<(), CaseFault> {
+    let Ok(number) = u32::try_from(scene) else {
+        return Err(CaseFault::Untold("a scene's number is below 2^32"));
+    };
     let mut text = Vec::new(alloc);
-    put_scene_image(alloc, scene as u32, &mut text, shelf)?;
+    put_scene_image(alloc, number, &mut text, shelf)?;
     Ok(shelf.put("script", &text)?)
 }
 
