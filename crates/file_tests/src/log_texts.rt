@@ -2,7 +2,7 @@
 
 use crate::answers::hold;
 use blit_words::SlotAsk;
-use ocs_base::{Addr, Beam, OutOfMemory, Reg, System};
+use ocs_base::{Addr, Beam, Reg, System};
 use serial_model::{Ask, Half, PlaneAsk, ProcessorAsk, SideAsk, SpriteAsk};
 use slot_log::{put_heading, put_record};
 use std::alloc::Global;
@@ -143,32 +143,30 @@ fn ask_at(h: u16) -> Ask {
     }
 }
 
-/// Appends the records of those clocks.
-fn put_records(text: &mut Vec<u8>) -> Result<(), OutOfMemory> {
-    for h in 0..23 {
-        let beam = Beam {
-            frame: 5,
-            v: 300,
-            h,
-            lof: true,
-        };
-        put_record(&beam, &ask_at(h), 0x6789, text)?;
+/// Whether the record of a clock of that line, put into an empty text, is the one of this place in the table.
+fn has_record(h: u16, text: &mut Vec<u8>) -> bool {
+    text.clear();
+    let beam = Beam {
+        frame: 5,
+        v: 300,
+        h,
+        lof: true,
+    };
+    let is_put = h < 23 && put_record(&beam, &ask_at(h), 0x6789, text).is_ok();
+    match RECORDS.get(usize::from(h)) {
+        Some(record) => is_put && text.as_slice() == record.as_slice(),
+        None => false,
     }
-    Ok(())
-}
-
-/// Whether a text has these records, one after another, and no more.
-fn is_of_records(text: &[u8]) -> bool {
-    let mut records = text.chunks(10);
-    let same = RECORDS
-        .iter()
-        .all(|record| records.next() == Some(record.as_slice()));
-    same && records.next().is_none()
 }
 
 /// Whether those clocks have these records.
 fn has_records(text: &mut Vec<u8>) -> bool {
-    put_records(text).is_ok() && is_of_records(text)
+    for h in 0..23 {
+        if !has_record(h, text) {
+            return false;
+        }
+    }
+    true
 }
 
 #[test]
