@@ -15,8 +15,8 @@ use Rattle.serial_model.specs.Serial.{state_over}
 use Rattle.serial_model.specs.State.{Chips, State}
 use Rattle.serial_model.specs.Tick.{tick, ask_of, answer_of, made_of}
 use Rattle.serial_bands.specs.Run.{RunValue, run_memory}
-use Rattle.machine.specs.RegisterWord.{register_word}
-use Rattle.foreground.specs.Clock.{access_state}
+use Rattle.serial_model.specs.RegisterRead.{register_read}
+use Rattle.serial_bands.specs.Access.{access_state}
 use Rattle.foreground.specs.Slot.{IsSlotOf}
 use Rattle.foreground.specs.declared.slot.Slot.{Slot}
 use Rattle.slot_log.specs.Entry.{read_address}
@@ -28,7 +28,7 @@ copper_keeps (Move reg word) memory = refl
 
 -- an access that reads a word of memory writes none
 answers : (ask : Ask) (b : Beam) (clx : ℕ) (c : Chips) (memory : List ℕ) → (let word = answer_to ask b clx c memory in
-    answer_from (memory_after (made_by_ask ask word c) memory) (read_address ask) (register_word ask word) ≡ word)
+    answer_from (memory_after (made_by_ask ask word c) memory) (read_address ask) (register_read ask word) ≡ word)
 unfolding made_by_ask
 answers A.Free b clx c memory = refl
 answers (A.Side S.Nothing) b clx c memory = refl
