@@ -8,5 +8,5 @@ pub returns : goal.returns
 returns c =
     let text = c.put_log.new.text.items in
     subst (λ (s : ScriptValue). IsLogOf c.args.image.items s c.args.from c.args.to text) c.in_ok-run.ensures.script
-    (subst (λ (bytes : List ℕ). IsLogOf bytes (run_in c.in_ok-run.run).script c.args.from c.args.to text) c.in_ok-run.ensures.image
+    (subst (λ (bytes : List ℕ). IsLogOf bytes (run_in c.in_ok-run.run').script c.args.from c.args.to text) c.in_ok-run.ensures.image
     c.in_ok-put_log.ensures)

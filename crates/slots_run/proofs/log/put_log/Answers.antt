@@ -1,4 +1,4 @@
-use Rattle.std.proofs.Common.{◌≡◌, ◌++◌, min, List, ℕ, ap, subst, ◌∙◌, arith}
+use Rattle.std.proofs.Common.{◌≡◌, ◌++◌, ◌-◌, min, List, ℕ, ap, subst, ◌∙◌, arith}
 use Rattle.ocs_base.specs.Script.{ScriptValue}
 use Rattle.ocs_base.specs.Sizes.{bytes_of}
 use Rattle.serial_bands.specs.Run.{RunValue}
@@ -59,4 +59,4 @@ returns c =
     ∙ ap (λ s. heading s c.args.from c.args.to c.chip.result) system_is
     ∙ ap (λ n. heading script.system c.args.from c.args.to n) bytes_is in
     is_log c.args.from c.args.to start first last c.requires.order c.requires.first comes leaves c.note_to_frame.new.text.items
-    (c.in_ok-note_to_frame.ensures.noted ∙ ap (λ items. items ++ log_text (run_in first).image (run_in first).script _ _) heading_is)
+    (c.in_ok-note_to_frame.ensures.noted ∙ ap (λ items. items ++ log_text (run_in first).image (run_in first).script first.fore.machine.t (last.fore.machine.t - first.fore.machine.t)) heading_is)

@@ -10,16 +10,10 @@ use Rattle.slots_run.proofs.AnswerLaws.{slot_answer}
 use Rattle.slots_run.proofs.SlotRunLaws.{goes_one}
 use Rattle.slots_run.proofs.slot_run.SlotRun.note_clock.Goals as goal
 
-pub answer_to-requires : goal.answer_to-requires
-answer_to-requires c =
-    let went = c.in_ok-slot.ensures in
-    let so = went.clock c.requires.stands.first c.requires.stands.stands in
-    record { first = so.until; stands = so.stands; fresh = went.fresh }
-
 pub put_record-requires : goal.put_record-requires
 put_record-requires c =
     let on = c.requires.stands.stands.screen.clock in
-    let same : c.beam.result.h ≡ c.args.self.now.fore.machine.beam.h = ap (λ (b : Beam). b.h) c.beam.ensures in
+    let same : c.beam-beam.result.h ≡ c.args.self.now.fore.machine.beam.h = ap (λ (b : Beam). b.h) c.beam-beam.ensures in
     omega (arith, on, same)
 
 pub returns-clause-goes : goal.returns-clause-goes
