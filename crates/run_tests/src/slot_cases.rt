@@ -43,13 +43,10 @@ pub fn records(alloc: Global, text: &str) -> Result<Vec<u8>, CaseFault> {
     let told = bytes(alloc, text)?;
     let mut left = told.as_slice();
     let mut records = Vec::new(alloc);
-    for line in 0..313 {
+    for line in 0..313_u16 {
+        let [high, low] = line.to_be_bytes();
         for clock in 0..227 {
-            left = put_clock(
-                [(line / 256) as u8, (line % 256) as u8, clock],
-                left,
-                &mut records,
-            )?;
+            left = put_clock([high, low, clock], left, &mut records)?;
         }
     }
     Ok(records)
