@@ -14,8 +14,6 @@ TOP = os.path.dirname(TOOLS)
 FOLDERS = ("", "docs", "examples", "bench")
 # made by tools/definitions of what each public call says of itself
 MADE = os.path.join("docs", "calls.md")
-# these have long sentences still, and are to be written again
-LATER = (os.path.join("bench", "README.md"), os.path.join("docs", "formats.md"), os.path.join("docs", "machine.md"))
 LINK = re.compile(r"\]\(([^)\s#]*)(?:#([^)\s]+))?\)")
 MOST_WORDS = 40
 MOST_COLUMNS = 130
@@ -40,7 +38,7 @@ def documents() -> list[str]:
 
 def written() -> list[str]:
     """Those that people write, in short sentences."""
-    return [name for name in documents() if name != MADE and name not in LATER]
+    return [name for name in documents() if name != MADE]
 
 
 def read(name: str) -> str:
