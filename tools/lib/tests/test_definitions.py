@@ -28,6 +28,7 @@ class DefinitionsTest(unittest.TestCase):
             for name in ("crates", "crates.txt"):
                 os.symlink(os.path.join(TOP, name), os.path.join(top, name))
             os.mkdir(os.path.join(top, "docs"))
+            os.symlink(os.path.join(TOP, "docs", "calls.md"), os.path.join(top, "docs", "calls.md"))
             with open(os.path.join(TOP, "docs", "proofs.md"), encoding="utf-8") as page:
                 text = page.read()
             for was, status in (("| `collisions` |", 0), ("| `collision` |", 1)):
